@@ -1,5 +1,5 @@
 -- What a lent part is, in the words of `laid`: a tail that is handed on, and a tail that comes back written.
-use Prim.Native.Nat.{ℕ, suc, _+_, _-_, _≤_}
+use Prim.Native.Nat.{ℕ, suc, _+_, _-_, _≤_, _<_}
 use mathlib.Core.Path.{_≡_, refl, ap, sym, subst, _∙_}
 use mathlib.Core.List.{List, [], _∷_, _++_, append-nil}
 use native.Mathlib.Omega.{arith}
@@ -22,9 +22,14 @@ pub laid-then : (f bs d xs ys : List ℕ) (a : ℕ) → length f ≡ a → xs �
 laid-then f bs d xs ys a long is-xs is-ys =
     rw (is-ys, tail-is xs a, past-tail xs a, append-nil, is-xs, ← long) (sym (laid-append f bs d))
 
+over : (f bs d : List ℕ) → length d ≤ length f → laid f d ≡ laid (f ++ bs) d
+over [] bs [] h = sym (laid-nil bs)
+over [] bs (y ∷ d) h = absurd (not-suc-le-zero h)
+over (x ∷ f) bs [] h = refl
+over (x ∷ f) bs (y ∷ d) h = ap (λ (l : List ℕ). x ∷ l) (over f bs d (le-of-suc-le-suc h))
+
 -- where f already passes the buffer's end, nothing that follows is written
-pub laid-over : (f bs d xs : List ℕ) → xs ≡ laid f d → length d ≤ length f → xs ≡ laid (f ++ bs) d
-laid-over [] bs [] xs e h = e ∙ sym (laid-nil bs)
-laid-over [] bs (y ∷ d) xs e h = absurd (not-suc-le-zero h)
-laid-over (x ∷ f) bs [] xs e h = e
-laid-over (x ∷ f) bs (y ∷ d) xs e h = e ∙ ap (λ (l : List ℕ). x ∷ l) (laid-over f bs d (laid f d) refl (le-of-suc-le-suc h))
+pub laid-over : (f bs d xs : List ℕ) → xs ≡ laid f d → length xs < length f → xs ≡ laid (f ++ bs) d
+laid-over f bs d xs e h =
+    let same : length xs ≡ length d = ap length e ∙ length-laid f d in
+    e ∙ over f bs d (omega arith)
