@@ -1,0 +1,4 @@
+pub mod Words
+pub mod Table
+pub mod Reading
+pub mod Writing

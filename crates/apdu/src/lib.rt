@@ -1,0 +1,242 @@
+// Command frames of ISO 7816-3, read and written by one table of eight shapes (specs/Table.antt).
+//
+//    +-----+-----+----+----+----------+----------------+----------+
+//    | CLA | INS | P1 | P2 | Lc field | data, Lc bytes | Le field |
+//    +-----+-----+----+----+----------+----------------+----------+
+//                            0, 1, 3                     0, 1, 2, 3 bytes
+ghost use Prim.Native.Nat.{_+_, _<_, _≤_};
+ghost use mathlib.Core.Path.{_≡_};
+ghost use mathlib.Core.List.{_++_};
+ghost use lib.ListN.{length};
+ghost use Rattle.octets.specs.Bytes.{laid, byte, bytes2};
+ghost use Rattle.apdu.specs.Words.{shapeNo, readingOf, writtenOf};
+ghost use Rattle.apdu.specs.Table.{lcField, leField, leMost, canCarry, lcBytes, leBytes, leRead};
+ghost use Rattle.apdu.specs.Reading.{lengthsOf, shortOf, extendedOf, afterData, readOf, strictOf, startOf, endOf, partOf};
+ghost use Rattle.apdu.specs.Writing.{frameOf, writeOf, bufferOf};
+use outcome::ApduStatusCode;
+use outcome::Refusal;
+
+const APDU_HEADER_LEN: usize = 4;
+
+pub struct ApduHeader {
+    pub cla: u8,
+    pub ins: u8,
+    pub p1: u8,
+    pub p2: u8,
+}
+
+// The eight shapes. The names say the fields after the header: Lc3DataLe2 has three bytes of Lc, data and two of Le.
+pub enum Case {
+    Instruction,
+    Le1,
+    Lc1Data,
+    Lc1DataLe1,
+    Lc3Data,
+    // No case of ISO 7816-3: some clients put a short Le behind an extended Lc.
+    Lc3DataLe1,
+    Lc3DataLe2,
+    Le3,
+}
+
+// What a frame says. Its data stays in the frame: `data` hands out that part.
+pub struct Apdu {
+    pub header: ApduHeader,
+    pub shape: Case,
+    pub lc: u16,
+    pub le: u32,
+}
+
+pub enum Reading {
+    Frame(Apdu),
+    Status(ApduStatusCode),
+}
+
+// What the bytes after the header say. Too few bytes and too many are told apart here, though both are 6700.
+enum Lengths {
+    Found(Case, u16, u32),
+    Missing,
+    Surplus,
+}
+
+// Where data stands in its frame: from start, up to and without end.
+pub struct Place {
+    pub start: usize,
+    pub end: usize,
+}
+
+pub enum Written {
+    Refused(Refusal),
+    Frame(usize),
+}
+
+// The shape's number.
+pub fn shape_number(shape: Case) -> u8
+    ensures { λ r. ⌜ r ≡ shapeNo shape ⌝ }
+{
+    match shape {
+        Case::Instruction => 1,
+        Case::Le1 => 2,
+        Case::Lc1Data => 3,
+        Case::Lc1DataLe1 => 4,
+        Case::Lc3Data => 5,
+        Case::Lc3DataLe1 => 6,
+        Case::Lc3DataLe2 => 7,
+        Case::Le3 => 8,
+    }
+}
+
+// How many bytes the shape's Lc field has.
+fn lc_field(shape: Case) -> usize
+    ensures { λ r. ⌜ r ≡ lcField shape ⌝ }
+{
+    match shape {
+        Case::Instruction => 0,
+        Case::Le1 => 0,
+        Case::Lc1Data => 1,
+        Case::Lc1DataLe1 => 1,
+        Case::Lc3Data => 3,
+        Case::Lc3DataLe1 => 3,
+        Case::Lc3DataLe2 => 3,
+        Case::Le3 => 0,
+    }
+}
+
+// How many bytes the shape's Le field has.
+fn le_field(shape: Case) -> usize
+    ensures { λ r. ⌜ r ≡ leField shape ⌝ }
+{
+    match shape {
+        Case::Instruction => 0,
+        Case::Le1 => 1,
+        Case::Lc1Data => 0,
+        Case::Lc1DataLe1 => 1,
+        Case::Lc3Data => 0,
+        Case::Lc3DataLe1 => 1,
+        Case::Lc3DataLe2 => 2,
+        Case::Le3 => 3,
+    }
+}
+
+// The most that an Le field of so many bytes can say.
+fn le_most(long: usize) -> u32
+    ensures { λ r. ⌜ r ≡ leMost long ⌝ }
+{
+    if long == 0 {
+        return 0;
+    }
+    if long == 1 { 256 } else { 65536 }
+}
+
+// A written Le of 0 stands for the most that its field can say. The rule stands here alone.
+fn le_read(long: usize, written: u16) -> u32
+    ensures { λ r. ⌜ r ≡ leRead long written ⌝ }
+{
+    if written == 0 {
+        return le_most(long);
+    }
+    written as u32
+}
+
+fn le1(b: u8) -> u32
+    ensures { λ r. ⌜ r ≡ leRead 1 b ⌝ }
+{
+    le_read(1, b as u16)
+}
+
+// Lc in one byte, data, and perhaps one byte of Le.
+fn short(p: &[u8], lc: u8) -> Lengths
+    requires { ⌜ (1 < length (now p)) × (lc ≡ byte (now p) 0) ⌝ }
+    ensures { λ r. ⌜ r ≡ shortOf (now (p .entry)) ⌝ }
+{
+    let n = octets::wide(lc);
+    if p.len() < 1 + n {
+        return Lengths::Missing;
+    }
+    if p.len() == 1 + n {
+        return Lengths::Found(Case::Lc1Data, lc as u16, 0);
+    }
+    if p.len() == 2 + n {
+        return Lengths::Found(Case::Lc1DataLe1, lc as u16, le1(p[1 + n]));
+    }
+    Lengths::Surplus
+}
+
+// Data of lc bytes after an extended Lc, and perhaps Le.
+fn after_data(p: &[u8], lc: u16) -> Lengths
+    requires { ⌜ 3 < length (now p) ⌝ }
+    ensures { λ r. ⌜ r ≡ afterData (now (p .entry)) lc ⌝ }
+{
+    let n = lc as usize;
+    if p.len() < 3 + n {
+        return Lengths::Missing;
+    }
+    if p.len() == 3 + n {
+        return Lengths::Found(Case::Lc3Data, lc, 0);
+    }
+    if p.len() == 4 + n {
+        return Lengths::Found(Case::Lc3DataLe1, lc, le1(p[3 + n]));
+    }
+    if p.len() == 5 + n {
+        let le = octets::pair(p[3 + n], p[4 + n]);
+        return Lengths::Found(Case::Lc3DataLe2, lc, le_read(2, le));
+    }
+    Lengths::Surplus
+}
+
+// A payload that begins with 00: an extended Le alone, or an extended Lc.
+fn extended(p: &[u8]) -> Lengths
+    requires { ⌜ 1 < length (now p) ⌝ }
+    ensures { λ r. ⌜ r ≡ extendedOf (now (p .entry)) ⌝ }
+{
+    if p.len() < 3 {
+        return Lengths::Missing;
+    }
+    let field = octets::pair(p[1], p[2]);
+    if p.len() == 3 {
+        return Lengths::Found(Case::Le3, 0, le_read(3, field));
+    }
+    after_data(p, field)
+}
+
+// The bytes after the header.
+fn payload(p: &[u8]) -> Lengths
+    ensures { λ r. ⌜ r ≡ lengthsOf (now (p .entry)) ⌝ }
+{
+    if p.len() == 0 {
+        return Lengths::Found(Case::Instruction, 0, 0);
+    }
+    let first = p[0];
+    if p.len() == 1 {
+        return Lengths::Found(Case::Le1, 0, le1(first));
+    }
+    if first == 0 {
+        return extended(p);
+    }
+    short(p, first)
+}
+
+// Reads any bytes as a frame: what it says, or 6a80 under four bytes, or 6700 where it is in no shape.
+pub fn read(frame: &[u8]) -> Reading
+    ensures { λ r. ⌜ readingOf r ≡ readOf (now (frame .entry)) ⌝ }
+{
+    if frame.len() < APDU_HEADER_LEN {
+        return Reading::Status(ApduStatusCode::WrongData);
+    }
+    let header = ApduHeader {
+        cla: frame[0],
+        ins: frame[1],
+        p1: frame[2],
+        p2: frame[3],
+    };
+    let found = payload(&frame[APDU_HEADER_LEN..]);
+    match found {
+        Lengths::Found(shape, lc, le) => Reading::Frame(Apdu {
+            header,
+            shape,
+            lc,
+            le,
+        }),
+        Lengths::Missing => Reading::Status(ApduStatusCode::WrongLength),
+        Lengths::Surplus => Reading::Status(ApduStatusCode::WrongLength),
+    }
+}
