@@ -1,10 +1,10 @@
 -- Document 01, 'Eight frame shapes': reading. "A frame under 4 bytes gives 6a80. A frame of 4 or more in no shape gives
 -- 6700"; the payload from byte 4 on; where the data stands; "The strict reading is a second entry".
 -- That this is the table, and nothing else, is claimed in Claims.antt.
-use Prim.Native.Nat.{ℕ, _+_, _-_}
-use mathlib.Core.List.{List, []}
-use lib.ListN.{length, take, drop}
-use lib.Dec.{leb, ltb, eqb}
+use Prim.Native.Nat.{ℕ, _+_}
+use mathlib.Core.List.{List}
+use lib.ListN.{length, drop}
+use lib.Dec.{ltb, eqb}
 use Rattle.outcome.specs.Notation.{if_then_else_}
 use Rattle.outcome.specs.Outcome.{Outcome, R, SW, Gives}
 use Rattle.octets.specs.Bytes.{byte, pairAt}
@@ -76,10 +76,3 @@ startOf s = 4 + lcField s
 
 abbrev pub endOf : Case → ℕ → ℕ
 endOf s lc = startOf s + lc
-
--- the bytes from start up to end; none where they would pass the frame's end. Where they are taken, start ≤ end is asked too
-unfoldable pub partOf : List ℕ → ℕ → ℕ → List ℕ
-partOf frame start end =
-    if ltb end start then []
-    else if ltb (length frame) end then []
-    else take (end - start) (drop start frame)

@@ -1,11 +1,12 @@
 -- Bytes in lists: numbers of several bytes (01, 'Eight frame shapes': "Numbers of two bytes are big-endian"), a field
 -- written into a buffer (01, 'The decision': "Each field is written into the rest of the buffer after the field before";
 -- 'Refusal numbers': "fills the front of the buffer; the rest stays"), and the zero tail of an order.
-use Prim.Native.Nat.{ℕ, _+_, _*_, _/_, _%_, _<_}
+use Prim.Native.Nat.{ℕ, _+_, _*_, _/_, _%_, _<_, _-_}
 use mathlib.Core.Bool.{Bool, true, false, _&&_}
 use mathlib.Core.List.{List, [], _∷_}
-use lib.ListN.{getD, length}
-use lib.Dec.{eqb}
+use lib.ListN.{getD, length, take, drop}
+use lib.Dec.{eqb, ltb}
+use Rattle.outcome.specs.Notation.{if_then_else_}
 
 -- the byte at place i, counted from 0. Past the end it would be 0: a length test stands beside each use
 abbrev pub byte : List ℕ → ℕ → ℕ
@@ -35,3 +36,11 @@ laid (x ∷ s) (y ∷ old) = x ∷ laid s old
 abbrev pub allZero : List ℕ → Bool
 allZero [] = true
 allZero (x ∷ s) = eqb x 0 && allZero s
+
+-- the bytes from place start up to and without place end; none where end is before start or past the list's end.
+-- `end - start` stands behind the test that start ≤ end
+unfoldable pub partOf : List ℕ → ℕ → ℕ → List ℕ
+partOf s start end =
+    if ltb end start then []
+    else if ltb (length s) end then []
+    else take (end - start) (drop start s)

@@ -3,7 +3,7 @@
 ghost use Prim.Native.Nat.{_+_, _*_, _<_};
 ghost use mathlib.Core.Path.{_≡_};
 ghost use mathlib.Core.List.{[], _∷_};
-ghost use Rattle.octets.specs.Bytes.{laid, bytes2, bytes4, allZero};
+ghost use Rattle.octets.specs.Bytes.{laid, bytes2, bytes4, allZero, partOf};
 
 // A byte as a length.
 pub fn wide(b: u8) -> usize
@@ -76,4 +76,17 @@ pub fn all_zero(s: &[u8]) -> bool
         i += 1;
     }
     true
+}
+
+// The bytes from start up to and without end, as a part of s; none where there are no such bytes.
+pub fn part(s: &[u8], start: usize, end: usize) -> &[u8]
+    ensures { λ r. ⌜ now r ≡ partOf (now (s .entry)) start end ⌝ }
+{
+    if end < start {
+        return &s[..0];
+    }
+    if s.len() < end {
+        return &s[..0];
+    }
+    &s[start..end]
 }
