@@ -6,23 +6,33 @@ use mathlib.Core.List.{List}
 use native.Mathlib.Omega.{arith}
 use borrow.Author.Tests.{lt-ltb, le-ltb, eq-eqb, ne-eqb}
 use lib.ListN.{length, take, drop}
-use Rattle.outcome.specs.Outcome.{SW, Gives}
+use Rattle.outcome.specs.declared.ApduStatusCode.{ApduStatusCode}
+use Rattle.outcome.specs.Outcome.{SW, Gives, statusNo}
 use Rattle.octets.proofs.Tails.{tail-is}
-use Rattle.octets.specs.Bytes.{byte, pairAt}
-use Rattle.apdu.specs.Words.{Case, Instruction, Le1, Lc1Data, Lc1DataLe1, Lc3Data, Lc3DataLe1, Lc3DataLe2, Le3, shapeNo}
-use Rattle.apdu.specs.Table.{leRead, leMost}
-use Rattle.apdu.specs.Reading.{shortOf, afterData, extendedOf, lengthsOf, headerOf, sayOf, readOf}
+use Rattle.octets.specs.Bytes.{byte, pairAt, partOf}
+use Rattle.apdu.specs.Words.{Case, Instruction, Le1, Lc1Data, Lc1DataLe1, Lc3Data, Lc3DataLe1, Lc3DataLe2, Le3, Apdu, Place, shapeNo, saysOf, readingOf}
+use Rattle.apdu.specs.Table.{lcField, leRead, leMost, leLeast, byLength}
+use Rattle.apdu.specs.Reading.{shortOf, afterData, extendedOf, lengthsOf, headerOf, sayOf, readOf, strictly, strictOf, placeOf, dataOf}
 use Rattle.apdu.specs.declared.Lengths.{Lengths}
 use Rattle.apdu.specs.declared.Lengths.the-variants.{Found, Missing, Surplus}
+use Rattle.apdu.specs.declared.Reading.{Reading}
+use Rattle.apdu.specs.declared.Reading.the-variants.{Frame, Status}
 
-pub most-none : (long : ℕ) → long ≡ 0 → 0 ≡ leMost long
-most-none long e = rw e
+module _ (long none one more : ℕ) where
+  pub by-none : long ≡ 0 → none ≡ byLength long none one more
+  by-none e = rw e
 
-pub most-one : (long : ℕ) → long ≡ 1 → 256 ≡ leMost long
-most-one long e = rw e
+  pub by-one : long ≡ 1 → one ≡ byLength long none one more
+  by-one e = rw e
 
-pub most-more : (long : ℕ) → (long ≡ 0 → ⊥) → (long ≡ 1 → ⊥) → 65536 ≡ leMost long
-most-more long n0 n1 = rw (ne-eqb long 0 n0, ne-eqb long 1 n1)
+  pub by-more : (long ≡ 0 → ⊥) → (long ≡ 1 → ⊥) → more ≡ byLength long none one more
+  by-more n0 n1 = rw (ne-eqb long 0 n0, ne-eqb long 1 n1)
+
+pub least-none : (long : ℕ) → long ≡ 0 → 0 ≡ leLeast long
+least-none long e = rw e
+
+pub least-some : (long : ℕ) → (long ≡ 0 → ⊥) → 1 ≡ leLeast long
+least-some long n = rw (ne-eqb long 0 n)
 
 pub le-zero : (long written le : ℕ) → written ≡ 0 → le ≡ leMost long → le ≡ leRead long written
 le-zero long written le z e = rw (z, e)
@@ -122,3 +132,28 @@ module _ (frame : List ℕ) (l : Lengths) (long : 4 ≤ length frame) (is-l : l 
   pub read-surplus : l ≡ Surplus → SW 0x6700 ≡ readOf frame
   unfolding sayOf
   read-surplus e = ap (sayOf frame) (sym e) ∙ by-lengths
+
+module _ (frame : List ℕ) (r : Reading) (is-r : readingOf r ≡ readOf frame) where
+  strict-as : strictly (readingOf r) ≡ strictOf frame
+  unfolding strictOf
+  strict-as = ap strictly is-r
+
+  module _ (says : Apdu) (n : ℕ) (it-is : r ≡ Frame says) (is-n : n ≡ shapeNo (says .shape)) where
+    pub strict-six : n ≡ 6 → SW 0x6700 ≡ strictOf frame
+    unfolding strictly
+    strict-six six = sym (sym strict-as ∙ rw (it-is, eq-eqb (shapeNo (says .shape)) 6 (omega arith)))
+
+    pub strict-other : (n ≡ 6 → ⊥) → Gives (saysOf says) ≡ strictOf frame
+    unfolding strictly
+    strict-other no-six = sym (sym strict-as ∙ rw (it-is, ne-eqb (shapeNo (says .shape)) 6 (λ six. no-six (omega arith))))
+
+  pub strict-status : (s : ApduStatusCode) → r ≡ Status s → SW (statusNo s) ≡ strictOf frame
+  unfolding strictly
+  strict-status s it-is = sym (sym strict-as ∙ rw it-is)
+
+pub place-is : (says : Apdu) (long : ℕ) → long ≡ lcField (says .shape) → record { start = 4 + long; end = 4 + long + says .lc } ≡ placeOf says
+place-is says long e = rw e
+
+pub data-is : (frame : List ℕ) (says : Apdu) (at : Place) (part : List ℕ) → at ≡ placeOf says → part ≡ partOf frame (at .start) (at .end) → part ≡ dataOf frame says
+unfolding dataOf
+data-is frame says at part e f = f ∙ rw e

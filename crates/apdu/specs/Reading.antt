@@ -7,8 +7,8 @@ use lib.ListN.{length, drop}
 use lib.Dec.{ltb, eqb}
 use Rattle.outcome.specs.Notation.{if_then_else_}
 use Rattle.outcome.specs.Outcome.{Outcome, R, SW, Gives}
-use Rattle.octets.specs.Bytes.{byte, pairAt}
-use Rattle.apdu.specs.Words.{Case, Instruction, Le1, Lc1Data, Lc1DataLe1, Lc3Data, Lc3DataLe1, Lc3DataLe2, Le3, Says, shapeNo, ApduHeader}
+use Rattle.octets.specs.Bytes.{byte, pairAt, partOf}
+use Rattle.apdu.specs.Words.{Case, Instruction, Le1, Lc1Data, Lc1DataLe1, Lc3Data, Lc3DataLe1, Lc3DataLe2, Le3, Says, shapeNo, ApduHeader, Apdu, Place}
 use Rattle.apdu.specs.Table.{lcField, leRead}
 use Rattle.apdu.specs.declared.Lengths.{Lengths}
 use Rattle.apdu.specs.declared.Lengths.the-variants.{Found, Missing, Surplus}
@@ -71,8 +71,9 @@ unfoldable pub strictOf : List ℕ → Outcome Says
 strictOf frame = strictly (readOf frame)
 
 -- "data comes back as a part of the caller's frame": after the header and the Lc field, Lc bytes
-abbrev pub startOf : Case → ℕ
-startOf s = 4 + lcField s
+abbrev pub placeOf : Apdu → Place
+placeOf says = record { start = 4 + lcField (says .shape); end = 4 + lcField (says .shape) + says .lc }
 
-abbrev pub endOf : Case → ℕ → ℕ
-endOf s lc = startOf s + lc
+-- the data of a frame that says this; none where the place passes the frame's end
+unfoldable pub dataOf : List ℕ → Apdu → List ℕ
+dataOf frame says = partOf frame (placeOf says .start) (placeOf says .end)

@@ -12,11 +12,11 @@ use Rattle.apdu.specs.Words.{Case, Instruction, Le1, Lc1Data, Lc1DataLe1
 -- a row: the Lc field's bytes, the least Lc, the Le field's bytes
 pub record Row : Type 0 where
   pub lcBytesLong : ℕ
-  pub lcLeast : ℕ
+  pub leastLc : ℕ
   pub leBytesLong : ℕ
 
 abbrev pub columns : ℕ → ℕ → ℕ → Row
-columns lcLong least leLong = record { lcBytesLong = lcLong; lcLeast = least; leBytesLong = leLong }
+columns lcLong least leLong = record { lcBytesLong = lcLong; leastLc = least; leBytesLong = leLong }
 
 abbrev pub row : Case → Row
 row Instruction = columns 0 0 0  -- 1 | empty |
@@ -31,27 +31,39 @@ row Le3 = columns 0 0 3  -- 8 | 00, Le (2) |
 abbrev pub lcField : Case → ℕ
 lcField s = row s .lcBytesLong
 
+abbrev pub lcLeast : Case → ℕ
+lcLeast s = row s .leastLc
+
 abbrev pub leField : Case → ℕ
 leField s = row s .leBytesLong
 
--- the most that a field of so many bytes can say: an Lc field of one byte 255, of three (00, then two) 65535, of none 0
+-- by a field's length: no field, one byte, or more (the extended form)
+abbrev pub byLength : {A : Type 0} → ℕ → A → A → A → A
+byLength long none one more = if eqb long 0 then none else if eqb long 1 then one else more
+
+-- the most that a field can say: an Lc field of one byte 255, of three (00, then two) 65535
 abbrev pub lcMost : ℕ → ℕ
-lcMost long = if eqb long 0 then 0 else if eqb long 1 then 255 else 65535
+lcMost long = byLength long 0 255 65535
 
--- an Le field of one byte says up to 256, of two, or three (00, then two), up to 65536
+-- an Le field of one byte 256, of two, or three (00, then two), 65536
 abbrev pub leMost : ℕ → ℕ
-leMost long = if eqb long 0 then 0 else if eqb long 1 then 256 else 65536
+leMost long = byLength long 0 256 65536
 
--- "data as long as the shape's Lc allows, empty where there is no Lc; Le 0 where absent, else 1..256 or 1..65536"
+-- where there is an Le field, it says at least 1
 abbrev pub leLeast : ℕ → ℕ
 leLeast long = if eqb long 0 then 0 else 1
 
-unfoldable pub canCarry : Case → ℕ → ℕ → Bool
-canCarry s dataLength le =
-    leb (row s .lcLeast) dataLength
-    && leb dataLength (lcMost (lcField s))
-    && leb (leLeast (leField s)) le
-    && leb le (leMost (leField s))
+-- "data as long as the shape's Lc allows, empty where there is no Lc"
+unfoldable pub lcFits : Case → ℕ → Bool
+lcFits s lc = leb (lcLeast s) lc && leb lc (lcMost (lcField s))
+
+-- "Le 0 where absent, else 1..256 or 1..65536"
+unfoldable pub leFits : Case → ℕ → Bool
+leFits s le = leb (leLeast (leField s)) le && leb le (leMost (leField s))
+
+-- "data length or Le is not one that the shape can carry"
+abbrev pub canCarry : Case → ℕ → ℕ → Bool
+canCarry s dataLength le = lcFits s dataLength && leFits s le
 
 -- "A written Le of 0 means 256 in one byte and 65536 in two": the rule once, over the number of bytes
 abbrev pub leRead : ℕ → ℕ → ℕ
@@ -59,14 +71,9 @@ leRead long written = if eqb written 0 then leMost long else written
 
 -- the Lc field's bytes, and the Le field's: 256 is written 00, and 65536 is written 00 00
 abbrev pub lcBytes : Case → ℕ → List ℕ
-lcBytes s lc =
-    if eqb (lcField s) 0 then []
-    else if eqb (lcField s) 1 then lc ∷ []
-    else 0x00 ∷ bytes2 lc
+lcBytes s lc = byLength (lcField s) [] (lc ∷ []) (0x00 ∷ bytes2 lc)
 
 abbrev pub leBytes : Case → ℕ → List ℕ
 leBytes s le =
-    if eqb (leField s) 0 then []
-    else if eqb (leField s) 1 then le % 256 ∷ []
-    else if eqb (leField s) 2 then bytes2 (le % 65536)
-    else 0x00 ∷ bytes2 (le % 65536)
+    byLength (leField s) [] (le % 256 ∷ [])
+    (if eqb (leField s) 2 then bytes2 (le % 65536) else 0x00 ∷ bytes2 (le % 65536))

@@ -5,7 +5,8 @@ use Rattle.outcome.specs.Outcome.{Outcome, R, SW, Gives, statusNo, refusalNo}
 pub use Rattle.apdu.specs.declared.ApduHeader.{ApduHeader}
 pub use Rattle.apdu.specs.declared.Case.{Case}
 pub use Rattle.apdu.specs.declared.Case.the-variants.{Instruction, Le1, Lc1Data, Lc1DataLe1, Lc3Data, Lc3DataLe1, Lc3DataLe2, Le3}
-use Rattle.apdu.specs.declared.Apdu.{Apdu}
+pub use Rattle.apdu.specs.declared.Apdu.{Apdu}
+pub use Rattle.apdu.specs.declared.Place.{Place}
 use Rattle.apdu.specs.declared.Reading.{Reading}
 use Rattle.apdu.specs.declared.Reading.the-variants.{Frame, Status}
 use Rattle.apdu.specs.declared.Written.{Written}

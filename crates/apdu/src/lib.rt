@@ -10,8 +10,8 @@ ghost use mathlib.Core.List.{_++_};
 ghost use lib.ListN.{length};
 ghost use Rattle.octets.specs.Bytes.{laid, byte, bytes2};
 ghost use Rattle.apdu.specs.Words.{shapeNo, readingOf, writtenOf};
-ghost use Rattle.apdu.specs.Table.{lcField, leField, leMost, canCarry, lcBytes, leBytes, leRead};
-ghost use Rattle.apdu.specs.Reading.{lengthsOf, shortOf, extendedOf, afterData, readOf, strictOf, startOf, endOf, partOf};
+ghost use Rattle.apdu.specs.Table.{lcField, leField, lcLeast, lcMost, leLeast, leMost, lcFits, leFits, lcBytes, leBytes, leRead};
+ghost use Rattle.apdu.specs.Reading.{lengthsOf, shortOf, extendedOf, afterData, readOf, strictOf, placeOf, dataOf};
 ghost use Rattle.apdu.specs.Writing.{frameOf, writeOf, bufferOf};
 use outcome::ApduStatusCode;
 use outcome::Refusal;
@@ -87,7 +87,7 @@ pub fn shape_number(shape: Case) -> u8
 
 // How many bytes the shape's Lc field has.
 fn lc_field(shape: Case) -> usize
-    ensures { λ r. ⌜ r ≡ lcField shape ⌝ }
+    ensures { λ r. ⌜ (r ≡ lcField shape) × (r ≤ 3) ⌝ }
 {
     match shape {
         Case::Instruction => 0,
@@ -103,7 +103,7 @@ fn lc_field(shape: Case) -> usize
 
 // How many bytes the shape's Le field has.
 fn le_field(shape: Case) -> usize
-    ensures { λ r. ⌜ r ≡ leField shape ⌝ }
+    ensures { λ r. ⌜ (r ≡ leField shape) × (r ≤ 3) ⌝ }
 {
     match shape {
         Case::Instruction => 0,
@@ -239,4 +239,128 @@ pub fn read(frame: &[u8]) -> Reading
         Lengths::Missing => Reading::Status(ApduStatusCode::WrongLength),
         Lengths::Surplus => Reading::Status(ApduStatusCode::WrongLength),
     }
+}
+
+// The strict entry: as `read`, but shape 6, which is no case of ISO 7816-3, gets 6700.
+pub fn read_strict(frame: &[u8]) -> Reading
+    ensures { λ r. ⌜ readingOf r ≡ strictOf (now (frame .entry)) ⌝ }
+{
+    let answer = read(frame);
+    match answer {
+        Reading::Frame(says) => {
+            let shape = says.shape;
+            if shape_number(shape) == 6 {
+                return Reading::Status(ApduStatusCode::WrongLength);
+            }
+            Reading::Frame(says)
+        }
+        Reading::Status(status) => Reading::Status(status),
+    }
+}
+
+// Where the data of a frame that says this stands. Past a frame's end where it is not this frame that says so.
+pub fn data_place(says: Apdu) -> Place
+    ensures { λ r. ⌜ r ≡ placeOf says ⌝ }
+{
+    let shape = says.shape;
+    let start = APDU_HEADER_LEN + lc_field(shape);
+    Place {
+        start,
+        end: start + (says.lc as usize),
+    }
+}
+
+// The data of a frame that says this, as a part of the frame; empty where there is none.
+pub fn data(frame: &[u8], says: Apdu) -> &[u8]
+    ensures { λ r. ⌜ now r ≡ dataOf (now (frame .entry)) says ⌝ }
+{
+    let at = data_place(says);
+    octets::part(frame, at.start, at.end)
+}
+
+// The least Lc, and the most, that the shape can say.
+fn lc_least(shape: Case) -> usize
+    ensures { λ r. ⌜ r ≡ lcLeast shape ⌝ }
+{
+    match shape {
+        Case::Instruction => 0,
+        Case::Le1 => 0,
+        Case::Lc1Data => 1,
+        Case::Lc1DataLe1 => 1,
+        Case::Lc3Data => 1,
+        Case::Lc3DataLe1 => 0,
+        Case::Lc3DataLe2 => 0,
+        Case::Le3 => 0,
+    }
+}
+
+fn lc_most(long: usize) -> usize
+    ensures { λ r. ⌜ r ≡ lcMost long ⌝ }
+{
+    if long == 0 {
+        return 0;
+    }
+    if long == 1 { 255 } else { 65535 }
+}
+
+fn le_least(long: usize) -> u32
+    ensures { λ r. ⌜ r ≡ leLeast long ⌝ }
+{
+    if long == 0 { 0 } else { 1 }
+}
+
+// Whether a frame of the shape can hold so many bytes of data.
+fn lc_fits(shape: Case, count: usize) -> bool
+    ensures { λ r. ⌜ r ≡ lcFits shape count ⌝ }
+{
+    if count < lc_least(shape) {
+        return false;
+    }
+    if lc_most(lc_field(shape)) < count {
+        return false;
+    }
+    true
+}
+
+// Whether a frame of the shape can say this Le.
+fn le_fits(shape: Case, le: u32) -> bool
+    ensures { λ r. ⌜ r ≡ leFits shape le ⌝ }
+{
+    let long = le_field(shape);
+    if le < le_least(long) {
+        return false;
+    }
+    if le_most(long) < le {
+        return false;
+    }
+    true
+}
+
+// Each of the next four writes its field at the front of what is left of the buffer, and lends the rest to the next.
+fn put_le(out: &mut [u8], shape: Case, le: u32)
+    ensures { λ _. ⌜ now (out .exit) ≡ laid (leBytes shape le) (now (out .entry)) ⌝ }
+{
+    let long = le_field(shape);
+    if long == 0 {
+        return;
+    }
+    if long == 1 {
+        octets::put_byte(out, (le % 256) as u8);
+        return;
+    }
+    let low = (le % 65536) as u16;
+    if long == 2 {
+        octets::put_pair(out, low);
+        return;
+    }
+    octets::put(out, &[0, (low / 256) as u8, (low % 256) as u8]);
+}
+
+fn put_content(out: &mut [u8], shape: Case, content: &[u8], le: u32)
+    requires { ⌜ length (now content) ≤ length (now out) ⌝ }
+    ensures { λ _. ⌜ now (out .exit) ≡ laid (now (content .entry) ++ leBytes shape le) (now (out .entry)) ⌝ }
+{
+    octets::put(out, content);
+    let n = content.len();
+    put_le(&mut out[n..], shape, le);
 }
