@@ -18,12 +18,19 @@ pub record Parts : Type 0 where
   pub content : List ℕ  -- the data
   pub le : ℕ
 
+abbrev pub parts : ApduHeader → Case → List ℕ → ℕ → Parts
+parts header shape content le = record { header = header; shape = shape; content = content; le = le }
+
 abbrev pub headerBytes : ApduHeader → List ℕ
 headerBytes h = h .cla ∷ h .ins ∷ h .p1 ∷ h .p2 ∷ []
 
--- "CLA INS P1 P2 and a payload"; the payload's fields in the table's order. "Data is exactly Lc bytes"
+-- the payload's fields in the table's order. "Data is exactly Lc bytes"
+unfoldable pub payloadOf : Case → List ℕ → ℕ → List ℕ
+payloadOf shape content le = lcBytes shape (length content) ++ (content ++ leBytes shape le)
+
+-- "A frame is CLA INS P1 P2 and a payload"
 unfoldable pub frameOf : Parts → List ℕ
-frameOf w = headerBytes (w .header) ++ (lcBytes (w .shape) (length (w .content)) ++ (w .content ++ leBytes (w .shape) (w .le)))
+frameOf w = headerBytes (w .header) ++ payloadOf (w .shape) (w .content) (w .le)
 
 -- what the writer answers: the frame's length, for a buffer of so many bytes (room)
 unfoldable pub writeOf : Parts → ℕ → Outcome ℕ
@@ -32,8 +39,11 @@ writeOf w room =
     else if ltb room (length (frameOf w)) then R 2
     else Gives (length (frameOf w))
 
--- what the buffer holds afterwards: after a refusal, what it held before
-abbrev pub bufferOf : Outcome ℕ → List ℕ → List ℕ → List ℕ
-bufferOf (R n) frame old = old
-bufferOf (SW n) frame old = old
-bufferOf (Gives n) frame old = laid frame old
+-- what the buffer holds afterwards: the frame at its front; after a refusal, what it held before
+abbrev pub leftBy : Outcome ℕ → List ℕ → List ℕ → List ℕ
+leftBy (R n) frame old = old
+leftBy (SW n) frame old = old
+leftBy (Gives n) frame old = laid frame old
+
+unfoldable pub bufferOf : Parts → List ℕ → List ℕ
+bufferOf w old = leftBy (writeOf w (length old)) (frameOf w) old

@@ -12,7 +12,7 @@ ghost use Rattle.octets.specs.Bytes.{laid, byte, bytes2};
 ghost use Rattle.apdu.specs.Words.{shapeNo, readingOf, writtenOf};
 ghost use Rattle.apdu.specs.Table.{lcField, leField, lcLeast, lcMost, leLeast, leMost, lcFits, leFits, lcBytes, leBytes, leRead};
 ghost use Rattle.apdu.specs.Reading.{lengthsOf, shortOf, extendedOf, afterData, readOf, strictOf, placeOf, dataOf};
-ghost use Rattle.apdu.specs.Writing.{frameOf, writeOf, bufferOf};
+ghost use Rattle.apdu.specs.Writing.{parts, payloadOf, frameOf, writeOf, bufferOf};
 use outcome::ApduStatusCode;
 use outcome::Refusal;
 
@@ -336,7 +336,7 @@ fn le_fits(shape: Case, le: u32) -> bool
     true
 }
 
-// Each of the next four writes its field at the front of what is left of the buffer, and lends the rest to the next.
+// Each of the next writes its field at the front of what is left of the buffer, and lends the rest to the next field's.
 fn put_le(out: &mut [u8], shape: Case, le: u32)
     ensures { λ _. ⌜ now (out .exit) ≡ laid (leBytes shape le) (now (out .entry)) ⌝ }
 {
@@ -363,4 +363,56 @@ fn put_content(out: &mut [u8], shape: Case, content: &[u8], le: u32)
     octets::put(out, content);
     let n = content.len();
     put_le(&mut out[n..], shape, le);
+}
+
+fn put_lc(out: &mut [u8], shape: Case, count: usize)
+    requires { ⌜ count ≤ lcMost (lcField shape) ⌝ }
+    ensures { λ _. ⌜ now (out .exit) ≡ laid (lcBytes shape count) (now (out .entry)) ⌝ }
+{
+    let long = lc_field(shape);
+    if long == 0 {
+        return;
+    }
+    if long == 1 {
+        octets::put_byte(out, (count % 256) as u8);
+        return;
+    }
+    octets::put(out, &[0, (count / 256 % 256) as u8, (count % 256) as u8]);
+}
+
+fn put_payload(out: &mut [u8], shape: Case, content: &[u8], le: u32)
+    requires { ⌜ (lcField shape + length (now content) ≤ length (now out)) × (length (now content) ≤ lcMost (lcField shape)) ⌝ }
+    ensures { λ _. ⌜ now (out .exit) ≡ laid (payloadOf shape (now (content .entry)) le) (now (out .entry)) ⌝ }
+{
+    put_lc(out, shape, content.len());
+    let long = lc_field(shape);
+    put_content(&mut out[long..], shape, content, le);
+}
+
+fn put_frame(out: &mut [u8], header: ApduHeader, shape: Case, content: &[u8], le: u32)
+    requires { ⌜ (4 + (lcField shape + length (now content)) ≤ length (now out)) × (length (now content) ≤ lcMost (lcField shape)) ⌝ }
+    ensures { λ _. ⌜ now (out .exit) ≡ laid (frameOf (parts header shape (now (content .entry)) le)) (now (out .entry)) ⌝ }
+{
+    octets::put(out, &[header.cla, header.ins, header.p1, header.p2]);
+    put_payload(&mut out[APDU_HEADER_LEN..], shape, content, le);
+}
+
+// Writes a frame at the front of out and says its length: R5 where the shape cannot carry the data or Le, then R2 where
+// out is shorter than the frame. A refusal leaves out as it was.
+pub fn write(header: ApduHeader, shape: Case, content: &[u8], le: u32, out: &mut [u8]) -> Written
+    ensures { λ r. ⌜ writtenOf r ≡ writeOf (parts header shape (now (content .entry)) le) (length (now (out .entry))) ⌝ }
+    ensures { λ r. ⌜ now (out .exit) ≡ bufferOf (parts header shape (now (content .entry)) le) (now (out .entry)) ⌝ }
+{
+    if !lc_fits(shape, content.len()) {
+        return Written::Refused(Refusal::R5);
+    }
+    if !le_fits(shape, le) {
+        return Written::Refused(Refusal::R5);
+    }
+    let n = APDU_HEADER_LEN + lc_field(shape) + content.len() + le_field(shape);
+    if out.len() < n {
+        return Written::Refused(Refusal::R2);
+    }
+    put_frame(out, header, shape, content, le);
+    Written::Frame(n)
 }

@@ -1,0 +1,58 @@
+-- `put_lc` meets its contract: by the field's length.
+use borrow.Author.Needs.{needs}
+use Rattle.apdu.proofs.Fields
+use Rattle.apdu.proofs.put_lc.Statement.{statement}
+use Rattle.apdu.proofs.put_lc.Tie as tie
+
+lc-field-requires : tie.Need-lc-field-requires
+lc-field-requires c κs = search needs
+
+returns : tie.Need-returns
+returns c = search (needs, Fields.lc-none)
+
+cast-put-byte : tie.Need-cast-put-byte
+cast-put-byte c = search needs
+
+put-byte-requires : tie.Need-put-byte-requires
+put-byte-requires c κs = search needs
+
+same-length : tie.Need-same-length
+same-length c = search needs
+
+returns-2 : tie.Need-returns-2
+returns-2 c = search (needs, Fields.lc-one)
+
+cast-t17 : tie.Need-cast-t17
+cast-t17 c = search needs
+
+cast-t19 : tie.Need-cast-t19
+cast-t19 c = search needs
+
+slice-aggregate-put : tie.Need-slice-aggregate-put
+slice-aggregate-put c = search needs
+
+put-requires : tie.Need-put-requires
+put-requires c κs = search needs
+
+same-length-2 : tie.Need-same-length-2
+same-length-2 c = search needs
+
+returns-3 : tie.Need-returns-3
+returns-3 c = search (needs, Fields.lc-three)
+
+pub put-lc-spec : {M : Type 1} → statement M
+put-lc-spec =
+    tie.close
+    (tie.spec
+    lc-field-requires
+    returns
+    cast-put-byte
+    put-byte-requires
+    same-length
+    returns-2
+    cast-t17
+    cast-t19
+    slice-aggregate-put
+    put-requires
+    same-length-2
+    returns-3)
