@@ -1,3 +1,4 @@
 pub mod Cases
 pub mod Carries
 pub mod Fields
+pub mod LaidOut

@@ -2,3 +2,5 @@ pub mod Words
 pub mod Table
 pub mod Reading
 pub mod Writing
+pub mod Iso
+pub mod Claims

@@ -7,9 +7,9 @@ pub use Rattle.apdu.specs.declared.Case.{Case}
 pub use Rattle.apdu.specs.declared.Case.the-variants.{Instruction, Le1, Lc1Data, Lc1DataLe1, Lc3Data, Lc3DataLe1, Lc3DataLe2, Le3}
 pub use Rattle.apdu.specs.declared.Apdu.{Apdu}
 pub use Rattle.apdu.specs.declared.Place.{Place}
-use Rattle.apdu.specs.declared.Reading.{Reading}
+pub use Rattle.apdu.specs.declared.Reading.{Reading}
 use Rattle.apdu.specs.declared.Reading.the-variants.{Frame, Status}
-use Rattle.apdu.specs.declared.Written.{Written}
+pub use Rattle.apdu.specs.declared.Written.{Written}
 use Rattle.apdu.specs.declared.Written.the-variants
 
 -- 01, 'Eight frame shapes': the column "no"
