@@ -1,7 +1,7 @@
 -- The reading's definitions, case by case, as the code meets them: the answer, from the facts that the tests showed.
 -- The only file that opens these definitions; it mentions no function.
 use Prim.Native.Nat.{ℕ, _+_, _-_, _*_, _<_, _≤_}
-use mathlib.Core.Path.{_≡_, ap, sym, _∙_}
+use mathlib.Core.Path.{_≡_, refl, ap, sym, _∙_}
 use mathlib.Core.List.{List}
 use native.Mathlib.Omega.{arith}
 use borrow.Author.Tests.{lt-ltb, le-ltb, eq-eqb, ne-eqb}
@@ -157,3 +157,19 @@ place-is says long e = rw e
 pub data-is : (frame : List ℕ) (says : Apdu) (at : Place) (part : List ℕ) → at ≡ placeOf says → part ≡ partOf frame (at .start) (at .end) → part ≡ dataOf frame says
 unfolding dataOf
 data-is frame says at part e f = f ∙ rw e
+
+pub read-by : (frame : List ℕ) → 4 ≤ length frame → readOf frame ≡ sayOf frame (lengthsOf (drop 4 frame))
+unfolding readOf
+read-by frame long = rw (le-ltb (length frame) 4 long)
+
+pub say-found : (frame : List ℕ) (s : Case) (lc le : ℕ) → sayOf frame (Found s lc le) ≡ Gives (record { header = headerOf frame; shape = shapeNo s; lc = lc; le = le })
+unfolding sayOf
+say-found frame s lc le = refl
+
+pub say-missing : (frame : List ℕ) → sayOf frame Missing ≡ SW 0x6700
+unfolding sayOf
+say-missing frame = refl
+
+pub say-surplus : (frame : List ℕ) → sayOf frame Surplus ≡ SW 0x6700
+unfolding sayOf
+say-surplus frame = refl

@@ -4,3 +4,6 @@ pub mod Fields
 pub mod LaidOut
 pub mod Ways
 pub mod Sound
+pub mod Frames
+pub mod Numbers
+pub mod Theorems

@@ -25,7 +25,7 @@ pub record LaidAs (p : List ℕ) (s : Case) (lc le : ℕ) : Type 0 where
   pub long : length content ≡ lc
   pub carried : canCarry s lc le ≡ true
 
-pub Laid : List ℕ → Lengths → Type 0
+unfoldable pub Laid : List ℕ → Lengths → Type 0
 Laid p (Found s lc le) = LaidAs p s lc le
 Laid p Missing = Unit {0}
 Laid p Surplus = Unit {0}

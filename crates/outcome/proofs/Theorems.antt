@@ -11,7 +11,7 @@ use Rattle.outcome.specs.declared.Refusal.{Refusal}
 use Rattle.outcome.specs.declared.Refusal.the-variants.{R1, R2, R3, R4, R5, R6, R7}
 use Rattle.outcome.proofs.Laws.{one-to-one}
 
-statusOf : ℕ → ApduStatusCode
+pub statusOf : ℕ → ApduStatusCode
 statusOf n =
     if eqb n 0x9000 then Success
     else if eqb n 0x6a80 then WrongData
@@ -22,7 +22,7 @@ statusOf n =
     else if eqb n 0x6e00 then ClaInvalid
     else InternalException
 
-status-back : (s : ApduStatusCode) → statusOf (statusNo s) ≡ s
+pub status-back : (s : ApduStatusCode) → statusOf (statusNo s) ≡ s
 unfolding statusOf
 status-back Success = refl
 status-back WrongData = refl
@@ -36,7 +36,7 @@ status-back InternalException = refl
 pub status-one-to-one : StatusOneToOne
 status-one-to-one = one-to-one statusNo statusOf status-back
 
-refusalOf : ℕ → Refusal
+pub refusalOf : ℕ → Refusal
 refusalOf n =
     if eqb n 1 then R1
     else if eqb n 2 then R2
@@ -46,7 +46,7 @@ refusalOf n =
     else if eqb n 6 then R6
     else R7
 
-refusal-back : (r : Refusal) → refusalOf (refusalNo r) ≡ r
+pub refusal-back : (r : Refusal) → refusalOf (refusalNo r) ≡ r
 unfolding refusalOf
 refusal-back R1 = refl
 refusal-back R2 = refl
