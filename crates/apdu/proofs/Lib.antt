@@ -5,5 +5,6 @@ pub mod LaidOut
 pub mod Ways
 pub mod Sound
 pub mod Frames
+pub mod IsoCases
 pub mod Numbers
 pub mod Theorems

@@ -1,7 +1,7 @@
 -- The claims of specs/Claims.antt, each under its own name.
 use Prim.Native.Nat.{ℕ, _+_, _<_, _≤_}
 use mathlib.Core.Path.{_≡_, refl, ap, ap₂, sym, subst, _∙_}
-use mathlib.Core.Bool.{Bool, true, false, not}
+use mathlib.Core.Bool.{Bool, true, false, not, true≢false}
 use mathlib.Core.List.{List, _++_}
 use native.Mathlib.Omega.{arith}
 use borrow.Author.Tests.{le-ltb, ltb-false, eq-eqb, ne-eqb, eqb-false}
@@ -15,10 +15,16 @@ use Rattle.octets.specs.Bytes.{laid, AreBytes}
 use Rattle.octets.proofs.Laid.{laid-fits}
 use Rattle.apdu.specs.Words.{Case, Apdu, Reading, Written, Says, shapeNo, saysOf, readingOf, writtenOf}
 use Rattle.apdu.specs.Table.{canCarry}
-use Rattle.apdu.specs.Reading.{readOf, strictOf, strictly, dataOf}
+use Rattle.apdu.specs.Reading.{readOf, lengthsOf, shortOf, extendedOf, afterData, sayOf, strictOf, strictly, dataOf}
+use Rattle.apdu.specs.Iso.{IsoCase, isCase, shapeFor, isTolerated}
+use Rattle.apdu.specs.declared.Lengths.the-variants.{Found}
 use Rattle.apdu.specs.Writing.{Parts, parts, frameOf, writeOf, bufferOf}
+use Rattle.apdu.specs.Examples
 use Rattle.apdu.specs.Claims
 use Rattle.apdu.specs.Claims.{InTable, apduOf}
+use Rattle.apdu.proofs.Cases
+use Rattle.apdu.proofs.Ways.{Way, way}
+use Rattle.apdu.proofs.IsoCases.{iso-read, iso-back, case-for}
 use Rattle.apdu.proofs.Frames.{saidBy, Answer, under, found, no-shape, answer, in-table, table-read, table-cut}
 use Rattle.apdu.proofs.Numbers.{shape-same, says-same, reading-same, written-same}
 
@@ -146,3 +152,59 @@ DataDetermined frame says a b = both-are a b
 pub WriteDetermined : Claims.WriteDetermined
 WriteDetermined w old a b p q =
     ap₂ (λ (r : Written) (l : List ℕ). (r, l)) (written-same (a .0) (b .0) (both-are _ _ (p .0) (q .0))) (both-are _ _ (p .1) (q .1))
+
+-- ---- ISO's seven cases
+pub IsoExactly : Claims.IsoExactly
+IsoExactly frame c long = (forth, λ t. back (readOf frame) (answer frame) (t .0) (t .1) (t .2) (t .3))
+  where
+    forth : isCase c (drop 4 frame) ≡ true → (said : Says) × (readOf frame ≡ Gives said) × (said .shape ≡ shapeNo (shapeFor c)) × (isTolerated (said .shape) (said .lc) ≡ false)
+    forth e =
+        let r = iso-read (drop 4 frame) c e in
+        (saidBy frame (shapeFor c) (r .lc) (r .le), Cases.read-by frame long ∙ ap (sayOf frame) (sym (r .is)) ∙ Cases.say-found frame (shapeFor c) (r .lc) (r .le), refl, r .iso)
+    of-shape : (s : Case) (lc le : ℕ) → shapeFor c ≡ s → Found s lc le ≡ lengthsOf (drop 4 frame) → isTolerated (shapeNo s) lc ≡ false → isCase c (drop 4 frame) ≡ true
+    of-shape s lc le same f t =
+        let w : Way (drop 4 frame) (Found (shapeFor c) lc le) = rw (same, f) (way (drop 4 frame)) in
+        iso-back (drop 4 frame) c lc le w (rw same t)
+    back : (o : Outcome Says) → Answer frame o → (said : Says) → o ≡ Gives said → said .shape ≡ shapeNo (shapeFor c) → isTolerated (said .shape) (said .lc) ≡ false → isCase c (drop 4 frame) ≡ true
+    back _ (under h) said e sh t = absurd (sw-gives _ _ e)
+    back _ (no-shape h) said e sh t = absurd (sw-gives _ _ e)
+    back _ (found l s lc le f) said e sh t =
+        let same : saidBy frame s lc le ≡ said = gives-same _ _ e in
+        of-shape s lc le (shape-same (shapeFor c) s (sym (ap (λ (x : Says). x .shape) same ∙ sh))) f (ap (λ (x : Says). isTolerated (x .shape) (x .lc)) same ∙ t)
+
+pub ToleratedExactly : Claims.ToleratedExactly
+ToleratedExactly frame said e = (forth, back (readOf frame) (answer frame) e)
+  where
+    long : 4 ≤ length frame
+    long = go (readOf frame) (answer frame) e
+      where
+        go : (o : Outcome Says) → Answer frame o → o ≡ Gives said → 4 ≤ length frame
+        go _ (under h) x = absurd (sw-gives _ _ x)
+        go _ (no-shape h) x = h
+        go _ (found l s lc le f) x = l
+    forth : isTolerated (said .shape) (said .lc) ≡ true → (c : IsoCase) → isCase c (drop 4 frame) ≡ false
+    forth t c = go (isCase c (drop 4 frame)) refl
+      where
+        go : (b : Bool) → isCase c (drop 4 frame) ≡ b → b ≡ false
+        go false x = refl
+        go true x =
+            let r = IsoExactly frame c long .0 x in
+            let same : r .0 ≡ said = gives-same _ _ (sym (r .1) ∙ e) in
+            absurd (true≢false (sym t ∙ ap (λ (y : Says). isTolerated (y .shape) (y .lc)) (sym same) ∙ r .3))
+    back : (o : Outcome Says) → Answer frame o → o ≡ Gives said → ((c : IsoCase) → isCase c (drop 4 frame) ≡ false) → isTolerated (said .shape) (said .lc) ≡ true
+    back _ (under h) x never = absurd (sw-gives _ _ x)
+    back _ (no-shape h) x never = absurd (sw-gives _ _ x)
+    back _ (found l s lc le f) x never = go (isTolerated (said .shape) (said .lc)) refl
+      where
+        go : (b : Bool) → isTolerated (said .shape) (said .lc) ≡ b → b ≡ true
+        go true t = refl
+        go false t =
+            let same : saidBy frame s lc le ≡ said = gives-same _ _ x in
+            let c = case-for s lc (ap (λ (y : Says). isTolerated (y .shape) (y .lc)) same ∙ t) in
+            let is = IsoExactly frame (c .0) long .1 (said, e, ap (λ (y : Says). y .shape) (sym same) ∙ ap shapeNo (sym (c .1)), t) in
+            absurd (true≢false (sym is ∙ never (c .0)))
+
+-- ---- the frames marked P
+pub ExamplesRead : Examples.ExamplesRead
+unfolding readOf sayOf lengthsOf shortOf extendedOf afterData
+ExamplesRead = refl

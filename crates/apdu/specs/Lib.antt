@@ -3,4 +3,5 @@ pub mod Table
 pub mod Reading
 pub mod Writing
 pub mod Iso
+pub mod Examples
 pub mod Claims
