@@ -62,10 +62,11 @@ pub in-table : (frame : List ℕ) → AreBytes frame → 4 ≤ length frame → 
     → (w : Parts) × InTable frame w × (saidBy frame s lc le ≡ saysOf (apduOf w))
 unfolding frameOf Laid
 in-table frame bytes long s lc le e =
-    let laid : LaidAs (drop 4 frame) s lc le = sound (drop 4 frame) (payload-bytes frame bytes) (subst (Way (drop 4 frame)) (sym e) (way (drop 4 frame))) in
-    (parts (headerOf frame) s (laid .content) le,
-        record { layout = four frame long ∙ ap (λ (p : List ℕ). headerBytes (headerOf frame) ++ p) (laid .is); carried = rw (laid .long) (laid .carried) },
-        ap (λ (n : ℕ). saidBy frame s n le) (sym (laid .long)))
+    let laid : LaidAs (drop 4 frame) s lc le = sound (drop 4 frame) (payload-bytes frame bytes) (subst (Way (drop 4 frame)) (sym e) (way (drop 4 frame))) in (
+      parts (headerOf frame) s (laid .content) le,
+      record { layout = four frame long ∙ ap (λ (p : List ℕ). headerBytes (headerOf frame) ++ p) (laid .is); carried = rw (laid .long) (laid .carried) },
+      ap (λ (n : ℕ). saidBy frame s n le) (sym (laid .long)),
+    )
 
 -- ---- in the table, so read, and cut as the table says
 pub table-read : (frame : List ℕ) (w : Parts) → InTable frame w → readOf frame ≡ Gives (saysOf (apduOf w))

@@ -39,9 +39,10 @@ module _ (p : List ℕ) (k : ℕ) where
   short-test e =
       let ab = and-1 (leb 1 (length p) && not (eqb (byte p 0) 0)) (eqb (length p) (k + byte p 0)) e in
       record {
-          some = leb-true 1 (length p) (and-1 (leb 1 (length p)) (not (eqb (byte p 0) 0)) ab);
-          not-zero = eqb-false (byte p 0) 0 (not-true (eqb (byte p 0) 0) (and-2 (leb 1 (length p)) (not (eqb (byte p 0) 0)) ab));
-          long = eqb-true (length p) (k + byte p 0) (and-2 (leb 1 (length p) && not (eqb (byte p 0) 0)) (eqb (length p) (k + byte p 0)) e) }
+        some = leb-true 1 (length p) (and-1 (leb 1 (length p)) (not (eqb (byte p 0) 0)) ab);
+        not-zero = eqb-false (byte p 0) 0 (not-true (eqb (byte p 0) 0) (and-2 (leb 1 (length p)) (not (eqb (byte p 0) 0)) ab));
+        long = eqb-true (length p) (k + byte p 0) (and-2 (leb 1 (length p) && not (eqb (byte p 0) 0)) (eqb (length p) (k + byte p 0)) e);
+      }
 
   short-holds : Short p k → leb 1 (length p) && not (eqb (byte p 0) 0) && eqb (length p) (k + byte p 0) ≡ true
   short-holds s = rw (le-leb 1 (length p) (s .some), ne-eqb (byte p 0) 0 (s .not-zero), eq-eqb (length p) (k + byte p 0) (s .long))
@@ -55,10 +56,11 @@ module _ (p : List ℕ) (k : ℕ) where
       let abc = and-1 (a && b && c) d e in
       let ab = and-1 (a && b) c abc in
       record {
-          some = leb-true 3 (length p) (and-1 a b ab);
-          marker = eqb-true (byte p 0) 0 (and-2 a b ab);
-          not-zero = eqb-false (pairAt p 1) 0 (not-true (eqb (pairAt p 1) 0) (and-2 (a && b) c abc));
-          long = eqb-true (length p) (k + pairAt p 1) (and-2 (a && b && c) d e) }
+        some = leb-true 3 (length p) (and-1 a b ab);
+        marker = eqb-true (byte p 0) 0 (and-2 a b ab);
+        not-zero = eqb-false (pairAt p 1) 0 (not-true (eqb (pairAt p 1) 0) (and-2 (a && b) c abc));
+        long = eqb-true (length p) (k + pairAt p 1) (and-2 (a && b && c) d e);
+      }
 
   extended-holds : Extended p k → leb 3 (length p) && eqb (byte p 0) 0 && not (eqb (pairAt p 1) 0) && eqb (length p) (k + pairAt p 1) ≡ true
   extended-holds s =
@@ -74,37 +76,52 @@ pub record ReadIn (p : List ℕ) (c : IsoCase) : Type 0 where
 module _ (p : List ℕ) where
   two-e : byte p 0 ≡ 0 → length p ≡ 3 → ReadIn p Case2E
   two-e z e =
-      record { lc = 0; le = leRead 3 (pairAt p 1);
-          is = Cases.lengths-extended p _ (omega arith) (omega arith) z (Cases.extended-le3 p (pairAt p 1) refl _ e refl);
-          iso = refl }
+      record {
+        lc = 0;
+        le = leRead 3 (pairAt p 1);
+        is = Cases.lengths-extended p _ (omega arith) (omega arith) z (Cases.extended-le3 p (pairAt p 1) refl _ e refl);
+        iso = refl;
+      }
 
   three-s : Short p 1 → ReadIn p Case3S
   three-s s =
-      record { lc = byte p 0; le = 0;
-          is = Cases.lengths-short p _ (omega arith) (omega (arith, s .not-zero)) (s .not-zero) (Cases.short-data p (byte p 0) (byte p 0) refl refl (s .long));
-          iso = refl }
+      record {
+        lc = byte p 0;
+        le = 0;
+        is = Cases.lengths-short p _ (omega arith) (omega (arith, s .not-zero)) (s .not-zero) (Cases.short-data p (byte p 0) (byte p 0) refl refl (s .long));
+        iso = refl;
+      }
 
   four-s : Short p 2 → ReadIn p Case4S
   four-s s =
-      record { lc = byte p 0; le = leRead 1 (byte p (1 + byte p 0));
-          is = Cases.lengths-short p _ (omega arith) (omega arith) (s .not-zero) (Cases.short-le p (byte p 0) (byte p 0) refl refl _ (s .long) refl);
-          iso = refl }
+      record {
+        lc = byte p 0;
+        le = leRead 1 (byte p (1 + byte p 0));
+        is = Cases.lengths-short p _ (omega arith) (omega arith) (s .not-zero) (Cases.short-le p (byte p 0) (byte p 0) refl refl _ (s .long) refl);
+        iso = refl;
+      }
 
   three-e : Extended p 3 → ReadIn p Case3E
   three-e s =
-      record { lc = pairAt p 1; le = 0;
-          is = Cases.lengths-extended p _ (omega arith) (omega arith) (s .marker)
-              (Cases.extended-after p (pairAt p 1) refl _ (omega arith) (omega (arith, s .not-zero)) (Cases.after-plain p (pairAt p 1) (s .long)));
-          iso = refl }
+      record {
+        lc = pairAt p 1;
+        le = 0;
+        is = Cases.lengths-extended p _ (omega arith) (omega arith) (s .marker)
+            (Cases.extended-after p (pairAt p 1) refl _ (omega arith) (omega (arith, s .not-zero)) (Cases.after-plain p (pairAt p 1) (s .long)));
+        iso = refl;
+      }
 
   four-e : Extended p 5 → ReadIn p Case4E
   four-e s =
       let next : 4 + pairAt p 1 ≡ 3 + pairAt p 1 + 1 = omega arith in
-      record { lc = pairAt p 1; le = leRead 2 (pairAt p (3 + pairAt p 1));
-          is = Cases.lengths-extended p _ (omega arith) (omega arith) (s .marker)
-              (Cases.extended-after p (pairAt p 1) refl _ (omega arith) (omega arith)
-              (Cases.after-le2 p (pairAt p 1) _ (pairAt p (3 + pairAt p 1)) (s .long) (rw next) refl));
-          iso = rw (ne-eqb (pairAt p 1) 0 (s .not-zero)) }
+      record {
+        lc = pairAt p 1;
+        le = leRead 2 (pairAt p (3 + pairAt p 1));
+        is = Cases.lengths-extended p _ (omega arith) (omega arith) (s .marker)
+            (Cases.extended-after p (pairAt p 1) refl _ (omega arith) (omega arith)
+            (Cases.after-le2 p (pairAt p 1) _ (pairAt p (3 + pairAt p 1)) (s .long) (rw next) refl));
+        iso = rw (ne-eqb (pairAt p 1) 0 (s .not-zero));
+      }
 
   pub iso-read : (c : IsoCase) → isCase c p ≡ true → ReadIn p c
   iso-read Case1 e = record { lc = 0; le = 0; is = Cases.lengths-none p (eqb-true (length p) 0 e); iso = refl }

@@ -67,12 +67,13 @@ laid-as p s lc le fits front back k =
     let content = take lc (drop (lcField s) p) in
     let long : length content ≡ lc = length-take lc (drop (lcField s) p) ∙ rw length-drop (omega arith) in
     let cut : p ≡ take (lcField s) p ++ (content ++ drop lc (drop (lcField s) p)) =
-        sym (take-append-drop (lcField s) p) ∙ ap (λ (l : List ℕ). take (lcField s) p ++ l) (sym (take-append-drop lc (drop (lcField s) p))) in
+    sym (take-append-drop (lcField s) p) ∙ ap (λ (l : List ℕ). take (lcField s) p ++ l) (sym (take-append-drop lc (drop (lcField s) p))) in
     record {
-        content = content;
-        is = cut ∙ ap₂ (λ (f b : List ℕ). f ++ (content ++ b)) (front ∙ ap (lcBytes s) (sym long)) back;
-        long = long;
-        carried = carry s lc le k }
+      content = content;
+      is = cut ∙ ap₂ (λ (f b : List ℕ). f ++ (content ++ b)) (front ∙ ap (lcBytes s) (sym long)) back;
+      long = long;
+      carried = carry s lc le k;
+    }
 
 -- ---- an Le that was read
 record LeIs (long m b : ℕ) : Type 0 where

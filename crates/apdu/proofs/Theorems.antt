@@ -48,6 +48,7 @@ ShortExactly frame = (λ e. go (readOf frame) (answer frame) e, λ h. back (read
     go _ (under h) e = h
     go _ (no-shape h) e = absurd (omega (arith, sw-same _ _ e))
     go _ (found long s lc le f) e = absurd (sw-gives _ _ (sym e))
+
     back : (o : Outcome Says) → Answer frame o → length frame < 4 → o ≡ SW 0x6a80
     back _ (under h) g = refl
     back _ (no-shape h) g = absurd (omega arith)
@@ -61,6 +62,7 @@ NoShapeExactly frame bytes =
     go _ (under h) e = absurd (omega (arith, sw-same _ _ e))
     go _ (no-shape h) e = h
     go _ (found long s lc le f) e = long
+
     back : (o : Outcome Says) → Answer frame o → (4 ≤ length frame) × ((w : Parts) → InTable frame w → ⊥) → o ≡ SW 0x6700
     back _ (under h) g = absurd (omega arith)
     back _ (no-shape h) g = refl
@@ -82,6 +84,7 @@ StrictExactly frame said = (λ e. go (readOf frame) e, λ h. ap strictly (h .0) 
     six : (s : Says) (b : Bool) → eqb (s .shape) 6 ≡ b → (if b then SW 0x6700 else Gives s) ≡ Gives said → (Gives s ≡ Gives said) × (said .shape ≡ 6 → ⊥)
     six s true t e = absurd (sw-gives _ _ e)
     six s false t e = (e, λ z. eqb-false (s .shape) 6 t (ap (λ (x : Says). x .shape) (gives-same _ _ e) ∙ z))
+
     go : (o : Outcome Says) → strictly o ≡ Gives said → (o ≡ Gives said) × (said .shape ≡ 6 → ⊥)
     go (R n) e = absurd (r-gives _ _ e)
     go (SW n) e = absurd (sw-gives _ _ e)
@@ -161,10 +164,12 @@ IsoExactly frame c long = (forth, λ t. back (readOf frame) (answer frame) (t .0
     forth e =
         let r = iso-read (drop 4 frame) c e in
         (saidBy frame (shapeFor c) (r .lc) (r .le), Cases.read-by frame long ∙ ap (sayOf frame) (sym (r .is)) ∙ Cases.say-found frame (shapeFor c) (r .lc) (r .le), refl, r .iso)
+
     of-shape : (s : Case) (lc le : ℕ) → shapeFor c ≡ s → Found s lc le ≡ lengthsOf (drop 4 frame) → isTolerated (shapeNo s) lc ≡ false → isCase c (drop 4 frame) ≡ true
     of-shape s lc le same f t =
         let w : Way (drop 4 frame) (Found (shapeFor c) lc le) = rw (same, f) (way (drop 4 frame)) in
         iso-back (drop 4 frame) c lc le w (rw same t)
+
     back : (o : Outcome Says) → Answer frame o → (said : Says) → o ≡ Gives said → said .shape ≡ shapeNo (shapeFor c) → isTolerated (said .shape) (said .lc) ≡ false → isCase c (drop 4 frame) ≡ true
     back _ (under h) said e sh t = absurd (sw-gives _ _ e)
     back _ (no-shape h) said e sh t = absurd (sw-gives _ _ e)
@@ -182,6 +187,7 @@ ToleratedExactly frame said e = (forth, back (readOf frame) (answer frame) e)
         go _ (under h) x = absurd (sw-gives _ _ x)
         go _ (no-shape h) x = h
         go _ (found l s lc le f) x = l
+
     forth : isTolerated (said .shape) (said .lc) ≡ true → (c : IsoCase) → isCase c (drop 4 frame) ≡ false
     forth t c = go (isCase c (drop 4 frame)) refl
       where
@@ -191,6 +197,7 @@ ToleratedExactly frame said e = (forth, back (readOf frame) (answer frame) e)
             let r = IsoExactly frame c long .0 x in
             let same : r .0 ≡ said = gives-same _ _ (sym (r .1) ∙ e) in
             absurd (true≢false (sym t ∙ ap (λ (y : Says). isTolerated (y .shape) (y .lc)) (sym same) ∙ r .3))
+
     back : (o : Outcome Says) → Answer frame o → o ≡ Gives said → ((c : IsoCase) → isCase c (drop 4 frame) ≡ false) → isTolerated (said .shape) (said .lc) ≡ true
     back _ (under h) x never = absurd (sw-gives _ _ x)
     back _ (no-shape h) x never = absurd (sw-gives _ _ x)

@@ -33,6 +33,7 @@ module _ (p : List ℕ) where
     where
       b : ℕ
       b = byte p 0
+
       go : Dec (length p < 1 + byte p 0) → Dec (length p ≡ 1 + byte p 0) → Dec (length p ≡ 2 + byte p 0) → Way p (shortOf p)
       go (yes h) e1 e2 = subst (Way p) (Cases.short-missing p (byte p 0) (byte p 0) refl refl h) missing
       go (no h) (yes e) e2 = subst (Way p) (Cases.short-data p (byte p 0) (byte p 0) refl refl e) (short nz e)

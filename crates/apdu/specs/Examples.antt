@@ -23,19 +23,19 @@ payload bytes answer = record { frame = withPayload bytes; answer = answer }
 
 abbrev pub examples : List Example
 examples =
-    payload [] (shape 1 0 0) -- P empty: shape 1
-    ∷ payload (0x00 ∷ []) (shape 2 0 256) -- P `00`: Le 256
-    ∷ payload (0x01 ∷ []) (shape 2 0 1) -- P `01`: Le 1
-    ∷ payload (0x00 ∷ 0x01 ∷ []) (SW 0x6700) -- P `00 01`: 6700
-    ∷ payload (0x01 ∷ 0xAA ∷ []) (shape 3 1 0) -- P `01 AA`: shape 3
-    ∷ payload (0x01 ∷ 0xAA ∷ 0x00 ∷ []) (shape 4 1 256) -- P `01 AA 00`: shape 4, Le 256
-    ∷ payload (0x02 ∷ 0xAA ∷ []) (SW 0x6700) -- P `02 AA`: 6700
-    ∷ payload (0x00 ∷ 0x00 ∷ 0x00 ∷ []) (shape 8 0 65536) -- P `00 00 00`: shape 8, Le 65536
-    ∷ payload (0x00 ∷ 0x00 ∷ 0x00 ∷ 0x05 ∷ []) (shape 6 0 5) -- P `00 00 00 05`: shape 6, Lc 0, Le 5
-    ∷ payload (0x00 ∷ 0x00 ∷ 0x01 ∷ 0xAA ∷ []) (shape 5 1 0) -- P `00 00 01 AA`: shape 5
-    ∷ payload (0x00 ∷ 0x00 ∷ 0x01 ∷ 0xAA ∷ 0x00 ∷ 0x00 ∷ []) (shape 7 1 65536) -- P `00 00 01 AA 00 00`: shape 7, Le 65536
-    ∷ payload (0x00 ∷ 0x00 ∷ 0x01 ∷ 0xAA ∷ 0x00 ∷ 0x00 ∷ 0x00 ∷ []) (SW 0x6700) -- P `00 00 01 AA 00 00 00`: 6700
-    ∷ record { frame = 0x00 ∷ 0x03 ∷ 0x00 ∷ []; answer = SW 0x6a80 } -- P three-byte frame: 6a80
+    payload [] (shape 1 0 0)  -- P empty: shape 1
+    ∷ payload (0x00 ∷ []) (shape 2 0 256)  -- P `00`: Le 256
+    ∷ payload (0x01 ∷ []) (shape 2 0 1)  -- P `01`: Le 1
+    ∷ payload (0x00 ∷ 0x01 ∷ []) (SW 0x6700)  -- P `00 01`: 6700
+    ∷ payload (0x01 ∷ 0xAA ∷ []) (shape 3 1 0)  -- P `01 AA`: shape 3
+    ∷ payload (0x01 ∷ 0xAA ∷ 0x00 ∷ []) (shape 4 1 256)  -- P `01 AA 00`: shape 4, Le 256
+    ∷ payload (0x02 ∷ 0xAA ∷ []) (SW 0x6700)  -- P `02 AA`: 6700
+    ∷ payload (0x00 ∷ 0x00 ∷ 0x00 ∷ []) (shape 8 0 65536)  -- P `00 00 00`: shape 8, Le 65536
+    ∷ payload (0x00 ∷ 0x00 ∷ 0x00 ∷ 0x05 ∷ []) (shape 6 0 5)  -- P `00 00 00 05`: shape 6, Lc 0, Le 5
+    ∷ payload (0x00 ∷ 0x00 ∷ 0x01 ∷ 0xAA ∷ []) (shape 5 1 0)  -- P `00 00 01 AA`: shape 5
+    ∷ payload (0x00 ∷ 0x00 ∷ 0x01 ∷ 0xAA ∷ 0x00 ∷ 0x00 ∷ []) (shape 7 1 65536)  -- P `00 00 01 AA 00 00`: shape 7, Le 65536
+    ∷ payload (0x00 ∷ 0x00 ∷ 0x01 ∷ 0xAA ∷ 0x00 ∷ 0x00 ∷ 0x00 ∷ []) (SW 0x6700)  -- P `00 00 01 AA 00 00 00`: 6700
+    ∷ record { frame = 0x00 ∷ 0x03 ∷ 0x00 ∷ []; answer = SW 0x6a80 }  -- P three-byte frame: 6a80
     ∷ []
 
 -- Each frame of the list is read as the list says.

@@ -13,13 +13,13 @@ pub data IsoCase : Type 0 where
 
 -- the column "the body". A length test stands before each byte that is looked at
 abbrev pub isCase : IsoCase → List ℕ → Bool
-isCase Case1 b = eqb (length b) 0 -- 1 | L = 0
-isCase Case2S b = eqb (length b) 1 -- 2S | L = 1
-isCase Case3S b = leb 1 (length b) && not (eqb (byte b 0) 0) && eqb (length b) (1 + byte b 0) -- 3S | B1 not 0, L = 1 + B1
-isCase Case4S b = leb 1 (length b) && not (eqb (byte b 0) 0) && eqb (length b) (2 + byte b 0) -- 4S | B1 not 0, L = 2 + B1
-isCase Case2E b = leb 1 (length b) && eqb (byte b 0) 0 && eqb (length b) 3 -- 2E | B1 = 00, L = 3
-isCase Case3E b = leb 3 (length b) && eqb (byte b 0) 0 && not (eqb (pairAt b 1) 0) && eqb (length b) (3 + pairAt b 1) -- 3E | B1 = 00, B2B3 not 0, L = 3 + B2B3
-isCase Case4E b = leb 3 (length b) && eqb (byte b 0) 0 && not (eqb (pairAt b 1) 0) && eqb (length b) (5 + pairAt b 1) -- 4E | B1 = 00, B2B3 not 0, L = 5 + B2B3
+isCase Case1 b = eqb (length b) 0  -- 1 | L = 0
+isCase Case2S b = eqb (length b) 1  -- 2S | L = 1
+isCase Case3S b = leb 1 (length b) && not (eqb (byte b 0) 0) && eqb (length b) (1 + byte b 0)  -- 3S | B1 not 0, L = 1 + B1
+isCase Case4S b = leb 1 (length b) && not (eqb (byte b 0) 0) && eqb (length b) (2 + byte b 0)  -- 4S | B1 not 0, L = 2 + B1
+isCase Case2E b = leb 1 (length b) && eqb (byte b 0) 0 && eqb (length b) 3  -- 2E | B1 = 00, L = 3
+isCase Case3E b = leb 3 (length b) && eqb (byte b 0) 0 && not (eqb (pairAt b 1) 0) && eqb (length b) (3 + pairAt b 1)  -- 3E | B1 = 00, B2B3 not 0, L = 3 + B2B3
+isCase Case4E b = leb 3 (length b) && eqb (byte b 0) 0 && not (eqb (pairAt b 1) 0) && eqb (length b) (5 + pairAt b 1)  -- 4E | B1 = 00, B2B3 not 0, L = 5 + B2B3
 
 -- which of document 01's shapes each case is
 abbrev pub shapeFor : IsoCase → Case
