@@ -10,7 +10,8 @@ use Rattle.outcome.specs.declared.ApduStatusCode.{ApduStatusCode}
 use Rattle.outcome.specs.Outcome.{SW, Gives, statusNo}
 use Rattle.octets.proofs.Tails.{tail-is}
 use Rattle.octets.specs.Bytes.{byte, pairAt, partOf}
-use Rattle.apdu.specs.Words.{Case, Instruction, Le1, Lc1Data, Lc1DataLe1, Lc3Data, Lc3DataLe1, Lc3DataLe2, Le3, Apdu, Place, shapeNo, saysOf, readingOf}
+use Rattle.apdu.specs.Words.{Case, Instruction, Le1, Lc1Data, Lc1DataLe1, Lc3Data, Lc3DataLe1, Lc3DataLe2, Le3, shapeNo}
+use Rattle.apdu.specs.Answers.{Apdu, Place, Says, saysOf, readingOf}
 use Rattle.apdu.specs.Table.{lcField, leRead, leMost, leLeast, byLength}
 use Rattle.apdu.specs.Reading.{shortOf, afterData, extendedOf, lengthsOf, headerOf, sayOf, readOf, strictly, strictOf, placeOf, dataOf}
 use Rattle.apdu.specs.declared.Lengths.{Lengths}
@@ -121,7 +122,7 @@ module _ (frame : List ℕ) (l : Lengths) (long : 4 ≤ length frame) (is-l : l 
   unfolding readOf
   by-lengths = rw (le-ltb (length frame) 4 long, is-l, tail-is frame 4)
 
-  pub read-found : (s : Case) (lc le : ℕ) → l ≡ Found s lc le → Gives (record { header = headerOf frame; shape = shapeNo s; lc = lc; le = le }) ≡ readOf frame
+  pub read-found : (s : Case) (lc le : ℕ) → l ≡ Found s lc le → Gives (record { header = headerOf frame; shape = shapeNo s; dataAt = 4 + lcField s; lc = lc; le = le }) ≡ readOf frame
   unfolding sayOf
   read-found s lc le e = ap (sayOf frame) (sym e) ∙ by-lengths
 
@@ -151,18 +152,18 @@ module _ (frame : List ℕ) (r : Reading) (is-r : readingOf r ≡ readOf frame) 
   unfolding strictly
   strict-status s it-is = sym (sym strict-as ∙ rw it-is)
 
-pub place-is : (says : Apdu) (long : ℕ) → long ≡ lcField (says .shape) → record { start = 4 + long; end = 4 + long + says .lc } ≡ placeOf says
+pub place-is : (says : Apdu) (long : ℕ) → long ≡ lcField (says .shape) → record { start = 4 + long; end = 4 + long + says .lc } ≡ placeOf (saysOf says)
 place-is says long e = rw e
 
-pub data-is : (frame : List ℕ) (says : Apdu) (at : Place) (part : List ℕ) → at ≡ placeOf says → part ≡ partOf frame (at .start) (at .end) → part ≡ dataOf frame says
+pub data-is : (frame : List ℕ) (said : Says) (at : Place) (part : List ℕ) → at ≡ placeOf said → part ≡ partOf frame (at .start) (at .end) → part ≡ dataOf frame said
 unfolding dataOf
-data-is frame says at part e f = f ∙ rw e
+data-is frame said at part e f = f ∙ rw e
 
 pub read-by : (frame : List ℕ) → 4 ≤ length frame → readOf frame ≡ sayOf frame (lengthsOf (drop 4 frame))
 unfolding readOf
 read-by frame long = rw (le-ltb (length frame) 4 long)
 
-pub say-found : (frame : List ℕ) (s : Case) (lc le : ℕ) → sayOf frame (Found s lc le) ≡ Gives (record { header = headerOf frame; shape = shapeNo s; lc = lc; le = le })
+pub say-found : (frame : List ℕ) (s : Case) (lc le : ℕ) → sayOf frame (Found s lc le) ≡ Gives (record { header = headerOf frame; shape = shapeNo s; dataAt = 4 + lcField s; lc = lc; le = le })
 unfolding sayOf
 say-found frame s lc le = refl
 

@@ -11,11 +11,12 @@ use lib.Seq.{drop-drop, drop-at, take-at, getD-drop}
 use Rattle.outcome.specs.Outcome.{Outcome, SW, Gives}
 use Rattle.octets.specs.Bytes.{byte, AreBytes, partOf}
 use Rattle.octets.proofs.Parts.{part-within}
-use Rattle.apdu.specs.Words.{Case, Apdu, Says, shapeNo, saysOf}
+use Rattle.apdu.specs.Words.{Case, shapeNo}
+use Rattle.apdu.specs.Answers.{Says}
 use Rattle.apdu.specs.Table.{lcField, leField, canCarry, lcBytes, leBytes}
 use Rattle.apdu.specs.Reading.{readOf, lengthsOf, headerOf, sayOf, dataOf}
 use Rattle.apdu.specs.Writing.{Parts, parts, headerBytes, payloadOf, frameOf}
-use Rattle.apdu.specs.Claims.{InTable, apduOf}
+use Rattle.apdu.specs.Claims.{InTable, said}
 use Rattle.apdu.specs.declared.Lengths.{Lengths}
 use Rattle.apdu.specs.declared.Lengths.the-variants.{Found, Missing, Surplus}
 use Rattle.apdu.proofs.Cases
@@ -26,7 +27,7 @@ use Rattle.apdu.proofs.Sound.{Laid, LaidAs, sound}
 
 -- what a frame says, as its payload's row says it
 abbrev pub saidBy : List ℕ → Case → ℕ → ℕ → Says
-saidBy frame s lc le = record { header = headerOf frame; shape = shapeNo s; lc = lc; le = le }
+saidBy frame s lc le = record { header = headerOf frame; shape = shapeNo s; dataAt = 4 + lcField s; lc = lc; le = le }
 
 -- the three answers, each with what it shows
 pub data Answer (frame : List ℕ) : Outcome Says → Type 0 where
@@ -59,7 +60,7 @@ payload-bytes frame bytes i = rw getD-drop (bytes (4 + i))
 
 -- ---- read, so in the table
 pub in-table : (frame : List ℕ) → AreBytes frame → 4 ≤ length frame → (s : Case) (lc le : ℕ) → Found s lc le ≡ lengthsOf (drop 4 frame)
-    → (w : Parts) × InTable frame w × (saidBy frame s lc le ≡ saysOf (apduOf w))
+    → (w : Parts) × InTable frame w × (saidBy frame s lc le ≡ said w)
 unfolding frameOf Laid
 in-table frame bytes long s lc le e =
     let laid : LaidAs (drop 4 frame) s lc le = sound (drop 4 frame) (payload-bytes frame bytes) (subst (Way (drop 4 frame)) (sym e) (way (drop 4 frame))) in (
@@ -69,14 +70,14 @@ in-table frame bytes long s lc le e =
     )
 
 -- ---- in the table, so read, and cut as the table says
-pub table-read : (frame : List ℕ) (w : Parts) → InTable frame w → readOf frame ≡ Gives (saysOf (apduOf w))
+pub table-read : (frame : List ℕ) (w : Parts) → InTable frame w → readOf frame ≡ Gives (said w)
 unfolding frameOf
 table-read frame w t =
     let row = row-read (w .shape) (w .content) (w .le) (carried (w .shape) (length (w .content)) (w .le) (t .carried)) in
     ap readOf (t .layout) ∙ Cases.read-by (frameOf w) (omega (arith, frame-long (w .header) (w .shape) (w .content) (w .le)))
     ∙ ap (sayOf (frameOf w)) (sym row) ∙ Cases.say-found (frameOf w) (w .shape) (length (w .content)) (w .le)
 
-pub table-cut : (frame : List ℕ) (w : Parts) → InTable frame w → dataOf frame (apduOf w) ≡ w .content
+pub table-cut : (frame : List ℕ) (w : Parts) → InTable frame w → dataOf frame (said w) ≡ w .content
 unfolding dataOf frameOf payloadOf
 table-cut frame w t =
     let n = length (w .content) in

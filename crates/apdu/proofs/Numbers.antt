@@ -7,7 +7,8 @@ use Rattle.outcome.specs.Outcome.{Outcome, R, SW, Gives}
 use Rattle.outcome.specs.declared.ApduStatusCode.the-variants.{Success}
 use Rattle.outcome.proofs.Laws.{one-to-one}
 use Rattle.outcome.proofs.Theorems.{statusOf, status-back, refusalOf, refusal-back}
-use Rattle.apdu.specs.Words.{Case, Instruction, Le1, Lc1Data, Lc1DataLe1, Lc3Data, Lc3DataLe1, Lc3DataLe2, Le3, Apdu, Says, Reading, Written, shapeNo, saysOf, readingOf, writtenOf}
+use Rattle.apdu.specs.Words.{Case, Instruction, Le1, Lc1Data, Lc1DataLe1, Lc3Data, Lc3DataLe1, Lc3DataLe2, Le3, shapeNo}
+use Rattle.apdu.specs.Answers.{Apdu, Says, Reading, Written, saysOf, readingOf, writtenOf}
 use Rattle.apdu.specs.declared.Reading.the-variants.{Frame, Status}
 use Rattle.apdu.specs.declared.Written.the-variants
 

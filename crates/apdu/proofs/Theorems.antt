@@ -13,7 +13,8 @@ use Rattle.outcome.specs.Outcome.{Outcome, R, SW, Gives}
 use Rattle.outcome.proofs.Laws.{sw-same, gives-same, sw-gives, r-gives, both-are}
 use Rattle.octets.specs.Bytes.{laid, AreBytes}
 use Rattle.octets.proofs.Laid.{laid-fits}
-use Rattle.apdu.specs.Words.{Case, Apdu, Reading, Written, Says, shapeNo, saysOf, readingOf, writtenOf}
+use Rattle.apdu.specs.Words.{Case, shapeNo}
+use Rattle.apdu.specs.Answers.{Apdu, Reading, Written, Says, saysOf, readingOf, writtenOf}
 use Rattle.apdu.specs.Table.{canCarry}
 use Rattle.apdu.specs.Reading.{readOf, lengthsOf, shortOf, extendedOf, afterData, sayOf, strictOf, strictly, dataOf}
 use Rattle.apdu.specs.Iso.{IsoCase, isCase, shapeFor, isTolerated}
@@ -21,7 +22,7 @@ use Rattle.apdu.specs.declared.Lengths.the-variants.{Found}
 use Rattle.apdu.specs.Writing.{Parts, parts, frameOf, writeOf, bufferOf}
 use Rattle.apdu.specs.Examples
 use Rattle.apdu.specs.Claims
-use Rattle.apdu.specs.Claims.{InTable, apduOf}
+use Rattle.apdu.specs.Claims.{InTable, said}
 use Rattle.apdu.proofs.Cases
 use Rattle.apdu.proofs.Ways.{Way, way}
 use Rattle.apdu.proofs.IsoCases.{iso-read, iso-back, case-for}
@@ -29,9 +30,9 @@ use Rattle.apdu.proofs.Frames.{saidBy, Answer, under, found, no-shape, 
 use Rattle.apdu.proofs.Numbers.{shape-same, says-same, reading-same, written-same}
 
 pub ReadExactly : Claims.ReadExactly
-ReadExactly frame bytes said = (λ e. go (readOf frame) (answer frame) e, λ t. table-read frame (t .0) (t .1) ∙ ap Gives (sym (t .2)))
+ReadExactly frame bytes says = (λ e. go (readOf frame) (answer frame) e, λ t. table-read frame (t .0) (t .1) ∙ ap Gives (sym (t .2)))
   where
-    go : (o : Outcome Says) → Answer frame o → o ≡ Gives said → (w : Parts) × InTable frame w × (said ≡ saysOf (apduOf w))
+    go : (o : Outcome Says) → Answer frame o → o ≡ Gives says → (w : Parts) × InTable frame w × (says ≡ said w)
     go _ (under h) e = absurd (sw-gives _ _ e)
     go _ (no-shape h) e = absurd (sw-gives _ _ e)
     go _ (found long s lc le f) e =
@@ -69,13 +70,16 @@ NoShapeExactly frame bytes =
     back _ (found long s lc le f) g = let t = in-table frame bytes long s lc le f in absurd (g .1 (t .0) (t .1))
 
 -- the parts are what was said and the data
+abbrev apduOf : Parts → Apdu
+apduOf w = record { header = w .header; shape = w .shape; lc = length (w .content); le = w .le }
+
 parts-of : (v w : Parts) → apduOf v ≡ apduOf w → v .content ≡ w .content → v ≡ w
 parts-of v w a c = ap₂ (λ (x : Apdu) (l : List ℕ). parts (x .header) (x .shape) l (x .le)) a c
 
 pub AtMostOneShape : Claims.AtMostOneShape
 AtMostOneShape frame v w s t =
-    let said = says-same (apduOf v) (apduOf w) (gives-same _ _ (sym (table-read frame v s) ∙ table-read frame w t)) in
-    parts-of v w said (sym (table-cut frame v s) ∙ ap (dataOf frame) said ∙ table-cut frame w t)
+    let same = gives-same _ _ (sym (table-read frame v s) ∙ table-read frame w t) in
+    parts-of v w (says-same (apduOf v) (apduOf w) same) (sym (table-cut frame v s) ∙ ap (dataOf frame) same ∙ table-cut frame w t)
 
 pub StrictExactly : Claims.StrictExactly
 unfolding strictOf strictly
@@ -110,8 +114,8 @@ pub ReadThenWritten : Claims.ReadThenWritten
 ReadThenWritten frame old a bytes e room =
     let t = ReadExactly frame bytes (saysOf a) .0 e in
     let same : a ≡ apduOf (t .0) = says-same a (apduOf (t .0)) (t .2) in
-    let cut : dataOf frame a ≡ t .0 .content = ap (dataOf frame) same ∙ table-cut frame (t .0) (t .1) in
-    let it-is : parts (a .header) (a .shape) (dataOf frame a) (a .le) ≡ t .0 = ap₂ (λ (x : Apdu) (l : List ℕ). parts (x .header) (x .shape) l (x .le)) same cut in
+    let cut : dataOf frame (saysOf a) ≡ t .0 .content = ap (dataOf frame) (t .2) ∙ table-cut frame (t .0) (t .1) in
+    let it-is : parts (a .header) (a .shape) (dataOf frame (saysOf a)) (a .le) ≡ t .0 = ap₂ (λ (x : Apdu) (l : List ℕ). parts (x .header) (x .shape) l (x .le)) same cut in
     again frame old _ (t .0) it-is (t .1) room
 
 accepted : (w : Parts) (room n : ℕ) → writeOf w room ≡ Gives n → (canCarry (w .shape) (length (w .content)) (w .le) ≡ true) × (length (frameOf w) ≤ room) × (n ≡ length (frameOf w))

@@ -9,7 +9,8 @@ use lib.ListN.{length, take, drop}
 use Rattle.outcome.specs.Notation.{AtMostOne}
 use Rattle.outcome.specs.Outcome.{Outcome, SW, Gives}
 use Rattle.octets.specs.Bytes.{AreBytes}
-use Rattle.apdu.specs.Words.{Case, Apdu, Place, Reading, Written, Says, shapeNo, saysOf, readingOf, writtenOf}
+use Rattle.apdu.specs.Words.{Case, shapeNo}
+use Rattle.apdu.specs.Answers.{Apdu, Place, Reading, Written, Says, saysOf, readingOf, writtenOf}
 use Rattle.apdu.specs.Table.{canCarry}
 use Rattle.apdu.specs.Reading.{readOf, strictOf, placeOf, dataOf}
 use Rattle.apdu.specs.Writing.{Parts, parts, frameOf, writeOf, bufferOf}
@@ -20,9 +21,9 @@ pub record InTable (frame : List ℕ) (w : Parts) : Type 0 where
   pub layout : frame ≡ frameOf w
   pub carried : canCarry (w .shape) (length (w .content)) (w .le) ≡ true
 
--- what parts say once they are a frame: Lc is the data's length
-abbrev pub apduOf : Parts → Apdu
-apduOf w = record { header = w .header; shape = w .shape; lc = length (w .content); le = w .le }
+-- what a frame of these parts says: Lc is the data's length
+abbrev pub said : Parts → Says
+said w = saysOf (record { header = w .header; shape = w .shape; lc = length (w .content); le = w .le })
 
 -- ---- reading is the table
 
@@ -31,12 +32,12 @@ apduOf w = record { header = w .header; shape = w .shape; lc = length (w .conten
 -- Instruction, one that reads `00 00 00` as Lc 0, or Le 0 as 0. Bites at 00 03 00 00 | 00 00 00.
 abbrev pub ReadExactly : Type 0
 ReadExactly =
-    (frame : List ℕ) → AreBytes frame → (said : Says)
-    → (readOf frame ≡ Gives said) ↔ ((w : Parts) × InTable frame w × (said ≡ saysOf (apduOf w)))
+    (frame : List ℕ) → AreBytes frame → (says : Says)
+    → (readOf frame ≡ Gives says) ↔ ((w : Parts) × InTable frame w × (says ≡ said w))
 
 -- The data handed out is the entry's data. Rejects a reader that is one byte off. Bites at 00 03 00 00 | 01 AA 00.
 abbrev pub DataExactly : Type 0
-DataExactly = (frame : List ℕ) (w : Parts) → InTable frame w → dataOf frame (apduOf w) ≡ w .content
+DataExactly = (frame : List ℕ) (w : Parts) → InTable frame w → dataOf frame (said w) ≡ w .content
 
 -- 01: "A frame under 4 bytes gives 6a80", and no other does. Rejects 6a80 for a bad length. Bites at 00 03 00.
 abbrev pub ShortExactly : Type 0
@@ -60,27 +61,27 @@ abbrev pub IsoExactly : Type 0
 IsoExactly =
     (frame : List ℕ) (c : IsoCase) → 4 ≤ length frame
     → (isCase c (drop 4 frame) ≡ true)
-    ↔ ((said : Says) × (readOf frame ≡ Gives said) × (said .shape ≡ shapeNo (shapeFor c)) × (isTolerated (said .shape) (said .lc) ≡ false))
+    ↔ ((says : Says) × (readOf frame ≡ Gives says) × (says .shape ≡ shapeNo (shapeFor c)) × (isTolerated (says .shape) (says .lc) ≡ false))
 
 -- What is read and is of no ISO case is one of the two tolerated forms, and they are of none.
 abbrev pub ToleratedExactly : Type 0
 ToleratedExactly =
-    (frame : List ℕ) (said : Says) → readOf frame ≡ Gives said
-    → (isTolerated (said .shape) (said .lc) ≡ true) ↔ ((c : IsoCase) → isCase c (drop 4 frame) ≡ false)
+    (frame : List ℕ) (says : Says) → readOf frame ≡ Gives says
+    → (isTolerated (says .shape) (says .lc) ≡ true) ↔ ((c : IsoCase) → isCase c (drop 4 frame) ≡ false)
 
 -- ---- the strict entry
 
 -- 01: "It accepts the ISO cases, that is the shapes above without shape 6". Rejects a strict entry that takes shape 6, and one
 -- that refuses everything. Bites at 00 03 00 00 | 00 00 00 05.
 abbrev pub StrictExactly : Type 0
-StrictExactly = (frame : List ℕ) (said : Says) → (strictOf frame ≡ Gives said) ↔ ((readOf frame ≡ Gives said) × (said .shape ≡ 6 → ⊥))
+StrictExactly = (frame : List ℕ) (says : Says) → (strictOf frame ≡ Gives says) ↔ ((readOf frame ≡ Gives says) × (says .shape ≡ 6 → ⊥))
 
 -- "and gives 6700 for shape 6; otherwise it equals the first": every status of the first is the strict entry's.
 abbrev pub StrictOtherwise : Type 0
 StrictOtherwise =
     (frame : List ℕ)
     → ((n : ℕ) → readOf frame ≡ SW n → strictOf frame ≡ SW n)
-    × ((said : Says) → readOf frame ≡ Gives said → said .shape ≡ 6 → strictOf frame ≡ SW 0x6700)
+    × ((says : Says) → readOf frame ≡ Gives says → says .shape ≡ 6 → strictOf frame ≡ SW 0x6700)
 
 -- ---- there and back
 
@@ -89,15 +90,15 @@ StrictOtherwise =
 abbrev pub ReadThenWritten : Type 0
 ReadThenWritten =
     (frame old : List ℕ) (a : Apdu) → AreBytes frame → readOf frame ≡ Gives (saysOf a) → length frame ≤ length old
-    → (writeOf (parts (a .header) (a .shape) (dataOf frame a) (a .le)) (length old) ≡ Gives (length frame))
-    × (bufferOf (parts (a .header) (a .shape) (dataOf frame a) (a .le)) old ≡ frame ++ drop (length frame) old)
+    → (writeOf (parts (a .header) (a .shape) (dataOf frame (saysOf a)) (a .le)) (length old) ≡ Gives (length frame))
+    × (bufferOf (parts (a .header) (a .shape) (dataOf frame (saysOf a)) (a .le)) old ≡ frame ++ drop (length frame) old)
 
 -- Fields that the writer accepts read back as themselves: header, shape, data and Le.
 -- Rejects a writer that accepts Le 257 for one byte. Bites at shape 2 with Le 257.
 abbrev pub WrittenThenRead : Type 0
 WrittenThenRead =
     (w : Parts) (old : List ℕ) (n : ℕ) → writeOf w (length old) ≡ Gives n
-    → (readOf (take n (bufferOf w old)) ≡ Gives (saysOf (apduOf w))) × (dataOf (take n (bufferOf w old)) (apduOf w) ≡ w .content)
+    → (readOf (take n (bufferOf w old)) ≡ Gives (said w)) × (dataOf (take n (bufferOf w old)) (said w) ≡ w .content)
 
 -- ---- two results that satisfy a contract are equal, for each public function
 
@@ -114,10 +115,10 @@ abbrev pub StrictDetermined : Type 0
 StrictDetermined = (frame : List ℕ) → AtMostOne (λ (r : Reading). readingOf r ≡ strictOf frame)
 
 abbrev pub PlaceDetermined : Type 0
-PlaceDetermined = (a : Apdu) → AtMostOne (λ (r : Place). r ≡ placeOf a)
+PlaceDetermined = (a : Apdu) → AtMostOne (λ (r : Place). r ≡ placeOf (saysOf a))
 
 abbrev pub DataDetermined : Type 0
-DataDetermined = (frame : List ℕ) (a : Apdu) → AtMostOne (λ (r : List ℕ). r ≡ dataOf frame a)
+DataDetermined = (frame : List ℕ) (a : Apdu) → AtMostOne (λ (r : List ℕ). r ≡ dataOf frame (saysOf a))
 
 -- the answer, and what the buffer holds afterwards
 abbrev pub WriteDetermined : Type 0

@@ -1,5 +1,6 @@
 pub mod Words
 pub mod Table
+pub mod Answers
 pub mod Reading
 pub mod Writing
 pub mod Iso

@@ -8,7 +8,8 @@ use lib.Dec.{ltb, eqb}
 use Rattle.outcome.specs.Notation.{if_then_else_}
 use Rattle.outcome.specs.Outcome.{Outcome, R, SW, Gives}
 use Rattle.octets.specs.Bytes.{byte, pairAt, partOf}
-use Rattle.apdu.specs.Words.{Case, Instruction, Le1, Lc1Data, Lc1DataLe1, Lc3Data, Lc3DataLe1, Lc3DataLe2, Le3, Says, shapeNo, ApduHeader, Apdu, Place}
+use Rattle.apdu.specs.Words.{Case, Instruction, Le1, Lc1Data, Lc1DataLe1, Lc3Data, Lc3DataLe1, Lc3DataLe2, Le3, shapeNo, ApduHeader}
+use Rattle.apdu.specs.Answers.{Says, Place}
 use Rattle.apdu.specs.Table.{lcField, leRead}
 use Rattle.apdu.specs.declared.Lengths.{Lengths}
 use Rattle.apdu.specs.declared.Lengths.the-variants.{Found, Missing, Surplus}
@@ -51,7 +52,7 @@ headerOf frame = record { cla = byte frame 0; ins = byte frame 1; p1 = byte fram
 
 -- what a frame of 4 bytes or more says, by what its payload says: 6700 where the payload is in no shape
 unfoldable pub sayOf : List ℕ → Lengths → Outcome Says
-sayOf frame (Found s lc le) = Gives (record { header = headerOf frame; shape = shapeNo s; lc = lc; le = le })
+sayOf frame (Found s lc le) = Gives (record { header = headerOf frame; shape = shapeNo s; dataAt = 4 + lcField s; lc = lc; le = le })
 sayOf frame Missing = SW 0x6700
 sayOf frame Surplus = SW 0x6700
 
@@ -70,10 +71,10 @@ strictly (R n) = R n
 unfoldable pub strictOf : List ℕ → Outcome Says
 strictOf frame = strictly (readOf frame)
 
--- "data comes back as a part of the caller's frame": after the header and the Lc field, Lc bytes
-abbrev pub placeOf : Apdu → Place
-placeOf says = record { start = 4 + lcField (says .shape); end = 4 + lcField (says .shape) + says .lc }
+-- "data comes back as a part of the caller's frame": Lc bytes from where the frame says that its data starts
+abbrev pub placeOf : Says → Place
+placeOf said = record { start = said .dataAt; end = said .dataAt + said .lc }
 
 -- the data of a frame that says this; none where the place passes the frame's end
-unfoldable pub dataOf : List ℕ → Apdu → List ℕ
-dataOf frame says = partOf frame (placeOf says .start) (placeOf says .end)
+unfoldable pub dataOf : List ℕ → Says → List ℕ
+dataOf frame said = partOf frame (placeOf said .start) (placeOf said .end)

@@ -9,7 +9,8 @@ ghost use mathlib.Core.Path.{_≡_};
 ghost use mathlib.Core.List.{_++_};
 ghost use lib.ListN.{length};
 ghost use Rattle.octets.specs.Bytes.{laid, byte, bytes2};
-ghost use Rattle.apdu.specs.Words.{shapeNo, readingOf, writtenOf};
+ghost use Rattle.apdu.specs.Words.{shapeNo};
+ghost use Rattle.apdu.specs.Answers.{saysOf, readingOf, writtenOf};
 ghost use Rattle.apdu.specs.Table.{lcField, leField, lcLeast, lcMost, leLeast, leMost, lcFits, leFits, lcBytes, leBytes, leRead};
 ghost use Rattle.apdu.specs.Reading.{lengthsOf, shortOf, extendedOf, afterData, readOf, strictOf, placeOf, dataOf};
 ghost use Rattle.apdu.specs.Writing.{parts, payloadOf, frameOf, writeOf, bufferOf};
@@ -260,7 +261,7 @@ pub fn read_strict(frame: &[u8]) -> Reading
 
 // Where the data of a frame that says this stands. Past a frame's end where it is not this frame that says so.
 pub fn data_place(says: Apdu) -> Place
-    ensures { λ r. ⌜ r ≡ placeOf says ⌝ }
+    ensures { λ r. ⌜ r ≡ placeOf (saysOf says) ⌝ }
 {
     let shape = says.shape;
     let start = APDU_HEADER_LEN + lc_field(shape);
@@ -272,7 +273,7 @@ pub fn data_place(says: Apdu) -> Place
 
 // The data of a frame that says this, as a part of the frame; empty where there is none.
 pub fn data(frame: &[u8], says: Apdu) -> &[u8]
-    ensures { λ r. ⌜ now r ≡ dataOf (now (frame .entry)) says ⌝ }
+    ensures { λ r. ⌜ now r ≡ dataOf (now (frame .entry)) (saysOf says) ⌝ }
 {
     let at = data_place(says);
     octets::part(frame, at.start, at.end)
