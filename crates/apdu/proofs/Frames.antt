@@ -6,12 +6,13 @@ use mathlib.Core.List.{List, [], _∷_, _++_}
 use native.Mathlib.Omega.{arith}
 use native.Mathlib.Nat.{not-suc-le-zero, le-of-suc-le-suc}
 use native.Mathlib.Decide.{decLt}
-use lib.ListN.{length, take, drop, length-append}
+use lib.ListN.{length, take, drop, length-drop}
 use lib.Seq.{drop-drop, drop-at, take-at, getD-drop}
 use Rattle.outcome.specs.Outcome.{Outcome, SW, Gives}
-use Rattle.octets.specs.Bytes.{byte, AreBytes, partOf}
-use Rattle.octets.proofs.Parts.{part-within}
-use Rattle.apdu.specs.Words.{Case, shapeNo}
+use Rattle.outcome.proofs.Laws.{gives-same, sw-gives}
+use Rattle.octets.specs.Bytes.{byte, pairAt, AreBytes, partOf}
+use Rattle.octets.proofs.Parts.{part-within, part-length}
+use Rattle.apdu.specs.Words.{Case, Instruction, Le1, Lc1Data, Lc1DataLe1, Lc3Data, Lc3DataLe1, Lc3DataLe2, Le3, shapeNo}
 use Rattle.apdu.specs.Answers.{Says}
 use Rattle.apdu.specs.Table.{lcField, leField, canCarry, lcBytes, leBytes}
 use Rattle.apdu.specs.Reading.{readOf, lengthsOf, headerOf, sayOf, dataOf}
@@ -22,7 +23,7 @@ use Rattle.apdu.specs.declared.Lengths.the-variants.{Found, Missing, Sur
 use Rattle.apdu.proofs.Cases
 use Rattle.apdu.proofs.Fields.{lc-long, frame-long}
 use Rattle.apdu.proofs.LaidOut.{carried, row-read}
-use Rattle.apdu.proofs.Ways.{Way, way}
+use Rattle.apdu.proofs.Ways.{Way, way, none, le1, short, short-le, le3, wide, wide-le1, wide-le2, missing, surplus}
 use Rattle.apdu.proofs.Sound.{Laid, LaidAs, sound}
 
 -- what a frame says, as its payload's row says it
@@ -89,3 +90,39 @@ table-cut frame w t =
     let from : drop (4 + a) frame ≡ rest = ap (drop (4 + a)) (t .layout) ∙ sym (drop-drop a 4 (frameOf w)) ∙ drop-at (lcBytes (w .shape) n) rest a (lc-long (w .shape) n) in
     sym (part-within frame (4 + a) (4 + a + n) (omega arith) (omega arith))
     ∙ ap₂ (λ (k : ℕ) (l : List ℕ). take k l) width from ∙ take-at (w .content) (leBytes (w .shape) (w .le)) n refl
+
+-- ---- for callers: the data of a frame that is read has Lc bytes
+way-within : (p : List ℕ) {l : Lengths} → Way p l → (s : Case) (lc le : ℕ) → Found s lc le ≡ l → lcField s + lc ≤ length p
+way-within p w s lc le e = go w s lc le e
+  where
+    found-same : (s t : Case) (a b c d : ℕ) → Found s a c ≡ Found t b d → (s ≡ t) × (a ≡ b)
+    found-same s t a b c d e = (cc, cc)
+    use-it : (s t : Case) (a b c d : ℕ) → Found s a c ≡ Found t b d → lcField t + b ≤ length p → lcField s + a ≤ length p
+    use-it s t a b c d e h = let f = found-same s t a b c d e in rw (f .0, f .1) h
+    go : {l : Lengths} → Way p l → (s : Case) (lc le : ℕ) → Found s lc le ≡ l → lcField s + lc ≤ length p
+    go (none h) s lc le e = use-it s Instruction lc 0 le _ e (omega arith)
+    go (le1 h) s lc le e = use-it s Le1 lc 0 le _ e (omega arith)
+    go (short z h) s lc le e = use-it s Lc1Data lc (byte p 0) le _ e (omega arith)
+    go (short-le z h) s lc le e = use-it s Lc1DataLe1 lc (byte p 0) le _ e (omega arith)
+    go (le3 z h) s lc le e = use-it s Le3 lc 0 le _ e (omega arith)
+    go (wide z n h) s lc le e = use-it s Lc3Data lc (pairAt p 1) le _ e (omega arith)
+    go (wide-le1 z h) s lc le e = use-it s Lc3DataLe1 lc (pairAt p 1) le _ e (omega arith)
+    go (wide-le2 z h) s lc le e = use-it s Lc3DataLe2 lc (pairAt p 1) le _ e (omega arith)
+    go missing s lc le e = absurd (let z : _≡_ {A = ℕ} 0 1 = cc in omega arith)
+    go surplus s lc le e = absurd (let z : _≡_ {A = ℕ} 0 1 = cc in omega arith)
+
+pub data-within : (frame : List ℕ) (said : Says) → readOf frame ≡ Gives said → said .dataAt + said .lc ≤ length frame
+data-within frame said e = go (readOf frame) (answer frame) e
+  where
+    go : (o : Outcome Says) → Answer frame o → o ≡ Gives said → said .dataAt + said .lc ≤ length frame
+    go _ (under h) x = absurd (sw-gives _ _ x)
+    go _ (no-shape h) x = absurd (sw-gives _ _ x)
+    go _ (found long s lc le f) x =
+        let fits = way-within (drop 4 frame) (way (drop 4 frame)) s lc le f in
+        rw (← gives-same _ _ x) (omega (arith, length-drop 4 frame))
+
+pub data-long : (frame : List ℕ) (said : Says) → readOf frame ≡ Gives said → length (dataOf frame said) ≡ said .lc
+unfolding dataOf
+data-long frame said e =
+    let fits = data-within frame said e in
+    part-length frame (said .dataAt) (said .dataAt + said .lc) (omega arith) fits ∙ omega arith
