@@ -262,6 +262,7 @@ pub fn read_strict(frame: &[u8]) -> Reading
 // Where the data of a frame that says this stands. Past a frame's end where it is not this frame that says so.
 pub fn data_place(says: Apdu) -> Place
     ensures { λ r. ⌜ r ≡ placeOf (saysOf says) ⌝ }
+    ensures early { λ r. ⌜ r .start ≤ 7 ⌝ }
 {
     let shape = says.shape;
     let start = APDU_HEADER_LEN + lc_field(shape);

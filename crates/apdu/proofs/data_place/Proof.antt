@@ -17,7 +17,7 @@ add-t5 : tie.Need-add-t5
 add-t5 c = search needs
 
 returns : tie.Need-returns
-returns c = search (needs, Cases.place-is)
+returns c = (search (needs, Cases.place-is), search needs)
 
 pub data-place-spec : {M : Type 1} → statement M
 data-place-spec = tie.close (tie.spec lc-field-requires add-start cast-t4 add-t5 returns)

@@ -1,0 +1,153 @@
+// From frame to command: the `U2fCommand` of the Rust's ctap1.rs.
+//
+// Register      challenge (32) | application (32)
+// Authenticate  challenge (32) | application (32) | h | key handle (h)
+//
+// Challenge, application and handle stay in the caller's frame and are handed out as parts of it.
+ghost use mathlib.Core.Path.{_≡_};
+ghost use Rattle.outcome.specs.Outcome.{Gives};
+ghost use Rattle.apdu.specs.Answers.{saysOf};
+ghost use Rattle.apdu.specs.Reading.{readOf};
+ghost use Rattle.command.specs.Command.{flagsNo, commandSaid, authenticateOf, byInstruction, commandOf, challengeOf, applicationOf, handlePlaceOf, handleOf};
+use apdu::Apdu;
+use apdu::Place;
+use apdu::Reading;
+use outcome::ApduStatusCode;
+
+const CTAP1_CLA: u8 = 0;
+
+const U2F_REGISTER: u8 = 0x01;
+
+const U2F_AUTHENTICATE: u8 = 0x02;
+
+const U2F_VERSION: u8 = 0x03;
+
+// The control byte P1 of an Authenticate.
+pub enum Ctap1Flags {
+    CheckOnly,
+    EnforceUpAndSign,
+    DontEnforceUpAndSign,
+}
+
+// A command with what its frame says, or the status word that answers the frame. The vendor's own commands have no
+// variant: like every other INS they are 6d00.
+pub enum U2fCommand {
+    Register(Apdu),
+    Authenticate(Ctap1Flags, Apdu),
+    Version,
+    Status(ApduStatusCode),
+}
+
+// The control byte as its number.
+pub fn flags_number(flags: Ctap1Flags) -> u8
+    ensures { λ r. ⌜ r ≡ flagsNo flags ⌝ }
+{
+    match flags {
+        Ctap1Flags::CheckOnly => 0x07,
+        Ctap1Flags::EnforceUpAndSign => 0x03,
+        Ctap1Flags::DontEnforceUpAndSign => 0x08,
+    }
+}
+
+// The handle's length is looked at before P1, as the Rust does.
+fn authenticate(frame: &[u8], says: Apdu) -> U2fCommand
+    requires { ⌜ readOf (now frame) ≡ Gives (saysOf says) ⌝ }
+    ensures { λ r. ⌜ commandSaid r ≡ authenticateOf (now (frame .entry)) (saysOf says) ⌝ }
+{
+    let lc = says.lc as usize;
+    if lc < 65 {
+        return U2fCommand::Status(ApduStatusCode::WrongLength);
+    }
+    let content = apdu::data(frame, says);
+    if lc != 65 + octets::wide(content[64]) {
+        return U2fCommand::Status(ApduStatusCode::WrongLength);
+    }
+    let header = says.header;
+    let p1 = header.p1;
+    if p1 == 0x03 {
+        return U2fCommand::Authenticate(Ctap1Flags::EnforceUpAndSign, says);
+    }
+    if p1 == 0x07 {
+        return U2fCommand::Authenticate(Ctap1Flags::CheckOnly, says);
+    }
+    if p1 == 0x08 {
+        return U2fCommand::Authenticate(Ctap1Flags::DontEnforceUpAndSign, says);
+    }
+    U2fCommand::Status(ApduStatusCode::WrongData)
+}
+
+fn by_instruction(frame: &[u8], says: Apdu) -> U2fCommand
+    requires { ⌜ readOf (now frame) ≡ Gives (saysOf says) ⌝ }
+    ensures { λ r. ⌜ commandSaid r ≡ byInstruction (now (frame .entry)) (saysOf says) ⌝ }
+{
+    let header = says.header;
+    let ins = header.ins;
+    let lc = says.lc;
+    if header.cla != CTAP1_CLA {
+        return U2fCommand::Status(ApduStatusCode::ClaInvalid);
+    }
+    if ins == U2F_REGISTER {
+        if lc != 64 {
+            return U2fCommand::Status(ApduStatusCode::WrongLength);
+        }
+        return U2fCommand::Register(says);
+    }
+    if ins == U2F_AUTHENTICATE {
+        return authenticate(frame, says);
+    }
+    if ins == U2F_VERSION {
+        if lc != 0 {
+            return U2fCommand::Status(ApduStatusCode::WrongLength);
+        }
+        return U2fCommand::Version;
+    }
+    U2fCommand::Status(ApduStatusCode::InsInvalid)
+}
+
+// Reads any bytes as a command.
+pub fn read_command(frame: &[u8]) -> U2fCommand
+    ensures { λ r. ⌜ commandSaid r ≡ commandOf (now (frame .entry)) ⌝ }
+{
+    let reading = apdu::read(frame);
+    match reading {
+        Reading::Frame(says) => by_instruction(frame, says),
+        Reading::Status(status) => U2fCommand::Status(status),
+    }
+}
+
+// The first 32 bytes of a frame's data.
+pub fn challenge(frame: &[u8], says: Apdu) -> &[u8]
+    ensures { λ r. ⌜ now r ≡ challengeOf (now (frame .entry)) (saysOf says) ⌝ }
+{
+    let at = apdu::data_place(says);
+    let start = at.start;
+    octets::part(frame, start, start + 32)
+}
+
+// The 32 bytes after the challenge.
+pub fn application(frame: &[u8], says: Apdu) -> &[u8]
+    ensures { λ r. ⌜ now r ≡ applicationOf (now (frame .entry)) (saysOf says) ⌝ }
+{
+    let at = apdu::data_place(says);
+    let start = at.start;
+    octets::part(frame, start + 32, start + 64)
+}
+
+// Where the key handle of a frame that says this stands.
+pub fn handle_place(says: Apdu) -> Place
+    ensures { λ r. ⌜ r ≡ handlePlaceOf (saysOf says) ⌝ }
+{
+    let at = apdu::data_place(says);
+    Place {
+        start: at.start + 65,
+        end: at.end,
+    }
+}
+
+// The key handle, as a part of the frame: after its length byte, up to the data's end and without the Le.
+pub fn key_handle(frame: &[u8], says: Apdu) -> &[u8]
+    ensures { λ r. ⌜ now r ≡ handleOf (now (frame .entry)) (saysOf says) ⌝ }
+{
+    let at = handle_place(says);
+    octets::part(frame, at.start, at.end)
+}
