@@ -97,8 +97,10 @@ way-within p w s lc le e = go w s lc le e
   where
     found-same : (s t : Case) (a b c d : ℕ) → Found s a c ≡ Found t b d → (s ≡ t) × (a ≡ b)
     found-same s t a b c d e = (cc, cc)
+
     use-it : (s t : Case) (a b c d : ℕ) → Found s a c ≡ Found t b d → lcField t + b ≤ length p → lcField s + a ≤ length p
     use-it s t a b c d e h = let f = found-same s t a b c d e in rw (f .0, f .1) h
+
     go : {l : Lengths} → Way p l → (s : Case) (lc le : ℕ) → Found s lc le ≡ l → lcField s + lc ≤ length p
     go (none h) s lc le e = use-it s Instruction lc 0 le _ e (omega arith)
     go (le1 h) s lc le e = use-it s Le1 lc 0 le _ e (omega arith)

@@ -37,10 +37,10 @@ case-back Le3 = refl
 pub shape-same : (a b : Case) → shapeNo a ≡ shapeNo b → a ≡ b
 shape-same = one-to-one shapeNo caseOf case-back
 
-apduBack : Says → Apdu
+pub apduBack : Says → Apdu
 apduBack said = record { header = said .header; shape = caseOf (said .shape); lc = said .lc; le = said .le }
 
-apdu-back : (a : Apdu) → apduBack (saysOf a) ≡ a
+pub apdu-back : (a : Apdu) → apduBack (saysOf a) ≡ a
 unfolding apduBack
 apdu-back a = ap (λ (s : Case). record { header = a .header; shape = s; lc = a .lc; le = a .le }) (case-back (a .shape))
 

@@ -57,7 +57,7 @@ module _ (frame : List ℕ) (said : Says) where
       pub auth-wrong : (said .header .p1 ≡ 0x03 → ⊥) → (said .header .p1 ≡ 0x07 → ⊥) → (said .header .p1 ≡ 0x08 → ⊥) → SW 0x6a80 ≡ authenticateOf frame said
       auth-wrong n3 n7 n8 = by-control (rw (ne-eqb (said .header .p1) 0x03 n3, ne-eqb (said .header .p1) 0x07 n7, ne-eqb (said .header .p1) 0x08 n8))
 
--- ---- by INS
+  -- ---- by INS
   pub wrong-cla : (said .header .cla ≡ 0x00 → ⊥) → SW 0x6e00 ≡ byInstruction frame said
   unfolding byInstruction
   wrong-cla n = rw (ne-eqb (said .header .cla) 0x00 n)
@@ -118,3 +118,7 @@ handle-place-is said at e = rw e
 pub handle-is : (frame : List ℕ) (said : Says) (at : Place) (part : List ℕ) → at ≡ handlePlaceOf said → part ≡ partOf frame (at .start) (at .end) → part ≡ handleOf frame said
 unfolding handleOf
 handle-is frame said at part e f = f ∙ rw e
+
+pub by-reading : (frame : List ℕ) (said : Says) → readOf frame ≡ Gives said → commandOf frame ≡ byInstruction frame said
+unfolding commandOf onReading
+by-reading frame said e = ap (onReading frame) e
