@@ -11,7 +11,7 @@ use lib.Seq.{drop-drop, drop-at, take-at, getD-drop}
 use Rattle.outcome.specs.Outcome.{Outcome, SW, Gives}
 use Rattle.outcome.proofs.Laws.{gives-same, sw-gives}
 use Rattle.octets.specs.Bytes.{byte, pairAt, AreBytes, partOf}
-use Rattle.octets.proofs.Parts.{part-within, part-length}
+use Rattle.octets.proofs.Between.{part-within, part-length}
 use Rattle.apdu.specs.Words.{Case, Instruction, Le1, Lc1Data, Lc1DataLe1, Lc3Data, Lc3DataLe1, Lc3DataLe2, Le3, shapeNo}
 use Rattle.apdu.specs.Answers.{Says}
 use Rattle.apdu.specs.Table.{lcField, leField, canCarry, lcBytes, leBytes}

@@ -1,4 +1,4 @@
 pub mod Laid
 pub mod Tails
-pub mod Parts
+pub mod Between
 pub mod Theorems

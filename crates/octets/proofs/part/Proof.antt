@@ -1,6 +1,6 @@
 -- `part` meets its contract: each way through the tests is a case of `partOf`.
 use borrow.Author.Needs.{needs}
-use Rattle.octets.proofs.Parts.{part-backwards, part-past, part-within}
+use Rattle.octets.proofs.Between.{part-backwards, part-past, part-within}
 use Rattle.octets.proofs.part.Statement.{statement}
 use Rattle.octets.proofs.part.Tie as tie
 
