@@ -1,3 +1,5 @@
 pub mod Laid
+pub mod Parts
 pub mod Tails
+pub mod Tests
 pub mod Theorems

@@ -1,16 +1,11 @@
 -- Fields that fit, as lengths.
 use Prim.Native.Nat.{ℕ, _≤_}
-use mathlib.Core.Bool.{Bool, true, false, _&&_}
-use mathlib.Core.Path.{_≡_, refl}
+use mathlib.Core.Bool.{true}
+use mathlib.Core.Path.{_≡_}
 use borrow.Author.Tests.{eq-eqb, le-leb, eqb-true, leb-true}
 use lib.ListN.{length}
+use Rattle.octets.proofs.Tests.{both}
 use Rattle.signing.specs.Layouts.{RegisterFields, AuthenticateFields, isRegisterFit, isAuthenticateFit}
-
-pub both : (a b : Bool) → (a && b) ≡ true → (a ≡ true) × (b ≡ true)
-both true true e = (refl, refl)
-both true false e = (refl, e)
-both false true e = (e, refl)
-both false false e = (e, e)
 
 pub record RegisterLengths (f : RegisterFields) : Type 0 where
   pub application : length (f .application) ≡ 32

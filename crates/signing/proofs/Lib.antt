@@ -1,2 +1,5 @@
 pub mod Fit
 pub mod Made
+pub mod Judged
+pub mod Rooms
+pub mod Bodies

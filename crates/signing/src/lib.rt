@@ -16,7 +16,7 @@ ghost use mathlib.Core.Path.{_≡_};
 ghost use mathlib.Core.Bool.{true};
 ghost use lib.Dec.{leb};
 ghost use lib.ListN.{length};
-ghost use Rattle.octets.specs.Bytes.{laid, bytes4};
+ghost use Rattle.octets.specs.Bytes.{byte, laid, bytes4};
 ghost use Rattle.signing.specs.Layouts.{presenceByte, registerBody, authenticateBody};
 ghost use Rattle.signing.specs.Orders.{kindNo, certificateLength, blankOrder, registerOrder, authenticateOrder, isRegisterLayout, isAuthenticateLayout, isOfLayout, registerFields, authenticateFields};
 ghost use Rattle.signing.specs.Finishing.{registerRoom, authenticateRoom, roomAsked, bodyOf, Finishes};
@@ -203,14 +203,15 @@ fn has_room(order: Order, room: usize) -> bool
 }
 
 fn put_register_body(to_sign: usize, bytes: [u8; 385], certificate: &[u8], signature: &[u8], reply: &mut [u8]) -> usize
-    requires { ⌜ isRegisterLayout «to_sign» bytes ≡ true ⌝ }
+    requires { ⌜ (130 ≤ «to_sign») × («to_sign» ≤ 385) × (byte bytes («to_sign» - 65) ≡ 0x04) ⌝ }
     requires { ⌜ 67 + («to_sign» - 130) + length (now certificate) + length (now signature) ≤ length (now reply) ⌝ }
     ensures { λ r. ⌜ r ≡ length (registerBody (registerFields «to_sign» bytes) (now (certificate .entry)) (now (signature .entry))) ⌝ }
     ensures { λ _. ⌜ now (reply .exit) ≡ laid (registerBody (registerFields «to_sign» bytes) (now (certificate .entry)) (now (signature .entry))) (now (reply .entry)) ⌝ }
 {
     let h = to_sign - 130;
     let key = to_sign - 65;
-    fields::put_six(reply, &[0x05], &bytes[key..to_sign], &[h as u8], &bytes[65..key], certificate, signature);
+    let block: &[u8] = &bytes;
+    fields::put_six(reply, &[0x05], &block[key..to_sign], &[h as u8], &block[65..key], certificate, signature);
     67 + h + certificate.len() + signature.len()
 }
 
