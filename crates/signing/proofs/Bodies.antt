@@ -40,7 +40,7 @@ module _ (n : ℕ) (b : List ℕ) (few : 130 ≤ n) (many : n ≤ 385) (whole : 
         let key : List ℕ = publicKey (part (n - 64) 32 b) (part (n - 32) 32 b) in
         let handle : List ℕ = part 65 (n - 130) b in
         let grouped : registerBody (registerFields n b) certificate signature ≡ 0x05 ∷ [] ++ (key ++ (length handle ∷ [] ++ (handle ++ (certificate ++ signature)))) =
-            six (0x05 ∷ []) key (length handle ∷ []) handle certificate signature in
+        six (0x05 ∷ []) key (length handle ∷ []) handle certificate signature in
         e
         ∙ ap (λ (k : List ℕ). laid (0x05 ∷ [] ++ (k ++ ((n - 130) ∷ [] ++ (take (n - 65 - 65) (drop 65 b) ++ (certificate ++ signature))))) old) (key-is marker)
         ∙ ap (λ (h : List ℕ). laid (0x05 ∷ [] ++ (key ++ ((n - 130) ∷ [] ++ (h ++ (certificate ++ signature))))) old) handle-is

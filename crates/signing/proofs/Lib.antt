@@ -3,3 +3,4 @@ pub mod Made
 pub mod Judged
 pub mod Rooms
 pub mod Bodies
+pub mod Checks

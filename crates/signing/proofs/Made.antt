@@ -80,7 +80,7 @@ module _ (a d h x y : List ℕ) (c : ℕ) (key bytes : List ℕ) where
       let l : RegisterLengths f = record { application = la; challenge = ld; handle = lh; x = lx; y = ly } in
       let whole : key ≡ publicKey x y = is-key ∙ filled (publicKey x y) 65 (omega (arith, length-append x y)) in
       let same : bytes ≡ block (registerToSign f) =
-          is-bytes ∙ ap (λ (k : List ℕ). block (0x00 ∷ [] ++ (a ++ (d ++ (h ++ k))))) whole ∙ ap block (sym (register-grouped f)) in
+      is-bytes ∙ ap (λ (k : List ℕ). block (0x00 ∷ [] ++ (a ++ (d ++ (h ++ k))))) whole ∙ ap block (sym (register-grouped f)) in
       rw (register-order-fit f c l, same)
 
 presence-small : (p : Bool) → presenceByte p ≤ 1

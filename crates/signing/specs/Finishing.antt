@@ -71,6 +71,7 @@ replyOf (R n) old = old
 replyOf (SW n) old = old
 replyOf (Gives body) old = laid body old
 
--- what is promised of `finish`: its answer, and the reply buffer afterwards
-abbrev pub Finishes : Finishing → Finished → List ℕ → Type 0
-Finishes i answer reply = (finishedOf answer ≡ lengthOf (finishOf i)) × (reply ≡ replyOf (finishOf i) (i .reply))
+-- what is promised of `finish`: its answer, and the reply buffer after the call
+pub record Finishes (i : Finishing) (answer : Finished) (after : List ℕ) : Type 0 where
+  pub says : finishedOf answer ≡ lengthOf (finishOf i)
+  pub leaves : after ≡ replyOf (finishOf i) (i .reply)

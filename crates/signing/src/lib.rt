@@ -103,7 +103,12 @@ fn presence_byte(present: bool) -> u8
 }
 
 // The order of an Authenticate, with the same rule for parts of other lengths.
-pub fn authenticate_order(application: &[u8], challenge: &[u8], present: bool, counter: u32) -> Order
+pub fn authenticate_order(
+    application: &[u8],
+    challenge: &[u8],
+    present: bool,
+    counter: u32,
+) -> Order
     ensures { λ r. ⌜ r ≡ authenticateOrder (record { application = now (application .entry); presence = presenceByte present; counter = bytes4 counter; challenge = now (challenge .entry) }) ⌝ }
 {
     if application.len() != 32 {
@@ -202,7 +207,13 @@ fn has_room(order: Order, room: usize) -> bool
     }
 }
 
-fn put_register_body(to_sign: usize, bytes: [u8; 385], certificate: &[u8], signature: &[u8], reply: &mut [u8]) -> usize
+fn put_register_body(
+    to_sign: usize,
+    bytes: [u8; 385],
+    certificate: &[u8],
+    signature: &[u8],
+    reply: &mut [u8],
+) -> usize
     requires { ⌜ (130 ≤ «to_sign») × («to_sign» ≤ 385) × (byte bytes («to_sign» - 65) ≡ 0x04) ⌝ }
     requires { ⌜ 67 + («to_sign» - 130) + length (now certificate) + length (now signature) ≤ length (now reply) ⌝ }
     ensures { λ r. ⌜ r ≡ length (registerBody (registerFields «to_sign» bytes) (now (certificate .entry)) (now (signature .entry))) ⌝ }
@@ -211,7 +222,15 @@ fn put_register_body(to_sign: usize, bytes: [u8; 385], certificate: &[u8], signa
     let h = to_sign - 130;
     let key = to_sign - 65;
     let block: &[u8] = &bytes;
-    fields::put_six(reply, &[0x05], &block[key..to_sign], &[h as u8], &block[65..key], certificate, signature);
+    fields::put_six(
+        reply,
+        &[0x05],
+        &block[key..to_sign],
+        &[h as u8],
+        &block[65..key],
+        certificate,
+        signature,
+    );
     67 + h + certificate.len() + signature.len()
 }
 
@@ -241,7 +260,13 @@ fn put_body(order: Order, certificate: &[u8], signature: &[u8], reply: &mut [u8]
 }
 
 // Order, certificate, the signer's answer and the reply buffer to the reply. `signed` is false where the signer failed.
-pub fn finish(order: Order, certificate: &[u8], signed: bool, signature: &[u8], reply: &mut [u8]) -> Finished
+pub fn finish(
+    order: Order,
+    certificate: &[u8],
+    signed: bool,
+    signature: &[u8],
+    reply: &mut [u8],
+) -> Finished
     ensures { λ r. ⌜ Finishes (record { order = order; certificate = now (certificate .entry); signed = signed; signature = now (signature .entry); reply = now (reply .entry) }) r (now (reply .exit)) ⌝ }
 {
     if !is_of_layout(order) {

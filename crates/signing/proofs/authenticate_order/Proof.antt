@@ -2,58 +2,40 @@ use Rattle.signing.proofs.Made.{authenticate-application-unfit, authent
 use borrow.Author.Needs.{needs}
 use Rattle.signing.proofs.authenticate_order.Statement.{statement}
 use Rattle.signing.proofs.authenticate_order.Tie as tie
-use Rattle.signing.proofs.authenticate_order.Reads as reads
-use Rattle.signing.proofs.authenticate_order.Lts as lts
-use Rattle.octets.proofs.put_word.Reads as put-word-reads
-use Rattle.signing.proofs.blank.Reads as blank-reads
-use Rattle.signing.proofs.fields.put_four.Reads as put-four-reads
-use Rattle.signing.proofs.presence_byte.Reads as presence-byte-reads
 
--- src/lib.rt:110:9
 blank-requires : tie.Need-blank-requires
 blank-requires c κs = search needs
 
--- src/lib.rt:110:9
 returns : tie.Need-returns
 returns c = search (needs, authenticate-application-unfit)
 
--- src/lib.rt:113:9
 blank-requires-2 : tie.Need-blank-requires-2
 blank-requires-2 c κs = search needs
 
--- src/lib.rt:113:9
 returns-2 : tie.Need-returns-2
 returns-2 c = search (needs, authenticate-challenge-unfit)
 
--- src/lib.rt:115:9
 presence-byte-requires : tie.Need-presence-byte-requires
 presence-byte-requires c κs = search needs
 
--- src/lib.rt:117:22
 slice-aggregate-put-word : tie.Need-slice-aggregate-put-word
 slice-aggregate-put-word c = search needs
 
--- src/lib.rt:117:5
 put-word-requires : tie.Need-put-word-requires
 put-word-requires c κs = search needs
 
--- src/lib.rt:119:22
 slice-aggregate-put-four : tie.Need-slice-aggregate-put-four
 slice-aggregate-put-four c = search needs
 
--- src/lib.rt:119:47
 slice-aggregate-put-four-2 : tie.Need-slice-aggregate-put-four-2
 slice-aggregate-put-four-2 c = search needs
 
--- src/lib.rt:119:60
 slice-aggregate-put-four-3 : tie.Need-slice-aggregate-put-four-3
 slice-aggregate-put-four-3 c = search needs
 
--- src/lib.rt:119:5
 put-four-requires : tie.Need-put-four-requires
 put-four-requires c κs = search needs
 
--- src/lib.rt:106:1
 returns-3 : tie.Need-returns-3
 returns-3 c = search (needs, authenticate-made)
 

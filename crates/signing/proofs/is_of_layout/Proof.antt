@@ -2,32 +2,22 @@ use Rattle.signing.proofs.Judged.{register-judged, authenticate-judged}
 use borrow.Author.Needs.{needs}
 use Rattle.signing.proofs.is_of_layout.Statement.{statement}
 use Rattle.signing.proofs.is_of_layout.Tie as tie
-use Rattle.signing.proofs.is_of_layout.Reads as reads
-use Rattle.signing.proofs.is_of_layout.Lts as lts
-use Rattle.signing.proofs.is_authenticate.Reads as is-authenticate-reads
-use Rattle.signing.proofs.is_register.Reads as is-register-reads
 
--- src/lib.rt:168:27
 enum-told : tie.Need-enum-told
 enum-told c = search needs
 
--- src/lib.rt:168:27
 is-register-requires : tie.Need-is-register-requires
 is-register-requires c κs = search needs
 
--- src/lib.rt:169:31
 enum-told-2 : tie.Need-enum-told-2
 enum-told-2 c = search needs
 
--- src/lib.rt:169:31
 is-authenticate-requires : tie.Need-is-authenticate-requires
 is-authenticate-requires c κs = search needs
 
--- src/lib.rt:162:1
 returns : tie.Need-returns
 returns c = search (needs, register-judged)
 
--- src/lib.rt:162:1
 returns-2 : tie.Need-returns-2
 returns-2 c = search (needs, authenticate-judged)
 

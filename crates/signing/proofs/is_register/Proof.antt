@@ -2,51 +2,37 @@ use Rattle.signing.proofs.Judged.{too-few, too-many, other-first, other
 use borrow.Author.Needs.{needs}
 use Rattle.signing.proofs.is_register.Statement.{statement}
 use Rattle.signing.proofs.is_register.Tie as tie
-use Rattle.signing.proofs.is_register.Reads as reads
-use Rattle.signing.proofs.is_register.Lts as lts
-use Rattle.octets.proofs.all_zero.Reads as all-zero-reads
 
--- src/lib.rt:132:9
 returns : tie.Need-returns
 returns c = search (needs, too-few)
 
--- src/lib.rt:135:9
 returns-2 : tie.Need-returns-2
 returns-2 c = search (needs, too-many)
 
--- src/lib.rt:137:8
 array-read-if3 : tie.Need-array-read-if3
 array-read-if3 c = search needs
 
--- src/lib.rt:138:9
 returns-3 : tie.Need-returns-3
 returns-3 c = search (needs, other-first)
 
--- src/lib.rt:140:14
 sub-if4 : tie.Need-sub-if4
 sub-if4 c = search needs
 
--- src/lib.rt:140:8
 array-read-if4 : tie.Need-array-read-if4
 array-read-if4 c = search needs
 
--- src/lib.rt:141:9
 returns-4 : tie.Need-returns-4
 returns-4 c = search (needs, other-marker)
 
--- src/lib.rt:143:22
 part-all-zero-start : tie.Need-part-all-zero-start
 part-all-zero-start c = search needs
 
--- src/lib.rt:143:22
 part-all-zero-end : tie.Need-part-all-zero-end
 part-all-zero-end c = search needs
 
--- src/lib.rt:143:5
 all-zero-requires : tie.Need-all-zero-requires
 all-zero-requires c κs = search needs
 
--- src/lib.rt:128:1
 returns-5 : tie.Need-returns-5
 returns-5 c = search (needs, register-tail)
 

@@ -3,41 +3,29 @@ use Rattle.signing.proofs.Bodies.{register-length-said, register-put, a
 use borrow.Author.Needs.{needs}
 use Rattle.signing.proofs.put_body.Statement.{statement}
 use Rattle.signing.proofs.put_body.Tie as tie
-use Rattle.signing.proofs.put_body.Reads as reads
-use Rattle.signing.proofs.put_body.Lts as lts
-use Rattle.signing.proofs.put_authenticate_body.Reads as put-authenticate-body-reads
-use Rattle.signing.proofs.put_register_body.Reads as put-register-body-reads
 
--- src/lib.rt:238:91
 enum-told : tie.Need-enum-told
 enum-told c = search needs
 
--- src/lib.rt:238:27
 put-register-body-requires : tie.Need-put-register-body-requires
 put-register-body-requires c κs =
     ((search (needs, register-least), search (needs, register-most), search (needs, register-marker)), search (needs, register-body-fits))
 
--- src/lib.rt:239:71
 enum-told-2 : tie.Need-enum-told-2
 enum-told-2 c = search needs
 
--- src/lib.rt:239:31
 put-authenticate-body-requires : tie.Need-put-authenticate-body-requires
 put-authenticate-body-requires c κs = search (needs, authenticate-body-fits)
 
--- src/lib.rt:227:1
 same-length : tie.Need-same-length
 same-length c = search needs
 
--- src/lib.rt:227:1
 returns : tie.Need-returns
 returns c = (search (needs, register-length-said), search (needs, register-put))
 
--- src/lib.rt:227:1
 same-length-2 : tie.Need-same-length-2
 same-length-2 c = search needs
 
--- src/lib.rt:227:1
 returns-2 : tie.Need-returns-2
 returns-2 c = (search (needs, authenticate-length-said), search (needs, authenticate-put))
 
