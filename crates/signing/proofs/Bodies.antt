@@ -16,7 +16,7 @@ six a b c d e f = simp append-assoc
 
 module _ (n : ℕ) (b : List ℕ) (few : 130 ≤ n) (many : n ≤ 385) (whole : length b ≡ 385) where
   -- the public key is the last 65 bytes to sign
-  key-is : byte b (n - 65) ≡ 0x04 → take (n - (n - 65)) (drop (n - 65) b) ≡ publicKey (part (n - 64) 32 b) (part (n - 32) 32 b)
+  pub key-is : byte b (n - 65) ≡ 0x04 → take (n - (n - 65)) (drop (n - 65) b) ≡ publicKey (part (n - 64) 32 b) (part (n - 32) 32 b)
   key-is marker =
       let one : n - (n - 65) ≡ 65 = omega arith in
       let next : suc (n - 65) ≡ n - 64 = omega arith in

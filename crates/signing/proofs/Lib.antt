@@ -4,3 +4,4 @@ pub mod Judged
 pub mod Rooms
 pub mod Bodies
 pub mod Checks
+pub mod Kept

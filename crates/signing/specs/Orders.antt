@@ -2,7 +2,8 @@
 -- Authenticate), and the bytes to sign in a block of 385 bytes, zero after their end". Covered: the order that given
 -- fields make; the layout tests behind R7 ('Refusal numbers'); and the fields that an order of its layout holds.
 use Prim.Native.Nat.{ℕ, _+_, _-_}
-use mathlib.Core.Bool.{Bool, not, _&&_}
+use mathlib.Core.Bool.{Bool, true, not, _&&_}
+use mathlib.Core.Path.{_≡_}
 use mathlib.Core.List.{List, []}
 use lib.Dec.{eqb, leb}
 use lib.ListN.{length, take, drop, replicate}
@@ -102,3 +103,14 @@ authenticateFields bytes =
       counter = part 33 4 bytes;
       challenge = part 37 32 bytes;
     }
+
+-- an order of a layout: one that fields of the right lengths make
+abbrev pub IsRegisterOrder : Order → Type 0
+IsRegisterOrder o = (f : RegisterFields) × (c : ℕ) × (isRegisterFit f ≡ true) × (o ≡ registerOrder f c)
+
+abbrev pub IsAuthenticateOrder : Order → Type 0
+IsAuthenticateOrder o = (f : AuthenticateFields) × (isAuthenticateFit f ≡ true) × (o ≡ authenticateOrder f)
+
+-- every order in memory has a block of 385 bytes; a definition has to say so
+abbrev pub IsWhole : Order → Type 0
+IsWhole o = length (o .bytes) ≡ 385
