@@ -16,15 +16,16 @@ six a b c d e f = simp append-assoc
 
 module _ (n : ℕ) (b : List ℕ) (few : 130 ≤ n) (many : n ≤ 385) (whole : length b ≡ 385) where
   -- the public key is the last 65 bytes to sign
-  pub key-is : byte b (n - 65) ≡ 0x04 → take (n - (n - 65)) (drop (n - 65) b) ≡ publicKey (part (n - 64) 32 b) (part (n - 32) 32 b)
-  key-is marker =
-      let one : n - (n - 65) ≡ 65 = omega arith in
+  pub key-at : byte b (n - 65) ≡ 0x04 → part (n - 65) 65 b ≡ publicKey (part (n - 64) 32 b) (part (n - 32) 32 b)
+  key-at marker =
       let next : suc (n - 65) ≡ n - 64 = omega arith in
       let last : n - 64 + 32 ≡ n - 32 = omega arith in
       let split : drop (n - 65) b ≡ 0x04 ∷ drop (n - 64) b = drop-cons b (n - 65) 0 (omega arith) ∙ rw (marker, next) in
-      ap (λ (m : ℕ). take m (drop (n - 65) b)) one
-      ∙ ap (take 65) split
+      ap (take 65) split
       ∙ ap (λ (l : List ℕ). 0x04 ∷ l) (sym (parts-join (n - 64) 32 32 b) ∙ ap (λ (m : ℕ). part (n - 64) 32 b ++ part m 32 b) last)
+
+  key-is : byte b (n - 65) ≡ 0x04 → take (n - (n - 65)) (drop (n - 65) b) ≡ publicKey (part (n - 64) 32 b) (part (n - 32) 32 b)
+  key-is marker = let one : n - (n - 65) ≡ 65 = omega arith in ap (λ (m : ℕ). take m (drop (n - 65) b)) one ∙ key-at marker
 
   handle-is : take (n - 65 - 65) (drop 65 b) ≡ part 65 (n - 130) b
   handle-is = let same : n - 65 - 65 ≡ n - 130 = omega arith in rw same

@@ -5,14 +5,15 @@ use mathlib.Core.Path.{_≡_, refl, sym, ap, _∙_}
 use mathlib.Core.List.{List, [], _∷_, _++_, append-assoc}
 use native.Mathlib.Omega.{arith}
 use lib.ListN.{length, take, drop, replicate, length-append, length-drop, take-append-drop}
-use lib.Seq.{length-take-le, take-at, drop-at, take-suc, getD-drop, getD-take}
+use lib.Seq.{length-take-le, take-at, drop-at, drop-cons, take-add, getD-drop, getD-take}
 use Rattle.octets.specs.Bytes.{byte, laid, allZero}
-use Rattle.octets.proofs.Parts.{field-at, parts-join, length-part, laid-zeros, all-zero-replicate, replicate-all-zero}
+use Rattle.octets.proofs.Parts.{field-at, length-part, laid-zeros, all-zero-replicate, replicate-all-zero}
 use Rattle.signing.specs.Layouts.{RegisterFields, AuthenticateFields, registerToSign, authenticateToSign, publicKey}
 use Rattle.signing.specs.Orders.{Order, Kind, Register, Authenticate, toSign, certificateLength, block, part, registerFields, authenticateFields, registerOrder, authenticateOrder}
 use Rattle.signing.proofs.Fit.{RegisterLengths, AuthenticateLengths}
 use Rattle.signing.proofs.Judged.{RegisterShape, AuthenticateShape}
-use Rattle.signing.proofs.Bodies.{key-is}
+use Rattle.signing.proofs.Bodies.{key-at}
+use Rattle.signing.proofs.Made.{register-order-fit, authenticate-order-fit}
 
 -- a block is what was laid, then zeros
 block-is : (s : List ℕ) → length s ≤ 385 → block s ≡ s ++ replicate (385 - length s) 0
@@ -156,3 +157,72 @@ module _ (f : AuthenticateFields) (l : AuthenticateLengths f) where
         rest = block-rest (authenticateToSign f) 69 authenticate-to-sign-length (omega arith);
         no-certificate = refl;
       }
+
+-- a front put together from its parts
+five-parts : (t₁ t₂ t₃ t₄ t z a d h k : List ℕ) → t₁ ≡ z → t₁ ++ a ≡ t₂ → t₂ ++ d ≡ t₃ → t₃ ++ h ≡ t₄ → t₄ ++ k ≡ t → t ≡ z ++ a ++ d ++ h ++ k
+five-parts t₁ t₂ t₃ t₄ t z a d h k e₁ e₂ e₃ e₄ e₅ = cc
+
+four-parts : (t₁ t₂ t₃ t p c d : List ℕ) → t₁ ++ p ≡ t₂ → t₂ ++ c ≡ t₃ → t₃ ++ d ≡ t → t ≡ t₁ ++ p ++ c ++ d
+four-parts t₁ t₂ t₃ t p c d e₁ e₂ e₃ = cc
+
+first-byte : (b : List ℕ) (i v : ℕ) → i < length b → byte b i ≡ v → part i 1 b ≡ v ∷ []
+first-byte b i v h e = ap (take 1) (drop-cons b i 0 h) ∙ ap (λ (x : ℕ). x ∷ []) e
+
+module _ (n : ℕ) (b : List ℕ) (whole : length b ≡ 385) (s : RegisterShape n b) where
+  register-front : take n b ≡ registerToSign (registerFields n b)
+  register-front =
+      let at : 65 + (n - 130) ≡ n - 65 = omega (arith, s .least) in
+      let key : part (65 + (n - 130)) 65 b ≡ publicKey (part (n - 64) 32 b) (part (n - 32) 32 b) =
+          ap (λ (m : ℕ). part m 65 b) at ∙ key-at n b (s .least) (s .most) whole (s .marker) in
+      let all : 65 + (n - 130) + 65 ≡ n = omega (arith, s .least) in
+      five-parts (take 1 b) (take 33 b) (take 65 b) (take (65 + (n - 130)) b) (take n b) (0x00 ∷ []) (part 1 32 b) (part 33 32 b)
+      (part 65 (n - 130) b) (publicKey (part (n - 64) 32 b) (part (n - 32) 32 b))
+      (first-byte b 0 0x00 (omega arith) (s .first))
+      (sym (take-add 1 32 b))
+      (sym (take-add 33 32 b))
+      (sym (take-add 65 (n - 130) b))
+      (ap (λ (k : List ℕ). take (65 + (n - 130)) b ++ k) (sym key) ∙ sym (take-add (65 + (n - 130)) 65 b) ∙ ap (λ (m : ℕ). take m b) all)
+
+  pub register-fields-lengths : RegisterLengths (registerFields n b)
+  register-fields-lengths =
+      record {
+        application = length-part 1 32 b (omega arith);
+        challenge = length-part 33 32 b (omega arith);
+        handle = omega (arith, s .most, length-part 65 (n - 130) b (omega (arith, s .least, s .most)));
+        x = length-part (n - 64) 32 b (omega (arith, s .least, s .most));
+        y = length-part (n - 32) 32 b (omega (arith, s .least, s .most));
+      }
+
+  register-block : b ≡ block (registerToSign (registerFields n b))
+  register-block = block-of b n whole (s .most) (s .rest) ∙ ap block register-front
+
+  pub register-order-of : (o : Order) → o .kind ≡ Register → toSign o ≡ n → o .bytes ≡ b → o ≡ registerOrder (registerFields n b) (certificateLength o)
+  register-order-of o k e is-b =
+      let handle : length (part 65 (n - 130) b) ≡ n - 130 = length-part 65 (n - 130) b (omega (arith, s .least, s .most)) in
+      order-equal o (record { kind = Register; «to_sign» = 130 + length (part 65 (n - 130) b); «certificate_length» = certificateLength o; bytes = block (registerToSign (registerFields n b)) })
+      k (omega (arith, e, s .least, handle)) refl (is-b ∙ register-block)
+      ∙ sym (register-order-fit (registerFields n b) (certificateLength o) register-fields-lengths)
+
+module _ (b : List ℕ) (whole : length b ≡ 385) (n c : ℕ) (s : AuthenticateShape n c b) where
+  authenticate-front : take 69 b ≡ authenticateToSign (authenticateFields b)
+  authenticate-front =
+      four-parts (take 32 b) (take 33 b) (take 37 b) (take 69 b) (byte b 32 ∷ []) (part 33 4 b) (part 37 32 b)
+      (ap (λ (p : List ℕ). take 32 b ++ p) (sym (first-byte b 32 (byte b 32) (omega arith) refl)) ∙ sym (take-add 32 1 b))
+      (sym (take-add 33 4 b))
+      (sym (take-add 37 32 b))
+
+  pub authenticate-fields-lengths : AuthenticateLengths (authenticateFields b)
+  authenticate-fields-lengths =
+      record {
+        application = length-part 0 32 b (omega arith);
+        presence = s .presence;
+        counter = length-part 33 4 b (omega arith);
+        challenge = length-part 37 32 b (omega arith);
+      }
+
+  pub authenticate-order-of : (o : Order) → o .kind ≡ Authenticate → toSign o ≡ n → certificateLength o ≡ c → o .bytes ≡ b
+      → o ≡ authenticateOrder (authenticateFields b)
+  authenticate-order-of o k e is-c is-b =
+      order-equal o (record { kind = Authenticate; «to_sign» = 69; «certificate_length» = 0; bytes = block (authenticateToSign (authenticateFields b)) })
+      k (e ∙ s .long) (is-c ∙ s .no-certificate) (is-b ∙ block-of b 69 whole (omega arith) (s .rest) ∙ ap block authenticate-front)
+      ∙ sym (authenticate-order-fit (authenticateFields b) authenticate-fields-lengths)
