@@ -150,7 +150,7 @@ module _ (f : AuthenticateFields) (l : AuthenticateLengths f) where
   pub authenticate-made-shape : AuthenticateShape 69 0 (block (authenticateToSign f))
   authenticate-made-shape =
       let at : byte (block (authenticateToSign f)) 32 ≡ f .presence =
-          one-byte (block (authenticateToSign f)) 32 (f .presence) (found-in .presence) in
+      one-byte (block (authenticateToSign f)) 32 (f .presence) (found-in .presence) in
       record {
         long = refl;
         presence = omega (arith, at, l .presence);
@@ -173,7 +173,7 @@ module _ (n : ℕ) (b : List ℕ) (whole : length b ≡ 385) (s : RegisterShape 
   register-front =
       let at : 65 + (n - 130) ≡ n - 65 = omega (arith, s .least) in
       let key : part (65 + (n - 130)) 65 b ≡ publicKey (part (n - 64) 32 b) (part (n - 32) 32 b) =
-          ap (λ (m : ℕ). part m 65 b) at ∙ key-at n b (s .least) (s .most) whole (s .marker) in
+      ap (λ (m : ℕ). part m 65 b) at ∙ key-at n b (s .least) (s .most) whole (s .marker) in
       let all : 65 + (n - 130) + 65 ≡ n = omega (arith, s .least) in
       five-parts (take 1 b) (take 33 b) (take 65 b) (take (65 + (n - 130)) b) (take n b) (0x00 ∷ []) (part 1 32 b) (part 33 32 b)
       (part 65 (n - 130) b) (publicKey (part (n - 64) 32 b) (part (n - 32) 32 b))

@@ -5,3 +5,5 @@ pub mod Rooms
 pub mod Bodies
 pub mod Checks
 pub mod Kept
+pub mod Ways
+pub mod Theorems

@@ -72,18 +72,18 @@ BlankRefused = (isOfLayout blankOrder ≡ false) × ((i : Finishing) → i .orde
 abbrev pub BytesToSign : Type 0
 BytesToSign =
     ((f : RegisterFields) (c : ℕ) → isRegisterFit f ≡ true
-        → (take (toSign (registerOrder f c)) (registerOrder f c .bytes) ≡ registerToSign f)
-        × (toSign (registerOrder f c) ≡ 130 + length (f .handle)))
+    → (take (toSign (registerOrder f c)) (registerOrder f c .bytes) ≡ registerToSign f)
+    × (toSign (registerOrder f c) ≡ 130 + length (f .handle)))
     × ((f : AuthenticateFields) → isAuthenticateFit f ≡ true
-        → (take (toSign (authenticateOrder f)) (authenticateOrder f .bytes) ≡ authenticateToSign f)
-        × (toSign (authenticateOrder f) ≡ 69))
+    → (take (toSign (authenticateOrder f)) (authenticateOrder f .bytes) ≡ authenticateToSign f)
+    × (toSign (authenticateOrder f) ≡ 69))
 
 -- The fields that went into an order are read back from it. A reading that takes the challenge for the application, or a
 -- handle one byte short, fails it.
 abbrev pub FieldsKept : Type 0
 FieldsKept =
     ((f : RegisterFields) (c : ℕ) → isRegisterFit f ≡ true
-        → registerFields (toSign (registerOrder f c)) (registerOrder f c .bytes) ≡ f)
+    → registerFields (toSign (registerOrder f c)) (registerOrder f c .bytes) ≡ f)
     × ((f : AuthenticateFields) → isAuthenticateFit f ≡ true → authenticateFields (authenticateOrder f .bytes) ≡ f)
 
 -- The room that a made order asks for. 01: "R2 (139 + h + c, or 77)". At h 64 and c 300 it is 503.
