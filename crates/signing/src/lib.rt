@@ -1,9 +1,9 @@
 // Signing orders and finishing: the bytes to sign and the replies, as FIDO U2F Raw Message Formats lays them out.
 //
-// Register    to sign: 00 | application (32) | challenge (32) | handle (h) | public key (65)
-//             reply:   05 | public key (65) | h | handle (h) | certificate (c) | signature (0 to 72)
-// Authenticate to sign: application (32) | presence | counter (4) | challenge (32)
-//             reply:   presence | counter (4) | signature (0 to 72)
+// Register      to sign: 00 | application (32) | challenge (32) | handle (h) | public key (65)
+//               reply:   05 | public key (65) | h | handle (h) | certificate (c) | signature (0 to 72)
+// Authenticate  to sign: application (32) | presence | counter (4) | challenge (32)
+//               reply:   presence | counter (4) | signature (0 to 72)
 //
 // The decision makes an order; the signer signs its bytes; finishing turns order and signature into the reply.
 use outcome::ApduStatusCode;
@@ -20,6 +20,13 @@ ghost use Rattle.octets.specs.Bytes.{byte, laid, bytes4};
 ghost use Rattle.signing.specs.Layouts.{presenceByte, registerBody, authenticateBody};
 ghost use Rattle.signing.specs.Orders.{kindNo, certificateLength, blankOrder, registerOrder, authenticateOrder, isRegisterLayout, isAuthenticateLayout, isOfLayout, registerFields, authenticateFields};
 ghost use Rattle.signing.specs.Finishing.{registerRoom, authenticateRoom, roomAsked, bodyOf, Finishes};
+
+// 05, public key, h and the longest signature: what a Register reply takes beside handle and certificate.
+const REGISTER_FIXED: usize = 139;
+// Presence byte, counter and the longest signature.
+const AUTHENTICATE_ROOM: usize = 77;
+// An ECDSA P-256 signature in DER takes no more.
+const LONGEST_SIGNATURE: usize = 72;
 
 // The command that an order answers.
 pub enum Kind {
@@ -179,10 +186,10 @@ fn is_of_layout(order: Order) -> bool
 pub fn has_register_room(room: usize, handle_length: usize, certificate_length: usize) -> bool
     ensures { λ r. ⌜ r ≡ leb (registerRoom «handle_length» «certificate_length») room ⌝ }
 {
-    if room < 139 {
+    if room < REGISTER_FIXED {
         return false;
     }
-    let left = room - 139;
+    let left = room - REGISTER_FIXED;
     if left < handle_length {
         return false;
     }
@@ -193,7 +200,7 @@ pub fn has_register_room(room: usize, handle_length: usize, certificate_length: 
 pub fn has_authenticate_room(room: usize) -> bool
     ensures { λ r. ⌜ r ≡ leb authenticateRoom room ⌝ }
 {
-    77 <= room
+    AUTHENTICATE_ROOM <= room
 }
 
 fn has_room(order: Order, room: usize) -> bool
@@ -281,7 +288,7 @@ pub fn finish(
     if !signed {
         return Finished::Status(ApduStatusCode::InternalException);
     }
-    if 72 < signature.len() {
+    if LONGEST_SIGNATURE < signature.len() {
         return Finished::Refused(Refusal::R3);
     }
     Finished::Body(put_body(order, certificate, signature, reply))
