@@ -1,0 +1,9 @@
+pub mod Fit
+pub mod Made
+pub mod Judged
+pub mod Rooms
+pub mod Bodies
+pub mod Checks
+pub mod Kept
+pub mod Ways
+pub mod Theorems

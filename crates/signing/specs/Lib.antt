@@ -1,0 +1,4 @@
+pub mod Layouts
+pub mod Orders
+pub mod Finishing
+pub mod Claims

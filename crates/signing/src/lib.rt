@@ -1,0 +1,295 @@
+// Signing orders and finishing: the bytes to sign and the replies, as FIDO U2F Raw Message Formats lays them out.
+//
+// Register      to sign: 00 | application (32) | challenge (32) | handle (h) | public key (65)
+//               reply:   05 | public key (65) | h | handle (h) | certificate (c) | signature (0 to 72)
+// Authenticate  to sign: application (32) | presence | counter (4) | challenge (32)
+//               reply:   presence | counter (4) | signature (0 to 72)
+//
+// The decision makes an order; the signer signs its bytes; finishing turns order and signature into the reply.
+use outcome::ApduStatusCode;
+use outcome::Refusal;
+
+mod fields;
+
+ghost use Prim.Native.Nat.{_+_, _-_, _≤_};
+ghost use mathlib.Core.Path.{_≡_};
+ghost use mathlib.Core.Bool.{true};
+ghost use lib.Dec.{leb};
+ghost use lib.ListN.{length};
+ghost use Rattle.octets.specs.Bytes.{byte, laid, bytes4};
+ghost use Rattle.signing.specs.Layouts.{presenceByte, registerBody, authenticateBody};
+ghost use Rattle.signing.specs.Orders.{kindNo, certificateLength, blankOrder, registerOrder, authenticateOrder, isRegisterLayout, isAuthenticateLayout, isOfLayout, registerFields, authenticateFields};
+ghost use Rattle.signing.specs.Finishing.{registerRoom, authenticateRoom, roomAsked, bodyOf, Finishes};
+
+// 05, public key, h and the longest signature: what a Register reply takes beside handle and certificate.
+const REGISTER_FIXED: usize = 139;
+// Presence byte, counter and the longest signature.
+const AUTHENTICATE_ROOM: usize = 77;
+// An ECDSA P-256 signature in DER takes no more.
+const LONGEST_SIGNATURE: usize = 72;
+
+// The command that an order answers.
+pub enum Kind {
+    Register,
+    Authenticate,
+}
+
+// What is to be signed, and what finishing has to know of the decision that made it.
+pub struct Order {
+    pub kind: Kind,
+    pub to_sign: usize,
+    pub certificate_length: usize,
+    pub bytes: [u8; 385],
+}
+
+// What finishing comes to: a body of so many bytes at the front of the reply buffer, or why there is none.
+pub enum Finished {
+    Refused(Refusal),
+    Status(ApduStatusCode),
+    Body(usize),
+}
+
+// The kind as the INS of its command.
+pub fn kind_number(kind: Kind) -> u8
+    ensures { λ r. ⌜ r ≡ kindNo kind ⌝ }
+{
+    match kind {
+        Kind::Register => 0x01,
+        Kind::Authenticate => 0x02,
+    }
+}
+
+// What stands where there is no order: finishing it is R7.
+pub fn blank() -> Order
+    ensures { λ r. ⌜ r ≡ blankOrder ⌝ }
+{
+    Order {
+        kind: Kind::Register,
+        to_sign: 0,
+        certificate_length: 0,
+        bytes: [0u8; 385],
+    }
+}
+
+// The order of a Register. Parts of other lengths give the blank order: nothing half-made leaves this crate.
+pub fn register_order(
+    application: &[u8],
+    challenge: &[u8],
+    handle: &[u8],
+    x: &[u8; 32],
+    y: &[u8; 32],
+    certificate_length: usize,
+) -> Order
+    ensures { λ r. ⌜ r ≡ registerOrder (record { application = now (application .entry); challenge = now (challenge .entry); handle = now (handle .entry); x = now (x .entry); y = now (y .entry) }) «certificate_length» ⌝ }
+{
+    if application.len() != 32 {
+        return blank();
+    }
+    if challenge.len() != 32 {
+        return blank();
+    }
+    if 255 < handle.len() {
+        return blank();
+    }
+    let mut key = [0u8; 65];
+    fields::put_three(&mut key, &[0x04], x, y);
+    let mut bytes = [0u8; 385];
+    fields::put_five(&mut bytes, &[0x00], application, challenge, handle, &key);
+    Order {
+        kind: Kind::Register,
+        to_sign: 130 + handle.len(),
+        certificate_length,
+        bytes,
+    }
+}
+
+fn presence_byte(present: bool) -> u8
+    ensures { λ r. ⌜ r ≡ presenceByte present ⌝ }
+{
+    if present { 0x01 } else { 0x00 }
+}
+
+// The order of an Authenticate, with the same rule for parts of other lengths.
+pub fn authenticate_order(
+    application: &[u8],
+    challenge: &[u8],
+    present: bool,
+    counter: u32,
+) -> Order
+    ensures { λ r. ⌜ r ≡ authenticateOrder (record { application = now (application .entry); presence = presenceByte present; counter = bytes4 counter; challenge = now (challenge .entry) }) ⌝ }
+{
+    if application.len() != 32 {
+        return blank();
+    }
+    if challenge.len() != 32 {
+        return blank();
+    }
+    let presence = presence_byte(present);
+    let mut count = [0u8; 4];
+    octets::put_word(&mut count, counter);
+    let mut bytes = [0u8; 385];
+    fields::put_four(&mut bytes, application, &[presence], &count, challenge);
+    Order {
+        kind: Kind::Authenticate,
+        to_sign: 69,
+        certificate_length: 0,
+        bytes,
+    }
+}
+
+fn is_register(to_sign: usize, bytes: [u8; 385]) -> bool
+    ensures { λ r. ⌜ r ≡ isRegisterLayout «to_sign» bytes ⌝ }
+{
+    if to_sign < 130 {
+        return false;
+    }
+    if 385 < to_sign {
+        return false;
+    }
+    if bytes[0] != 0x00 {
+        return false;
+    }
+    if bytes[to_sign - 65] != 0x04 {
+        return false;
+    }
+    octets::all_zero(&bytes[to_sign..])
+}
+
+fn is_authenticate(to_sign: usize, certificate_length: usize, bytes: [u8; 385]) -> bool
+    ensures { λ r. ⌜ r ≡ isAuthenticateLayout «to_sign» «certificate_length» bytes ⌝ }
+{
+    if to_sign != 69 {
+        return false;
+    }
+    if 0x01 < bytes[32] {
+        return false;
+    }
+    if !octets::all_zero(&bytes[69..]) {
+        return false;
+    }
+    certificate_length == 0
+}
+
+// An order is whatever the caller hands in, so its layout is looked at before a byte of it is used.
+fn is_of_layout(order: Order) -> bool
+    ensures { λ r. ⌜ r ≡ isOfLayout order ⌝ }
+{
+    let kind = order.kind;
+    let bytes = order.bytes;
+    match kind {
+        Kind::Register => is_register(order.to_sign, bytes),
+        Kind::Authenticate => is_authenticate(order.to_sign, order.certificate_length, bytes),
+    }
+}
+
+// Whether a buffer of room bytes holds the longest reply to a Register. Tested by subtraction: the sum could wrap.
+pub fn has_register_room(room: usize, handle_length: usize, certificate_length: usize) -> bool
+    ensures { λ r. ⌜ r ≡ leb (registerRoom «handle_length» «certificate_length») room ⌝ }
+{
+    if room < REGISTER_FIXED {
+        return false;
+    }
+    let left = room - REGISTER_FIXED;
+    if left < handle_length {
+        return false;
+    }
+    certificate_length <= left - handle_length
+}
+
+// The same for an Authenticate.
+pub fn has_authenticate_room(room: usize) -> bool
+    ensures { λ r. ⌜ r ≡ leb authenticateRoom room ⌝ }
+{
+    AUTHENTICATE_ROOM <= room
+}
+
+fn has_room(order: Order, room: usize) -> bool
+    requires { ⌜ isOfLayout order ≡ true ⌝ }
+    ensures { λ r. ⌜ r ≡ leb (roomAsked order) room ⌝ }
+{
+    let kind = order.kind;
+    match kind {
+        Kind::Register => has_register_room(room, order.to_sign - 130, order.certificate_length),
+        Kind::Authenticate => has_authenticate_room(room),
+    }
+}
+
+fn put_register_body(
+    to_sign: usize,
+    bytes: [u8; 385],
+    certificate: &[u8],
+    signature: &[u8],
+    reply: &mut [u8],
+) -> usize
+    requires { ⌜ (130 ≤ «to_sign») × («to_sign» ≤ 385) × (byte bytes («to_sign» - 65) ≡ 0x04) ⌝ }
+    requires { ⌜ 67 + («to_sign» - 130) + length (now certificate) + length (now signature) ≤ length (now reply) ⌝ }
+    ensures { λ r. ⌜ r ≡ length (registerBody (registerFields «to_sign» bytes) (now (certificate .entry)) (now (signature .entry))) ⌝ }
+    ensures { λ _. ⌜ now (reply .exit) ≡ laid (registerBody (registerFields «to_sign» bytes) (now (certificate .entry)) (now (signature .entry))) (now (reply .entry)) ⌝ }
+{
+    let h = to_sign - 130;
+    let key = to_sign - 65;
+    let block: &[u8] = &bytes;
+    fields::put_six(
+        reply,
+        &[0x05],
+        &block[key..to_sign],
+        &[h as u8],
+        &block[65..key],
+        certificate,
+        signature,
+    );
+    67 + h + certificate.len() + signature.len()
+}
+
+fn put_authenticate_body(bytes: [u8; 385], signature: &[u8], reply: &mut [u8]) -> usize
+    requires { ⌜ 5 + length (now signature) ≤ length (now reply) ⌝ }
+    ensures { λ r. ⌜ r ≡ length (authenticateBody (authenticateFields bytes) (now (signature .entry))) ⌝ }
+    ensures { λ _. ⌜ now (reply .exit) ≡ laid (authenticateBody (authenticateFields bytes) (now (signature .entry))) (now (reply .entry)) ⌝ }
+{
+    fields::put_three(reply, &[bytes[32]], &bytes[33..37], signature);
+    5 + signature.len()
+}
+
+fn put_body(order: Order, certificate: &[u8], signature: &[u8], reply: &mut [u8]) -> usize
+    requires { ⌜ isOfLayout order ≡ true ⌝ }
+    requires { ⌜ length (now certificate) ≡ certificateLength order ⌝ }
+    requires { ⌜ roomAsked order ≤ length (now reply) ⌝ }
+    requires { ⌜ length (now signature) ≤ 72 ⌝ }
+    ensures { λ r. ⌜ r ≡ length (bodyOf (order .kind) order (now (certificate .entry)) (now (signature .entry))) ⌝ }
+    ensures { λ _. ⌜ now (reply .exit) ≡ laid (bodyOf (order .kind) order (now (certificate .entry)) (now (signature .entry))) (now (reply .entry)) ⌝ }
+{
+    let kind = order.kind;
+    let bytes = order.bytes;
+    match kind {
+        Kind::Register => put_register_body(order.to_sign, bytes, certificate, signature, reply),
+        Kind::Authenticate => put_authenticate_body(bytes, signature, reply),
+    }
+}
+
+// Order, certificate, the signer's answer and the reply buffer to the reply. `signed` is false where the signer failed.
+pub fn finish(
+    order: Order,
+    certificate: &[u8],
+    signed: bool,
+    signature: &[u8],
+    reply: &mut [u8],
+) -> Finished
+    ensures { λ r. ⌜ Finishes (record { order = order; certificate = now (certificate .entry); signed = signed; signature = now (signature .entry); reply = now (reply .entry) }) r (now (reply .exit)) ⌝ }
+{
+    if !is_of_layout(order) {
+        return Finished::Refused(Refusal::R7);
+    }
+    if certificate.len() != order.certificate_length {
+        return Finished::Refused(Refusal::R4);
+    }
+    if !has_room(order, reply.len()) {
+        return Finished::Refused(Refusal::R2);
+    }
+    if !signed {
+        return Finished::Status(ApduStatusCode::InternalException);
+    }
+    if LONGEST_SIGNATURE < signature.len() {
+        return Finished::Refused(Refusal::R3);
+    }
+    Finished::Body(put_body(order, certificate, signature, reply))
+}
