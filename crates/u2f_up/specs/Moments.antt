@@ -30,32 +30,42 @@ newOf w =
     if isR6 w then R 6
     else Gives (fresh w)
 
+-- The four ways in which a record moves; each sets what it names and keeps the rest.
 -- 01, Refusal numbers: "each touch, direct check and decision sets the last moment to t"
-abbrev pub movedTo : ℕ → Presence → Presence
-movedTo t p = record { w = p .w; prompt = p .prompt; touch = p .touch; last = t }
+abbrev pub movedTo : Presence → ℕ → Presence
+movedTo p t = record { w = p .w; prompt = p .prompt; touch = p .touch; last = t }
+
+-- 01, Moments and touches: "then the prompt closes and a touch window opens"
+abbrev pub touched : Presence → ℕ → Presence
+touched p t = record { w = p .w; prompt = Closed; touch = Opened t; last = p .last }
+
+-- 01, Moments and touches: "with a live touch, it is spent"
+abbrev pub spent : Presence → Presence
+spent p = record { w = p .w; prompt = p .prompt; touch = Closed; last = p .last }
+
+-- 01, Moments and touches: "without, a prompt window opens at t, replacing an older one"
+abbrev pub prompted : Presence → ℕ → Presence
+prompted p t = record { w = p .w; prompt = Opened t; touch = p .touch; last = p .last }
 
 -- 01, Moments and touches: "Touch, check and ask give R6, then R1, before all else."
 unfoldable pub settleOf : Presence → ℕ → Outcome Presence
 settleOf p t =
     if isR6 (p .w) then R 6
     else if isR1 (p .last) t then R 1
-    else Gives (movedTo t p)
+    else Gives (movedTo p t)
 
 -- 01, Moments and touches: "Touch (grant_up) is accepted when the prompt is live; then the prompt closes and a touch window
 -- opens. Otherwise nothing but the last moment moves." Here the last moment has moved already.
 unfoldable pub grantedOf : Presence → ℕ → Found
 grantedOf p t =
-    if isPrompting p t
-    then record { yes = true; presence = record { w = p .w; prompt = Closed; touch = Opened t; last = p .last } }
+    if isPrompting p t then record { yes = true; presence = touched p t }
     else record { yes = false; presence = p }
 
--- 01, Moments and touches: "The touch check (consume_up): with a live touch, it is spent; without, a prompt window opens at t,
--- replacing an older one."
+-- 01, Moments and touches: "The touch check (consume_up): with a live touch, it is spent; without, a prompt window opens"
 unfoldable pub checkedOf : Presence → ℕ → Found
 checkedOf p t =
-    if isLive (p .touch) (p .w) t
-    then record { yes = true; presence = record { w = p .w; prompt = p .prompt; touch = Closed; last = p .last } }
-    else record { yes = false; presence = record { w = p .w; prompt = Opened t; touch = p .touch; last = p .last } }
+    if isLive (p .touch) (p .w) t then record { yes = true; presence = spent p }
+    else record { yes = false; presence = prompted p t }
 
 -- What a call comes to: its outcome, and the record after it.
 pub record Told : Type 0 where
