@@ -1,0 +1,10 @@
+pub mod Cases
+pub mod Lent
+pub mod Lists
+pub mod Runs
+pub mod Touches
+pub mod Prompts
+pub mod Accounts
+pub mod Exactly
+pub mod Demand
+pub mod Theorems

@@ -1,0 +1,41 @@
+use borrow.Author.Needs.{needs}
+use Rattle.u2f_up.proofs.Cases
+use Rattle.u2f_up.proofs.consume_up.Statement.{statement}
+use Rattle.u2f_up.proofs.consume_up.Tie as tie
+
+settle-requires : tie.Need-settle-requires
+settle-requires c κs = search needs
+
+enum-known-why : tie.Need-enum-known-why
+enum-known-why c = search needs
+
+refuse-requires : tie.Need-refuse-requires
+refuse-requires c κs = search needs
+
+enum-known-settled : tie.Need-enum-known-settled
+enum-known-settled c = search needs
+
+touch-check-requires : tie.Need-touch-check-requires
+touch-check-requires c κs = search needs
+
+tell-requires : tie.Need-tell-requires
+tell-requires c κs = search needs
+
+returns : tie.Need-returns
+returns c = search (needs, Cases.check-refused)
+
+returns-2 : tie.Need-returns-2
+returns-2 c = search (needs, Cases.check-found)
+
+pub consume-up-spec : {M : Type 1} → statement M
+consume-up-spec =
+    tie.close
+    (tie.spec
+    settle-requires
+    enum-known-why
+    refuse-requires
+    enum-known-settled
+    touch-check-requires
+    tell-requires
+    returns
+    returns-2)

@@ -1,0 +1,254 @@
+// Presence: prompts, touches and their spending, carried over from the Rust's u2f_up.rs. Moments are given in, and the
+// record goes in by value and comes back; lent.rs has the same three calls on a record lent for writing.
+// Any values may stand in a record: no sum of moments is ever made, so none can wrap.
+use outcome::Refusal;
+ghost use mathlib.Core.Path.{_≡_};
+ghost use Rattle.outcome.specs.Outcome.{Gives, refusalNo};
+ghost use Rattle.u2f_up.specs.Moments.{isLive, isR6, isR1, grantedOf, gave, refused};
+ghost use Rattle.u2f_up.specs.Answers.{outcomeOf, toldOf, New, Settle, GrantUp, TouchCheck, ConsumeUp, IsUpNeeded, IsUpNeededLent};
+
+const U2F_UP_PROMPT_TIMEOUT_MS: u64 = 10000;
+
+const W_MOST: u64 = 60000;
+
+const MOMENTS: u64 = 1 << 48;
+
+// A window opened at a moment is live for a stretch that its reader knows; once that has passed it stays as it is.
+pub enum Window {
+    Closed,
+    Opened(u64),
+}
+
+// The presence record: W, the prompt window (the Rust's `needs_up`), the touch window (`has_up`), and the last moment.
+pub struct Presence {
+    pub w: u64,
+    pub prompt: Window,
+    pub touch: Window,
+    pub last: u64,
+}
+
+// A record to go on with, or why there is none.
+pub enum Ready {
+    Refused(Refusal),
+    Record(Presence),
+}
+
+// What touch, check and ask answer.
+pub enum Answer {
+    Refused(Refusal),
+    Yes,
+    No,
+}
+
+// An answer and the record after the call; a refusal hands back the record that came in.
+pub struct Step {
+    pub answer: Answer,
+    pub presence: Presence,
+}
+
+// What a call finds on a record whose moment is settled, where nothing is refused any more.
+pub struct Found {
+    pub yes: bool,
+    pub presence: Presence,
+}
+
+// R6: W is 0 or above 60,000.
+fn is_r6(w: u64) -> bool
+    ensures { λ r. ⌜ r ≡ isR6 w ⌝ }
+{
+    if w == 0 {
+        return true;
+    }
+    W_MOST < w
+}
+
+// R1: the moment is 2^48 or more, or before the last one.
+fn is_r1(last: u64, t: u64) -> bool
+    ensures { λ r. ⌜ r ≡ isR1 last t ⌝ }
+{
+    if MOMENTS <= t {
+        return true;
+    }
+    t < last
+}
+
+// A fresh record with the touch window W.
+pub fn new(w: u64) -> Ready
+    ensures { λ r. ⌜ New w r ⌝ }
+{
+    if is_r6(w) {
+        return Ready::Refused(Refusal::R6);
+    }
+    Ready::Record(Presence {
+        w,
+        prompt: Window::Closed,
+        touch: Window::Closed,
+        last: 0,
+    })
+}
+
+// The moment settled, before all else: R6, R1, or the record with its last moment at `t`.
+pub fn settle(presence: Presence, t: u64) -> Ready
+    ensures { λ r. ⌜ Settle presence t r ⌝ }
+{
+    if is_r6(presence.w) {
+        return Ready::Refused(Refusal::R6);
+    }
+    if is_r1(presence.last, t) {
+        return Ready::Refused(Refusal::R1);
+    }
+    let prompt = presence.prompt;
+    let touch = presence.touch;
+    Ready::Record(Presence {
+        w: presence.w,
+        prompt,
+        touch,
+        last: t,
+    })
+}
+
+// Whether a window of length `d` is live at `t`: t < m + d, tested with no sum.
+fn is_live(window: Window, d: u64, t: u64) -> bool
+    ensures { λ r. ⌜ r ≡ isLive window d t ⌝ }
+{
+    match window {
+        Window::Closed => false,
+        Window::Opened(m) => {
+            if t < m {
+                return true;
+            }
+            t - m < d
+        }
+    }
+}
+
+// Touch on a settled record: accepted while the prompt is live.
+fn granted(settled: Presence, t: u64) -> Found
+    ensures { λ r. ⌜ r ≡ grantedOf settled t ⌝ }
+{
+    let prompt = settled.prompt;
+    if is_live(prompt, U2F_UP_PROMPT_TIMEOUT_MS, t) {
+        return Found {
+            yes: true,
+            presence: Presence {
+                w: settled.w,
+                prompt: Window::Closed,
+                touch: Window::Opened(t),
+                last: settled.last,
+            },
+        };
+    }
+    Found {
+        yes: false,
+        presence: settled,
+    }
+}
+
+// The touch check on a settled record: a live touch is spent, else a prompt opens. For callers that settled the moment
+// themselves and had more to look at before they came here.
+pub fn touch_check(presence: Presence, t: u64) -> Found
+    ensures { λ r. ⌜ TouchCheck presence t r ⌝ }
+{
+    let prompt = presence.prompt;
+    let touch = presence.touch;
+    if is_live(touch, presence.w, t) {
+        return Found {
+            yes: true,
+            presence: Presence {
+                w: presence.w,
+                prompt,
+                touch: Window::Closed,
+                last: presence.last,
+            },
+        };
+    }
+    Found {
+        yes: false,
+        presence: Presence {
+            w: presence.w,
+            prompt: Window::Opened(t),
+            touch,
+            last: presence.last,
+        },
+    }
+}
+
+fn answer_of(yes: bool) -> Answer
+    ensures { λ r. ⌜ outcomeOf r ≡ Gives yes ⌝ }
+{
+    if yes { Answer::Yes } else { Answer::No }
+}
+
+fn tell(found: Found) -> Step
+    ensures { λ r. ⌜ toldOf r ≡ gave found ⌝ }
+{
+    let presence = found.presence;
+    Step {
+        answer: answer_of(found.yes),
+        presence,
+    }
+}
+
+fn refuse(why: Refusal, kept: Presence) -> Step
+    ensures { λ r. ⌜ toldOf r ≡ refused (refusalNo why) kept ⌝ }
+{
+    Step {
+        answer: Answer::Refused(why),
+        presence: kept,
+    }
+}
+
+// A touch at `t`: allows spending it until W has passed, if a prompt is live; if none is, it grants nothing.
+pub fn grant_up(presence: Presence, t: u64) -> Step
+    ensures { λ r. ⌜ GrantUp presence t r ⌝ }
+{
+    match settle(presence, t) {
+        Ready::Refused(why) => refuse(why, presence),
+        Ready::Record(settled) => tell(granted(settled, t)),
+    }
+}
+
+// The touch check at `t`: whether a touch was granted, not yet spent and younger than W; it is spent now.
+pub fn consume_up(presence: Presence, t: u64) -> Step
+    ensures { λ r. ⌜ ConsumeUp presence t r ⌝ }
+{
+    match settle(presence, t) {
+        Ready::Refused(why) => refuse(why, presence),
+        Ready::Record(settled) => tell(touch_check(settled, t)),
+    }
+}
+
+// Whether a prompt is live at `t`. Nothing moves, not even the last moment.
+pub fn is_up_needed(presence: Presence, t: u64) -> Answer
+    ensures { λ r. ⌜ IsUpNeeded presence t r ⌝ }
+{
+    let prompt = presence.prompt;
+    match settle(presence, t) {
+        Ready::Refused(why) => Answer::Refused(why),
+        Ready::Record(_) => answer_of(is_live(prompt, U2F_UP_PROMPT_TIMEOUT_MS, t)),
+    }
+}
+
+// The same three on a record lent for writing, as the Rust has them. No branch: the work is done by value.
+pub fn grant_up_lent(presence: &mut Presence, t: u64) -> Answer
+    ensures { λ r. ⌜ GrantUp (now (presence .entry)) t (record { answer = r; presence = now (presence .exit) }) ⌝ }
+{
+    let step = grant_up(*presence, t);
+    *presence = step.presence;
+    step.answer
+}
+
+pub fn consume_up_lent(presence: &mut Presence, t: u64) -> Answer
+    ensures { λ r. ⌜ ConsumeUp (now (presence .entry)) t (record { answer = r; presence = now (presence .exit) }) ⌝ }
+{
+    let step = consume_up(*presence, t);
+    *presence = step.presence;
+    step.answer
+}
+
+// Asking leaves the lent record as it was.
+pub fn is_up_needed_lent(presence: &mut Presence, t: u64) -> Answer
+    ensures { λ r. ⌜ IsUpNeededLent (now (presence .entry)) t (record { answer = r; presence = now (presence .exit) }) ⌝ }
+{
+    is_up_needed(*presence, t)
+}
