@@ -37,6 +37,22 @@ versionDecision kept settled room =
     if ltb room 6 then refuse 2 kept
     else body 6 settled
 
+-- the order of a Register: 00, application, challenge, handle, public key, with the certificate's length
+unfoldable pub registerOrdered : Inputs → Says → Presence → Result
+registerOrdered i said p =
+    orderOf
+    (registerOrder
+    (record {
+      application = applicationOf (i .frame) said;
+      challenge = challengeOf (i .frame) said;
+      handle = i .newHandle;
+      x = i .x;
+      y = i .y;
+    })
+    (length (i .certificate)))
+    p
+    false
+
 -- 5. "Register: R2 if the buffer is shorter than 139 + h + c ..; touch check, 6985; then 6f00 if the store failed, h > 255,
 -- or the attestation is missing or failed; else an order."
 unfoldable pub registerDecision : Inputs → Says → Presence → Result
@@ -47,48 +63,38 @@ registerDecision i said settled =
     else if not (i .hardware .stored) then answer 0x6f00 (found .presence)
     else if ltb 255 (length (i .newHandle)) then answer 0x6f00 (found .presence)
     else if not (isPresent (i .hardware .attestation)) then answer 0x6f00 (found .presence)
-    else orderOf
-    (registerOrder
-    (record {
-      application = applicationOf (i .frame) said;
-      challenge = challengeOf (i .frame) said;
-      handle = i .newHandle;
-      x = i .x;
-      y = i .y;
-    })
-    (length (i .certificate)))
-    (found .presence)
-    false
+    else registerOrdered i said (found .presence)
 
 -- 6. "counter answer failed gives 6a80; else the offered counter is reported as taken, and an order"
-unfoldable pub countedBy : Counter → Inputs → Says → Bool → Presence → Result
-countedBy Counter′.Failed i said present p = answer 0x6a80 p
-countedBy (Counter′.Offered n) i said present p =
+unfoldable pub countedBy : Counter → List ℕ → Says → Bool → Presence → Result
+countedBy Counter′.Failed frame said present p = answer 0x6a80 p
+countedBy (Counter′.Offered n) frame said present p =
     orderOf
     (authenticateOrder
     (record {
-      application = applicationOf (i .frame) said;
+      application = applicationOf frame said;
       presence = presenceByte present;
       counter = bytes4 n;
-      challenge = challengeOf (i .frame) said;
+      challenge = challengeOf frame said;
     }))
     p
     true
 
 -- 6. "for P1 03 touch check, 6985"
-unfoldable pub enforced : Inputs → Says → Found → Result
-enforced i said found =
+unfoldable pub enforced : Counter → List ℕ → Says → Found → Result
+enforced counter frame said found =
     if not (found .yes) then answer 0x6985 (found .presence)
-    else countedBy (i .hardware .counter) i said true (found .presence)
+    else countedBy counter frame said true (found .presence)
 
 -- 6. "Authenticate: handle not good gives 6a80; P1 07 gives 6985; buffer under 77 gives R2; for P1 03 touch check, 6985; .."
 unfoldable pub authenticateDecision : Inputs → ℕ → Says → Presence → Result
 authenticateDecision i p1 said settled =
+    let counter = i .hardware .counter in
     if not (i .hardware .good) then answer 0x6a80 settled
     else if eqb p1 0x07 then answer 0x6985 settled
     else if ltb (i .room) authenticateRoom then refuse 2 (i .presence)
-    else if eqb p1 0x03 then enforced i said (checkedOf settled (i .moment))
-    else countedBy (i .hardware .counter) i said false settled
+    else if eqb p1 0x03 then enforced counter (i .frame) said (checkedOf settled (i .moment))
+    else countedBy counter (i .frame) said false settled
 
 -- 3. "the frame's status, as above", and then by the command
 unfoldable pub onCommand : Inputs → Presence → Outcome Command → Result

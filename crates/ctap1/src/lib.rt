@@ -13,8 +13,9 @@ ghost use lib.ListN.{length};
 ghost use Rattle.outcome.specs.Outcome.{statusNo, refusalNo};
 ghost use Rattle.apdu.specs.Answers.{saysOf};
 ghost use Rattle.command.specs.Command.{flagsNo};
+ghost use Rattle.u2f_up.specs.Moments.{checkedOf};
 ghost use Rattle.ctap1.specs.Words.{isPresent, decisionSaid};
-ghost use Rattle.ctap1.specs.Decision.{refuse, answer, orderOf, countedBy, enforced, registerDecision, authenticateDecision, versionDecision, onAllowed, onCommand, decisionOf, replyLeft};
+ghost use Rattle.ctap1.specs.Decision.{refuse, answer, orderOf, countedBy, enforced, registerOrdered, registerDecision, authenticateDecision, versionDecision, onAllowed, onCommand, decisionOf, replyLeft};
 
 // Whether CTAP1 is allowed.
 pub enum Allowed {
@@ -102,4 +103,144 @@ fn is_present(attestation: Attestation) -> bool
         Attestation::Missing => false,
         Attestation::Failed => false,
     }
+}
+
+fn version(kept: Presence, settled: Presence, reply: &mut [u8]) -> Decision
+    ensures { λ r. ⌜ decisionSaid r ≡ versionDecision kept settled (length (now (reply .entry))) ⌝ }
+    ensures { λ _. ⌜ now (reply .exit) ≡ replyLeft (versionDecision kept settled (length (now (reply .entry)))) (now (reply .entry)) ⌝ }
+{
+    if reply.len() < 6 {
+        return refused(Refusal::R2, kept);
+    }
+    octets::put(reply, b"U2F_V2");
+    Decision {
+        answer: Decided::Body(6),
+        presence: settled,
+        order: signing::blank(),
+        taken: false,
+    }
+}
+
+fn enrol(
+    frame: &[u8],
+    t: u64,
+    kept: Presence,
+    hardware: Hardware,
+    handle: &[u8],
+    certificate: &[u8],
+    x: &[u8; 32],
+    y: &[u8; 32],
+    room: usize,
+    says: Apdu,
+    after: Presence,
+) -> Decision
+    ensures { λ r. ⌜ decisionSaid r ≡ registerOrdered (record { frame = now (frame .entry); moment = t; presence = kept; hardware = hardware; newHandle = now (handle .entry); certificate = now (certificate .entry); x = now (x .entry); y = now (y .entry); room = room }) (saysOf says) after ⌝ }
+{
+    let application = command::application(frame, says);
+    let challenge = command::challenge(frame, says);
+    let order = signing::register_order(application, challenge, handle, x, y, certificate.len());
+    ordered(order, after, false)
+}
+
+// The room is asked for first: a touch that is spent on a reply which then does not fit is lost.
+fn register(
+    frame: &[u8],
+    t: u64,
+    kept: Presence,
+    hardware: Hardware,
+    handle: &[u8],
+    certificate: &[u8],
+    x: &[u8; 32],
+    y: &[u8; 32],
+    room: usize,
+    says: Apdu,
+    settled: Presence,
+) -> Decision
+    ensures { λ r. ⌜ decisionSaid r ≡ registerDecision (record { frame = now (frame .entry); moment = t; presence = kept; hardware = hardware; newHandle = now (handle .entry); certificate = now (certificate .entry); x = now (x .entry); y = now (y .entry); room = room }) (saysOf says) settled ⌝ }
+{
+    if !signing::has_register_room(room, handle.len(), certificate.len()) {
+        return refused(Refusal::R2, kept);
+    }
+    let found = u2f_up::touch_check(settled, t);
+    let after = found.presence;
+    if !found.yes {
+        return answered(ApduStatusCode::CondUseNotSatisfied, after);
+    }
+    if !hardware.stored {
+        return answered(ApduStatusCode::InternalException, after);
+    }
+    if 255 < handle.len() {
+        return answered(ApduStatusCode::InternalException, after);
+    }
+    let attestation = hardware.attestation;
+    if !is_present(attestation) {
+        return answered(ApduStatusCode::InternalException, after);
+    }
+    enrol(frame, t, kept, hardware, handle, certificate, x, y, room, says, after)
+}
+
+// The counter is taken last: no check comes after it.
+fn counted(counter: Counter, frame: &[u8], says: Apdu, present: bool, settled: Presence) -> Decision
+    ensures { λ r. ⌜ decisionSaid r ≡ countedBy counter (now (frame .entry)) (saysOf says) present settled ⌝ }
+{
+    match counter {
+        Counter::Failed => answered(ApduStatusCode::WrongData, settled),
+        Counter::Offered(n) => {
+            let application = command::application(frame, says);
+            let challenge = command::challenge(frame, says);
+            let order = signing::authenticate_order(application, challenge, present, n);
+            ordered(order, settled, true)
+        }
+    }
+}
+
+fn enforce(
+    counter: Counter,
+    frame: &[u8],
+    says: Apdu,
+    t: u64,
+    settled: Presence,
+) -> Decision
+    ensures { λ r. ⌜ decisionSaid r ≡ enforced counter (now (frame .entry)) (saysOf says) (checkedOf settled t) ⌝ }
+{
+    let found = u2f_up::touch_check(settled, t);
+    let after = found.presence;
+    if !found.yes {
+        return answered(ApduStatusCode::CondUseNotSatisfied, after);
+    }
+    counted(counter, frame, says, true, after)
+}
+
+// A check-only 6985 is the good answer: it looks at no touch, asks for no room and leaves the windows alone.
+fn authenticate(
+    frame: &[u8],
+    t: u64,
+    kept: Presence,
+    hardware: Hardware,
+    handle: &[u8],
+    certificate: &[u8],
+    x: &[u8; 32],
+    y: &[u8; 32],
+    room: usize,
+    flags: Ctap1Flags,
+    says: Apdu,
+    settled: Presence,
+) -> Decision
+    ensures { λ r. ⌜ decisionSaid r ≡ authenticateDecision (record { frame = now (frame .entry); moment = t; presence = kept; hardware = hardware; newHandle = now (handle .entry); certificate = now (certificate .entry); x = now (x .entry); y = now (y .entry); room = room }) (flagsNo flags) (saysOf says) settled ⌝ }
+{
+    let counter = hardware.counter;
+    let p1 = command::flags_number(flags);
+    if !hardware.good {
+        return answered(ApduStatusCode::WrongData, settled);
+    }
+    if p1 == 0x07 {
+        return answered(ApduStatusCode::CondUseNotSatisfied, settled);
+    }
+    if !signing::has_authenticate_room(room) {
+        return refused(Refusal::R2, kept);
+    }
+    if p1 == 0x03 {
+        return enforce(counter, frame, says, t, settled);
+    }
+    counted(counter, frame, says, false, settled)
 }

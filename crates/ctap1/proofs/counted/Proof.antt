@@ -1,0 +1,46 @@
+-- `counted` meets its contract: by the counter's answer.
+use borrow.Author.Needs.{needs}
+use Rattle.ctap1.proofs.Cases
+use Rattle.ctap1.proofs.counted.Statement.{statement}
+use Rattle.ctap1.proofs.counted.Tie as tie
+
+enum-told : tie.Need-enum-told
+enum-told c = search needs
+
+answered-requires : tie.Need-answered-requires
+answered-requires c κs = search needs
+
+enum-known-counter : tie.Need-enum-known-counter
+enum-known-counter c = search needs
+
+application-requires : tie.Need-application-requires
+application-requires c κs = search needs
+
+challenge-requires : tie.Need-challenge-requires
+challenge-requires c κs = search needs
+
+authenticate-order-requires : tie.Need-authenticate-order-requires
+authenticate-order-requires c κs = search needs
+
+ordered-requires : tie.Need-ordered-requires
+ordered-requires c κs = search needs
+
+returns : tie.Need-returns
+returns c = search (needs, Cases.counted-failed)
+
+returns-2 : tie.Need-returns-2
+returns-2 c = search (needs, Cases.counted-order)
+
+pub counted-spec : {M : Type 1} → statement M
+counted-spec =
+    tie.close
+    (tie.spec
+    enum-told
+    answered-requires
+    enum-known-counter
+    application-requires
+    challenge-requires
+    authenticate-order-requires
+    ordered-requires
+    returns
+    returns-2)

@@ -1,0 +1,14 @@
+-- `refused` meets its contract.
+use borrow.Author.Needs.{needs}
+use Rattle.ctap1.proofs.Cases
+use Rattle.ctap1.proofs.refused.Statement.{statement}
+use Rattle.ctap1.proofs.refused.Tie as tie
+
+blank-requires : tie.Need-blank-requires
+blank-requires c κs = search needs
+
+returns : tie.Need-returns
+returns c = Cases.with-order _ _ _ _ _ (c .blank .ensures)
+
+pub refused-spec : {M : Type 1} → statement M
+refused-spec = tie.close (tie.spec blank-requires returns)
