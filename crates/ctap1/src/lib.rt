@@ -12,7 +12,7 @@ ghost use mathlib.Core.Path.{_≡_};
 ghost use lib.ListN.{length};
 ghost use Rattle.outcome.specs.Outcome.{statusNo, refusalNo};
 ghost use Rattle.apdu.specs.Answers.{saysOf};
-ghost use Rattle.command.specs.Command.{flagsNo};
+ghost use Rattle.command.specs.Command.{flagsNo, commandOf};
 ghost use Rattle.u2f_up.specs.Moments.{checkedOf};
 ghost use Rattle.ctap1.specs.Words.{isPresent, decisionSaid};
 ghost use Rattle.ctap1.specs.Decision.{refuse, answer, orderOf, countedBy, enforced, registerOrdered, registerDecision, authenticateDecision, versionDecision, onAllowed, onCommand, decisionOf, replyLeft};
@@ -176,7 +176,19 @@ fn register(
     if !is_present(attestation) {
         return answered(ApduStatusCode::InternalException, after);
     }
-    enrol(frame, t, kept, hardware, handle, certificate, x, y, room, says, after)
+    enrol(
+        frame,
+        t,
+        kept,
+        hardware,
+        handle,
+        certificate,
+        x,
+        y,
+        room,
+        says,
+        after,
+    )
 }
 
 // The counter is taken last: no check comes after it.
@@ -194,13 +206,7 @@ fn counted(counter: Counter, frame: &[u8], says: Apdu, present: bool, settled: P
     }
 }
 
-fn enforce(
-    counter: Counter,
-    frame: &[u8],
-    says: Apdu,
-    t: u64,
-    settled: Presence,
-) -> Decision
+fn enforce(counter: Counter, frame: &[u8], says: Apdu, t: u64, settled: Presence) -> Decision
     ensures { λ r. ⌜ decisionSaid r ≡ enforced counter (now (frame .entry)) (saysOf says) (checkedOf settled t) ⌝ }
 {
     let found = u2f_up::touch_check(settled, t);
@@ -243,4 +249,122 @@ fn authenticate(
         return enforce(counter, frame, says, t, settled);
     }
     counted(counter, frame, says, false, settled)
+}
+
+fn commanded(
+    frame: &[u8],
+    t: u64,
+    kept: Presence,
+    hardware: Hardware,
+    handle: &[u8],
+    certificate: &[u8],
+    x: &[u8; 32],
+    y: &[u8; 32],
+    reply: &mut [u8],
+    settled: Presence,
+) -> Decision
+    ensures { λ r. ⌜ decisionSaid r ≡ onCommand (record { frame = now (frame .entry); moment = t; presence = kept; hardware = hardware; newHandle = now (handle .entry); certificate = now (certificate .entry); x = now (x .entry); y = now (y .entry); room = length (now (reply .entry)) }) settled (commandOf (now (frame .entry))) ⌝ }
+    ensures { λ _. ⌜ now (reply .exit) ≡ replyLeft (onCommand (record { frame = now (frame .entry); moment = t; presence = kept; hardware = hardware; newHandle = now (handle .entry); certificate = now (certificate .entry); x = now (x .entry); y = now (y .entry); room = length (now (reply .entry)) }) settled (commandOf (now (frame .entry)))) (now (reply .entry)) ⌝ }
+{
+    let room = reply.len();
+    let read = command::read_command(frame);
+    match read {
+        U2fCommand::Status(status) => answered(status, settled),
+        U2fCommand::Version => version(kept, settled, reply),
+        U2fCommand::Register(says) => register(
+            frame,
+            t,
+            kept,
+            hardware,
+            handle,
+            certificate,
+            x,
+            y,
+            room,
+            says,
+            settled,
+        ),
+        U2fCommand::Authenticate(flags, says) => authenticate(
+            frame,
+            t,
+            kept,
+            hardware,
+            handle,
+            certificate,
+            x,
+            y,
+            room,
+            flags,
+            says,
+            settled,
+        ),
+    }
+}
+
+fn permitted(
+    frame: &[u8],
+    t: u64,
+    kept: Presence,
+    hardware: Hardware,
+    handle: &[u8],
+    certificate: &[u8],
+    x: &[u8; 32],
+    y: &[u8; 32],
+    reply: &mut [u8],
+    settled: Presence,
+) -> Decision
+    ensures { λ r. ⌜ decisionSaid r ≡ onAllowed (hardware .allowed) (record { frame = now (frame .entry); moment = t; presence = kept; hardware = hardware; newHandle = now (handle .entry); certificate = now (certificate .entry); x = now (x .entry); y = now (y .entry); room = length (now (reply .entry)) }) settled ⌝ }
+    ensures { λ _. ⌜ now (reply .exit) ≡ replyLeft (onAllowed (hardware .allowed) (record { frame = now (frame .entry); moment = t; presence = kept; hardware = hardware; newHandle = now (handle .entry); certificate = now (certificate .entry); x = now (x .entry); y = now (y .entry); room = length (now (reply .entry)) }) settled) (now (reply .entry)) ⌝ }
+{
+    let allowed = hardware.allowed;
+    match allowed {
+        Allowed::Failed => answered(ApduStatusCode::InternalException, settled),
+        Allowed::No => answered(ApduStatusCode::CommandNotAllowed, settled),
+        Allowed::Yes => commanded(
+            frame,
+            t,
+            kept,
+            hardware,
+            handle,
+            certificate,
+            x,
+            y,
+            reply,
+            settled,
+        ),
+    }
+}
+
+// What a frame is answered at moment t: a refusal, a status word, Version's body, or an order to sign. `handle` and
+// `certificate` are the new handle and the attestation certificate that a Register would use, x and y its public key.
+pub fn decide(
+    frame: &[u8],
+    t: u64,
+    presence: Presence,
+    hardware: Hardware,
+    handle: &[u8],
+    certificate: &[u8],
+    x: &[u8; 32],
+    y: &[u8; 32],
+    reply: &mut [u8],
+) -> Decision
+    ensures { λ r. ⌜ decisionSaid r ≡ decisionOf (record { frame = now (frame .entry); moment = t; presence = presence; hardware = hardware; newHandle = now (handle .entry); certificate = now (certificate .entry); x = now (x .entry); y = now (y .entry); room = length (now (reply .entry)) }) ⌝ }
+    ensures { λ _. ⌜ now (reply .exit) ≡ replyLeft (decisionOf (record { frame = now (frame .entry); moment = t; presence = presence; hardware = hardware; newHandle = now (handle .entry); certificate = now (certificate .entry); x = now (x .entry); y = now (y .entry); room = length (now (reply .entry)) })) (now (reply .entry)) ⌝ }
+{
+    let ready = u2f_up::settle(presence, t);
+    match ready {
+        Ready::Refused(why) => refused(why, presence),
+        Ready::Record(settled) => permitted(
+            frame,
+            t,
+            presence,
+            hardware,
+            handle,
+            certificate,
+            x,
+            y,
+            reply,
+            settled,
+        ),
+    }
 }

@@ -1,0 +1,50 @@
+-- `permitted` meets its contract: by whether CTAP1 is allowed.
+use borrow.Author.Needs.{needs}
+use Rattle.ctap1.proofs.Tops
+use Rattle.ctap1.proofs.permitted.Statement.{statement}
+use Rattle.ctap1.proofs.permitted.Tie as tie
+
+enum-told : tie.Need-enum-told
+enum-told c = search needs
+
+answered-requires : tie.Need-answered-requires
+answered-requires c κs = search needs
+
+enum-told-2 : tie.Need-enum-told-2
+enum-told-2 c = search needs
+
+answered-requires-2 : tie.Need-answered-requires-2
+answered-requires-2 c κs = search needs
+
+enum-told-3 : tie.Need-enum-told-3
+enum-told-3 c = search needs
+
+commanded-requires : tie.Need-commanded-requires
+commanded-requires c κs = search needs
+
+returns : tie.Need-returns
+returns c = (search (needs, Tops.allowed-failed), search (needs, Tops.failed-kept))
+
+returns-2 : tie.Need-returns-2
+returns-2 c = (search (needs, Tops.allowed-no), search (needs, Tops.no-kept))
+
+same-length : tie.Need-same-length
+same-length c = search needs
+
+returns-3 : tie.Need-returns-3
+returns-3 c = (search (needs, Tops.allowed-yes), search (needs, Tops.yes-left))
+
+pub permitted-spec : {M : Type 1} → statement M
+permitted-spec =
+    tie.close
+    (tie.spec
+    enum-told
+    answered-requires
+    enum-told-2
+    answered-requires-2
+    enum-told-3
+    commanded-requires
+    returns
+    returns-2
+    same-length
+    returns-3)
