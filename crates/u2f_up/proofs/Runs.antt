@@ -14,14 +14,14 @@ use Rattle.u2f_up.specs.Moments.{Told, isLive, isR6, isR1, fresh, movedT
 use Rattle.u2f_up.specs.History.{Kind, Touching, Checking, Asking, Settling, Short, Call, Event, isAccepted, isSpending, isPromptingRefusal, isMoving, lastMoment}
 use Rattle.u2f_up.specs.Runs.{doneBy}
 
-pub promptOf : List Event → Window
+unfoldable pub promptOf : List Event → Window
 promptOf [] = Closed
 promptOf (e ∷ past) =
     if isAccepted e then Closed
     else if isPromptingRefusal e then Opened (e .call .moment)
     else promptOf past
 
-pub heldOf : List Event → Window
+unfoldable pub heldOf : List Event → Window
 heldOf [] = Closed
 heldOf (e ∷ past) =
     if isAccepted e then Opened (e .call .moment)
