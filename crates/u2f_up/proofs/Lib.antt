@@ -2,3 +2,5 @@ pub mod Cases
 pub mod Lists
 pub mod Runs
 pub mod Touches
+pub mod Prompts
+pub mod Accounts

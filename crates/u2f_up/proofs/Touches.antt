@@ -132,3 +132,7 @@ module _ (w : ℕ) (h : List Event) (e : Event) where
     record {
       held = rw (last-next h w x, unspent-next h w x, held-next h w x) now;
       prompting = rw (last-next h w x, unspent-next h w x, prompt-next h w x) (none-old w T (unspent w h) (heldOf h) not-live now) }
+
+-- the same at a later moment
+pub held-now : (w : ℕ) (h : List Event) (t : ℕ) → lastMoment h ≤ t → Inv w h → Held w t (unspent w h) (heldOf h)
+held-now w h t late i = held-later w (lastMoment h) t late (unspent w h) (heldOf h) (i .held)

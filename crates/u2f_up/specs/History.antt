@@ -141,6 +141,9 @@ unfoldable pub served : ℕ → List Event → List Touch
 served w [] = []
 served w (e ∷ past) = if isSpending e then live w past (e .call .moment) ++ served w past else served w past
 
+abbrev pub isNumber : ℕ → Touch → Bool
+isNumber n k = eqb (k .number) n
+
 -- How many calls spent a touch.
 abbrev pub spenders : List Event → ℕ
 spenders past = length (those isSpending past)
