@@ -4,3 +4,5 @@ pub mod Runs
 pub mod Touches
 pub mod Prompts
 pub mod Accounts
+pub mod Exactly
+pub mod Demand

@@ -65,7 +65,7 @@ module _ (w t u : ℕ) (later : t ≤ u) (ks : List Touch) where
   prompting-later (Opened s) h = stay-old w t u later ks h
 
 -- a live prompt: nothing unspent is young
-prompt-old : (w last t : ℕ) (ks : List Touch) (x : Window) → isLive x 10000 t ≡ true → Prompting w last ks x → AllOld w last ks
+pub prompt-old : (w last t : ℕ) (ks : List Touch) (x : Window) → isLive x 10000 t ≡ true → Prompting w last ks x → AllOld w last ks
 prompt-old w last t ks Closed e h = let z : _≡_ {A = ℕ} 0 1 = cc in absurd (omega arith)
 prompt-old w last t ks (Opened s) e h = h
 
@@ -109,7 +109,7 @@ module _ (w : ℕ) (h : List Event) (e : Event) where
   abbrev T : ℕ
   T = e .call .moment
 
-  keeps : Effect w h e → Inv w h → Inv w (e ∷ h)
+  pub keeps : Effect w h e → Inv w h → Inv w (e ∷ h)
   keeps (still x) i = record {
     held = rw (last-next h w x, unspent-next h w x, held-next h w x) (i .held);
     prompting = rw (last-next h w x, unspent-next h w x, prompt-next h w x) (i .prompting) }

@@ -1,11 +1,11 @@
 -- The answers of src/lib.rt in document 01's numbers, and with them what each public function promises.
 use Rattle.u2f_up.specs.Words.{ℕ, _≡_, Bool, true, false, Outcome, R, Gives, refusalNo, Presence, Found}
 use Rattle.u2f_up.specs.Moments.{Told, newOf, settleOf, checkedOf, touchOf, checkOf, askOf}
-use Rattle.u2f_up.specs.declared.Ready.{Ready}
+pub use Rattle.u2f_up.specs.declared.Ready.{Ready}
 use Rattle.u2f_up.specs.declared.Ready.the-variants as Ready′
-use Rattle.u2f_up.specs.declared.Answer.{Answer}
+pub use Rattle.u2f_up.specs.declared.Answer.{Answer}
 use Rattle.u2f_up.specs.declared.Answer.the-variants as Answer′
-use Rattle.u2f_up.specs.declared.Step.{Step}
+pub use Rattle.u2f_up.specs.declared.Step.{Step}
 
 abbrev pub readyOf : Ready → Outcome Presence
 readyOf (Ready′.Refused why) = R (refusalNo why)

@@ -1,18 +1,73 @@
 -- What is promised of presence beyond the functions' own promises. Proved in proofs/Theorems.antt.
 use mathlib.Core.List.{List, [], _∷_, _++_}
 use mathlib.Core.Logic.{_↔_, _⊎_}
+use mathlib.Core.Option.{some}
 use lib.ListN.{length}
-use Rattle.u2f_up.specs.Words.{ℕ, _+_, _^_, _<_, _≤_, _≡_, eqb, true, R, Gives, AtMostOne, Opened, Presence}
-use Rattle.u2f_up.specs.Answers.{New, Settle, TouchCheck, GrantUp, ConsumeUp, IsUpNeeded, readyOf, outcomeOf, toldOf}
-use Rattle.u2f_up.specs.History.{Call, Touching, Checking, Touch, foretold, live, lapsed, accepted, served, spenders, lastMoment, those, isPrompted}
-use Rattle.u2f_up.specs.Runs.{Caller, Keeps, after, next, history}
-use Rattle.u2f_up.specs.declared.Ready.{Ready}
-use Rattle.u2f_up.specs.declared.Answer.{Answer}
-use Rattle.u2f_up.specs.declared.Step.{Step}
+use Rattle.u2f_up.specs.Words.{ℕ, _+_, _^_, _<_, _≤_, _≡_, Bool, true, R, Gives, AtMostOne, Opened, Presence}
+use Rattle.u2f_up.specs.Answers.{Ready, Answer, Step, readyOf, outcomeOf, toldOf, New, Settle, TouchCheck, GrantUp, ConsumeUp, IsUpNeeded}
+use Rattle.u2f_up.specs.History.{Event, Touching, Checking, Touch, foretold, latest, isAccepted, isPromptingRefusal, isAfter}
+use Rattle.u2f_up.specs.History.{live, lapsed, accepted, served, spenders, isNumber, those, lastMoment}
+use Rattle.u2f_up.specs.Runs.{Caller, after, next, history}
 
--- Demand 3, for every run that a way of calling makes on a fresh record with touch window `w`.
+-- Each answer has document 01's numbers, and no two answers have the same. A view that gave R1 and R6 one number fails it.
+abbrev pub ReadyOneToOne : Type 0
+ReadyOneToOne = (a b : Ready) → readyOf a ≡ readyOf b → a ≡ b
+
+abbrev pub AnswerOneToOne : Type 0
+AnswerOneToOne = (a b : Answer) → outcomeOf a ≡ outcomeOf b → a ≡ b
+
+abbrev pub StepOneToOne : Type 0
+StepOneToOne = (a b : Step) → toldOf a ≡ toldOf b → a ≡ b
+
+-- 01, What each statement has to say: "two results satisfying it are equal", on every input; the result holds the record.
+-- A promise that is silent on the record after an unaccepted touch fails it, at any record whose prompt is closed.
+abbrev pub Determined : Type 0
+Determined =
+    ((w : ℕ) → AtMostOne (New w))
+    × ((p : Presence) (t : ℕ) → AtMostOne (Settle p t))
+    × ((p : Presence) (t : ℕ) → AtMostOne (TouchCheck p t))
+    × ((p : Presence) (t : ℕ) → AtMostOne (GrantUp p t))
+    × ((p : Presence) (t : ℕ) → AtMostOne (ConsumeUp p t))
+    × ((p : Presence) (t : ℕ) → AtMostOne (IsUpNeeded p t))
+
+-- 01, Refusal numbers, R1: "moment 2^48 or more, or before the record's last moment"
+abbrev pub Refused : List Event → ℕ → Type 0
+Refused past t = (2 ^ 48 ≤ t) ⊎ (t < lastMoment past)
+
+-- Demand 3, of the run of the calls `ds` (newest first) on a fresh record with touch window `w`, and of one more call `d`.
+-- It is proved for every `ds`, so that it speaks of every call of every run.
 module _ {D : Type 0} (𝒞 : Caller D) (w : ℕ) (ds : List D) where
-  -- Every call's outcome is the one that the history of the calls before it foretells: refusals, touches, checks and asks.
-  -- A record that honours the first touch only fails at the second accepted touch; one that honours none, at the first check.
-  abbrev pub Foretold : Type 0
-  Foretold = (d : D) → next 𝒞 w ds d ≡ foretold w (history 𝒞 w ds) (𝒞 .asCall d)
+  abbrev past : List Event
+  past = history 𝒞 w ds
+
+  abbrev moment : D → ℕ
+  moment d = 𝒞 .asCall d .moment
+
+  pub record Demand3 : Type 0 where
+    -- Every call's outcome, whatever its kind, is the one that the history before it foretells. A record that honours the
+    -- first touch only fails at the second accepted touch; one that honours none, at the first check after an accepted touch.
+    pub foretells : (d : D) → next 𝒞 w ds d ≡ foretold w past (𝒞 .asCall d)
+    -- A call is refused by R1 exactly when its moment is 2^48 or more or before the last moment, and by R6 never. A record
+    -- that refuses every call fails at the first one.
+    pub refuses : (d : D) → (next 𝒞 w ds d ≡ R 1) ↔ Refused past (moment d)
+    pub refuses-no-window : (d : D) → next 𝒞 w ds d ≡ R 6 → ⊥
+    -- 01: "A touch at t is accepted exactly when it gets no R refusal, the latest prompting refusal, at s, comes after the
+    -- latest accepted touch, and t - s < 10,000." A record that never closes the prompt fails at the second touch after it.
+    pub accepts : (d : D) → 𝒞 .asCall d .kind ≡ Touching → (next 𝒞 w ds d ≡ Gives true)
+        ↔ ((Refused past (moment d) → ⊥) × ((s : Touch) × (latest isPromptingRefusal past ≡ some s) × (isAfter s (latest isAccepted past) ≡ true) × (moment d < s .moment + 10000)))
+    -- A call that reaches the touch check finds a touch exactly when the history holds an accepted one, unspent and younger
+    -- than W; it holds no second. A record that keeps a spent touch fails at the second check.
+    pub finds : (d : D) → 𝒞 .asCall d .kind ≡ Checking → (next 𝒞 w ds d ≡ Gives true)
+        ↔ ((Refused past (moment d) → ⊥) × ((k : Touch) × (live w past (moment d) ≡ k ∷ [])))
+    -- And that touch is the one that the record holds: in every record from that touch on, the touch window is the one that
+    -- it opened. A record that reopens the window at another touch's moment fails, where the moments differ.
+    pub holds : (k : Touch) (t : ℕ) → lastMoment past ≤ t → live w past t ≡ k ∷ []
+        → (later earlier : List D) → ds ≡ later ++ earlier → k .number < length earlier → after 𝒞 w earlier .touch ≡ Opened (k .moment)
+    -- No touch serves two calls: among the touches spent, call by call, no number stands twice.
+    pub once : (n : ℕ) → length (those (isNumber n) (served w past)) ≤ 1
+    -- Accepted touches = calls that spent one + lapsed + live, and at most one is live.
+    pub totals : length (accepted past) ≡ spenders past + length (lapsed w past) + length (live w past (lastMoment past))
+    pub one-live : length (live w past (lastMoment past)) ≤ 1
+    -- The same for any part of the touches, such as one touch alone: it was spent, has lapsed or is live, and only one of these.
+    pub each : (picks : Touch → Bool)
+        → length (those picks (accepted past)) ≡ length (those picks (served w past)) + length (those picks (lapsed w past)) + length (those picks (live w past (lastMoment past)))
