@@ -14,14 +14,15 @@ use Rattle.outcome.specs.Notation.{if_then_else_}
 use Rattle.outcome.specs.Outcome.{Outcome, R, SW, Gives}
 use Rattle.u2f_up.specs.Words.{Presence, Window, Closed, Opened}
 use Rattle.u2f_up.specs.Moments.{Told, isLive, isR6, isR1, movedTo, settleOf, grantedOf, checkedOf, touchOf, checkOf, askOf}
-use Rattle.u2f_up.specs.History.{Kind, Touching, Checking, Asking, Settling, Short, Call, Event, Touch, placed, those, isYoung, isAny, live, lastMoment, unspent, isPrompted, latest, isAccepted, isPromptingRefusal, isAfter, isPromptedBy, unrefused, foretold}
+use Rattle.u2f_up.specs.History.{Kind, Touching, Checking, Asking, Settling, Short, Call, Event, Touch, placed, those, isYoung, isOld, isAny, live, lastMoment, unspent, isPrompted, latest, isAccepted, isPromptingRefusal, isAfter, isPromptedBy, unrefused, foretold}
 use Rattle.u2f_up.specs.Runs.{Caller, Keeps, after, next, history, doneBy}
 use Rattle.u2f_up.specs.Claims.{Refused}
 use Rattle.u2f_up.proofs.Cases.{r1-beyond, r1-before, r1-passed}
 use Rattle.u2f_up.proofs.Lists.{stay-old, left-old}
 use Rattle.u2f_up.proofs.Runs.{promptOf, heldOf, recordOf, not-before, Sorted, Effect, still, moved, touched, spent, prompted, Follows, follows}
-use Rattle.u2f_up.proofs.Touches.{Inv, keeps, held-now, prompt-old, last-next, unspent-next, live-any, at-most-one, window-of}
+use Rattle.u2f_up.proofs.Touches.{Inv, inv-at-first, keeps, held-now, prompt-old, last-next, unspent-next, live-any, at-most-one, window-of}
 use Rattle.u2f_up.proofs.Prompts.{Agrees, agrees-at-first, agrees-next}
+use Rattle.u2f_up.proofs.Accounts.{Balanced, balanced-at-first, balanced-next, OneEach, one-at-first, one-next}
 
 -- what a call gives on the record that a history has made, in the history's words
 module _ (w : ℕ) (h : List Event) (t : ℕ) (within : isR6 w ≡ false) where
@@ -78,6 +79,36 @@ module _ (w : ℕ) (h : List Event) (t : ℕ) (within : isR6 w ≡ false) where
         go true e = outcome-r1 e k
         go false e = outcome-given e k ∙ gives-foretold (not-before (lastMoment h) t e) k
 
+-- a touch that is live after an event, and is not that event, was live before it
+module _ (w : ℕ) (h : List Event) (e : Event) (k : Touch) (t : ℕ) where
+  abbrev Before : Type 0
+  Before = (lastMoment h ≤ t) × (live w h t ≡ k ∷ [])
+
+  passes : {m p : Bool} → Sorted e m false false p → lastMoment h ≤ t → live w (e ∷ h) t ≡ k ∷ [] → Before
+  passes x late l = (late, sym (ap (those (isYoung w t)) (unspent-next h w x)) ∙ l)
+
+  not-empty : those (isYoung w t) (unspent w (e ∷ h)) ≡ [] → live w (e ∷ h) t ≡ k ∷ [] → ⊥
+  not-empty n l = let z : _≡_ {A = ℕ} 0 1 = cc in omega arith
+
+  module _ (i : Inv w h) (late : lastMoment (e ∷ h) ≤ t) (l : live w (e ∷ h) t ≡ k ∷ []) (n : k .number < length h) where
+    accepted-now : (x : Sorted e true true false false) → lastMoment h ≤ e .call .moment → isLive (promptOf h) 10000 (e .call .moment) ≡ true → Before
+    accepted-now x b is-live = absurd (go (isYoung w t (placed e h)) (sym (ap (those (isYoung w t)) (unspent-next h w x)) ∙ l))
+      where
+        old : those (isYoung w t) (unspent w h) ≡ []
+        old = stay-old w (lastMoment h) t (omega (arith, last-next h w x)) (unspent w h) (prompt-old w (lastMoment h) (e .call .moment) (unspent w h) (promptOf h) is-live (i .prompting))
+
+        go : (y : Bool) → (if y then placed e h ∷ those (isYoung w t) (unspent w h) else those (isYoung w t) (unspent w h)) ≡ k ∷ [] → ⊥
+        go true q = let z : length h ≡ k .number = cc in omega arith
+        go false q = let z : _≡_ {A = ℕ} 0 1 = cc old in omega arith
+
+    back : Effect w h e → Before
+    back (still x) = passes x (omega (arith, last-next h w x)) l
+    back (moved x b) = passes x (omega (arith, last-next h w x)) l
+    back (touched x b is-live) = accepted-now x b is-live
+    back (spent x b is-live) =
+        absurd (not-empty (rw (unspent-next h w x) (stay-old w (e .call .moment) t (omega (arith, last-next h w x)) (those (isOld w (e .call .moment)) (unspent w h)) (left-old w (e .call .moment) (unspent w h)))) l)
+    back (prompted x b not-live) = passes x (omega (arith, last-next h w x)) l
+
 -- runs
 module _ {D : Type 0} (𝒞 : Caller D) (keeping : Keeps 𝒞) (w : ℕ) (within : isR6 w ≡ false) where
   abbrev past : List D → List Event
@@ -102,3 +133,36 @@ module _ {D : Type 0} (𝒞 : Caller D) (keeping : Keeps 𝒞) (w : ℕ) (within
   unfolding history
   along P first more [] = first
   along P first more (d ∷ ds) = more (past ds) _ (effect ds d) (along P first more ds)
+
+  pub invariant : (ds : List D) → Inv w (past ds)
+  invariant = along (Inv w) inv-at-first (λ h e x i. keeps w h e x i)
+
+  agreeing : (ds : List D) → Agrees (past ds)
+  agreeing = along Agrees agrees-at-first (λ h e x g. agrees-next w h e g x)
+
+  pub balanced : (picks : Touch → Bool) (ds : List D) → Balanced w picks (past ds)
+  balanced picks = along (Balanced w picks) (balanced-at-first w picks) (λ h e x b. balanced-next w picks h e b x)
+
+  pub one-each : (ds : List D) → OneEach w (past ds)
+  one-each ds = along (λ h. Inv w h × OneEach w h) (inv-at-first, one-at-first w) (λ h e x b. (keeps w h e x (b .0), one-next w h e (b .0) (b .1) x)) ds .1
+
+  pub foretells : (ds : List D) (d : D) → next 𝒞 w ds d ≡ foretold w (past ds) (𝒞 .asCall d)
+  foretells ds d = ap (λ (s : Told). s .outcome) (step ds d (exact ds)) ∙ outcome-foretold w (past ds) (𝒞 .asCall d .moment) within (invariant ds) (agreeing ds) (𝒞 .asCall d .kind)
+
+  pub one-live-at : (ds : List D) (t : ℕ) → lastMoment (past ds) ≤ t → length (live w (past ds) t) ≤ 1
+  one-live-at ds t late = at-most-one w t (unspent w (past ds)) (heldOf (past ds)) (held-now w (past ds) t late (invariant ds))
+
+  history-length : (ds : List D) → length (past ds) ≡ length ds
+  unfolding history
+  history-length [] = refl
+  history-length (d ∷ ds) = ap suc (history-length ds)
+
+  pub holds : (later earlier : List D) (k : Touch) (t : ℕ) → lastMoment (past (later ++ earlier)) ≤ t → live w (past (later ++ earlier)) t ≡ k ∷ [] → k .number < length earlier
+      → after 𝒞 w earlier .touch ≡ Opened (k .moment)
+  unfolding history
+  holds [] earlier k t late l n =
+      ap (λ (q : Presence). q .touch) (exact earlier) ∙ window-of w t (unspent w (past earlier)) (heldOf (past earlier)) k (held-now w (past earlier) t late (invariant earlier)) l
+  holds (d ∷ later) earlier k t late l n =
+      let ds = later ++ earlier in
+      let b = back w (past ds) _ k t (invariant ds) late l (omega (arith, history-length ds, length-append later earlier)) (effect ds d) in
+      holds later earlier k t (b .0) (b .1) n

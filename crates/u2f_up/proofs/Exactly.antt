@@ -80,6 +80,7 @@ module _ (w : ℕ) (h : List Event) (t : ℕ) (o : Outcome Bool) where
       go : (c : Bool) → isR1 (lastMoment h) t ≡ c → o ≡ Gives true → (Refused h t → ⊥) × (b ≡ true)
       go true e q = absurd (no-refusal 1 true (sym (foretold-r1 k f e) ∙ q))
       go false e q = (passed h t e, is-given b true (sym u ∙ sym (foretold-given k f e) ∙ q))
+
       back : (c : Bool) → isR1 (lastMoment h) t ≡ c → (Refused h t → ⊥) × (b ≡ true) → o ≡ Gives true
       back true e q = absurd (q .0 (r1-refused h t e))
       back false e q = foretold-given k f e ∙ u ∙ ap {B = Outcome Bool} Gives (q .1)
@@ -95,6 +96,7 @@ standing h t = (go (latest isPromptingRefusal h) refl, back)
     go : (o : Option Touch) → latest isPromptingRefusal h ≡ o → isPromptedBy o (latest isAccepted h) t ≡ true → Standing h t
     go none e q = absurd (false≢true q)
     go (some s) e q = let z = both (isAfter s (latest isAccepted h)) (ltb t (s .moment + 10000)) q in (s, e, z .0, ltb-true t (s .moment + 10000) (z .1))
+
     back : Standing h t → isPromptedBy (latest isPromptingRefusal h) (latest isAccepted h) t ≡ true
     back s = rw (s .1, s .2) (lt-ltb t (s .0 .moment + 10000) (s .3))
 
@@ -111,9 +113,10 @@ module _ (w : ℕ) (h : List Event) (t : ℕ) (o : Outcome Bool) where
 
   pub finds : (lastMoment h ≤ t → length (live w h t) ≤ 1) → o ≡ foretold w h (record { kind = Checking; moment = t })
       → (o ≡ Gives true) ↔ ((Refused h t → ⊥) × ((k : Touch) × (live w h t ≡ k ∷ [])))
-  finds one f = let y = yes w h t o Checking (isAny (live w h t)) refl f in
-      (λ q. (y .0 q .0, only (live w h t) (one (late (y .0 q .0))) .0 (y .0 q .1)),
-       λ s. y .1 (s .0, only (live w h t) (one (late (s .0))) .1 (s .1)))
+  finds one f = let y = yes w h t o Checking (isAny (live w h t)) refl f in (
+    λ q. (y .0 q .0, only (live w h t) (one (late (y .0 q .0))) .0 (y .0 q .1)),
+    λ s. y .1 (s .0, only (live w h t) (one (late (s .0))) .1 (s .1)),
+  )
     where
       late : (Refused h t → ⊥) → lastMoment h ≤ t
       late n = go (ltb t (lastMoment h)) refl

@@ -6,3 +6,4 @@ pub mod Prompts
 pub mod Accounts
 pub mod Exactly
 pub mod Demand
+pub mod Theorems

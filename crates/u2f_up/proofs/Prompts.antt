@@ -56,7 +56,8 @@ module _ (w : ℕ) (h : List Event) (e : Event) (g : Agrees h) where
       record {
         prompt-below = rw p (below-more (length h) (latest isPromptingRefusal h) (g .prompt-below));
         accepted-below = rw a (below-more (length h) (latest isAccepted h) (g .accepted-below));
-        agrees = λ t. rw (p, a, prompt-next h w x) (g .agrees t) }
+        agrees = λ t. rw (p, a, prompt-next h w x) (g .agrees t);
+      }
 
   accepts : Sorted e true true false false → Agrees (e ∷ h)
   accepts x =
@@ -65,7 +66,8 @@ module _ (w : ℕ) (h : List Event) (e : Event) (g : Agrees h) where
       record {
         prompt-below = rw p (below-more (length h) (latest isPromptingRefusal h) (g .prompt-below));
         accepted-below = rw a (omega arith);
-        agrees = λ t. rw (p, a, prompt-next h w x) (passed-by (length h) (e .call .moment) t (latest isPromptingRefusal h) (g .prompt-below)) }
+        agrees = λ t. rw (p, a, prompt-next h w x) (passed-by (length h) (e .call .moment) t (latest isPromptingRefusal h) (g .prompt-below));
+      }
 
   prompts : Sorted e true false false true → Agrees (e ∷ h)
   prompts x =
@@ -74,7 +76,8 @@ module _ (w : ℕ) (h : List Event) (e : Event) (g : Agrees h) where
       record {
         prompt-below = rw p (omega arith);
         accepted-below = rw a (below-more (length h) (latest isAccepted h) (g .accepted-below));
-        agrees = λ t. rw (p, a, prompt-next h w x) (comes-after (length h) (e .call .moment) t (latest isAccepted h) (g .accepted-below)) }
+        agrees = λ t. rw (p, a, prompt-next h w x) (comes-after (length h) (e .call .moment) t (latest isAccepted h) (g .accepted-below));
+      }
 
   pub agrees-next : Effect w h e → Agrees (e ∷ h)
   agrees-next (still x) = passes x

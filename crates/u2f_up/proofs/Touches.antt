@@ -112,27 +112,36 @@ module _ (w : ℕ) (h : List Event) (e : Event) where
   pub keeps : Effect w h e → Inv w h → Inv w (e ∷ h)
   keeps (still x) i = record {
     held = rw (last-next h w x, unspent-next h w x, held-next h w x) (i .held);
-    prompting = rw (last-next h w x, unspent-next h w x, prompt-next h w x) (i .prompting) }
+    prompting = rw (last-next h w x, unspent-next h w x, prompt-next h w x) (i .prompting);
+  }
   keeps (moved x late) i = record {
     held = rw (last-next h w x, unspent-next h w x, held-next h w x) (held-later w (lastMoment h) T late (unspent w h) (heldOf h) (i .held));
-    prompting = rw (last-next h w x, unspent-next h w x, prompt-next h w x) (prompting-later w (lastMoment h) T late (unspent w h) (promptOf h) (i .prompting)) }
+    prompting = rw (last-next h w x, unspent-next h w x, prompt-next h w x) (prompting-later w (lastMoment h) T late (unspent w h) (promptOf h) (i .prompting));
+  }
   keeps (touched x late is-live) i = record {
     held = rw (last-next h w x, unspent-next h w x, held-next h w x)
         (placed e h, unspent w h, refl, refl, stay-old w (lastMoment h) T late (unspent w h) (prompt-old w (lastMoment h) T (unspent w h) (promptOf h) is-live (i .prompting)));
-    prompting = rw (last-next h w x, unspent-next h w x, prompt-next h w x) tt }
+    prompting = rw (last-next h w x, unspent-next h w x, prompt-next h w x) tt;
+  }
   keeps (spent x late is-live) i = record {
     held = rw (last-next h w x, unspent-next h w x, held-next h w x) (left-old w T (unspent w h));
-    prompting = rw (last-next h w x, unspent-next h w x, prompt-next h w x) (any-window (promptOf h)) }
+    prompting = rw (last-next h w x, unspent-next h w x, prompt-next h w x) (any-window (promptOf h));
+  }
     where
       any-window : (y : Window) → Prompting w T (those (isOld w T) (unspent w h)) y
       any-window Closed = tt
       any-window (Opened s) = left-old w T (unspent w h)
   keeps (prompted x late not-live) i =
-    let now : Held w T (unspent w h) (heldOf h) = held-later w (lastMoment h) T late (unspent w h) (heldOf h) (i .held) in
-    record {
-      held = rw (last-next h w x, unspent-next h w x, held-next h w x) now;
-      prompting = rw (last-next h w x, unspent-next h w x, prompt-next h w x) (none-old w T (unspent w h) (heldOf h) not-live now) }
+      let now : Held w T (unspent w h) (heldOf h) = held-later w (lastMoment h) T late (unspent w h) (heldOf h) (i .held) in
+      record {
+        held = rw (last-next h w x, unspent-next h w x, held-next h w x) now;
+        prompting = rw (last-next h w x, unspent-next h w x, prompt-next h w x) (none-old w T (unspent w h) (heldOf h) not-live now);
+      }
 
 -- the same at a later moment
 pub held-now : (w : ℕ) (h : List Event) (t : ℕ) → lastMoment h ≤ t → Inv w h → Held w t (unspent w h) (heldOf h)
 held-now w h t late i = held-later w (lastMoment h) t late (unspent w h) (heldOf h) (i .held)
+
+pub inv-at-first : {w : ℕ} → Inv w []
+unfolding lastMoment unspent heldOf promptOf
+inv-at-first = record { held = refl; prompting = tt }

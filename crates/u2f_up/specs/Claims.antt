@@ -7,7 +7,7 @@ use Rattle.u2f_up.specs.Words.{ℕ, _+_, _^_, _<_, _≤_, _≡_, Bool, t
 use Rattle.u2f_up.specs.Answers.{Ready, Answer, Step, readyOf, outcomeOf, toldOf, New, Settle, TouchCheck, GrantUp, ConsumeUp, IsUpNeeded}
 use Rattle.u2f_up.specs.History.{Event, Touching, Checking, Touch, foretold, latest, isAccepted, isPromptingRefusal, isAfter}
 use Rattle.u2f_up.specs.History.{live, lapsed, accepted, served, spenders, isNumber, those, lastMoment}
-use Rattle.u2f_up.specs.Runs.{Caller, after, next, history}
+use Rattle.u2f_up.specs.Runs.{Caller, Keeps, after, next, history}
 
 -- Each answer has document 01's numbers, and no two answers have the same. A view that gave R1 and R6 one number fails it.
 abbrev pub ReadyOneToOne : Type 0
@@ -71,3 +71,8 @@ module _ {D : Type 0} (𝒞 : Caller D) (w : ℕ) (ds : List D) where
     -- The same for any part of the touches, such as one touch alone: it was spent, has lapsed or is live, and only one of these.
     pub each : (picks : Touch → Bool)
         → length (those picks (accepted past)) ≡ length (those picks (served w past)) + length (those picks (lapsed w past)) + length (those picks (live w past (lastMoment past)))
+
+-- Demand 3 for every way of calling that does to the record only what its kinds say: every W that a record is made with,
+-- every run, every call. The calls of this crate are such a way, `own`; decisions join them in the crate that has them.
+abbrev pub Demand3Met : Type 1
+Demand3Met = (D : Type 0) (𝒞 : Caller D) → Keeps 𝒞 → (w : ℕ) → 0 < w → w ≤ 60000 → (ds : List D) → Demand3 𝒞 w ds
