@@ -218,3 +218,27 @@ pub fn is_up_needed(presence: Presence, t: u64) -> Answer
         Ready::Record(_) => answer_of(is_live(prompt, U2F_UP_PROMPT_TIMEOUT_MS, t)),
     }
 }
+
+// The same three on a record lent for writing, as the Rust has them. No branch: the work is done by value.
+pub fn grant_up_lent(presence: &mut Presence, t: u64) -> Answer
+    ensures { λ r. ⌜ GrantUp (now (presence .entry)) t (record { answer = r; presence = now (presence .exit) }) ⌝ }
+{
+    let step = grant_up(*presence, t);
+    *presence = step.presence;
+    step.answer
+}
+
+pub fn consume_up_lent(presence: &mut Presence, t: u64) -> Answer
+    ensures { λ r. ⌜ ConsumeUp (now (presence .entry)) t (record { answer = r; presence = now (presence .exit) }) ⌝ }
+{
+    let step = consume_up(*presence, t);
+    *presence = step.presence;
+    step.answer
+}
+
+// Asking leaves the lent record as it was.
+pub fn is_up_needed_lent(presence: &mut Presence, t: u64) -> Answer
+    ensures { λ r. ⌜ IsUpNeeded (now (presence .entry)) t r × (now (presence .exit) ≡ now (presence .entry)) ⌝ }
+{
+    is_up_needed(*presence, t)
+}
