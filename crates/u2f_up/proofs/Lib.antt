@@ -1,4 +1,5 @@
 pub mod Cases
+pub mod Lent
 pub mod Lists
 pub mod Runs
 pub mod Touches

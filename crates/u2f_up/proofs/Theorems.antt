@@ -37,20 +37,22 @@ answer-one-to-one Answer′.No (Answer′.Refused b) e = let z : _≡_ {A = ℕ}
 answer-one-to-one Answer′.No Answer′.Yes e = let z : _≡_ {A = ℕ} 0 1 = cc in absurd (omega arith)
 answer-one-to-one Answer′.No Answer′.No e = refl
 
+same-step : (a b : Step) → a .answer ≡ b .answer → a .presence ≡ b .presence → a ≡ b
+same-step a b e f = λ i. record { answer = e i; presence = f i }
+
 pub step-one-to-one : StepOneToOne
-step-one-to-one a b e =
-    let answers = answer-one-to-one (a .answer) (b .answer) (ap (λ s. s .outcome) e) in
-    λ i. record { answer = answers i; presence = e i .presence }
+step-one-to-one a b e = same-step a b (answer-one-to-one (a .answer) (b .answer) (ap (λ s. s .outcome) e)) (ap (λ s. s .presence) e)
 
 pub determined : Determined
-determined = (
-  λ w a b ha hb. ready-one-to-one a b (ha ∙ sym hb),
-  λ p t a b ha hb. ready-one-to-one a b (ha ∙ sym hb),
-  λ p t a b ha hb. ha ∙ sym hb,
-  λ p t a b ha hb. step-one-to-one a b (ha ∙ sym hb),
-  λ p t a b ha hb. step-one-to-one a b (ha ∙ sym hb),
-  λ p t a b ha hb. answer-one-to-one a b (ha ∙ sym hb),
-)
+determined = record {
+  new = λ w a b ha hb. ready-one-to-one a b (ha ∙ sym hb);
+  settle = λ p t a b ha hb. ready-one-to-one a b (ha ∙ sym hb);
+  touch-check = λ p t a b ha hb. ha ∙ sym hb;
+  grant-up = λ p t a b ha hb. step-one-to-one a b (ha ∙ sym hb);
+  consume-up = λ p t a b ha hb. step-one-to-one a b (ha ∙ sym hb);
+  is-up-needed = λ p t a b ha hb. answer-one-to-one a b (ha ∙ sym hb);
+  is-up-needed-lent = λ p t a b ha hb. same-step a b (answer-one-to-one (a .answer) (b .answer) (ha .0 ∙ sym (hb .0))) (ha .1 ∙ sym (hb .1));
+}
 
 module _ {D : Type 0} (𝒞 : Caller D) (keeping : Keeps 𝒞) (w : ℕ) (within : isR6 w ≡ false) (ds : List D) where
   -- what is foretold of a call of a given kind

@@ -37,3 +37,7 @@ ConsumeUp p t r = toldOf r ≡ checkOf p t
 
 abbrev pub IsUpNeeded : Presence → ℕ → Answer → Type 0
 IsUpNeeded p t r = outcomeOf r ≡ askOf p t .outcome
+
+-- The lent forms promise the same of their answer and of the record at exit, taken together as a step. Asking leaves the record.
+abbrev pub IsUpNeededLent : Presence → ℕ → Step → Type 0
+IsUpNeededLent p t s = IsUpNeeded p t (s .answer) × (s .presence ≡ p)

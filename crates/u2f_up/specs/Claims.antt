@@ -4,7 +4,7 @@ use mathlib.Core.Logic.{_↔_, _⊎_}
 use mathlib.Core.Option.{some}
 use lib.ListN.{length}
 use Rattle.u2f_up.specs.Words.{ℕ, _+_, _^_, _<_, _≤_, _≡_, Bool, true, R, Gives, AtMostOne, Opened, Presence}
-use Rattle.u2f_up.specs.Answers.{Ready, Answer, Step, readyOf, outcomeOf, toldOf, New, Settle, TouchCheck, GrantUp, ConsumeUp, IsUpNeeded}
+use Rattle.u2f_up.specs.Answers.{Ready, Answer, Step, readyOf, outcomeOf, toldOf, New, Settle, TouchCheck, GrantUp, ConsumeUp, IsUpNeeded, IsUpNeededLent}
 use Rattle.u2f_up.specs.History.{Event, Touching, Checking, Touch, foretold, latest, isAccepted, isPromptingRefusal, isAfter}
 use Rattle.u2f_up.specs.History.{live, lapsed, accepted, served, spenders, isNumber, those, lastMoment}
 use Rattle.u2f_up.specs.Runs.{Caller, Keeps, after, next, history}
@@ -21,14 +21,14 @@ StepOneToOne = (a b : Step) → toldOf a ≡ toldOf b → a ≡ b
 
 -- 01, What each statement has to say: "two results satisfying it are equal", on every input; the result holds the record.
 -- A promise that is silent on the record after an unaccepted touch fails it, at any record whose prompt is closed.
-abbrev pub Determined : Type 0
-Determined =
-    ((w : ℕ) → AtMostOne (New w))
-    × ((p : Presence) (t : ℕ) → AtMostOne (Settle p t))
-    × ((p : Presence) (t : ℕ) → AtMostOne (TouchCheck p t))
-    × ((p : Presence) (t : ℕ) → AtMostOne (GrantUp p t))
-    × ((p : Presence) (t : ℕ) → AtMostOne (ConsumeUp p t))
-    × ((p : Presence) (t : ℕ) → AtMostOne (IsUpNeeded p t))
+pub record Determined : Type 0 where
+  pub new : (w : ℕ) → AtMostOne (New w)
+  pub settle : (p : Presence) (t : ℕ) → AtMostOne (Settle p t)
+  pub touch-check : (p : Presence) (t : ℕ) → AtMostOne (TouchCheck p t)
+  pub grant-up : (p : Presence) (t : ℕ) → AtMostOne (GrantUp p t)  -- and its lent form
+  pub consume-up : (p : Presence) (t : ℕ) → AtMostOne (ConsumeUp p t)  -- and its lent form
+  pub is-up-needed : (p : Presence) (t : ℕ) → AtMostOne (IsUpNeeded p t)
+  pub is-up-needed-lent : (p : Presence) (t : ℕ) → AtMostOne (IsUpNeededLent p t)
 
 -- 01, Refusal numbers, R1: "moment 2^48 or more, or before the record's last moment"
 abbrev pub Refused : List Event → ℕ → Type 0

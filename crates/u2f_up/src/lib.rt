@@ -5,7 +5,7 @@ use outcome::Refusal;
 ghost use mathlib.Core.Path.{_≡_};
 ghost use Rattle.outcome.specs.Outcome.{Gives};
 ghost use Rattle.u2f_up.specs.Moments.{isLive, grantedOf};
-ghost use Rattle.u2f_up.specs.Answers.{outcomeOf, New, Settle, GrantUp, TouchCheck, ConsumeUp, IsUpNeeded};
+ghost use Rattle.u2f_up.specs.Answers.{outcomeOf, New, Settle, GrantUp, TouchCheck, ConsumeUp, IsUpNeeded, IsUpNeededLent};
 
 const U2F_UP_PROMPT_TIMEOUT_MS: u64 = 10000;
 
@@ -238,7 +238,7 @@ pub fn consume_up_lent(presence: &mut Presence, t: u64) -> Answer
 
 // Asking leaves the lent record as it was.
 pub fn is_up_needed_lent(presence: &mut Presence, t: u64) -> Answer
-    ensures { λ r. ⌜ IsUpNeeded (now (presence .entry)) t r × (now (presence .exit) ≡ now (presence .entry)) ⌝ }
+    ensures { λ r. ⌜ IsUpNeededLent (now (presence .entry)) t (record { answer = r; presence = now (presence .exit) }) ⌝ }
 {
     is_up_needed(*presence, t)
 }
