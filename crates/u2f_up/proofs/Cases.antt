@@ -15,65 +15,42 @@ use Rattle.u2f_up.specs.declared.Ready.{Ready}
 use Rattle.u2f_up.specs.declared.Ready.the-variants as Ready′
 
 -- R6 and R1, from the comparisons that the code makes
-pub r6-zero : (w : ℕ) → w ≡ 0 → isR6 w ≡ true
+pub r6-zero : (w : ℕ) → w ≡ 0 → true ≡ isR6 w
 r6-zero w h = rw (eq-eqb w 0 h)
 
-pub r6-above : (w : ℕ) → 60000 < w → isR6 w ≡ true
-r6-above w h = rw (lt-ltb 60000 w h) (or-true (eqb w 0))
+pub r6-above : (w : ℕ) → (w ≡ 0 → ⊥) → ltb 60000 w ≡ isR6 w
+r6-above w h = rw (ne-eqb w 0 h)
 
-pub r6-within : (w : ℕ) → (w ≡ 0 → ⊥) → w ≤ 60000 → isR6 w ≡ false
-r6-within w h k = rw (ne-eqb w 0 h, le-ltb 60000 w k)
-
-pub r1-beyond : (last t : ℕ) → 2 ^ 48 ≤ t → isR1 last t ≡ true
+pub r1-beyond : (last t : ℕ) → 2 ^ 48 ≤ t → true ≡ isR1 last t
 r1-beyond last t h = rw (le-leb (2 ^ 48) t h)
 
-pub r1-before : (last t : ℕ) → t < last → isR1 last t ≡ true
-r1-before last t h = rw (lt-ltb t last h) (or-true (leb (2 ^ 48) t))
-
-pub r1-passed : (last t : ℕ) → t < 2 ^ 48 → last ≤ t → isR1 last t ≡ false
-r1-passed last t h k = rw (lt-leb (2 ^ 48) t h, le-ltb t last k)
+pub r1-before : (last t : ℕ) → t < 2 ^ 48 → ltb t last ≡ isR1 last t
+r1-before last t h = rw (lt-leb (2 ^ 48) t h)
 
 -- making a record
-new-r6 : (w : ℕ) → isR6 w ≡ true → R 6 ≡ newOf w
-unfolding newOf
-new-r6 w e = rw e
+module _ (w : ℕ) (bad : Bool) where
+  pub new-r6 : bad ≡ isR6 w → bad ≡ true → R 6 ≡ newOf w
+  unfolding newOf
+  new-r6 e h = rw (sym e ∙ h)
 
-pub new-zero : (w : ℕ) → w ≡ 0 → R 6 ≡ newOf w
-new-zero w h = new-r6 w (r6-zero w h)
-
-pub new-above : (w : ℕ) → 60000 < w → R 6 ≡ newOf w
-new-above w h = new-r6 w (r6-above w h)
-
-pub new-made : (w : ℕ) → (w ≡ 0 → ⊥) → w ≤ 60000 → Gives (fresh w) ≡ newOf w
-unfolding newOf
-new-made w h k = rw (r6-within w h k)
+  pub new-made : bad ≡ isR6 w → bad ≡ false → Gives (fresh w) ≡ newOf w
+  unfolding newOf
+  new-made e h = rw (sym e ∙ h)
 
 -- settling the moment
-settle-r6 : (p : Presence) (t : ℕ) → isR6 (p .w) ≡ true → R 6 ≡ settleOf p t
-unfolding settleOf
-settle-r6 p t e = rw e
+module _ (p : Presence) (t : ℕ) (bad : Bool) where
+  pub settle-r6 : bad ≡ isR6 (p .w) → bad ≡ true → R 6 ≡ settleOf p t
+  unfolding settleOf
+  settle-r6 e h = rw (sym e ∙ h)
 
-settle-r1 : (p : Presence) (t : ℕ) → isR6 (p .w) ≡ false → isR1 (p .last) t ≡ true → R 1 ≡ settleOf p t
-unfolding settleOf
-settle-r1 p t e f = rw (e, f)
-
-module _ (p : Presence) (t : ℕ) where
-  pub settle-zero : p .w ≡ 0 → R 6 ≡ settleOf p t
-  settle-zero h = settle-r6 p t (r6-zero (p .w) h)
-
-  pub settle-above : 60000 < p .w → R 6 ≡ settleOf p t
-  settle-above h = settle-r6 p t (r6-above (p .w) h)
-
-  module _ (not-zero : p .w ≡ 0 → ⊥) (not-above : p .w ≤ 60000) where
-    pub settle-beyond : 2 ^ 48 ≤ t → R 1 ≡ settleOf p t
-    settle-beyond h = settle-r1 p t (r6-within (p .w) not-zero not-above) (r1-beyond (p .last) t h)
-
-    pub settle-before : t < p .last → R 1 ≡ settleOf p t
-    settle-before h = settle-r1 p t (r6-within (p .w) not-zero not-above) (r1-before (p .last) t h)
-
-    pub settle-passed : t < 2 ^ 48 → p .last ≤ t → Gives (movedTo p t) ≡ settleOf p t
+  module _ (late : Bool) where
+    pub settle-r1 : bad ≡ isR6 (p .w) → bad ≡ false → late ≡ isR1 (p .last) t → late ≡ true → R 1 ≡ settleOf p t
     unfolding settleOf
-    settle-passed h k = rw (r6-within (p .w) not-zero not-above, r1-passed (p .last) t h k)
+    settle-r1 e h f k = rw (sym e ∙ h, sym f ∙ k)
+
+    pub settled : bad ≡ isR6 (p .w) → bad ≡ false → late ≡ isR1 (p .last) t → late ≡ false → Gives (movedTo p t) ≡ settleOf p t
+    unfolding settleOf
+    settled e h f k = rw (sym e ∙ h, sym f ∙ k)
 
 -- windows
 pub live-ahead : (window : Window) (m d t : ℕ) → window ≡ Opened m → t < m → true ≡ isLive window d t
@@ -104,37 +81,42 @@ module _ (p : Presence) (t : ℕ) (live : Bool) where
   unfolding checkedOf
   checked-no e h = rw (sym e ∙ h)
 
--- the calls: a refusal keeps the record that came in, and what is found on the settled record is what is told
-module _ (p : Presence) (t : ℕ) (ready : Ready) (settles : readyOf ready ≡ settleOf p t) where
-  module _ (why : Refusal) (is : ready ≡ Ready′.Refused why) where
-    told-refused : (goOn : Presence → Told) → refused (refusalNo why) p ≡ onSettled p (settleOf p t) goOn
-    told-refused goOn = rw (← settles, is)
+-- an answer and a record, told
+pub told-as : (found : Found) (o : Outcome Bool) → o ≡ Gives (found .yes) → record { outcome = o; presence = found .presence } ≡ gave found
+told-as found o e = rw e
 
-    pub touch-refused : refused (refusalNo why) p ≡ touchOf p t
+-- the calls: a refusal keeps the record that came in, and what is found on the settled record is what is told
+module _ (p : Presence) (t : ℕ) (ready : Ready) (settles : readyOf ready ≡ settleOf p t) (s : Told) where
+  module _ (why : Refusal) (is : ready ≡ Ready′.Refused why) (tells : s ≡ refused (refusalNo why) p) where
+    told-refused : (goOn : Presence → Told) → s ≡ onSettled p (settleOf p t) goOn
+    told-refused goOn = tells ∙ rw (← settles, is)
+
+    pub touch-refused : s ≡ touchOf p t
     unfolding touchOf
     touch-refused = told-refused (λ q. gave (grantedOf q t))
 
-    pub check-refused : refused (refusalNo why) p ≡ checkOf p t
+    pub check-refused : s ≡ checkOf p t
     unfolding checkOf
     check-refused = told-refused (λ q. gave (checkedOf q t))
 
-    pub ask-refused : R (refusalNo why) ≡ askOf p t .outcome
-    unfolding askOf
-    ask-refused = ap (λ (s : Told). s .outcome) (told-refused (λ q. record { outcome = Gives (isPrompting p t); presence = p }))
+  module _ (q : Presence) (is : ready ≡ Ready′.Record q) (found : Found) (tells : s ≡ gave found) where
+    told-found : (f : Presence → Found) → found ≡ f q → s ≡ onSettled p (settleOf p t) (λ x. gave (f x))
+    told-found f e = tells ∙ rw (← settles, is, ← e)
 
-  module _ (q : Presence) (is : ready ≡ Ready′.Record q) where
-    told-found : (f : Presence → Found) (found : Found) (o : Outcome Bool) → found ≡ f q → o ≡ Gives (found .yes)
-        → record { outcome = o; presence = found .presence } ≡ onSettled p (settleOf p t) (λ x. gave (f x))
-    told-found f found o e h = rw (← settles, is, ← e, h)
-
-    pub touch-found : (found : Found) (o : Outcome Bool) → found ≡ grantedOf q t → o ≡ Gives (found .yes) → record { outcome = o; presence = found .presence } ≡ touchOf p t
+    pub touch-found : found ≡ grantedOf q t → s ≡ touchOf p t
     unfolding touchOf
     touch-found = told-found (λ x. grantedOf x t)
 
-    pub check-found : (found : Found) (o : Outcome Bool) → found ≡ checkedOf q t → o ≡ Gives (found .yes) → record { outcome = o; presence = found .presence } ≡ checkOf p t
+    pub check-found : found ≡ checkedOf q t → s ≡ checkOf p t
     unfolding checkOf
     check-found = told-found (λ x. checkedOf x t)
 
-    pub ask-found : (live : Bool) (o : Outcome Bool) → live ≡ isLive (p .prompt) 10000 t → o ≡ Gives live → o ≡ askOf p t .outcome
-    unfolding askOf
-    ask-found live o e h = rw (← settles, is, h, e)
+-- asking gives no record back
+module _ (p : Presence) (t : ℕ) (ready : Ready) (settles : readyOf ready ≡ settleOf p t) where
+  pub ask-refused : (why : Refusal) → ready ≡ Ready′.Refused why → R (refusalNo why) ≡ askOf p t .outcome
+  unfolding askOf
+  ask-refused why is = rw (← settles, is)
+
+  pub ask-found : (q : Presence) → ready ≡ Ready′.Record q → (live : Bool) (o : Outcome Bool) → live ≡ isLive (p .prompt) 10000 t → o ≡ Gives live → o ≡ askOf p t .outcome
+  unfolding askOf
+  ask-found q is live o e h = rw (← settles, is, h, e)

@@ -17,7 +17,6 @@ use Rattle.u2f_up.specs.Moments.{Told, isLive, isR6, isR1, movedTo, sett
 use Rattle.u2f_up.specs.History.{Kind, Touching, Checking, Asking, Settling, Short, Call, Event, Touch, placed, those, isYoung, isOld, isAny, live, lastMoment, unspent, isPrompted, latest, isAccepted, isPromptingRefusal, isAfter, isPromptedBy, unrefused, foretold}
 use Rattle.u2f_up.specs.Runs.{Caller, Keeps, after, next, history, doneBy}
 use Rattle.u2f_up.specs.Claims.{Refused}
-use Rattle.u2f_up.proofs.Cases.{r1-beyond, r1-before, r1-passed}
 use Rattle.u2f_up.proofs.Lists.{stay-old, left-old}
 use Rattle.u2f_up.proofs.Runs.{promptOf, heldOf, recordOf, not-before, Sorted, Effect, still, moved, touched, spent, prompted, Follows, follows}
 use Rattle.u2f_up.proofs.Touches.{Inv, inv-at-first, keeps, held-now, prompt-old, last-next, unspent-next, live-any, at-most-one, window-of}

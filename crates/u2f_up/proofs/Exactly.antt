@@ -1,7 +1,7 @@
 -- 'Exactly when': what a foretold outcome says of the history, both ways.
 use Prim.Native.Nat.{ℕ, _+_, _^_, _<_, _≤_}
 use mathlib.Core.Path.{_≡_, refl, sym, ap, _∙_}
-use mathlib.Core.Bool.{Bool, true, false, _&&_, _||_, true≢false, false≢true}
+use mathlib.Core.Bool.{Bool, true, false, _&&_, _||_, or-true, true≢false, false≢true}
 use mathlib.Core.List.{List, [], _∷_}
 use mathlib.Core.Logic.{_↔_, _⊎_, inl, inr, ⊎-elim}
 use mathlib.Core.Option.{Option, none, some}
@@ -14,7 +14,7 @@ use Rattle.outcome.specs.Outcome.{Outcome, R, SW, Gives}
 use Rattle.u2f_up.specs.Moments.{isR1}
 use Rattle.u2f_up.specs.History.{Kind, Touching, Checking, Asking, Settling, Short, Event, Touch, isAny, live, lastMoment, isPrompted, latest, isAccepted, isPromptingRefusal, isAfter, isPromptedBy, unrefused, foretold}
 use Rattle.u2f_up.specs.Claims.{Refused}
-use Rattle.u2f_up.proofs.Cases.{r1-beyond, r1-before}
+use Rattle.u2f_up.proofs.Cases.{r1-beyond}
 
 both : (a b : Bool) → a && b ≡ true → (a ≡ true) × (b ≡ true)
 both true b e = (refl, e)
@@ -26,6 +26,9 @@ is-given a b e = cc
 no-refusal : (n : ℕ) (b : Bool) → _≡_ {A = Outcome Bool} (R n) (Gives b) → ⊥
 no-refusal n b e = let z : _≡_ {A = ℕ} 0 1 = cc in omega arith
 
+r1-back : (last t : ℕ) → t < last → isR1 last t ≡ true
+r1-back last t h = rw (lt-ltb t last h) (or-true (leb (2 ^ 48) t))
+
 module _ (h : List Event) (t : ℕ) where
   r1-refused : isR1 (lastMoment h) t ≡ true → Refused h t
   r1-refused = go (leb (2 ^ 48) t) (ltb t (lastMoment h)) refl refl
@@ -36,7 +39,7 @@ module _ (h : List Event) (t : ℕ) where
       go false false p q e = absurd (false≢true e)
 
   refused-r1 : Refused h t → isR1 (lastMoment h) t ≡ true
-  refused-r1 r = ⊎-elim (r1-beyond (lastMoment h) t) (r1-before (lastMoment h) t) r
+  refused-r1 r = ⊎-elim (λ b. sym (r1-beyond (lastMoment h) t b)) (r1-back (lastMoment h) t) r
 
   passed : isR1 (lastMoment h) t ≡ false → Refused h t → ⊥
   passed e r = true≢false (sym (refused-r1 r) ∙ e)

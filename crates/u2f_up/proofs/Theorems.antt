@@ -5,6 +5,7 @@ use mathlib.Core.Bool.{true, false}
 use mathlib.Core.List.{List, [], _∷_, _++_}
 use native.Mathlib.Omega.{arith}
 use lib.ListN.{length}
+use borrow.Author.Tests.{le-ltb}
 use Rattle.outcome.specs.Outcome.{R, Gives, refusalNo}
 use Rattle.outcome.proofs.Theorems.{refusal-one-to-one}
 use Rattle.u2f_up.specs.Words.{Opened}
@@ -15,7 +16,7 @@ use Rattle.u2f_up.specs.Runs.{Caller, Keeps, own, after, next, history}
 use Rattle.u2f_up.specs.Claims.{ReadyOneToOne, AnswerOneToOne, StepOneToOne, Determined, Demand3, Demand3Met}
 use Rattle.u2f_up.specs.declared.Ready.the-variants as Ready′
 use Rattle.u2f_up.specs.declared.Answer.the-variants as Answer′
-use Rattle.u2f_up.proofs.Cases.{r6-within}
+use Rattle.u2f_up.proofs.Cases.{r6-above}
 use Rattle.u2f_up.proofs.Demand as Demand
 use Rattle.u2f_up.proofs.Exactly as Exactly
 use Rattle.u2f_up.proofs.Accounts as Accounts
@@ -77,5 +78,8 @@ module _ {D : Type 0} (𝒞 : Caller D) (keeping : Keeps 𝒞) (w : ℕ) (within
     each = λ picks. Accounts.accounted w picks (history 𝒞 w ds) (Demand.balanced 𝒞 keeping w within picks ds);
   }
 
+within : (w : ℕ) → 0 < w → w ≤ 60000 → isR6 w ≡ false
+within w least most = sym (r6-above w (omega arith)) ∙ le-ltb 60000 w most
+
 pub demand-3 : Demand3Met
-demand-3 D 𝒞 keeping w least most ds = met 𝒞 keeping w (r6-within w (omega arith) most) ds
+demand-3 D 𝒞 keeping w least most ds = met 𝒞 keeping w (within w least most) ds

@@ -3,9 +3,9 @@
 // Any values may stand in a record: no sum of moments is ever made, so none can wrap.
 use outcome::Refusal;
 ghost use mathlib.Core.Path.{_≡_};
-ghost use Rattle.outcome.specs.Outcome.{Gives};
-ghost use Rattle.u2f_up.specs.Moments.{isLive, grantedOf};
-ghost use Rattle.u2f_up.specs.Answers.{outcomeOf, New, Settle, GrantUp, TouchCheck, ConsumeUp, IsUpNeeded, IsUpNeededLent};
+ghost use Rattle.outcome.specs.Outcome.{Gives, refusalNo};
+ghost use Rattle.u2f_up.specs.Moments.{isLive, isR6, isR1, grantedOf, gave, refused};
+ghost use Rattle.u2f_up.specs.Answers.{outcomeOf, toldOf, New, Settle, GrantUp, TouchCheck, ConsumeUp, IsUpNeeded, IsUpNeededLent};
 
 const U2F_UP_PROMPT_TIMEOUT_MS: u64 = 10000;
 
@@ -52,14 +52,31 @@ pub struct Found {
     pub presence: Presence,
 }
 
+// R6: W is 0 or above 60,000.
+fn is_r6(w: u64) -> bool
+    ensures { λ r. ⌜ r ≡ isR6 w ⌝ }
+{
+    if w == 0 {
+        return true;
+    }
+    W_MOST < w
+}
+
+// R1: the moment is 2^48 or more, or before the last one.
+fn is_r1(last: u64, t: u64) -> bool
+    ensures { λ r. ⌜ r ≡ isR1 last t ⌝ }
+{
+    if MOMENTS <= t {
+        return true;
+    }
+    t < last
+}
+
 // A fresh record with the touch window W.
 pub fn new(w: u64) -> Ready
     ensures { λ r. ⌜ New w r ⌝ }
 {
-    if w == 0 {
-        return Ready::Refused(Refusal::R6);
-    }
-    if w > W_MOST {
+    if is_r6(w) {
         return Ready::Refused(Refusal::R6);
     }
     Ready::Record(Presence {
@@ -74,20 +91,14 @@ pub fn new(w: u64) -> Ready
 pub fn settle(presence: Presence, t: u64) -> Ready
     ensures { λ r. ⌜ Settle presence t r ⌝ }
 {
+    if is_r6(presence.w) {
+        return Ready::Refused(Refusal::R6);
+    }
+    if is_r1(presence.last, t) {
+        return Ready::Refused(Refusal::R1);
+    }
     let prompt = presence.prompt;
     let touch = presence.touch;
-    if presence.w == 0 {
-        return Ready::Refused(Refusal::R6);
-    }
-    if presence.w > W_MOST {
-        return Ready::Refused(Refusal::R6);
-    }
-    if t >= MOMENTS {
-        return Ready::Refused(Refusal::R1);
-    }
-    if t < presence.last {
-        return Ready::Refused(Refusal::R1);
-    }
     Ready::Record(Presence {
         w: presence.w,
         prompt,
@@ -112,24 +123,24 @@ fn is_live(window: Window, d: u64, t: u64) -> bool
 }
 
 // Touch on a settled record: accepted while the prompt is live.
-fn granted(presence: Presence, t: u64) -> Found
-    ensures { λ r. ⌜ r ≡ grantedOf presence t ⌝ }
+fn granted(settled: Presence, t: u64) -> Found
+    ensures { λ r. ⌜ r ≡ grantedOf settled t ⌝ }
 {
-    let prompt = presence.prompt;
+    let prompt = settled.prompt;
     if is_live(prompt, U2F_UP_PROMPT_TIMEOUT_MS, t) {
         return Found {
             yes: true,
             presence: Presence {
-                w: presence.w,
+                w: settled.w,
                 prompt: Window::Closed,
                 touch: Window::Opened(t),
-                last: presence.last,
+                last: settled.last,
             },
         };
     }
     Found {
         yes: false,
-        presence,
+        presence: settled,
     }
 }
 
@@ -168,23 +179,32 @@ fn answer_of(yes: bool) -> Answer
     if yes { Answer::Yes } else { Answer::No }
 }
 
+fn tell(found: Found) -> Step
+    ensures { λ r. ⌜ toldOf r ≡ gave found ⌝ }
+{
+    let presence = found.presence;
+    Step {
+        answer: answer_of(found.yes),
+        presence,
+    }
+}
+
+fn refuse(why: Refusal, kept: Presence) -> Step
+    ensures { λ r. ⌜ toldOf r ≡ refused (refusalNo why) kept ⌝ }
+{
+    Step {
+        answer: Answer::Refused(why),
+        presence: kept,
+    }
+}
+
 // A touch at `t`: allows spending it until W has passed, if a prompt is live; if none is, it grants nothing.
 pub fn grant_up(presence: Presence, t: u64) -> Step
     ensures { λ r. ⌜ GrantUp presence t r ⌝ }
 {
     match settle(presence, t) {
-        Ready::Refused(why) => Step {
-            answer: Answer::Refused(why),
-            presence,
-        },
-        Ready::Record(settled) => {
-            let found = granted(settled, t);
-            let after = found.presence;
-            Step {
-                answer: answer_of(found.yes),
-                presence: after,
-            }
-        }
+        Ready::Refused(why) => refuse(why, presence),
+        Ready::Record(settled) => tell(granted(settled, t)),
     }
 }
 
@@ -193,18 +213,8 @@ pub fn consume_up(presence: Presence, t: u64) -> Step
     ensures { λ r. ⌜ ConsumeUp presence t r ⌝ }
 {
     match settle(presence, t) {
-        Ready::Refused(why) => Step {
-            answer: Answer::Refused(why),
-            presence,
-        },
-        Ready::Record(settled) => {
-            let found = touch_check(settled, t);
-            let after = found.presence;
-            Step {
-                answer: answer_of(found.yes),
-                presence: after,
-            }
-        }
+        Ready::Refused(why) => refuse(why, presence),
+        Ready::Record(settled) => tell(touch_check(settled, t)),
     }
 }
 

@@ -1,5 +1,5 @@
-use Rattle.u2f_up.proofs.Cases
 use borrow.Author.Needs.{needs}
+use Rattle.u2f_up.proofs.Cases
 use Rattle.u2f_up.proofs.consume_up.Statement.{statement}
 use Rattle.u2f_up.proofs.consume_up.Tie as tie
 
@@ -9,14 +9,17 @@ settle-requires c κs = search needs
 enum-known-why : tie.Need-enum-known-why
 enum-known-why c = search needs
 
+refuse-requires : tie.Need-refuse-requires
+refuse-requires c κs = search needs
+
 enum-known-settled : tie.Need-enum-known-settled
 enum-known-settled c = search needs
 
 touch-check-requires : tie.Need-touch-check-requires
 touch-check-requires c κs = search needs
 
-answer-of-requires : tie.Need-answer-of-requires
-answer-of-requires c κs = search needs
+tell-requires : tie.Need-tell-requires
+tell-requires c κs = search needs
 
 returns : tie.Need-returns
 returns c = search (needs, Cases.check-refused)
@@ -30,8 +33,9 @@ consume-up-spec =
     (tie.spec
     settle-requires
     enum-known-why
+    refuse-requires
     enum-known-settled
     touch-check-requires
-    answer-of-requires
+    tell-requires
     returns
     returns-2)

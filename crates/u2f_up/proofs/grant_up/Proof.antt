@@ -1,5 +1,5 @@
-use Rattle.u2f_up.proofs.Cases
 use borrow.Author.Needs.{needs}
+use Rattle.u2f_up.proofs.Cases
 use Rattle.u2f_up.proofs.grant_up.Statement.{statement}
 use Rattle.u2f_up.proofs.grant_up.Tie as tie
 
@@ -9,14 +9,17 @@ settle-requires c κs = search needs
 enum-known-why : tie.Need-enum-known-why
 enum-known-why c = search needs
 
+refuse-requires : tie.Need-refuse-requires
+refuse-requires c κs = search needs
+
 enum-known-settled : tie.Need-enum-known-settled
 enum-known-settled c = search needs
 
 granted-requires : tie.Need-granted-requires
 granted-requires c κs = search needs
 
-answer-of-requires : tie.Need-answer-of-requires
-answer-of-requires c κs = search needs
+tell-requires : tie.Need-tell-requires
+tell-requires c κs = search needs
 
 returns : tie.Need-returns
 returns c = search (needs, Cases.touch-refused)
@@ -30,8 +33,9 @@ grant-up-spec =
     (tie.spec
     settle-requires
     enum-known-why
+    refuse-requires
     enum-known-settled
     granted-requires
-    answer-of-requires
+    tell-requires
     returns
     returns-2)

@@ -1,5 +1,5 @@
-use Rattle.u2f_up.proofs.Cases
 use borrow.Author.Needs.{needs}
+use Rattle.u2f_up.proofs.Cases
 use Rattle.u2f_up.proofs.granted.Statement.{statement}
 use Rattle.u2f_up.proofs.granted.Tie as tie
 

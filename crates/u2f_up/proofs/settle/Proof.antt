@@ -3,20 +3,20 @@ use Rattle.u2f_up.proofs.Cases
 use Rattle.u2f_up.proofs.settle.Statement.{statement}
 use Rattle.u2f_up.proofs.settle.Tie as tie
 
+is-r6-requires : tie.Need-is-r6-requires
+is-r6-requires c κs = search needs
+
 returns : tie.Need-returns
-returns c = search (needs, Cases.settle-zero)
+returns c = search (needs, Cases.settle-r6)
+
+is-r1-requires : tie.Need-is-r1-requires
+is-r1-requires c κs = search needs
 
 returns-2 : tie.Need-returns-2
-returns-2 c = search (needs, Cases.settle-above)
+returns-2 c = search (needs, Cases.settle-r1)
 
 returns-3 : tie.Need-returns-3
-returns-3 c = search (needs, Cases.settle-beyond)
-
-returns-4 : tie.Need-returns-4
-returns-4 c = search (needs, Cases.settle-before)
-
-returns-5 : tie.Need-returns-5
-returns-5 c = search (needs, Cases.settle-passed)
+returns-3 c = search (needs, Cases.settled)
 
 pub settle-spec : {M : Type 1} → statement M
-settle-spec = tie.close (tie.spec returns returns-2 returns-3 returns-4 returns-5)
+settle-spec = tie.close (tie.spec is-r6-requires returns is-r1-requires returns-2 returns-3)
