@@ -1,15 +1,14 @@
 -- Counting: every accepted touch was spent or is unspent, each call that spends takes one, and no number stands twice.
-use Prim.Native.Nat.{ℕ, suc, _+_, _<_, _≤_}
-use mathlib.Core.Path.{_≡_, refl, sym, ap, _∙_}
-use mathlib.Core.Bool.{Bool, true, false, not}
-use mathlib.Core.List.{List, [], _∷_, _++_}
+use Prim.Native.Nat.{ℕ, suc, _+_, _≤_}
+use mathlib.Core.Path.{_≡_, refl, sym, _∙_}
+use mathlib.Core.Bool.{Bool, true, false}
+use mathlib.Core.List.{List, [], _∷_}
 use native.Mathlib.Omega.{arith}
-use lib.Dec.{ltb, eqb}
+use lib.Dec.{eqb}
 use lib.ListN.{length, length-append}
 use borrow.Author.Tests.{eqb-true}
 use Rattle.outcome.specs.Notation.{if_then_else_}
-use Rattle.u2f_up.specs.Moments.{isLive}
-use Rattle.u2f_up.specs.History.{Event, Touch, placed, those, isAccepted, isSpending, isYoung, isOld, isAny, live, lapsed, lastMoment, unspent, accepted, served, spenders, isNumber}
+use Rattle.u2f_up.specs.History.{Event, Touch, placed, those, isAccepted, isSpending, isYoung, isAny, live, lapsed, lastMoment, unspent, accepted, served, spenders, isNumber}
 use Rattle.u2f_up.proofs.Lists.{count, count-append, count-split, count-all, length-those}
 use Rattle.u2f_up.proofs.Runs.{heldOf, Sorted, Effect, still, moved, touched, spent, prompted}
 use Rattle.u2f_up.proofs.Touches.{Inv, held-now, accepted-next, served-next, unspent-next, live-any, at-most-one}

@@ -1,22 +1,17 @@
 -- Demand 3 for the runs of any way of calling that keeps to the five kinds: the record is read off the history, and so is
 -- every outcome.
-use Prim.Native.Nat.{ℕ, suc, _+_, _^_, _<_, _≤_}
+use Prim.Native.Nat.{ℕ, suc, _<_, _≤_}
 use mathlib.Core.Path.{_≡_, refl, sym, ap, _∙_}
-use mathlib.Core.Bool.{Bool, true, false, _&&_, _||_, true≢false}
+use mathlib.Core.Bool.{Bool, true, false}
 use mathlib.Core.List.{List, [], _∷_, _++_}
-use mathlib.Core.Logic.{_↔_, _⊎_, inl, inr}
-use mathlib.Core.Option.{Option, none, some}
 use native.Mathlib.Omega.{arith}
-use lib.Dec.{ltb, leb}
 use lib.ListN.{length, length-append}
-use borrow.Author.Tests.{ltb-true, ltb-false, leb-true, leb-false, lt-ltb, le-ltb, le-leb, lt-leb}
 use Rattle.outcome.specs.Notation.{if_then_else_}
-use Rattle.outcome.specs.Outcome.{Outcome, R, SW, Gives}
-use Rattle.u2f_up.specs.Words.{Presence, Window, Closed, Opened}
+use Rattle.outcome.specs.Outcome.{Outcome, R, Gives}
+use Rattle.u2f_up.specs.Words.{Presence, Opened}
 use Rattle.u2f_up.specs.Moments.{Told, isLive, isR6, isR1, movedTo, settleOf, grantedOf, checkedOf, touchOf, checkOf, askOf}
-use Rattle.u2f_up.specs.History.{Kind, Touching, Checking, Asking, Settling, Short, Call, Event, Touch, placed, those, isYoung, isOld, isAny, live, lastMoment, unspent, isPrompted, latest, isAccepted, isPromptingRefusal, isAfter, isPromptedBy, unrefused, foretold}
+use Rattle.u2f_up.specs.History.{Kind, Touching, Checking, Asking, Settling, Short, Event, Touch, placed, those, isYoung, isOld, live, lastMoment, unspent, isPrompted, unrefused, foretold}
 use Rattle.u2f_up.specs.Runs.{Caller, Keeps, after, next, history, doneBy}
-use Rattle.u2f_up.specs.Claims.{Refused}
 use Rattle.u2f_up.proofs.Lists.{stay-old, left-old}
 use Rattle.u2f_up.proofs.Runs.{promptOf, heldOf, recordOf, not-before, Sorted, Effect, still, moved, touched, spent, prompted, Follows, follows}
 use Rattle.u2f_up.proofs.Touches.{Inv, inv-at-first, keeps, held-now, prompt-old, last-next, unspent-next, live-any, at-most-one, window-of}

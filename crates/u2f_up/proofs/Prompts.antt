@@ -1,8 +1,8 @@
 -- Document 01's words for a standing prompt, the latest of each sort of event and which of the two comes after, say the same
 -- as the prompt window.
-use Prim.Native.Nat.{ℕ, suc, _+_, _<_, _≤_}
-use mathlib.Core.Path.{_≡_, refl, sym, ap, _∙_}
-use mathlib.Core.Bool.{Bool, true, false, _&&_}
+use Prim.Native.Nat.{ℕ, suc, _+_, _<_}
+use mathlib.Core.Path.{_≡_, refl}
+use mathlib.Core.Bool.{Bool, true, false}
 use mathlib.Core.List.{List, [], _∷_}
 use mathlib.Core.Option.{Option, none, some}
 use native.Mathlib.Omega.{arith}
@@ -10,9 +10,8 @@ use lib.Dec.{ltb}
 use lib.ListN.{length}
 use borrow.Author.Tests.{lt-ltb, le-ltb}
 use Rattle.outcome.specs.Notation.{if_then_else_}
-use Rattle.u2f_up.specs.Words.{Closed, Opened}
 use Rattle.u2f_up.specs.Moments.{isLive}
-use Rattle.u2f_up.specs.History.{Event, Touch, placed, latest, isAccepted, isPromptingRefusal, isAfter, isPromptedBy, isPrompted}
+use Rattle.u2f_up.specs.History.{Event, Touch, placed, latest, isAccepted, isPromptingRefusal, isPromptedBy}
 use Rattle.u2f_up.proofs.Runs.{promptOf, Sorted, Effect, still, moved, touched, spent, prompted}
 use Rattle.u2f_up.proofs.Touches.{prompt-next}
 

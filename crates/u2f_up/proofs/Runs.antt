@@ -1,17 +1,15 @@
 -- A run's record is what its history says: each field is read off the events. From this, case by case, what a call does.
-use Prim.Native.Nat.{ℕ, _+_, _^_, _<_, _≤_}
-use mathlib.Core.Path.{_≡_, refl, sym, ap, _∙_}
-use mathlib.Core.Bool.{Bool, true, false, not, _&&_, _||_, true≢false}
-use mathlib.Core.List.{List, [], _∷_, _++_}
-use native.Mathlib.Omega.{arith}
+use Prim.Native.Nat.{ℕ, _^_, _≤_}
+use mathlib.Core.Path.{_≡_, refl}
+use mathlib.Core.Bool.{Bool, true, false, _||_, true≢false}
+use mathlib.Core.List.{List, [], _∷_}
 use lib.Dec.{ltb, leb}
-use lib.ListN.{length}
 use borrow.Author.Tests.{ltb-false}
 use Rattle.outcome.specs.Notation.{if_then_else_}
-use Rattle.outcome.specs.Outcome.{Outcome, R, SW, Gives}
-use Rattle.u2f_up.specs.Words.{Presence, Window, Closed, Opened, Found}
-use Rattle.u2f_up.specs.Moments.{Told, isLive, isR6, isR1, fresh, movedTo, settleOf, grantedOf, checkedOf, gave, refused, onSettled, touchOf, checkOf, askOf}
-use Rattle.u2f_up.specs.History.{Kind, Touching, Checking, Asking, Settling, Short, Call, Event, isAccepted, isSpending, isPromptingRefusal, isMoving, lastMoment}
+use Rattle.outcome.specs.Outcome.{Outcome, Gives}
+use Rattle.u2f_up.specs.Words.{Presence, Window, Closed, Opened}
+use Rattle.u2f_up.specs.Moments.{Told, isLive, isR6, isR1, movedTo, settleOf, grantedOf, checkedOf, gave, refused, touchOf, checkOf, askOf}
+use Rattle.u2f_up.specs.History.{Kind, Touching, Checking, Asking, Settling, Short, Event, isAccepted, isSpending, isPromptingRefusal, isMoving, lastMoment}
 use Rattle.u2f_up.specs.Runs.{doneBy}
 
 unfoldable pub promptOf : List Event → Window

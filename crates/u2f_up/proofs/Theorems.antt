@@ -6,13 +6,12 @@ use mathlib.Core.List.{List, [], _∷_, _++_}
 use native.Mathlib.Omega.{arith}
 use lib.ListN.{length}
 use borrow.Author.Tests.{le-ltb}
-use Rattle.outcome.specs.Outcome.{R, Gives, refusalNo}
 use Rattle.outcome.proofs.Theorems.{refusal-one-to-one}
 use Rattle.u2f_up.specs.Words.{Opened}
-use Rattle.u2f_up.specs.Answers.{Ready, Answer, Step, readyOf, outcomeOf, toldOf, New, Settle, TouchCheck, GrantUp, ConsumeUp, IsUpNeeded}
+use Rattle.u2f_up.specs.Answers.{Ready, Answer, Step}
 use Rattle.u2f_up.specs.Moments.{isR6}
-use Rattle.u2f_up.specs.History.{Event, Kind, Touching, Checking, Touch, lastMoment, live, foretold, isNumber}
-use Rattle.u2f_up.specs.Runs.{Caller, Keeps, own, after, next, history}
+use Rattle.u2f_up.specs.History.{Kind, Touching, Checking, Touch, lastMoment, live, foretold, isNumber}
+use Rattle.u2f_up.specs.Runs.{Caller, Keeps, after, next, history}
 use Rattle.u2f_up.specs.Claims.{ReadyOneToOne, AnswerOneToOne, StepOneToOne, Determined, Demand3, Demand3Met}
 use Rattle.u2f_up.specs.declared.Ready.the-variants as Ready′
 use Rattle.u2f_up.specs.declared.Answer.the-variants as Answer′

@@ -1,19 +1,18 @@
 -- What holds of every history that a run makes: of the touches that no call has spent, only the newest can be young, and
 -- none is while a prompt stands.
-use Prim.Native.Nat.{ℕ, _+_, _<_, _≤_}
-use mathlib.Core.Path.{_≡_, refl, sym, ap, _∙_}
-use mathlib.Core.Bool.{Bool, true, false, not}
+use Prim.Native.Nat.{ℕ, _+_, _≤_}
+use mathlib.Core.Path.{_≡_, refl, sym, _∙_}
+use mathlib.Core.Bool.{Bool, true, false}
 use mathlib.Core.List.{List, [], _∷_, _++_}
 use native.Mathlib.Omega.{arith}
 use lib.Dec.{ltb}
 use lib.ListN.{length}
 use Rattle.outcome.specs.Notation.{if_then_else_}
 use Rattle.u2f_up.specs.Words.{Window, Closed, Opened}
-use Rattle.u2f_up.specs.Moments.{isLive, isR6}
+use Rattle.u2f_up.specs.Moments.{isLive}
 use Rattle.u2f_up.specs.History.{Event, Touch, placed, those, isYoung, isOld, isAny, live, lastMoment, unspent, accepted, served}
-use Rattle.u2f_up.specs.Runs.{Caller, Keeps, after, history, doneBy}
 use Rattle.u2f_up.proofs.Lists.{AllOld, stay-old, left-old}
-use Rattle.u2f_up.proofs.Runs.{promptOf, heldOf, recordOf, Sorted, Effect, still, moved, touched, spent, prompted, follows}
+use Rattle.u2f_up.proofs.Runs.{promptOf, heldOf, Sorted, Effect, still, moved, touched, spent, prompted}
 
 -- each notion of a history, one event further
 module _ {e : Event} {m a s p : Bool} (h : List Event) (w : ℕ) (x : Sorted e m a s p) where
