@@ -10,7 +10,7 @@ use Rattle.outcome.specs.Notation.{if_then_else_}
 use Rattle.outcome.specs.Outcome.{Outcome, R, Gives}
 use Rattle.u2f_up.specs.Words.{Presence, Opened}
 use Rattle.u2f_up.specs.Moments.{Told, isLive, isR6, isR1, movedTo, settleOf, grantedOf, checkedOf, touchOf, checkOf, askOf}
-use Rattle.u2f_up.specs.History.{Kind, Touching, Checking, Asking, Settling, Short, Event, Touch, placed, those, isYoung, isOld, live, lastMoment, unspent, isPrompted, unrefused, foretold}
+use Rattle.u2f_up.specs.History.{Kind, Touching, Checking, Asking, Settling, Short, Event, Place, placed, those, isYoung, isOld, live, lastMoment, unspent, isPrompted, unrefused, foretold}
 use Rattle.u2f_up.specs.Runs.{Caller, Keeps, after, next, history, doneBy}
 use Rattle.u2f_up.proofs.Lists.{stay-old, left-old}
 use Rattle.u2f_up.proofs.Runs.{promptOf, heldOf, recordOf, not-before, Sorted, Effect, still, moved, touched, spent, prompted, Follows, follows}
@@ -74,7 +74,7 @@ module _ (w : ℕ) (h : List Event) (t : ℕ) (within : isR6 w ≡ false) where
         go false e = outcome-given e k ∙ gives-foretold (not-before (lastMoment h) t e) k
 
 -- a touch that is live after an event, and is not that event, was live before it
-module _ (w : ℕ) (h : List Event) (e : Event) (k : Touch) (t : ℕ) where
+module _ (w : ℕ) (h : List Event) (e : Event) (k : Place) (t : ℕ) where
   abbrev Before : Type 0
   Before = (lastMoment h ≤ t) × (live w h t ≡ k ∷ [])
 
@@ -134,7 +134,7 @@ module _ {D : Type 0} (𝒞 : Caller D) (keeping : Keeps 𝒞) (w : ℕ) (within
   agreeing : (ds : List D) → Agrees (past ds)
   agreeing = along Agrees agrees-at-first (λ h e x g. agrees-next w h e g x)
 
-  pub balanced : (picks : Touch → Bool) (ds : List D) → Balanced w picks (past ds)
+  pub balanced : (picks : Place → Bool) (ds : List D) → Balanced w picks (past ds)
   balanced picks = along (Balanced w picks) (balanced-at-first w picks) (λ h e x b. balanced-next w picks h e b x)
 
   pub one-each : (ds : List D) → OneEach w (past ds)
@@ -151,7 +151,7 @@ module _ {D : Type 0} (𝒞 : Caller D) (keeping : Keeps 𝒞) (w : ℕ) (within
   history-length [] = refl
   history-length (d ∷ ds) = ap suc (history-length ds)
 
-  pub holds : (later earlier : List D) (k : Touch) (t : ℕ) → lastMoment (past (later ++ earlier)) ≤ t → live w (past (later ++ earlier)) t ≡ k ∷ [] → k .number < length earlier
+  pub holds : (later earlier : List D) (k : Place) (t : ℕ) → lastMoment (past (later ++ earlier)) ≤ t → live w (past (later ++ earlier)) t ≡ k ∷ [] → k .number < length earlier
       → after 𝒞 w earlier .touch ≡ Opened (k .moment)
   unfolding history
   holds [] earlier k t late l n =
