@@ -5,7 +5,7 @@ use mathlib.Core.Path.{_≡_, refl}
 use mathlib.Core.Bool.{true}
 use Rattle.outcome.specs.Outcome.{R, Gives}
 use Rattle.u2f_up.specs.Words.{Presence}
-use Rattle.u2f_up.specs.Moments.{settleOf, checkedOf, gave, refused, touchOf, checkOf, askOf}
+use Rattle.u2f_up.specs.Moments.{isPrompting, settleOf, grantedOf, checkedOf, gave, refused, touchOf, checkOf, askOf}
 use Rattle.u2f_up.specs.History.{Kind, Touching, Checking, Asking, Settling, Short}
 use Rattle.u2f_up.specs.Runs.{doneBy}
 
@@ -20,9 +20,17 @@ module _ (p : Presence) (t : ℕ) where
   done-refused n e Short = rw e
 
   module _ (q : Presence) (e : settleOf p t ≡ Gives q) where
+    pub done-touching : doneBy Touching p t ≡ gave (grantedOf q t)
+    unfolding doneBy touchOf
+    done-touching = rw e
+
     pub done-checking : doneBy Checking p t ≡ gave (checkedOf q t)
     unfolding doneBy checkOf
     done-checking = rw e
+
+    pub done-asking : doneBy Asking p t ≡ record { outcome = Gives (isPrompting p t); presence = p }
+    unfolding doneBy askOf
+    done-asking = rw e
 
     pub done-settling : doneBy Settling p t ≡ record { outcome = Gives true; presence = q }
     unfolding doneBy
