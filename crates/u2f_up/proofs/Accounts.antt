@@ -1,24 +1,23 @@
 -- Counting: every accepted touch was spent or is unspent, each call that spends takes one, and no number stands twice.
-use Prim.Native.Nat.{ℕ, suc, _+_, _<_, _≤_}
-use mathlib.Core.Path.{_≡_, refl, sym, ap, _∙_}
-use mathlib.Core.Bool.{Bool, true, false, not}
-use mathlib.Core.List.{List, [], _∷_, _++_}
+use Prim.Native.Nat.{ℕ, suc, _+_, _≤_}
+use mathlib.Core.Path.{_≡_, refl, sym, _∙_}
+use mathlib.Core.Bool.{Bool, true, false}
+use mathlib.Core.List.{List, [], _∷_}
 use native.Mathlib.Omega.{arith}
-use lib.Dec.{ltb, eqb}
+use lib.Dec.{eqb}
 use lib.ListN.{length, length-append}
 use borrow.Author.Tests.{eqb-true}
 use Rattle.outcome.specs.Notation.{if_then_else_}
-use Rattle.u2f_up.specs.Moments.{isLive}
-use Rattle.u2f_up.specs.History.{Event, Touch, placed, those, isAccepted, isSpending, isYoung, isOld, isAny, live, lapsed, lastMoment, unspent, accepted, served, spenders, isNumber}
+use Rattle.u2f_up.specs.History.{Event, Place, placed, those, isAccepted, isSpending, isYoung, isAny, live, lapsed, lastMoment, unspent, accepted, served, spenders, isNumber}
 use Rattle.u2f_up.proofs.Lists.{count, count-append, count-split, count-all, length-those}
 use Rattle.u2f_up.proofs.Runs.{heldOf, Sorted, Effect, still, moved, touched, spent, prompted}
 use Rattle.u2f_up.proofs.Touches.{Inv, held-now, accepted-next, served-next, unspent-next, live-any, at-most-one}
 
 -- spent or unspent
-abbrev pub Balanced : ℕ → (Touch → Bool) → List Event → Type 0
+abbrev pub Balanced : ℕ → (Place → Bool) → List Event → Type 0
 Balanced w picks h = count picks (accepted h) ≡ count picks (served w h) + count picks (unspent w h)
 
-module _ (w : ℕ) (picks : Touch → Bool) where
+module _ (w : ℕ) (picks : Place → Bool) where
   pub balanced-at-first : Balanced w picks []
   unfolding accepted served unspent
   balanced-at-first = refl
@@ -51,7 +50,7 @@ module _ (w : ℕ) (h : List Event) (e : Event) (i : Inv w h) (o : OneEach w h) 
   passes-one : {m a p : Bool} → Sorted e m a false p → OneEach w (e ∷ h)
   passes-one x = rw (served-next h w x) (o ∙ sym (spenders-next false (x .spends)))
 
-  exactly-one : (ks : List Touch) → length ks ≤ 1 → isAny ks ≡ true → length ks ≡ 1
+  exactly-one : (ks : List Place) → length ks ≤ 1 → isAny ks ≡ true → length ks ≡ 1
   exactly-one [] b q = let z : _≡_ {A = ℕ} 0 1 = cc in absurd (omega arith)
   exactly-one (k ∷ ks) b q = omega arith
 
@@ -67,7 +66,7 @@ module _ (w : ℕ) (h : List Event) (e : Event) (i : Inv w h) (o : OneEach w h) 
   one-next (prompted x late not-live) = passes-one x
 
 -- no number stands twice among the accepted touches
-abbrev Once : ℕ → ℕ → List Touch → Type 0
+abbrev Once : ℕ → ℕ → List Place → Type 0
 Once n size ks = (size ≤ n → count (isNumber n) ks ≡ 0) × (count (isNumber n) ks ≤ 1)
 
 once-next : (n : ℕ) (h : List Event) (e : Event) (a : Bool) → Once n (length h) (accepted h)
@@ -88,7 +87,7 @@ pub served-once : (w n : ℕ) (h : List Event) → Balanced w (isNumber n) h →
 served-once w n h b = omega (arith, length-those (isNumber n) (served w h), numbers-once n h .1)
 
 -- spent, lapsed or live
-pub accounted : (w : ℕ) (picks : Touch → Bool) (h : List Event) → Balanced w picks h
+pub accounted : (w : ℕ) (picks : Place → Bool) (h : List Event) → Balanced w picks h
     → length (those picks (accepted h)) ≡ length (those picks (served w h)) + length (those picks (lapsed w h)) + length (those picks (live w h (lastMoment h)))
 accounted w picks h b =
     omega (arith, length-those picks (accepted h), length-those picks (served w h), length-those picks (lapsed w h), length-those picks (live w h (lastMoment h)), count-split (isYoung w (lastMoment h)) picks (unspent w h))

@@ -1,14 +1,14 @@
 -- What each return of the functions gives, as a law in the form of its need: the premises are the facts as the code has
 -- them. The only file, beside the theorems on runs, that opens the definitions of specs/Moments.antt.
 use Prim.Native.Nat.{ℕ, _+_, _-_, _^_, _<_, _≤_}
-use mathlib.Core.Path.{_≡_, refl, sym, ap, _∙_}
-use mathlib.Core.Bool.{Bool, true, false, _||_, or-true}
+use mathlib.Core.Path.{_≡_, refl, sym, _∙_}
+use mathlib.Core.Bool.{Bool, true, false}
 use native.Mathlib.Omega.{arith}
-use lib.Dec.{ltb, leb, eqb}
+use lib.Dec.{ltb}
 use borrow.Author.Tests.{lt-ltb, le-ltb, le-leb, lt-leb, eq-eqb, ne-eqb, ltb-true, ltb-false}
 use Rattle.outcome.specs.declared.Refusal.{Refusal}
 use Rattle.u2f_up.specs.Words.{Outcome, R, Gives, refusalNo, Presence, Window, Opened, Found}
-use Rattle.u2f_up.specs.Moments.{isLive, isPrompting, isR6, isR1, fresh, newOf, movedTo, touched, spent, prompted, settleOf, grantedOf, checkedOf}
+use Rattle.u2f_up.specs.Moments.{isLive, isR6, isR1, fresh, newOf, movedTo, touched, spent, prompted, settleOf, grantedOf, checkedOf}
 use Rattle.u2f_up.specs.Moments.{Told, gave, refused, onSettled, touchOf, checkOf, askOf}
 use Rattle.u2f_up.specs.Answers.{readyOf}
 use Rattle.u2f_up.specs.declared.Ready.{Ready}

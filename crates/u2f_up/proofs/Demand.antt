@@ -1,27 +1,26 @@
 -- Demand 3 for the runs of any way of calling that keeps to the five kinds: the record is read off the history, and so is
 -- every outcome.
-use Prim.Native.Nat.{ℕ, suc, _+_, _^_, _<_, _≤_}
+use Prim.Native.Nat.{ℕ, suc, _<_, _≤_}
 use mathlib.Core.Path.{_≡_, refl, sym, ap, _∙_}
-use mathlib.Core.Bool.{Bool, true, false, _&&_, _||_, true≢false}
+use mathlib.Core.Bool.{Bool, true, false}
 use mathlib.Core.List.{List, [], _∷_, _++_}
-use mathlib.Core.Logic.{_↔_, _⊎_, inl, inr}
-use mathlib.Core.Option.{Option, none, some}
 use native.Mathlib.Omega.{arith}
-use lib.Dec.{ltb, leb}
 use lib.ListN.{length, length-append}
-use borrow.Author.Tests.{ltb-true, ltb-false, leb-true, leb-false, lt-ltb, le-ltb, le-leb, lt-leb}
 use Rattle.outcome.specs.Notation.{if_then_else_}
-use Rattle.outcome.specs.Outcome.{Outcome, R, SW, Gives}
-use Rattle.u2f_up.specs.Words.{Presence, Window, Closed, Opened}
-use Rattle.u2f_up.specs.Moments.{Told, isLive, isR6, isR1, movedTo, settleOf, grantedOf, checkedOf, touchOf, checkOf, askOf}
-use Rattle.u2f_up.specs.History.{Kind, Touching, Checking, Asking, Settling, Short, Call, Event, Touch, placed, those, isYoung, isOld, isAny, live, lastMoment, unspent, isPrompted, latest, isAccepted, isPromptingRefusal, isAfter, isPromptedBy, unrefused, foretold}
+use Rattle.outcome.specs.Outcome.{Outcome, R, Gives}
+use Rattle.u2f_up.specs.Words.{Presence, Opened}
+use Rattle.u2f_up.specs.Moments.{Told, isLive, isR6, isR1, movedTo, settleOf, grantedOf, checkedOf}
+use Rattle.u2f_up.specs.History.{Kind, Touching, Checking, Asking, Settling, Short, Event, Place, placed, those, isYoung, isOld, live, lastMoment, unspent, isPrompted, unrefused, foretold}
 use Rattle.u2f_up.specs.Runs.{Caller, Keeps, after, next, history, doneBy}
-use Rattle.u2f_up.specs.Claims.{Refused}
+use Rattle.u2f_up.proofs.Callers.{done-refused, done-touching, done-checking, done-asking, done-settling, done-short}
 use Rattle.u2f_up.proofs.Lists.{stay-old, left-old}
-use Rattle.u2f_up.proofs.Runs.{promptOf, heldOf, recordOf, not-before, Sorted, Effect, still, moved, touched, spent, prompted, Follows, follows}
+use Rattle.u2f_up.proofs.Runs.{promptOf, heldOf, recordOf, not-before, Sorted, Effect, still, moved, touched, spent, prompted, Follows, follows, settles-r1, settles}
 use Rattle.u2f_up.proofs.Touches.{Inv, inv-at-first, keeps, held-now, prompt-old, last-next, unspent-next, live-any, at-most-one, window-of}
 use Rattle.u2f_up.proofs.Prompts.{Agrees, agrees-at-first, agrees-next}
 use Rattle.u2f_up.proofs.Accounts.{Balanced, balanced-at-first, balanced-next, OneEach, one-at-first, one-next}
+
+abbrev outcome : Told → Outcome Bool
+outcome s = s .outcome
 
 -- what a call gives on the record that a history has made, in the history's words
 module _ (w : ℕ) (h : List Event) (t : ℕ) (within : isR6 w ≡ false) where
@@ -45,21 +44,12 @@ module _ (w : ℕ) (h : List Event) (t : ℕ) (within : isR6 w ≡ false) where
   yes-checked true e = rw e
   yes-checked false e = rw e
 
-  outcome-r1 : isR1 (lastMoment h) t ≡ true → (k : Kind) → doneBy k p t .outcome ≡ R 1
-  unfolding doneBy touchOf checkOf askOf settleOf
-  outcome-r1 e Touching = rw (within, e)
-  outcome-r1 e Checking = rw (within, e)
-  outcome-r1 e Asking = rw (within, e)
-  outcome-r1 e Settling = rw (within, e)
-  outcome-r1 e Short = rw (within, e)
-
-  outcome-given : isR1 (lastMoment h) t ≡ false → (k : Kind) → doneBy k p t .outcome ≡ gives k
-  unfolding doneBy touchOf checkOf askOf settleOf
-  outcome-given e Touching = rw (within, e) (ap {B = Outcome Bool} Gives (yes-granted (isLive (promptOf h) 10000 t) refl))
-  outcome-given e Checking = rw (within, e) (ap {B = Outcome Bool} Gives (yes-checked (isLive (heldOf h) w t) refl))
-  outcome-given e Asking = rw (within, e)
-  outcome-given e Settling = rw (within, e)
-  outcome-given e Short = rw (within, e)
+  outcome-given : settleOf p t ≡ Gives (movedTo p t) → (k : Kind) → doneBy k p t .outcome ≡ gives k
+  outcome-given e Touching = ap outcome (done-touching p t (movedTo p t) e) ∙ ap {B = Outcome Bool} Gives (yes-granted (isLive (promptOf h) 10000 t) refl)
+  outcome-given e Checking = ap outcome (done-checking p t (movedTo p t) e) ∙ ap {B = Outcome Bool} Gives (yes-checked (isLive (heldOf h) w t) refl)
+  outcome-given e Asking = ap outcome (done-asking p t (movedTo p t) e)
+  outcome-given e Settling = ap outcome (done-settling p t (movedTo p t) e)
+  outcome-given e Short = ap outcome (done-short p t (movedTo p t) e)
 
   module _ (i : Inv w h) (g : Agrees h) where
     gives-foretold : lastMoment h ≤ t → (k : Kind) → gives k ≡ unrefused w h k t
@@ -75,11 +65,11 @@ module _ (w : ℕ) (h : List Event) (t : ℕ) (within : isR6 w ≡ false) where
     outcome-foretold k = go (isR1 (lastMoment h) t) refl
       where
         go : (b : Bool) → isR1 (lastMoment h) t ≡ b → doneBy k p t .outcome ≡ (if b then R 1 else unrefused w h k t)
-        go true e = outcome-r1 e k
-        go false e = outcome-given e k ∙ gives-foretold (not-before (lastMoment h) t e) k
+        go true e = ap outcome (done-refused p t 1 (settles-r1 w h t within e) k)
+        go false e = outcome-given (settles w h t within e) k ∙ gives-foretold (not-before (lastMoment h) t e) k
 
 -- a touch that is live after an event, and is not that event, was live before it
-module _ (w : ℕ) (h : List Event) (e : Event) (k : Touch) (t : ℕ) where
+module _ (w : ℕ) (h : List Event) (e : Event) (k : Place) (t : ℕ) where
   abbrev Before : Type 0
   Before = (lastMoment h ≤ t) × (live w h t ≡ k ∷ [])
 
@@ -139,14 +129,14 @@ module _ {D : Type 0} (𝒞 : Caller D) (keeping : Keeps 𝒞) (w : ℕ) (within
   agreeing : (ds : List D) → Agrees (past ds)
   agreeing = along Agrees agrees-at-first (λ h e x g. agrees-next w h e g x)
 
-  pub balanced : (picks : Touch → Bool) (ds : List D) → Balanced w picks (past ds)
+  pub balanced : (picks : Place → Bool) (ds : List D) → Balanced w picks (past ds)
   balanced picks = along (Balanced w picks) (balanced-at-first w picks) (λ h e x b. balanced-next w picks h e b x)
 
   pub one-each : (ds : List D) → OneEach w (past ds)
   one-each ds = along (λ h. Inv w h × OneEach w h) (inv-at-first, one-at-first w) (λ h e x b. (keeps w h e x (b .0), one-next w h e (b .0) (b .1) x)) ds .1
 
   pub foretells : (ds : List D) (d : D) → next 𝒞 w ds d ≡ foretold w (past ds) (𝒞 .asCall d)
-  foretells ds d = ap (λ (s : Told). s .outcome) (step ds d (exact ds)) ∙ outcome-foretold w (past ds) (𝒞 .asCall d .moment) within (invariant ds) (agreeing ds) (𝒞 .asCall d .kind)
+  foretells ds d = ap outcome (step ds d (exact ds)) ∙ outcome-foretold w (past ds) (𝒞 .asCall d .moment) within (invariant ds) (agreeing ds) (𝒞 .asCall d .kind)
 
   pub one-live-at : (ds : List D) (t : ℕ) → lastMoment (past ds) ≤ t → length (live w (past ds) t) ≤ 1
   one-live-at ds t late = at-most-one w t (unspent w (past ds)) (heldOf (past ds)) (held-now w (past ds) t late (invariant ds))
@@ -156,7 +146,7 @@ module _ {D : Type 0} (𝒞 : Caller D) (keeping : Keeps 𝒞) (w : ℕ) (within
   history-length [] = refl
   history-length (d ∷ ds) = ap suc (history-length ds)
 
-  pub holds : (later earlier : List D) (k : Touch) (t : ℕ) → lastMoment (past (later ++ earlier)) ≤ t → live w (past (later ++ earlier)) t ≡ k ∷ [] → k .number < length earlier
+  pub holds : (later earlier : List D) (k : Place) (t : ℕ) → lastMoment (past (later ++ earlier)) ≤ t → live w (past (later ++ earlier)) t ≡ k ∷ [] → k .number < length earlier
       → after 𝒞 w earlier .touch ≡ Opened (k .moment)
   unfolding history
   holds [] earlier k t late l n =

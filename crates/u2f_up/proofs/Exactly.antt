@@ -3,16 +3,15 @@ use Prim.Native.Nat.{ℕ, _+_, _^_, _<_, _≤_}
 use mathlib.Core.Path.{_≡_, refl, sym, ap, _∙_}
 use mathlib.Core.Bool.{Bool, true, false, _&&_, _||_, or-true, true≢false, false≢true}
 use mathlib.Core.List.{List, [], _∷_}
-use mathlib.Core.Logic.{_↔_, _⊎_, inl, inr, ⊎-elim}
+use mathlib.Core.Logic.{_↔_, inl, inr, ⊎-elim}
 use mathlib.Core.Option.{Option, none, some}
 use native.Mathlib.Omega.{arith}
 use lib.Dec.{ltb, leb}
 use lib.ListN.{length}
 use borrow.Author.Tests.{ltb-true, leb-true, lt-ltb}
-use Rattle.outcome.specs.Notation.{if_then_else_}
-use Rattle.outcome.specs.Outcome.{Outcome, R, SW, Gives}
+use Rattle.outcome.specs.Outcome.{Outcome, R, Gives}
 use Rattle.u2f_up.specs.Moments.{isR1}
-use Rattle.u2f_up.specs.History.{Kind, Touching, Checking, Asking, Settling, Short, Event, Touch, isAny, live, lastMoment, isPrompted, latest, isAccepted, isPromptingRefusal, isAfter, isPromptedBy, unrefused, foretold}
+use Rattle.u2f_up.specs.History.{Kind, Touching, Checking, Asking, Settling, Short, Event, Place, isAny, live, lastMoment, isPrompted, latest, isAccepted, isPromptingRefusal, isAfter, isPromptedBy, unrefused, foretold}
 use Rattle.u2f_up.specs.Claims.{Refused}
 use Rattle.u2f_up.proofs.Cases.{r1-beyond}
 
@@ -90,13 +89,13 @@ module _ (w : ℕ) (h : List Event) (t : ℕ) (o : Outcome Bool) where
 
 -- a standing prompt, in the document's words
 abbrev Standing : List Event → ℕ → Type 0
-Standing h t = (s : Touch) × (latest isPromptingRefusal h ≡ some s) × (isAfter s (latest isAccepted h) ≡ true) × (t < s .moment + 10000)
+Standing h t = (s : Place) × (latest isPromptingRefusal h ≡ some s) × (isAfter s (latest isAccepted h) ≡ true) × (t < s .moment + 10000)
 
 standing : (h : List Event) (t : ℕ) → (isPrompted h t ≡ true) ↔ Standing h t
 unfolding isPrompted
 standing h t = (go (latest isPromptingRefusal h) refl, back)
   where
-    go : (o : Option Touch) → latest isPromptingRefusal h ≡ o → isPromptedBy o (latest isAccepted h) t ≡ true → Standing h t
+    go : (o : Option Place) → latest isPromptingRefusal h ≡ o → isPromptedBy o (latest isAccepted h) t ≡ true → Standing h t
     go none e q = absurd (false≢true q)
     go (some s) e q = let z = both (isAfter s (latest isAccepted h)) (ltb t (s .moment + 10000)) q in (s, e, z .0, ltb-true t (s .moment + 10000) (z .1))
 
@@ -104,7 +103,7 @@ standing h t = (go (latest isPromptingRefusal h) refl, back)
     back s = rw (s .1, s .2) (lt-ltb t (s .0 .moment + 10000) (s .3))
 
 -- one touch held
-only : (ks : List Touch) → length ks ≤ 1 → (isAny ks ≡ true) ↔ ((k : Touch) × (ks ≡ k ∷ []))
+only : (ks : List Place) → length ks ≤ 1 → (isAny ks ≡ true) ↔ ((k : Place) × (ks ≡ k ∷ []))
 only [] b = (λ e. absurd (false≢true e), λ s. let z : _≡_ {A = ℕ} 0 1 = omega (arith, ap length (s .1)) in absurd (omega arith))
 only (k ∷ []) b = (λ e. (k, refl), λ s. refl)
 only (k ∷ (j ∷ ks)) b = (λ e. absurd (omega arith), λ s. refl)
@@ -115,7 +114,7 @@ module _ (w : ℕ) (h : List Event) (t : ℕ) (o : Outcome Bool) where
       (λ q. (y .0 q .0, standing h t .0 (y .0 q .1)), λ s. y .1 (s .0, standing h t .1 (s .1)))
 
   pub finds : (lastMoment h ≤ t → length (live w h t) ≤ 1) → o ≡ foretold w h (record { kind = Checking; moment = t })
-      → (o ≡ Gives true) ↔ ((Refused h t → ⊥) × ((k : Touch) × (live w h t ≡ k ∷ [])))
+      → (o ≡ Gives true) ↔ ((Refused h t → ⊥) × ((k : Place) × (live w h t ≡ k ∷ [])))
   finds one f = let y = yes w h t o Checking (isAny (live w h t)) refl f in (
     λ q. (y .0 q .0, only (live w h t) (one (late (y .0 q .0))) .0 (y .0 q .1)),
     λ s. y .1 (s .0, only (live w h t) (one (late (s .0))) .1 (s .1)),

@@ -36,7 +36,7 @@ use denote.Triple.Statement.{Contract, Triple}
 use denote.Triple.Call.{calls-at}
 use denote.Triple.Entry.{onEntry}
 use denote.Triple.Spec.{Meets, tripleOf}
-use denote.Triple.Walked.{says, Stays, stay-ref, stay-none, walkOf, AllGo, goes-none, goes-ref, Walks, ends-at, walked, walk-meets}
+use denote.Triple.Walked.{says, Stays, stay-ref, stay-none, walkOf, AllGo, goes-none, goes-ref, ends-at, walked, walk-meets}
 use denote.Triple.Clauses.{Clauses, closing, ensured, lasts}
 use denote.Exit.{yes}
 use Rattle.u2f_up.specs.declared.Presence.{Presence}

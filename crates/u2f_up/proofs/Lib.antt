@@ -1,3 +1,4 @@
+pub mod Callers
 pub mod Cases
 pub mod Lent
 pub mod Lists

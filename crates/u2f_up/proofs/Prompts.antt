@@ -1,8 +1,8 @@
 -- Document 01's words for a standing prompt, the latest of each sort of event and which of the two comes after, say the same
 -- as the prompt window.
-use Prim.Native.Nat.{ℕ, suc, _+_, _<_, _≤_}
-use mathlib.Core.Path.{_≡_, refl, sym, ap, _∙_}
-use mathlib.Core.Bool.{Bool, true, false, _&&_}
+use Prim.Native.Nat.{ℕ, suc, _+_, _<_}
+use mathlib.Core.Path.{_≡_, refl}
+use mathlib.Core.Bool.{Bool, true, false}
 use mathlib.Core.List.{List, [], _∷_}
 use mathlib.Core.Option.{Option, none, some}
 use native.Mathlib.Omega.{arith}
@@ -10,18 +10,17 @@ use lib.Dec.{ltb}
 use lib.ListN.{length}
 use borrow.Author.Tests.{lt-ltb, le-ltb}
 use Rattle.outcome.specs.Notation.{if_then_else_}
-use Rattle.u2f_up.specs.Words.{Closed, Opened}
 use Rattle.u2f_up.specs.Moments.{isLive}
-use Rattle.u2f_up.specs.History.{Event, Touch, placed, latest, isAccepted, isPromptingRefusal, isAfter, isPromptedBy, isPrompted}
+use Rattle.u2f_up.specs.History.{Event, Place, placed, latest, isAccepted, isPromptingRefusal, isPromptedBy}
 use Rattle.u2f_up.proofs.Runs.{promptOf, Sorted, Effect, still, moved, touched, spent, prompted}
 use Rattle.u2f_up.proofs.Touches.{prompt-next}
 
 -- an event of the past has a number below the history's length
-abbrev Below : ℕ → Option Touch → Type 0
+abbrev Below : ℕ → Option Place → Type 0
 Below n none = Unit {0}
 Below n (some k) = k .number < n
 
-below-more : (n : ℕ) (o : Option Touch) → Below n o → Below (suc n) o
+below-more : (n : ℕ) (o : Option Place) → Below n o → Below (suc n) o
 below-more n none b = tt
 below-more n (some k) b = omega arith
 
@@ -35,12 +34,12 @@ unfolding latest promptOf
 agrees-at-first = record { prompt-below = tt; accepted-below = tt; agrees = λ t. refl }
 
 -- a prompt that was there before an accepted touch does not come after it
-passed-by : (n m t : ℕ) (o : Option Touch) → Below n o → false ≡ isPromptedBy o (some (record { number = n; moment = m })) t
+passed-by : (n m t : ℕ) (o : Option Place) → Below n o → false ≡ isPromptedBy o (some (record { number = n; moment = m })) t
 passed-by n m t none b = refl
 passed-by n m t (some s) b = rw (le-ltb n (s .number) (omega arith))
 
 -- a prompting refusal comes after every touch before it
-comes-after : (n m t : ℕ) (o : Option Touch) → Below n o → ltb t (m + 10000) ≡ isPromptedBy (some (record { number = n; moment = m })) o t
+comes-after : (n m t : ℕ) (o : Option Place) → Below n o → ltb t (m + 10000) ≡ isPromptedBy (some (record { number = n; moment = m })) o t
 comes-after n m t none b = refl
 comes-after n m t (some a) b = rw (lt-ltb (a .number) n b)
 

@@ -1,18 +1,18 @@
 -- A run's record is what its history says: each field is read off the events. From this, case by case, what a call does.
-use Prim.Native.Nat.{ℕ, _+_, _^_, _<_, _≤_}
-use mathlib.Core.Path.{_≡_, refl, sym, ap, _∙_}
-use mathlib.Core.Bool.{Bool, true, false, not, _&&_, _||_, true≢false}
-use mathlib.Core.List.{List, [], _∷_, _++_}
-use native.Mathlib.Omega.{arith}
+use Prim.Native.Nat.{ℕ, _^_, _≤_}
+use mathlib.Core.Path.{_≡_, refl, sym}
+use mathlib.Core.Bool.{Bool, true, false, _||_, true≢false}
+use mathlib.Core.List.{List, [], _∷_}
 use lib.Dec.{ltb, leb}
-use lib.ListN.{length}
 use borrow.Author.Tests.{ltb-false}
 use Rattle.outcome.specs.Notation.{if_then_else_}
-use Rattle.outcome.specs.Outcome.{Outcome, R, SW, Gives}
-use Rattle.u2f_up.specs.Words.{Presence, Window, Closed, Opened, Found}
-use Rattle.u2f_up.specs.Moments.{Told, isLive, isR6, isR1, fresh, movedTo, settleOf, grantedOf, checkedOf, gave, refused, onSettled, touchOf, checkOf, askOf}
-use Rattle.u2f_up.specs.History.{Kind, Touching, Checking, Asking, Settling, Short, Call, Event, isAccepted, isSpending, isPromptingRefusal, isMoving, lastMoment}
+use Rattle.outcome.specs.Outcome.{Outcome, R, Gives}
+use Rattle.u2f_up.specs.Words.{Presence, Window, Closed, Opened}
+use Rattle.u2f_up.specs.Moments.{Told, isLive, isR6, isR1, movedTo, settleOf, grantedOf, checkedOf, gave, refused}
+use Rattle.u2f_up.specs.History.{Kind, Touching, Checking, Asking, Settling, Short, Event, isAccepted, isSpending, isPromptingRefusal, isMoving, lastMoment}
 use Rattle.u2f_up.specs.Runs.{doneBy}
+use Rattle.u2f_up.proofs.Cases.{settle-r1, settled}
+use Rattle.u2f_up.proofs.Callers.{done-refused, done-touching, done-checking, done-asking, done-settling, done-short}
 
 unfoldable pub promptOf : List Event → Window
 promptOf [] = Closed
@@ -37,6 +37,9 @@ pub record Sorted (e : Event) (moving accepted spending prompting : Bool) : Type
   pub accepts : isAccepted e ≡ accepted
   pub spends : isSpending e ≡ spending
   pub prompts : isPromptingRefusal e ≡ prompting
+
+sorted : (e : Event) → Sorted e (isMoving e) (isAccepted e) (isSpending e) (isPromptingRefusal e)
+sorted e = record { moves = refl; accepts = refl; spends = refl; prompts = refl }
 
 -- the five things that can come of a call
 pub data Effect (w : ℕ) (h : List Event) (e : Event) : Type 0 where
@@ -68,51 +71,48 @@ module _ (w : ℕ) (h : List Event) (t : ℕ) where
 
   stays-refused : (k : Kind) (n : ℕ) → Follows k (refused n p)
   unfolding promptOf heldOf lastMoment
-  stays-refused Touching n = record { effect = still (record { moves = refl; accepts = refl; spends = refl; prompts = refl }); exact = refl }
-  stays-refused Checking n = record { effect = still (record { moves = refl; accepts = refl; spends = refl; prompts = refl }); exact = refl }
-  stays-refused Asking n = record { effect = still (record { moves = refl; accepts = refl; spends = refl; prompts = refl }); exact = refl }
-  stays-refused Settling n = record { effect = still (record { moves = refl; accepts = refl; spends = refl; prompts = refl }); exact = refl }
-  stays-refused Short n = record { effect = still (record { moves = refl; accepts = refl; spends = refl; prompts = refl }); exact = refl }
+  stays-refused Touching n = record { effect = still (sorted _); exact = refl }
+  stays-refused Checking n = record { effect = still (sorted _); exact = refl }
+  stays-refused Asking n = record { effect = still (sorted _); exact = refl }
+  stays-refused Settling n = record { effect = still (sorted _); exact = refl }
+  stays-refused Short n = record { effect = still (sorted _); exact = refl }
 
   module _ (passed : lastMoment h ≤ t) where
     touching : (b : Bool) → isLive (promptOf h) 10000 t ≡ b → Follows Touching (gave (grantedOf (movedTo p t) t))
     unfolding promptOf heldOf lastMoment grantedOf
-    touching true e = rw e (record { effect = touched (record { moves = refl; accepts = refl; spends = refl; prompts = refl }) passed e; exact = refl })
-    touching false e = rw e (record { effect = moved (record { moves = refl; accepts = refl; spends = refl; prompts = refl }) passed; exact = refl })
+    touching true e = rw e (record { effect = touched (sorted _) passed e; exact = refl })
+    touching false e = rw e (record { effect = moved (sorted _) passed; exact = refl })
 
     checking : (b : Bool) → isLive (heldOf h) w t ≡ b → Follows Checking (gave (checkedOf (movedTo p t) t))
     unfolding promptOf heldOf lastMoment checkedOf
-    checking true e = rw e (record { effect = spent (record { moves = refl; accepts = refl; spends = refl; prompts = refl }) passed e; exact = refl })
-    checking false e = rw e (record { effect = prompted (record { moves = refl; accepts = refl; spends = refl; prompts = refl }) passed e; exact = refl })
+    checking true e = rw e (record { effect = spent (sorted _) passed e; exact = refl })
+    checking false e = rw e (record { effect = prompted (sorted _) passed e; exact = refl })
 
     asking : (b : Bool) → Follows Asking (record { outcome = Gives b; presence = p })
     unfolding promptOf heldOf lastMoment
-    asking b = record { effect = still (record { moves = refl; accepts = refl; spends = refl; prompts = refl }); exact = refl }
+    asking b = record { effect = still (sorted _); exact = refl }
 
     settling : Follows Settling (record { outcome = Gives true; presence = movedTo p t })
     unfolding promptOf heldOf lastMoment
-    settling = record { effect = moved (record { moves = refl; accepts = refl; spends = refl; prompts = refl }) passed; exact = refl }
+    settling = record { effect = moved (sorted _) passed; exact = refl }
 
   module _ (within : isR6 w ≡ false) where
-    follows-r1 : isR1 (lastMoment h) t ≡ true → (k : Kind) → Follows k (doneBy k p t)
-    unfolding doneBy touchOf checkOf askOf settleOf
-    follows-r1 e Touching = rw (within, e) (stays-refused Touching 1)
-    follows-r1 e Checking = rw (within, e) (stays-refused Checking 1)
-    follows-r1 e Asking = rw (within, e) (stays-refused Asking 1)
-    follows-r1 e Settling = rw (within, e) (stays-refused Settling 1)
-    follows-r1 e Short = rw (within, e) (stays-refused Short 1)
+    pub settles-r1 : isR1 (lastMoment h) t ≡ true → settleOf p t ≡ R 1
+    settles-r1 e = sym (settle-r1 p t (isR6 w) (isR1 (lastMoment h) t) refl within refl e)
 
-    follows-settled : isR1 (lastMoment h) t ≡ false → lastMoment h ≤ t → (k : Kind) → Follows k (doneBy k p t)
-    unfolding doneBy touchOf checkOf askOf settleOf
-    follows-settled e late Touching = rw (within, e) (touching late (isLive (promptOf h) 10000 t) refl)
-    follows-settled e late Checking = rw (within, e) (checking late (isLive (heldOf h) w t) refl)
-    follows-settled e late Asking = rw (within, e) (asking late (isLive (promptOf h) 10000 t))
-    follows-settled e late Settling = rw (within, e) (settling late)
-    follows-settled e late Short = rw (within, e) (stays-refused Short 2)
+    pub settles : isR1 (lastMoment h) t ≡ false → settleOf p t ≡ Gives (movedTo p t)
+    settles e = sym (settled p t (isR6 w) (isR1 (lastMoment h) t) refl within refl e)
+
+    follows-settled : settleOf p t ≡ Gives (movedTo p t) → lastMoment h ≤ t → (k : Kind) → Follows k (doneBy k p t)
+    follows-settled e late Touching = rw (done-touching p t (movedTo p t) e) (touching late (isLive (promptOf h) 10000 t) refl)
+    follows-settled e late Checking = rw (done-checking p t (movedTo p t) e) (checking late (isLive (heldOf h) w t) refl)
+    follows-settled e late Asking = rw (done-asking p t (movedTo p t) e) (asking late (isLive (promptOf h) 10000 t))
+    follows-settled e late Settling = rw (done-settling p t (movedTo p t) e) (settling late)
+    follows-settled e late Short = rw (done-short p t (movedTo p t) e) (stays-refused Short 2)
 
     pub follows : (k : Kind) → Follows k (doneBy k p t)
     follows = go (isR1 (lastMoment h) t) refl
       where
         go : (b : Bool) → isR1 (lastMoment h) t ≡ b → (k : Kind) → Follows k (doneBy k p t)
-        go true e = follows-r1 e
-        go false e = follows-settled e (not-before (lastMoment h) t e)
+        go true e k = rw (done-refused p t 1 (settles-r1 e) k) (stays-refused k 1)
+        go false e k = follows-settled (settles e) (not-before (lastMoment h) t e) k

@@ -6,13 +6,12 @@ use mathlib.Core.List.{List, [], _∷_, _++_}
 use native.Mathlib.Omega.{arith}
 use lib.ListN.{length}
 use borrow.Author.Tests.{le-ltb}
-use Rattle.outcome.specs.Outcome.{R, Gives, refusalNo}
 use Rattle.outcome.proofs.Theorems.{refusal-one-to-one}
 use Rattle.u2f_up.specs.Words.{Opened}
-use Rattle.u2f_up.specs.Answers.{Ready, Answer, Step, readyOf, outcomeOf, toldOf, New, Settle, TouchCheck, GrantUp, ConsumeUp, IsUpNeeded}
+use Rattle.u2f_up.specs.Answers.{Ready, Answer, Step}
 use Rattle.u2f_up.specs.Moments.{isR6}
-use Rattle.u2f_up.specs.History.{Event, Kind, Touching, Checking, Touch, lastMoment, live, foretold, isNumber}
-use Rattle.u2f_up.specs.Runs.{Caller, Keeps, own, after, next, history}
+use Rattle.u2f_up.specs.History.{Kind, Touching, Checking, Place, lastMoment, live, foretold, isNumber}
+use Rattle.u2f_up.specs.Runs.{Caller, Keeps, after, next, history}
 use Rattle.u2f_up.specs.Claims.{ReadyOneToOne, AnswerOneToOne, StepOneToOne, Determined, Demand3, Demand3Met}
 use Rattle.u2f_up.specs.declared.Ready.the-variants as Ready′
 use Rattle.u2f_up.specs.declared.Answer.the-variants as Answer′
@@ -60,7 +59,7 @@ module _ {D : Type 0} (𝒞 : Caller D) (keeping : Keeps 𝒞) (w : ℕ) (within
   foretold-as : (d : D) (k : Kind) → 𝒞 .asCall d .kind ≡ k → next 𝒞 w ds d ≡ foretold w (history 𝒞 w ds) (record { kind = k; moment = 𝒞 .asCall d .moment })
   foretold-as d k e = Demand.foretells 𝒞 keeping w within ds d ∙ ap (λ j. foretold w (history 𝒞 w ds) (record { kind = j; moment = 𝒞 .asCall d .moment })) e
 
-  holds : (k : Touch) (t : ℕ) → lastMoment (history 𝒞 w ds) ≤ t → live w (history 𝒞 w ds) t ≡ k ∷ []
+  holds : (k : Place) (t : ℕ) → lastMoment (history 𝒞 w ds) ≤ t → live w (history 𝒞 w ds) t ≡ k ∷ []
       → (later earlier : List D) → ds ≡ later ++ earlier → k .number < length earlier → after 𝒞 w earlier .touch ≡ Opened (k .moment)
   holds k t late l later earlier e n = Demand.holds 𝒞 keeping w within later earlier k t (rw e at late) (rw e at l) n
 

@@ -5,7 +5,7 @@ use mathlib.Core.Option.{some}
 use lib.ListN.{length}
 use Rattle.u2f_up.specs.Words.{ℕ, _+_, _^_, _<_, _≤_, _≡_, Bool, true, R, Gives, AtMostOne, Opened, Presence}
 use Rattle.u2f_up.specs.Answers.{Ready, Answer, Step, readyOf, outcomeOf, toldOf, New, Settle, TouchCheck, GrantUp, ConsumeUp, IsUpNeeded, IsUpNeededLent}
-use Rattle.u2f_up.specs.History.{Event, Touching, Checking, Touch, foretold, latest, isAccepted, isPromptingRefusal, isAfter}
+use Rattle.u2f_up.specs.History.{Event, Touching, Checking, Place, foretold, latest, isAccepted, isPromptingRefusal, isAfter}
 use Rattle.u2f_up.specs.History.{live, lapsed, accepted, served, spenders, isNumber, those, lastMoment}
 use Rattle.u2f_up.specs.Runs.{Caller, Keeps, after, next, history}
 
@@ -34,8 +34,8 @@ pub record Determined : Type 0 where
 abbrev pub Refused : List Event → ℕ → Type 0
 Refused past t = (2 ^ 48 ≤ t) ⊎ (t < lastMoment past)
 
--- Demand 3, of the run of the calls `ds` (newest first) on a fresh record with touch window `w`, and of one more call `d`.
--- It is proved for every `ds`, so that it speaks of every call of every run.
+-- Demand 3, of the run of the calls `ds` (newest first) on a fresh record with touch window `w`, and of one more call `d`. It is
+-- proved for every `ds`, so that it speaks of every call of every run.
 module _ {D : Type 0} (𝒞 : Caller D) (w : ℕ) (ds : List D) where
   abbrev past : List Event
   past = history 𝒞 w ds
@@ -51,25 +51,28 @@ module _ {D : Type 0} (𝒞 : Caller D) (w : ℕ) (ds : List D) where
     -- that refuses every call fails at the first one.
     pub refuses : (d : D) → (next 𝒞 w ds d ≡ R 1) ↔ Refused past (moment d)
     pub refuses-no-window : (d : D) → next 𝒞 w ds d ≡ R 6 → ⊥
-    -- 01: "A touch at t is accepted exactly when it gets no R refusal, the latest prompting refusal, at s, comes after the
-    -- latest accepted touch, and t - s < 10,000." A record that never closes the prompt fails at the second touch after it.
+    -- 01, Moments and touches: "A touch at t is accepted exactly when it gets no R refusal, the latest prompting refusal, at s,
+    -- comes after the latest accepted touch, and t - s < 10,000." A record that never closes the prompt fails at the second
+    -- touch after it.
     pub accepts : (d : D) → 𝒞 .asCall d .kind ≡ Touching → (next 𝒞 w ds d ≡ Gives true)
-        ↔ ((Refused past (moment d) → ⊥) × ((s : Touch) × (latest isPromptingRefusal past ≡ some s) × (isAfter s (latest isAccepted past) ≡ true) × (moment d < s .moment + 10000)))
+        ↔ ((Refused past (moment d) → ⊥) × ((s : Place) × (latest isPromptingRefusal past ≡ some s) × (isAfter s (latest isAccepted past) ≡ true) × (moment d < s .moment + 10000)))
     -- A call that reaches the touch check finds a touch exactly when the history holds an accepted one, unspent and younger
     -- than W; it holds no second. A record that keeps a spent touch fails at the second check.
     pub finds : (d : D) → 𝒞 .asCall d .kind ≡ Checking → (next 𝒞 w ds d ≡ Gives true)
-        ↔ ((Refused past (moment d) → ⊥) × ((k : Touch) × (live w past (moment d) ≡ k ∷ [])))
+        ↔ ((Refused past (moment d) → ⊥) × ((k : Place) × (live w past (moment d) ≡ k ∷ [])))
     -- And that touch is the one that the record holds: in every record from that touch on, the touch window is the one that
     -- it opened. A record that reopens the window at another touch's moment fails, where the moments differ.
-    pub holds : (k : Touch) (t : ℕ) → lastMoment past ≤ t → live w past t ≡ k ∷ []
+    pub holds : (k : Place) (t : ℕ) → lastMoment past ≤ t → live w past t ≡ k ∷ []
         → (later earlier : List D) → ds ≡ later ++ earlier → k .number < length earlier → after 𝒞 w earlier .touch ≡ Opened (k .moment)
-    -- No touch serves two calls: among the touches spent, call by call, no number stands twice.
+    -- No touch serves two calls: among the touches spent, call by call, no number stands twice. A record that keeps a spent
+    -- touch fails: one touch, two checks within W.
     pub once : (n : ℕ) → length (those (isNumber n) (served w past)) ≤ 1
-    -- Accepted touches = calls that spent one + lapsed + live, and at most one is live.
+    -- Accepted touches = calls that spent one + lapsed + live, and at most one is live. A record that loses a touch silently
+    -- fails at the touch after: it is one accepted, and none spent, lapsed or live.
     pub totals : length (accepted past) ≡ spenders past + length (lapsed w past) + length (live w past (lastMoment past))
     pub one-live : length (live w past (lastMoment past)) ≤ 1
     -- The same for any part of the touches, such as one touch alone: it was spent, has lapsed or is live, and only one of these.
-    pub each : (picks : Touch → Bool)
+    pub each : (picks : Place → Bool)
         → length (those picks (accepted past)) ≡ length (those picks (served w past)) + length (those picks (lapsed w past)) + length (those picks (live w past (lastMoment past)))
 
 -- Demand 3 for every way of calling that does to the record only what its kinds say: every W that a record is made with,

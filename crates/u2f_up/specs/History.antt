@@ -55,13 +55,18 @@ isYes (R n) = false
 isYes (SW n) = false
 isYes (Gives b) = b
 
+abbrev pub isNo : Outcome Bool → Bool
+isNo (R n) = false
+isNo (SW n) = false
+isNo (Gives b) = not b
+
 -- 01, Moments and touches: "A touch at t is accepted"
 abbrev pub isAccepted : Event → Bool
 isAccepted e = isTouching (e .call .kind) && isYes (e .outcome)
 
 -- 01, Moments and touches: "a prompting refusal is a touch check that finds no live touch"
 abbrev pub isPromptingRefusal : Event → Bool
-isPromptingRefusal e = isChecking (e .call .kind) && (isGiven (e .outcome) && not (isYes (e .outcome)))
+isPromptingRefusal e = isChecking (e .call .kind) && isNo (e .outcome)
 
 -- 01, Moments and touches: "A call spends a touch if the check succeeds"
 abbrev pub isSpending : Event → Bool
@@ -76,27 +81,27 @@ unfoldable pub lastMoment : List Event → ℕ
 lastMoment [] = 0
 lastMoment (e ∷ past) = if isMoving e then e .call .moment else lastMoment past
 
--- An event as the history knows it: which one it is, counted from 0 in the order of the calls, and its moment. Two touches
--- may share a moment; they never share a number.
-pub record Touch : Type 0 where
+-- A touch, or a prompting refusal, as the history knows it: which event it is, counted from 0 in the order of the calls, and its
+-- moment. Two touches may share a moment; they never share a number.
+pub record Place : Type 0 where
   pub number : ℕ
   pub moment : ℕ
 
-abbrev pub placed : Event → List Event → Touch
+abbrev pub placed : Event → List Event → Place
 placed e past = record { number = length past; moment = e .call .moment }
 
 -- The latest event that the test picks.
-unfoldable pub latest : (Event → Bool) → List Event → Option Touch
+unfoldable pub latest : (Event → Bool) → List Event → Option Place
 latest picks [] = none
 latest picks (e ∷ past) = if picks e then some (placed e past) else latest picks past
 
 -- 's comes after', in the order of the calls; everything comes after what never was.
-abbrev pub isAfter : Touch → Option Touch → Bool
+abbrev pub isAfter : Place → Option Place → Bool
 isAfter s none = true
 isAfter s (some a) = ltb (a .number) (s .number)
 
 -- 01, Moments and touches: "the latest prompting refusal, at s, comes after the latest accepted touch, and t - s < 10,000"
-abbrev pub isPromptedBy : Option Touch → Option Touch → ℕ → Bool
+abbrev pub isPromptedBy : Option Place → Option Place → ℕ → Bool
 isPromptedBy none a t = false
 isPromptedBy (some s) a t = isAfter s a && ltb t (s .moment + 10000)
 
@@ -109,19 +114,19 @@ those picks [] = []
 those picks (a ∷ rest) = if picks a then a ∷ those picks rest else those picks rest
 
 -- 01, Moments and touches: "A touch has lapsed when it is unspent and W has passed"; it is young while W has not
-abbrev pub isYoung : ℕ → ℕ → Touch → Bool
+abbrev pub isYoung : ℕ → ℕ → Place → Bool
 isYoung w t k = ltb t (k .moment + w)
 
-abbrev pub isOld : ℕ → ℕ → Touch → Bool
+abbrev pub isOld : ℕ → ℕ → Place → Bool
 isOld w t k = not (isYoung w t k)
 
 -- The touches that were accepted.
-unfoldable pub accepted : List Event → List Touch
+unfoldable pub accepted : List Event → List Place
 accepted [] = []
 accepted (e ∷ past) = if isAccepted e then placed e past ∷ accepted past else accepted past
 
 -- Those of them that no call has spent: a call that spends takes what is young at its moment, and what is old stays.
-unfoldable pub unspent : ℕ → List Event → List Touch
+unfoldable pub unspent : ℕ → List Event → List Place
 unspent w [] = []
 unspent w (e ∷ past) =
     if isAccepted e then placed e past ∷ unspent w past
@@ -129,30 +134,30 @@ unspent w (e ∷ past) =
     else unspent w past
 
 -- The accepted touches, unspent and younger than W, that a history holds at t.
-abbrev pub live : ℕ → List Event → ℕ → List Touch
+abbrev pub live : ℕ → List Event → ℕ → List Place
 live w past t = those (isYoung w t) (unspent w past)
 
 -- 01, Moments and touches: "A touch has lapsed when it is unspent and W has passed at the last moment."
-abbrev pub lapsed : ℕ → List Event → List Touch
+abbrev pub lapsed : ℕ → List Event → List Place
 lapsed w past = those (isOld w (lastMoment past)) (unspent w past)
 
 -- The touches that calls have spent, call by call: each took what its past held at its moment.
-unfoldable pub served : ℕ → List Event → List Touch
+unfoldable pub served : ℕ → List Event → List Place
 served w [] = []
 served w (e ∷ past) = if isSpending e then live w past (e .call .moment) ++ served w past else served w past
 
-abbrev pub isNumber : ℕ → Touch → Bool
+abbrev pub isNumber : ℕ → Place → Bool
 isNumber n k = eqb (k .number) n
 
 -- How many calls spent a touch.
 abbrev pub spenders : List Event → ℕ
 spenders past = length (those isSpending past)
 
-abbrev pub isAny : List Touch → Bool
+abbrev pub isAny : List Place → Bool
 isAny [] = false
 isAny (k ∷ ks) = true
 
--- What a history says of its next call, once its moment has passed R1.
+-- What a history says of its next call, once the call's moment has passed R1.
 abbrev pub unrefused : ℕ → List Event → Kind → ℕ → Outcome Bool
 unrefused w past Touching t = Gives (isPrompted past t)  -- accepted, or not
 unrefused w past Checking t = Gives (isAny (live w past t))  -- finds a touch, or prompts

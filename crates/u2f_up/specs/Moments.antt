@@ -1,6 +1,6 @@
 -- Document 01, 'Moments and touches' and, of 'Refusal numbers', R1 and R6: the presence record, and what touch, check and
 -- ask do to it. In a record, w is W, prompt and touch are the two windows, last is the last moment.
-use Rattle.u2f_up.specs.Words.{ℕ, _+_, _^_, Bool, true, false, not, _||_, ltb, leb, eqb, if_then_else_}
+use Rattle.u2f_up.specs.Words.{ℕ, _+_, _^_, Bool, true, false, _||_, ltb, leb, eqb, if_then_else_}
 use Rattle.u2f_up.specs.Words.{Outcome, R, SW, Gives, Window, Closed, Opened, Presence, Found}
 
 -- 01, Moments and touches: "A window opened at m with length d is live at t when t < m + d, as whole numbers"

@@ -1,5 +1,5 @@
-// Presence: prompts, touches and their spending, carried over from the Rust's u2f_up.rs. Moments are given in, and the
-// record goes in by value and comes back; lent.rs has the same three calls on a record lent for writing.
+// Presence: prompts, touches and their spending, carried over from the Rust's u2f_up.rs. Moments are given in. The record goes
+// in by value and comes back; the last three functions are the same calls on a record lent for writing.
 // Any values may stand in a record: no sum of moments is ever made, so none can wrap.
 use outcome::Refusal;
 ghost use mathlib.Core.Path.{_≡_};

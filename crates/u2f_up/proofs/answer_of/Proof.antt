@@ -1,3 +1,4 @@
+-- `u2f_up::answer_of` meets its contract.
 use Rattle.u2f_up.proofs.answer_of.Statement.{statement}
 use Rattle.u2f_up.proofs.answer_of.Tie as tie
 

@@ -1,3 +1,4 @@
+-- `u2f_up::is_live` meets its contract: each return is a law of proofs/Cases.antt.
 use Rattle.u2f_up.proofs.Cases
 use borrow.Author.Needs.{needs}
 use Rattle.u2f_up.proofs.is_live.Statement.{statement}
