@@ -1,2 +1,4 @@
 pub mod Words
 pub mod Decision
+pub mod Calls
+pub mod Claims
