@@ -1,2 +1,4 @@
 pub mod Cases
 pub mod Tops
+pub mod Ways
+pub mod Told
