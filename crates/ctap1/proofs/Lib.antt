@@ -2,3 +2,4 @@ pub mod Cases
 pub mod Tops
 pub mod Ways
 pub mod Told
+pub mod Theorems
