@@ -1,18 +1,12 @@
 -- What is promised of the numbers that cross to C, beyond the contracts. Inhabited in proofs/Theorems.antt under the same names.
-use Rattle.panel.specs.Words.{ℕ, _≡_, _≤_, _<_, Bool, List, AtMostOne, Outcome, R, SW, Gives, Case, Window, Opened, Presence, Kind, Order}
-use Rattle.panel.specs.Words.{PresenceRecord, FrameSaid, CommandSaid, Wrote, Made, Touched, Asked, DecisionSaid}
-use Rattle.panel.specs.Numbers.{answerNo, decidedNo, closedNo, windowOf, presenceOf, presenceNumbers, shapeOf, kindOf}
-use Rattle.panel.specs.Exports
-use Rattle.panel.specs.Exports.{ToWrite, ToDecide, ToFinish, frameNumbers, commandNumbers, madeNumbers, stepNumbers, askedNumbers, decisionNumbers, bodyLength, orderAfter, inputsOf, plainWrite, plainFinish, Writes, Decides}
-use Rattle.panel.specs.declared.frames.Shaped.the-variants as Shaped′
 use mathlib.Core.Logic.{_↔_, _⊎_}
-use Rattle.apdu.specs.Words.{shapeNo}
-use Rattle.apdu.specs.Reading.{readOf, strictOf}
-use Rattle.command.specs.Command.{commandOf}
-use Rattle.u2f_up.specs.Moments.{newOf, touchOf, checkOf, askOf}
-use Rattle.signing.specs.Finishing.{Finishing, finishOf}
-use Rattle.ctap1.specs.Words.{Given, Ordered, Body}
-use Rattle.ctap1.specs.Decision.{decisionOf}
+use Rattle.panel.specs.Words.{ℕ, _≡_, _≤_, _<_, Bool, List, AtMostOne, Outcome, R, SW, Gives, Case, Window, Opened, Presence, Order}
+use Rattle.panel.specs.Words.{PresenceRecord, FrameSaid, CommandSaid, Wrote, Made, Touched, Asked, DecisionSaid}
+use Rattle.panel.specs.Words.{shapeNo, readOf, strictOf, commandOf, newOf, touchOf, checkOf, askOf, finishOf, Given, Body, Ordered, decisionOf}
+use Rattle.panel.specs.Numbers.{answerNo, decidedNo, closedNo, presenceOf, presenceNumbers, shapeOf}
+use Rattle.panel.specs.Exports.{ToWrite, ToDecide, ToFinish, frameNumbers, commandNumbers, madeNumbers, stepNumbers, askedNumbers, decisionNumbers, orderAfter}
+use Rattle.panel.specs.Exports.{inputsOf, plainWrite, plainFinish, Writes, Decides, Finishes}
+use Rattle.panel.specs.declared.frames.Shaped.the-variants as Shaped′
 
 -- ---- one answer number says which answer it is
 
@@ -108,4 +102,4 @@ pub record Determined : Type 0 where
   pub consume-up : (n : PresenceRecord) (t : ℕ) → AtMostOne (λ (r : Touched). r ≡ stepNumbers (checkOf (presenceOf n) t))
   pub is-up-needed : (n : PresenceRecord) (t : ℕ) → AtMostOne (λ (r : Asked). r ≡ askedNumbers (askOf (presenceOf n) t .outcome))
   pub decide : (i : ToDecide) → AtMostOne (λ (r : AfterDeciding). Decides i (r .said) (r .reply) (r .block))
-  pub finish : (i : ToFinish) → AtMostOne (λ (r : AfterWriting). Exports.Finishes i (r .said) (r .buffer))
+  pub finish : (i : ToFinish) → AtMostOne (λ (r : AfterWriting). Finishes i (r .said) (r .buffer))

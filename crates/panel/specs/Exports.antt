@@ -2,18 +2,11 @@
 -- A number that an answer has no use for is 0.
 use Rattle.panel.specs.Words.{ℕ, _+_, _≡_, Bool, false, List, length, Outcome, R, SW, Gives, ApduHeader, Presence, Kind, Order}
 use Rattle.panel.specs.Words.{PresenceRecord, HardwareSaid, OrderNumbers, FrameSaid, CommandSaid, Wrote, Made, Touched, Asked, DecisionSaid, Shaped, Kinded}
+use Rattle.panel.specs.Words.{Says, placeOf, parts, writeOf, bufferOf, Command, Register, Authenticate, Version, handlePlaceOf, Told}
+use Rattle.panel.specs.Words.{kindNo, toSign, certificateLength, finishOf, lengthOf, replyOf, Inputs, Given, Body, Ordered, Result, decisionOf, replyLeft}
 use Rattle.panel.specs.Numbers.{answerNo, decidedNo, presenceOf, presenceNumbers, hardwareOf, shapeOf, kindOf, noOrder}
 use Rattle.panel.specs.declared.frames.Shaped.the-variants as Shaped′
 use Rattle.panel.specs.declared.orders.Kinded.the-variants as Kinded′
-use Rattle.apdu.specs.Answers.{Says}
-use Rattle.apdu.specs.Reading.{placeOf}
-use Rattle.apdu.specs.Writing.{parts, writeOf, bufferOf}
-use Rattle.command.specs.Command.{Command, Register, Authenticate, Version, handlePlaceOf}
-use Rattle.u2f_up.specs.Moments.{Told}
-use Rattle.signing.specs.Orders.{kindNo, toSign, certificateLength}
-use Rattle.signing.specs.Finishing.{finishOf, lengthOf, replyOf}
-use Rattle.ctap1.specs.Words.{Inputs, Given, Body, Ordered, Result}
-use Rattle.ctap1.specs.Decision.{decisionOf, replyLeft}
 
 -- ---- frames
 -- what a frame says, and where its data stands: "data comes back as a part of the caller's frame"

@@ -109,6 +109,7 @@ pub struct DecisionSaid {
     pub presence: PresenceRecord,
 }
 
+// Reads any bytes as a frame; its data comes back as a place in the caller's frame.
 #[no_mangle]
 pub extern "C" fn brinecandle_read(frame: &[u8]) -> FrameSaid
     ensures { λ r. ⌜ r ≡ frameNumbers (readOf (now (frame .entry))) ⌝ }
@@ -116,6 +117,7 @@ pub extern "C" fn brinecandle_read(frame: &[u8]) -> FrameSaid
     frames::frame_said(apdu::read(frame))
 }
 
+// The same without shape 6.
 #[no_mangle]
 pub extern "C" fn brinecandle_read_strict(frame: &[u8]) -> FrameSaid
     ensures { λ r. ⌜ r ≡ frameNumbers (strictOf (now (frame .entry))) ⌝ }
@@ -123,6 +125,7 @@ pub extern "C" fn brinecandle_read_strict(frame: &[u8]) -> FrameSaid
     frames::frame_said(apdu::read_strict(frame))
 }
 
+// Writes a frame at the front of out.
 #[no_mangle]
 pub extern "C" fn brinecandle_write(
     cla: u8,
@@ -140,6 +143,7 @@ pub extern "C" fn brinecandle_write(
     frames::write_numbered(header, shape, content, le, out)
 }
 
+// Reads any bytes as a command; its parts come back as places in the caller's frame.
 #[no_mangle]
 pub extern "C" fn brinecandle_read_command(frame: &[u8]) -> CommandSaid
     ensures { λ r. ⌜ r ≡ commandNumbers (commandOf (now (frame .entry))) ⌝ }
@@ -147,6 +151,7 @@ pub extern "C" fn brinecandle_read_command(frame: &[u8]) -> CommandSaid
     frames::command_said(command::read_command(frame))
 }
 
+// A fresh record. What stands for one after a refusal has W 0, so no call takes it.
 #[no_mangle]
 pub extern "C" fn brinecandle_new(w: u64) -> Made
     ensures { λ r. ⌜ r ≡ madeNumbers (newOf w) ⌝ }
@@ -154,6 +159,7 @@ pub extern "C" fn brinecandle_new(w: u64) -> Made
     presence::made_said(u2f_up::new(w))
 }
 
+// A finger touches at t.
 #[no_mangle]
 pub extern "C" fn brinecandle_grant_up(presence: PresenceRecord, t: u64) -> Touched
     ensures { λ r. ⌜ r ≡ stepNumbers (touchOf (presenceOf presence) t) ⌝ }
@@ -161,6 +167,7 @@ pub extern "C" fn brinecandle_grant_up(presence: PresenceRecord, t: u64) -> Touc
     presence::step_said(u2f_up::grant_up(presence::lent(presence), t))
 }
 
+// The touch check at t.
 #[no_mangle]
 pub extern "C" fn brinecandle_consume_up(presence: PresenceRecord, t: u64) -> Touched
     ensures { λ r. ⌜ r ≡ stepNumbers (checkOf (presenceOf presence) t) ⌝ }
@@ -168,6 +175,7 @@ pub extern "C" fn brinecandle_consume_up(presence: PresenceRecord, t: u64) -> To
     presence::step_said(u2f_up::consume_up(presence::lent(presence), t))
 }
 
+// Whether a prompt is live at t. It hands back no record, since it changes none.
 #[no_mangle]
 pub extern "C" fn brinecandle_is_up_needed(presence: PresenceRecord, t: u64) -> Asked
     ensures { λ r. ⌜ r ≡ askedNumbers (askOf (presenceOf presence) t .outcome) ⌝ }
@@ -175,6 +183,8 @@ pub extern "C" fn brinecandle_is_up_needed(presence: PresenceRecord, t: u64) -> 
     presence::asked_said(u2f_up::is_up_needed(presence::lent(presence), t))
 }
 
+// Decides what a frame is answered. The block is written for an order alone: a refused call leaves an order that waits
+// for its signature whole.
 #[no_mangle]
 pub extern "C" fn brinecandle_decide(
     frame: &[u8],
@@ -200,6 +210,7 @@ pub extern "C" fn brinecandle_decide(
     orders::decision_said(decision)
 }
 
+// Turns an order and its signature into a reply. The order is whatever the firmware hands in: a kind that is none is R7.
 #[no_mangle]
 pub extern "C" fn brinecandle_finish(
     order: OrderNumbers,
