@@ -1,7 +1,6 @@
 -- The numbers that outcomes have: a refusal's, 1 to 7; a status word's, 6000 up to 9000. By the checks of each definition.
-use Prim.Native.Nat.{ℕ, _<_, _≤_}
-use mathlib.Core.Path.{_≡_, refl}
-use mathlib.Core.Bool.{Bool, true, false, not, _||_}
+use Prim.Native.Nat.{ℕ}
+use mathlib.Core.Bool.{Bool, true, false, not}
 use mathlib.Core.List.{List}
 use native.Mathlib.Omega.{arith}
 use lib.Dec.{ltb, eqb}
@@ -19,7 +18,7 @@ use Rattle.u2f_up.specs.declared.Found.{Found}
 use Rattle.u2f_up.specs.declared.Presence.{Presence}
 use Rattle.signing.specs.Orders.{isOfLayout, certificateLength}
 use Rattle.signing.specs.Finishing.{Finishing, finishOf, roomAsked, registerRoom, authenticateRoom}
-use Rattle.ctap1.specs.Words.{Inputs, Given, Result, isPresent}
+use Rattle.ctap1.specs.Words.{Inputs, Result, isPresent}
 use Rattle.ctap1.specs.Decision as Decision′
 use Rattle.ctap1.specs.Decision.{versionDecision, registerOrdered, registerDecision, countedBy, enforced, authenticateDecision, onCommand, onAllowed, decisionOf}
 use Rattle.ctap1.specs.declared.Allowed.{Allowed}

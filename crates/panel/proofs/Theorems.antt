@@ -1,32 +1,26 @@
 -- The claims of specs/Claims.antt, each under its own name.
-use Prim.Native.Nat.{ℕ, _<_, _≤_}
+use Prim.Native.Nat.{ℕ, _≤_}
 use mathlib.Core.Path.{_≡_, refl, ap, sym, _∙_}
-use mathlib.Core.Bool.{Bool}
 use mathlib.Core.Logic.{_↔_, _⊎_, inl, inr}
-use mathlib.Core.List.{List}
 use native.Mathlib.Omega.{arith}
 use native.Mathlib.Decide.{ℕ-discrete}
 use borrow.Author.Tests.{eq-eqb, ne-eqb}
 use lib.ListN.{length}
-use Rattle.outcome.specs.Notation.{if_then_else_}
 use Rattle.outcome.specs.Outcome.{Outcome, R, SW, Gives}
 use Rattle.outcome.proofs.Laws.{sw-gives, r-gives, r-sw, both-are}
 use Rattle.apdu.specs.Words.{shapeNo}
 use Rattle.apdu.specs.Writing.{parts}
 use Rattle.apdu.specs.declared.Case.{Case}
 use Rattle.apdu.specs.declared.Case.the-variants.{Instruction, Le1, Lc1Data, Lc1DataLe1, Lc3Data, Lc3DataLe1, Lc3DataLe2, Le3}
-use Rattle.u2f_up.specs.Moments.{Told, settleOf, onSettled, grantedOf, checkedOf, gave, touchOf, checkOf}
+use Rattle.u2f_up.specs.Moments.{Told, settleOf, onSettled, touchOf, checkOf}
 use Rattle.u2f_up.specs.declared.Presence.{Presence}
 use Rattle.u2f_up.specs.declared.Window.{Window}
 use Rattle.u2f_up.specs.declared.Window.the-variants.{Closed, Opened}
-use Rattle.signing.specs.declared.Kind.{Kind}
-use Rattle.signing.specs.declared.Kind.the-variants.{Register, Authenticate}
 use Rattle.signing.specs.Orders.{kindNo}
 use Rattle.ctap1.specs.Words.{Given, Body, Ordered}
 use Rattle.ctap1.proofs.Theorems as Decision′
-use Rattle.panel.specs.Words.{PresenceRecord}
 use Rattle.panel.specs.Numbers.{answerNo, decidedNo, closedNo, windowOf, windowNo, presenceOf, presenceNumbers, shapeOf, kindOf}
-use Rattle.panel.specs.Exports.{ToWrite, ToFinish, inputsOf, writeAs, finishAs, plainWrite, plainFinish}
+use Rattle.panel.specs.Exports.{ToWrite, ToFinish, inputsOf, writeAs, finishAs}
 use Rattle.panel.specs.Claims
 use Rattle.panel.specs.Claims.{IsSaid, IsLendable}
 use Rattle.panel.specs.declared.frames.Shaped.{Shaped}
@@ -34,6 +28,7 @@ use Rattle.panel.specs.declared.frames.Shaped.the-variants as Shaped′
 use Rattle.panel.specs.declared.orders.Kinded.{Kinded}
 use Rattle.panel.specs.declared.orders.Kinded.the-variants as Kinded′
 use Rattle.panel.proofs.FrameCases
+use Rattle.panel.proofs.OrderCases
 use Rattle.panel.proofs.Said as Said′
 
 -- ---- one answer number says which answer it is
@@ -138,54 +133,28 @@ nine-on : (n : ℕ) → 5 ≤ n → (n ≡ 5 → ⊥) → (n ≡ 6 → ⊥) → 
 nine-on n from a b c d = omega arith
 
 pub ShapeNumbers : Claims.ShapeNumbers
-ShapeNumbers = (back, none)
+ShapeNumbers = (λ s. sym (FrameCases.shaped s (shapeNo s) refl), none)
   where
-    back : (s : Case) → shapeOf (shapeNo s) ≡ Shaped′.As s
-    back Instruction = sym (FrameCases.shape-1 1 refl)
-    back Le1 = sym (FrameCases.shape-2 2 refl)
-    back Lc1Data = sym (FrameCases.shape-3 3 refl)
-    back Lc1DataLe1 = sym (FrameCases.shape-4 4 refl)
-    back Lc3Data = sym (FrameCases.shape-5 5 refl)
-    back Lc3DataLe1 = sym (FrameCases.shape-6 6 refl)
-    back Lc3DataLe2 = sym (FrameCases.shape-7 7 refl)
-    back Le3 = sym (FrameCases.shape-8 8 refl)
-
     apart : (s : Case) → Shaped′.As s ≡ Shaped′.Nothing → ⊥
     apart s e = let z : _≡_ {A = ℕ} 0 1 = cc in omega arith
-
-    -- a number that is a shape's is that shape, and so not none
-    shaped : (n : ℕ) (s : Case) → Shaped′.As s ≡ shapeOf n → shapeOf n ≡ Shaped′.Nothing → ⊥
-    shaped n s is e = apart s (is ∙ e)
 
     none : (n : ℕ) → (shapeOf n ≡ Shaped′.Nothing) ↔ ((n ≡ 0) ⊎ (9 ≤ n))
     none n = (λ e. go e (ℕ-discrete n 0), λ x. sym (other x))
       where
+        not : shapeOf n ≡ Shaped′.Nothing → (s : Case) → n ≡ shapeNo s → ⊥
+        not e s y = apart s (FrameCases.shaped s n y ∙ e)
+
         go : shapeOf n ≡ Shaped′.Nothing → Dec (n ≡ 0) → (n ≡ 0) ⊎ (9 ≤ n)
         go e (yes z) = inl z
         go e (no z) =
-            inr
-            (nine-on n
-            (five-on n z
-            (λ y. shaped n Instruction (FrameCases.shape-1 n y) e)
-            (λ y. shaped n Le1 (FrameCases.shape-2 n y) e)
-            (λ y. shaped n Lc1Data (FrameCases.shape-3 n y) e)
-            (λ y. shaped n Lc1DataLe1 (FrameCases.shape-4 n y) e))
-            (λ y. shaped n Lc3Data (FrameCases.shape-5 n y) e)
-            (λ y. shaped n Lc3DataLe1 (FrameCases.shape-6 n y) e)
-            (λ y. shaped n Lc3DataLe2 (FrameCases.shape-7 n y) e)
-            (λ y. shaped n Le3 (FrameCases.shape-8 n y) e))
+            inr (nine-on n (five-on n z (not e Instruction) (not e Le1) (not e Lc1Data) (not e Lc1DataLe1)) (not e Lc3Data) (not e Lc3DataLe1) (not e Lc3DataLe2) (not e Le3))
 
         other : (n ≡ 0) ⊎ (9 ≤ n) → Shaped′.Nothing ≡ shapeOf n
         other (inl z) = FrameCases.no-shape n (λ y. omega arith) (λ y. omega arith) (λ y. omega arith) (λ y. omega arith) (λ y. omega arith) (λ y. omega arith) (λ y. omega arith) (λ y. omega arith)
         other (inr h) = FrameCases.no-shape n (λ y. omega arith) (λ y. omega arith) (λ y. omega arith) (λ y. omega arith) (λ y. omega arith) (λ y. omega arith) (λ y. omega arith) (λ y. omega arith)
 
-kind-back : (k : Kind) → kindOf (kindNo k) ≡ Kinded′.As k
-unfolding kindOf
-kind-back Register = refl
-kind-back Authenticate = refl
-
 pub OrderBack : Claims.OrderBack
-OrderBack order certificate signed signature reply = rw (kind-back (order .kind)) refl
+OrderBack order certificate signed signature reply = rw (sym (OrderCases.kinded (order .kind) (kindNo (order .kind)) refl)) refl
 
 -- ---- two results that satisfy a contract are equal
 pub Determined : Claims.Determined

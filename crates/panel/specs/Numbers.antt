@@ -1,6 +1,6 @@
 -- Document 01, 'Forms that change': "exported to it over plain numbers and byte slices". Which number stands for what:
 -- answers, windows and records, the hardware's answers, shapes and kinds.
-use Rattle.panel.specs.Words.{ℕ, _-_, _^_, Bool, true, false, eqb, if_then_else_, Outcome, R, SW, Gives}
+use Rattle.panel.specs.Words.{ℕ, _-_, Bool, true, false, eqb, if_then_else_, Outcome, R, SW, Gives}
 use Rattle.panel.specs.Words.{Instruction, Le1, Lc1Data, Lc1DataLe1, Lc3Data, Lc3DataLe1, Lc3DataLe2, Le3}
 use Rattle.panel.specs.Words.{Window, Closed, Opened, Presence, Allowed, Attestation, Counter, Hardware}
 use Rattle.panel.specs.Words.{PresenceRecord, HardwareSaid, OrderNumbers, Shaped, Kinded, Given, Body, Ordered}
