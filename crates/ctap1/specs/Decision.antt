@@ -1,10 +1,8 @@
 -- Document 01, 'The decision': its checks, in their order, and 'Refusal numbers' as far as they speak of the decision.
 use Rattle.ctap1.specs.Words.{ℕ, _+_, Bool, true, false, not, List, [], _∷_, ltb, eqb, length, Presence, Order, Allowed, Counter}
-use Rattle.ctap1.specs.Words.{Inputs, isPresent, Given, Body, Ordered, Result}
+use Rattle.ctap1.specs.Words.{if_then_else_, Outcome, R, SW, Gives, Inputs, isPresent, Given, Body, Ordered, Result}
 use Rattle.ctap1.specs.declared.Allowed.the-variants as Allowed′
 use Rattle.ctap1.specs.declared.Counter.the-variants as Counter′
-use Rattle.outcome.specs.Notation.{if_then_else_}
-use Rattle.outcome.specs.Outcome.{Outcome, R, SW, Gives}
 use Rattle.octets.specs.Bytes.{laid, bytes4}
 use Rattle.apdu.specs.Answers.{Says}
 use Rattle.command.specs.Command.{Command, Register, Authenticate, Version, commandOf, challengeOf, applicationOf}

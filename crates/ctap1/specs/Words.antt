@@ -2,10 +2,11 @@
 pub use Prim.Native.Nat.{ℕ, _+_, _<_, _≤_}
 pub use mathlib.Core.Path.{_≡_}
 pub use mathlib.Core.Bool.{Bool, true, false, not}
-pub use mathlib.Core.List.{List, [], _∷_}
+pub use mathlib.Core.List.{List, [], _∷_, _++_}
 pub use lib.Dec.{ltb, eqb}
-pub use lib.ListN.{length}
-use Rattle.outcome.specs.Outcome.{Outcome, R, SW, Gives, statusNo, refusalNo}
+pub use lib.ListN.{length, drop}
+pub use Rattle.outcome.specs.Notation.{if_then_else_, AtMostOne}
+pub use Rattle.outcome.specs.Outcome.{Outcome, R, SW, Gives, statusNo, refusalNo}
 pub use Rattle.u2f_up.specs.declared.Presence.{Presence}
 pub use Rattle.signing.specs.declared.Order.{Order}
 pub use Rattle.ctap1.specs.declared.Allowed.{Allowed}
