@@ -8,6 +8,7 @@ use lib.Dec.{leb}
 use lib.ListN.{length, take, drop}
 use Rattle.outcome.specs.Notation.{AtMostOne}
 use Rattle.outcome.specs.Outcome.{R, SW, Gives}
+use Rattle.octets.specs.Bytes.{allZero}
 use Rattle.signing.specs.Layouts.{RegisterFields, AuthenticateFields, registerToSign, authenticateToSign, registerBody, authenticateBody, isRegisterFit, isAuthenticateFit}
 use Rattle.signing.specs.Orders.{Kind, Order, kindNo, toSign, certificateLength, blankOrder, registerOrder, authenticateOrder, isOfLayout, registerFields, authenticateFields, IsRegisterOrder, IsAuthenticateOrder, IsWhole}
 use Rattle.signing.specs.Finishing.{Finishing, Finished, Body, Finishes, finishOf, finishedOf, registerRoom, authenticateRoom, roomAsked}
@@ -67,16 +68,16 @@ MadeOfLayout =
 abbrev pub BlankRefused : Type 0
 BlankRefused = (isOfLayout blankOrder ≡ false) × ((i : Finishing) → i .order ≡ blankOrder → finishOf i ≡ R 7)
 
+-- `HoldsJust s n o`: the order o has n bytes to sign, they are s, and zeros follow
+abbrev pub HoldsJust : List ℕ → ℕ → Order → Type 0
+HoldsJust s n o = (toSign o ≡ n) × (take n (o .bytes) ≡ s) × (allZero (drop n (o .bytes)) ≡ true)
+
 -- The bytes to sign of a made order are the layout's, no more and no fewer, and zeros follow. 01: "Register, 130 + h",
 -- "Authenticate, 69", "zero after their end". An order that counts 129 + h loses the last byte of y.
 abbrev pub BytesToSign : Type 0
 BytesToSign =
-    ((f : RegisterFields) (c : ℕ) → isRegisterFit f ≡ true
-    → (take (toSign (registerOrder f c)) (registerOrder f c .bytes) ≡ registerToSign f)
-    × (toSign (registerOrder f c) ≡ 130 + length (f .handle)))
-    × ((f : AuthenticateFields) → isAuthenticateFit f ≡ true
-    → (take (toSign (authenticateOrder f)) (authenticateOrder f .bytes) ≡ authenticateToSign f)
-    × (toSign (authenticateOrder f) ≡ 69))
+    ((f : RegisterFields) (c : ℕ) → isRegisterFit f ≡ true → HoldsJust (registerToSign f) (130 + length (f .handle)) (registerOrder f c))
+    × ((f : AuthenticateFields) → isAuthenticateFit f ≡ true → HoldsJust (authenticateToSign f) 69 (authenticateOrder f))
 
 -- The fields that went into an order are read back from it. A reading that takes the challenge for the application, or a
 -- handle one byte short, fails it.
@@ -96,12 +97,23 @@ RoomOfMade =
 abbrev pub BodyWithinRoom : Type 0
 BodyWithinRoom = (i : Finishing) (body : List ℕ) → finishOf i ≡ Gives body → length body ≤ roomAsked (i .order)
 
--- Once the layout is right, the certificate is the order's and the room is there, finishing gives none of R7, R4 and R2:
--- a decision that asked for the room does not ask in vain. A finisher that wants room for 73 signature bytes fails it.
+-- Finishing gives none of R7, R4 and R2: what the decision has asked for is not asked in vain
+abbrev pub NotAskedInVain : Finishing → Type 0
+NotAskedInVain i = (finishOf i ≡ R 7 → ⊥) × (finishOf i ≡ R 4 → ⊥) × (finishOf i ≡ R 2 → ⊥)
+
+-- So it is once the layout is right, the certificate is the order's and the room is there. A finisher that wants room for
+-- 73 signature bytes fails it, at h 64, c 300 and a buffer of 503.
 abbrev pub RoomKept : Type 0
 RoomKept = (i : Finishing) → isOfLayout (i .order) ≡ true → length (i .certificate) ≡ certificateLength (i .order)
-    → roomAsked (i .order) ≤ length (i .reply)
-    → (finishOf i ≡ R 7 → ⊥) × (finishOf i ≡ R 4 → ⊥) × (finishOf i ≡ R 2 → ⊥)
+    → roomAsked (i .order) ≤ length (i .reply) → NotAskedInVain i
+
+-- So it is for a made order, finished with the certificate and the room that it was made for.
+abbrev pub MadeOrderKept : Type 0
+MadeOrderKept =
+    ((i : Finishing) (f : RegisterFields) → isRegisterFit f ≡ true → i .order ≡ registerOrder f (length (i .certificate))
+    → registerRoom (length (f .handle)) (length (i .certificate)) ≤ length (i .reply) → NotAskedInVain i)
+    × ((i : Finishing) (f : AuthenticateFields) → isAuthenticateFit f ≡ true → i .order ≡ authenticateOrder f
+    → length (i .certificate) ≡ 0 → authenticateRoom ≤ length (i .reply) → NotAskedInVain i)
 
 -- A body comes exactly when every check passes. 01: "Checks: R7, R4, R2 .., signer failed 6f00, R3". A finisher that
 -- refuses a signature of 72 bytes, or an empty one, fails it.
