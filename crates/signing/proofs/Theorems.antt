@@ -5,21 +5,21 @@ use mathlib.Core.Path.{_≡_, refl, sym, ap, _∙_}
 use mathlib.Core.Logic.{_⊎_, inl, inr}
 use mathlib.Core.List.{List, _++_}
 use native.Mathlib.Omega.{arith}
-use lib.ListN.{length, take, drop}
+use lib.ListN.{length, drop}
 use Rattle.outcome.specs.Notation.{AtMostOne}
 use Rattle.outcome.specs.Outcome.{Outcome, R, SW, Gives}
 use Rattle.outcome.proofs.Theorems.{status-one-to-one, refusal-one-to-one}
 use Rattle.octets.proofs.Laid.{laid-fits}
 use Rattle.signing.specs.Claims as claims
 use Rattle.signing.specs.Layouts.{RegisterFields, AuthenticateFields, registerToSign, authenticateToSign, registerBody, authenticateBody, isRegisterFit, isAuthenticateFit}
-use Rattle.signing.specs.Orders.{Order, Kind, Register, Authenticate, toSign, certificateLength, blankOrder, registerOrder, authenticateOrder, block, isRegisterLayout, isOfLayout, registerFields, authenticateFields, IsRegisterOrder, IsAuthenticateOrder, IsWhole}
-use Rattle.signing.specs.Finishing.{registerRoom, authenticateRoom, Finishing, Finished, Refused, Status, Body, Finishes, finishOf, finishedOf, lengthOf, replyOf, roomAsked, bodyOf}
+use Rattle.signing.specs.Orders.{Order, Kind, Register, Authenticate, toSign, certificateLength, blankOrder, registerOrder, authenticateOrder, isRegisterLayout, isOfLayout, registerFields, authenticateFields, IsRegisterOrder, IsAuthenticateOrder, HoldsJust}
+use Rattle.signing.specs.Finishing.{registerRoom, authenticateRoom, Finishing, Finished, Refused, Status, Body, finishOf, finishedOf, lengthOf, replyOf, roomAsked, bodyOf}
 use Rattle.signing.proofs.Fit.{register-lengths, authenticate-lengths, register-fit, authenticate-fit}
 use Rattle.signing.proofs.Made.{register-order-fit, authenticate-order-fit}
 use Rattle.signing.proofs.Judged.{shape-register, shape-authenticate, register-shaped, authenticate-shaped}
 use Rattle.signing.proofs.Kept.{block-front, register-to-sign-length, authenticate-to-sign-length, register-kept, authenticate-kept, register-made-shape, authenticate-made-shape, register-fields-lengths, authenticate-fields-lengths, register-order-of, authenticate-order-of}
 use Rattle.signing.proofs.Checks.{comes-to-r7, comes-to-body}
-use Rattle.signing.proofs.Ways.{Passed, way, told-r7, told-r3, told-body, body-within}
+use Rattle.signing.proofs.Ways.{way, told-r7, told-r3, told-body, body-within}
 
 pub kind-one-to-one : claims.KindOneToOne
 kind-one-to-one Register Register e = refl
@@ -127,13 +127,13 @@ pub bytes-to-sign : claims.BytesToSign
 bytes-to-sign = (for-register, for-authenticate)
   where
     for-register : (f : RegisterFields) (c : ℕ) → isRegisterFit f ≡ true
-        → claims.HoldsJust (registerToSign f) (130 + length (f .handle)) (registerOrder f c)
+        → HoldsJust (registerToSign f) (130 + length (f .handle)) (registerOrder f c)
     for-register f c fit =
         let l = register-lengths f fit in
         rw (register-order-fit f c l)
         (refl, block-front (registerToSign f) (130 + length (f .handle)) (register-to-sign-length f l) (omega (arith, l .handle)), register-made-shape f l .rest)
 
-    for-authenticate : (f : AuthenticateFields) → isAuthenticateFit f ≡ true → claims.HoldsJust (authenticateToSign f) 69 (authenticateOrder f)
+    for-authenticate : (f : AuthenticateFields) → isAuthenticateFit f ≡ true → HoldsJust (authenticateToSign f) 69 (authenticateOrder f)
     for-authenticate f fit =
         let l = authenticate-lengths f fit in
         rw (authenticate-order-fit f l)

@@ -5,12 +5,11 @@ use mathlib.Core.Path.{_≡_}
 use mathlib.Core.Logic.{_↔_, _⊎_}
 use mathlib.Core.List.{List, _++_}
 use lib.Dec.{leb}
-use lib.ListN.{length, take, drop}
+use lib.ListN.{length, drop}
 use Rattle.outcome.specs.Notation.{AtMostOne}
-use Rattle.outcome.specs.Outcome.{R, SW, Gives}
-use Rattle.octets.specs.Bytes.{allZero}
+use Rattle.outcome.specs.Outcome.{R, Gives}
 use Rattle.signing.specs.Layouts.{RegisterFields, AuthenticateFields, registerToSign, authenticateToSign, registerBody, authenticateBody, isRegisterFit, isAuthenticateFit}
-use Rattle.signing.specs.Orders.{Kind, Order, kindNo, toSign, certificateLength, blankOrder, registerOrder, authenticateOrder, isOfLayout, registerFields, authenticateFields, IsRegisterOrder, IsAuthenticateOrder, IsWhole}
+use Rattle.signing.specs.Orders.{Kind, Order, kindNo, toSign, certificateLength, blankOrder, registerOrder, authenticateOrder, isOfLayout, registerFields, authenticateFields, IsRegisterOrder, IsAuthenticateOrder, IsWhole, HoldsJust}
 use Rattle.signing.specs.Finishing.{Finishing, Finished, Body, Finishes, finishOf, finishedOf, registerRoom, authenticateRoom, roomAsked}
 
 -- The numbers tell the cases apart. 01: "a definition gives this paper's number and values for each of its cases".
@@ -67,10 +66,6 @@ MadeOfLayout =
 -- A blank order of kind Authenticate that counts 69 bytes fails it: its zeros are an Authenticate order.
 abbrev pub BlankRefused : Type 0
 BlankRefused = (isOfLayout blankOrder ≡ false) × ((i : Finishing) → i .order ≡ blankOrder → finishOf i ≡ R 7)
-
--- `HoldsJust s n o`: the order o has n bytes to sign, they are s, and zeros follow
-abbrev pub HoldsJust : List ℕ → ℕ → Order → Type 0
-HoldsJust s n o = (toSign o ≡ n) × (take n (o .bytes) ≡ s) × (allZero (drop n (o .bytes)) ≡ true)
 
 -- The bytes to sign of a made order are the layout's, no more and no fewer, and zeros follow. 01: "Register, 130 + h",
 -- "Authenticate, 69", "zero after their end". An order that counts 129 + h loses the last byte of y.

@@ -9,9 +9,7 @@ use lib.Dec.{eqb, leb}
 use lib.ListN.{length, take, drop, replicate}
 use Rattle.outcome.specs.Notation.{if_then_else_}
 use Rattle.octets.specs.Bytes.{byte, laid, allZero}
-pub use Rattle.signing.specs.declared.Kind.{Kind}
-pub use Rattle.signing.specs.declared.Kind.the-variants.{Register, Authenticate}
-pub use Rattle.signing.specs.declared.Order.{Order}
+pub use Rattle.signing.specs.Words.{Kind, Register, Authenticate, Order}
 use Rattle.signing.specs.Layouts.{RegisterFields, AuthenticateFields, registerToSign, authenticateToSign, isRegisterFit, isAuthenticateFit}
 
 -- ours: DECISIONS, "kind numbers": the INS of the command that the order answers
@@ -114,3 +112,7 @@ IsAuthenticateOrder o = (f : AuthenticateFields) × (isAuthenticateFit f ≡ tru
 -- every order in memory has a block of 385 bytes; a definition has to say so
 abbrev pub IsWhole : Order → Type 0
 IsWhole o = length (o .bytes) ≡ 385
+
+-- `HoldsJust s n o`: the order o has n bytes to sign, they are s, and zeros follow
+abbrev pub HoldsJust : List ℕ → ℕ → Order → Type 0
+HoldsJust s n o = (toSign o ≡ n) × (take n (o .bytes) ≡ s) × (allZero (drop n (o .bytes)) ≡ true)
