@@ -1,18 +1,18 @@
 -- The promises of specs/Claims.antt.
 use Prim.Native.Nat.{ℕ, _+_, _-_, _≤_}
-use mathlib.Core.Bool.{Bool, true, false}
+use mathlib.Core.Bool.{Bool, true, false, not}
 use mathlib.Core.Path.{_≡_, refl, sym, ap, _∙_}
 use mathlib.Core.Logic.{_⊎_, inl, inr}
-use mathlib.Core.List.{List, _++_}
+use mathlib.Core.List.{List, [], _++_}
 use native.Mathlib.Omega.{arith}
-use lib.ListN.{length, drop}
-use Rattle.outcome.specs.Notation.{AtMostOne}
+use lib.ListN.{length, drop, replicate, length-replicate}
+use Rattle.outcome.specs.Notation.{if_then_else_, AtMostOne}
 use Rattle.outcome.specs.Outcome.{Outcome, R, SW, Gives}
 use Rattle.outcome.proofs.Theorems.{status-one-to-one, refusal-one-to-one}
-use Rattle.octets.proofs.Laid.{laid-fits}
+use Rattle.octets.proofs.Laid.{laid-fits, length-laid}
 use Rattle.signing.specs.Claims as claims
 use Rattle.signing.specs.Layouts.{RegisterFields, AuthenticateFields, registerToSign, authenticateToSign, registerBody, authenticateBody, isRegisterFit, isAuthenticateFit}
-use Rattle.signing.specs.Orders.{Order, Kind, Register, Authenticate, toSign, certificateLength, blankOrder, registerOrder, authenticateOrder, isRegisterLayout, isOfLayout, registerFields, authenticateFields, IsRegisterOrder, IsAuthenticateOrder, HoldsJust}
+use Rattle.signing.specs.Orders.{Order, Kind, Register, Authenticate, toSign, certificateLength, blankOrder, registerOrder, authenticateOrder, block, isRegisterLayout, isOfLayout, registerFields, authenticateFields, IsRegisterOrder, IsAuthenticateOrder, IsWhole, HoldsJust}
 use Rattle.signing.specs.Finishing.{registerRoom, authenticateRoom, Finishing, Finished, Refused, Status, Body, finishOf, finishedOf, lengthOf, replyOf, roomAsked, bodyOf}
 use Rattle.signing.proofs.Fit.{register-lengths, authenticate-lengths, register-fit, authenticate-fit}
 use Rattle.signing.proofs.Made.{register-order-fit, authenticate-order-fit}
@@ -102,6 +102,29 @@ layout-exactly o whole = (is-made (o .kind) refl, is-judged)
     is-judged : IsRegisterOrder o ⊎ IsAuthenticateOrder o → isOfLayout o ≡ true
     is-judged (inl m) = ap isOfLayout (m .3) ∙ register-made-of-layout (m .0) (m .1) (m .2)
     is-judged (inr m) = ap isOfLayout (m .2) ∙ authenticate-made-of-layout (m .0) (m .1)
+
+block-length : (s : List ℕ) → length (block s) ≡ 385
+unfolding block
+block-length s = length-laid s (replicate 385 0) ∙ length-replicate {A = ℕ} 385 0
+
+pick-whole : (t : Bool) (o p : Order) → IsWhole o → IsWhole p → IsWhole (if t then o else p)
+pick-whole true o p a b = a
+pick-whole false o p a b = b
+
+blank-whole : IsWhole blankOrder
+unfolding blankOrder
+blank-whole = block-length []
+
+register-whole : (f : RegisterFields) (c : ℕ) → IsWhole (registerOrder f c)
+unfolding registerOrder
+register-whole f c = pick-whole (not (isRegisterFit f)) blankOrder _ blank-whole (block-length (registerToSign f))
+
+authenticate-whole : (f : AuthenticateFields) → IsWhole (authenticateOrder f)
+unfolding authenticateOrder
+authenticate-whole f = pick-whole (not (isAuthenticateFit f)) blankOrder _ blank-whole (block-length (authenticateToSign f))
+
+pub made-whole : claims.MadeWhole
+made-whole = (blank-whole, register-whole, authenticate-whole)
 
 pub r7-exactly : claims.R7Exactly
 r7-exactly i whole = (refused, by-layout (isOfLayout (i .order)) refl)
