@@ -77,29 +77,26 @@ isLayout Authenticate o = isAuthenticateLayout (toSign o) (certificateLength o) 
 abbrev pub isOfLayout : Order → Bool
 isOfLayout o = isLayout (o .kind) o
 
--- `part from count s`: count bytes of s, the first at place from
-abbrev pub part : (from count : ℕ) → List ℕ → List ℕ
-part from count s = take count (drop from s)
-
--- the fields of a Register order of its layout: its length is 130 or more
+-- the fields of a Register order of its layout, whose length is 130 or more: `take n (drop i bytes)` is the n bytes from
+-- place i on
 abbrev pub registerFields : (size : ℕ) (bytes : List ℕ) → RegisterFields
 registerFields size bytes =
     record {
-      application = part 1 32 bytes;
-      challenge = part 33 32 bytes;
-      handle = part 65 (size - 130) bytes;
-      x = part (size - 64) 32 bytes;
-      y = part (size - 32) 32 bytes;
+      application = take 32 (drop 1 bytes);
+      challenge = take 32 (drop 33 bytes);
+      handle = take (size - 130) (drop 65 bytes);
+      x = take 32 (drop (size - 64) bytes);
+      y = take 32 (drop (size - 32) bytes);
     }
 
 -- the fields of an Authenticate order of its layout
 abbrev pub authenticateFields : (bytes : List ℕ) → AuthenticateFields
 authenticateFields bytes =
     record {
-      application = part 0 32 bytes;
+      application = take 32 bytes;
       presence = byte bytes 32;
-      counter = part 33 4 bytes;
-      challenge = part 37 32 bytes;
+      counter = take 4 (drop 33 bytes);
+      challenge = take 32 (drop 37 bytes);
     }
 
 -- an order of a layout: one that fields of the right lengths make
