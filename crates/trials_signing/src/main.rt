@@ -93,7 +93,7 @@ fn body(name: &[u8], order: Order, certificate: &[u8], signature: &[u8]) {
     }
 }
 
-fn examples() {
+fn registration() {
     let x = fido::REGISTER_X;
     let y = fido::REGISTER_Y;
     let certificate = fido::REGISTER_CERTIFICATE;
@@ -107,6 +107,9 @@ fn examples() {
     );
     to_sign(b"FIDO 8.1", order);
     body(b"FIDO 8.1", order, &certificate, &fido::REGISTER_SIGNATURE);
+}
+
+fn authentication() {
     let login = signing::authenticate_order(
         &fido::AUTHENTICATE_APPLICATION,
         &fido::AUTHENTICATE_CHALLENGE,
@@ -117,141 +120,118 @@ fn examples() {
     body(b"FIDO 8.2", login, b"", &fido::AUTHENTICATE_SIGNATURE);
 }
 
-// A Register order with a handle of the given length, all 11, for a certificate of c bytes.
-fn register(handle: &[u8], c: usize) -> Order {
+// A Register order for a certificate of 300 bytes.
+fn register(handle: &[u8]) -> Order {
     let x = [0x22u8; 32];
     let y = [0x33u8; 32];
-    signing::register_order(&[0xf0; 32], &[0x41; 32], handle, &x, &y, c)
+    signing::register_order(&[0xf0; 32], &[0x41; 32], handle, &x, &y, 300)
 }
 
 fn authenticate(present: bool) -> Order {
     signing::authenticate_order(&[0x4b; 32], &[0xcc; 32], present, 0x0102_0304)
 }
 
-fn rooms() {
+// Finishes with c bytes of certificate, at most 300, and s bytes of signature, at most 73.
+fn sized(name: &[u8], order: Order, c: usize, signed: bool, s: usize, room: usize) {
     let certificate = [0x30u8; 300];
     let signature = [0x5au8; 73];
-    let order = register(&[0x11; 64], 300);
-    trial(
+    if c <= 300 {
+        if s <= 73 {
+            trial(
+                name,
+                order,
+                &certificate[0..c],
+                signed,
+                &signature[0..s],
+                room,
+            );
+        }
+    }
+}
+
+fn rooms() {
+    let order = register(&[0x11; 64]);
+    sized(
         b"h 64, c 300, room 503, signature 70:",
         order,
-        &certificate,
+        300,
         true,
-        &signature[0..70],
+        70,
         503,
     );
-    trial(
+    sized(
         b"h 64, c 300, room 502, signature 70:",
         order,
-        &certificate,
+        300,
         true,
-        &signature[0..70],
+        70,
         502,
     );
-    trial(
+    sized(
         b"h 64, c 300, room 503, signature 72:",
         order,
-        &certificate,
+        300,
         true,
-        &signature[0..72],
+        72,
         503,
     );
+}
+
+fn login_rooms() {
     let login = authenticate(false);
-    trial(
+    sized(
         b"Authenticate, room 77, signature 72:",
         login,
-        b"",
+        0,
         true,
-        &signature[0..72],
+        72,
         77,
     );
-    trial(
+    sized(
         b"Authenticate, room 76, signature 70:",
         login,
-        b"",
+        0,
         true,
-        &signature[0..70],
+        70,
         76,
     );
 }
 
 fn handles() {
-    let certificate = [0x30u8; 300];
-    let signature = [0x5au8; 70];
     let handle = [0x11u8; 256];
-    trial(
-        b"h 0, c 300, room 439:",
-        register(b"", 300),
-        &certificate,
-        true,
-        &signature,
-        439,
-    );
-    trial(
-        b"h 0, c 300, room 438:",
-        register(b"", 300),
-        &certificate,
-        true,
-        &signature,
-        438,
-    );
-    trial(
-        b"h 255, c 300, room 694:",
-        register(&handle[0..255], 300),
-        &certificate,
-        true,
-        &signature,
-        694,
-    );
-    trial(
-        b"h 255, c 300, room 693:",
-        register(&handle[0..255], 300),
-        &certificate,
-        true,
-        &signature,
-        693,
-    );
-    trial(
+    sized(b"h 0, c 300, room 439:", register(b""), 300, true, 70, 439);
+    sized(b"h 0, c 300, room 438:", register(b""), 300, true, 70, 438);
+    let longest = register(&handle[0..255]);
+    sized(b"h 255, c 300, room 694:", longest, 300, true, 70, 694);
+    sized(b"h 255, c 300, room 693:", longest, 300, true, 70, 693);
+    sized(
         b"h 256, c 300, room 1024:",
-        register(&handle, 300),
-        &certificate,
+        register(&handle),
+        300,
         true,
-        &signature,
+        70,
         1024,
     );
 }
 
 // The checks in their order: each trial breaks one check and every check after it.
 fn checks() {
-    let certificate = [0x30u8; 300];
-    let long = [0x5au8; 73];
-    let order = register(&[0x11; 64], 300);
-    trial(
-        b"blank order:",
-        signing::blank(),
-        &certificate,
-        false,
-        &long,
-        0,
-    );
-    trial(
-        b"certificate 299:",
-        order,
-        &certificate[0..299],
-        false,
-        &long,
-        0,
-    );
-    trial(b"room 0:", order, &certificate, false, &long, 0);
-    trial(b"signer failed:", order, &certificate, false, &long, 503);
-    trial(b"signature 73:", order, &certificate, true, &long, 503);
-    trial(b"no signature:", order, &certificate, true, b"", 503);
-    trial(
+    let order = register(&[0x11; 64]);
+    sized(b"blank order:", signing::blank(), 300, false, 73, 0);
+    sized(b"certificate 299:", order, 299, false, 73, 0);
+    sized(b"room 0:", order, 300, false, 73, 0);
+    sized(b"signer failed:", order, 300, false, 73, 503);
+    sized(b"signature 73:", order, 300, true, 73, 503);
+}
+
+fn more_checks() {
+    sized(b"no signature:", register(&[0x11; 64]), 300, true, 0, 503);
+    sized(
         b"Authenticate with a certificate:",
         authenticate(true),
-        &certificate,
+        300,
         true,
-        &long,
+        73,
         0,
     );
 }
@@ -281,117 +261,42 @@ fn with_numbers(order: Order, to_sign: usize, certificate_length: usize) -> Orde
     }
 }
 
+// Whether the order is of its layout: finished with a certificate of its length, no signature, and room for any body.
+fn judged(name: &[u8], order: Order) {
+    sized(name, order, order.certificate_length, true, 0, 1024);
+}
+
 fn layouts() {
-    let order = register(&[0x11; 64], 0);
-    trial(b"Register:", order, b"", true, b"", 1024);
-    trial(
-        b"Register, first byte 01:",
-        with_byte(order, 0, 1),
-        b"",
-        true,
-        b"",
-        1024,
-    );
-    trial(
-        b"Register, marker 05:",
-        with_byte(order, 129, 5),
-        b"",
-        true,
-        b"",
-        1024,
-    );
-    trial(
-        b"Register, byte 194 is 01:",
-        with_byte(order, 194, 1),
-        b"",
-        true,
-        b"",
-        1024,
-    );
-    trial(
-        b"Register, byte 384 is 01:",
-        with_byte(order, 384, 1),
-        b"",
-        true,
-        b"",
-        1024,
-    );
-    trial(
-        b"Register, length 129:",
-        with_numbers(order, 129, 0),
-        b"",
-        true,
-        b"",
-        1024,
-    );
-    trial(
-        b"Register, length 386:",
-        with_numbers(order, 386, 0),
-        b"",
-        true,
-        b"",
-        1024,
-    );
-    trial(
-        b"Register, length 193:",
-        with_numbers(order, 193, 0),
-        b"",
-        true,
-        b"",
-        1024,
-    );
+    let order = register(&[0x11; 64]);
+    judged(b"Register:", order);
+    judged(b"Register, first byte 01:", with_byte(order, 0, 1));
+    judged(b"Register, marker 05:", with_byte(order, 129, 5));
+    judged(b"Register, byte 194 is 01:", with_byte(order, 194, 1));
+    judged(b"Register, byte 384 is 01:", with_byte(order, 384, 1));
+}
+
+fn lengths() {
+    let order = register(&[0x11; 64]);
+    judged(b"Register, length 129:", with_numbers(order, 129, 300));
+    judged(b"Register, length 386:", with_numbers(order, 386, 300));
+    judged(b"Register, length 193:", with_numbers(order, 193, 300));
 }
 
 fn login_layouts() {
     let login = authenticate(true);
-    trial(b"Authenticate:", login, b"", true, b"", 1024);
-    trial(
-        b"Authenticate, first byte 01:",
-        with_byte(login, 0, 1),
-        b"",
-        true,
-        b"",
-        1024,
-    );
-    trial(
-        b"Authenticate, presence 02:",
-        with_byte(login, 32, 2),
-        b"",
-        true,
-        b"",
-        1024,
-    );
-    trial(
-        b"Authenticate, byte 69 is 01:",
-        with_byte(login, 69, 1),
-        b"",
-        true,
-        b"",
-        1024,
-    );
-    trial(
-        b"Authenticate, length 68:",
-        with_numbers(login, 68, 0),
-        b"",
-        true,
-        b"",
-        1024,
-    );
-    trial(
-        b"Authenticate, length 70:",
-        with_numbers(login, 70, 0),
-        b"",
-        true,
-        b"",
-        1024,
-    );
-    trial(
+    judged(b"Authenticate:", login);
+    judged(b"Authenticate, first byte 01:", with_byte(login, 0, 1));
+    judged(b"Authenticate, presence 02:", with_byte(login, 32, 2));
+    judged(b"Authenticate, byte 69 is 01:", with_byte(login, 69, 1));
+}
+
+fn login_lengths() {
+    let login = authenticate(true);
+    judged(b"Authenticate, length 68:", with_numbers(login, 68, 0));
+    judged(b"Authenticate, length 70:", with_numbers(login, 70, 0));
+    judged(
         b"Authenticate, certificate length 1:",
         with_numbers(login, 69, 1),
-        b"1",
-        true,
-        b"",
-        1024,
     );
 }
 
@@ -408,11 +313,16 @@ fn counters() {
 }
 
 fn main() {
-    examples();
+    registration();
+    authentication();
     rooms();
+    login_rooms();
     handles();
     checks();
+    more_checks();
     layouts();
+    lengths();
     login_layouts();
+    login_lengths();
     counters();
 }
