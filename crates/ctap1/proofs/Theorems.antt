@@ -75,10 +75,10 @@ BodyIsVersion i n old e long = go (decisionOf i) (way i) e
     same : (m : ℕ) → _≡_ {A = Outcome Given} (Gives (Body m)) (Gives (Body n)) → n ≡ m
     same m x = cc
 
-    go : (o : Result) → Way i o → o .answer ≡ Gives (Body n) → (n ≡ 6) × (replyLeft o old ≡ versionBytes ++ drop 6 old)
+    go : (o : Result) → Way i o → o .answer ≡ Gives (Body n) → (n ≡ 6) × (6 ≤ i .room) × (replyLeft o old ≡ versionBytes ++ drop 6 old)
     go _ (refused m) x = absurd (r-gives _ _ x)
     go _ (stated m p) x = absurd (sw-gives _ _ x)
-    go _ (versioned p room) x = (same 6 x, laid-fits versionBytes old (omega arith))
+    go _ (versioned p room) x = (same 6 x, room, laid-fits versionBytes old (omega arith))
     go _ (enrolled said p c room h) x = absurd (body-order _ (sym x))
     go _ (signed p1 m said present p c room) x = absurd (body-order _ (sym x))
 

@@ -31,11 +31,12 @@ OnlyBodiesWrite =
     → ((n : ℕ) → decisionOf i .answer ≡ SW n → replyLeft (decisionOf i) old ≡ old)
     × (decisionOf i .answer ≡ Gives Ordered → replyLeft (decisionOf i) old ≡ old)
 
--- "A 9000 body fills the front of the buffer; the rest stays", and a body is Version's six bytes.
+-- "A 9000 body fills the front of the buffer; the rest stays"; a decision's body is Version's six bytes, and never exceeds the
+-- room. A Version that writes into five bytes fails it.
 abbrev pub BodyIsVersion : Type 0
 BodyIsVersion =
     (i : Inputs) (n : ℕ) (old : List ℕ) → decisionOf i .answer ≡ Gives (Body n) → length old ≡ i .room
-    → (n ≡ 6) × (replyLeft (decisionOf i) old ≡ versionBytes ++ drop 6 old)
+    → (n ≡ 6) × (6 ≤ i .room) × (replyLeft (decisionOf i) old ≡ versionBytes ++ drop 6 old)
 
 -- "In every other answer it is not taken": the counter is taken exactly for an Authenticate order. A decision that takes it
 -- for P1 03 without a touch fails it.
