@@ -15,6 +15,8 @@ mod say;
 
 const MOMENTS: u64 = 281474976710656;
 
+const COUNTER: u32 = 0x0102_0304;
+
 fn record(w: u64, touch: Window, last: u64) -> Presence {
     Presence {
         w,
@@ -32,33 +34,23 @@ fn touched() -> Presence {
     record(5000, Window::Opened(0), 0)
 }
 
-fn working() -> Hardware {
+fn working(counter: u32) -> Hardware {
     Hardware {
         allowed: Allowed::Yes,
         stored: true,
         attestation: Attestation::Present,
         good: true,
-        counter: Counter::Offered(0x0102_0304),
+        counter: Counter::Offered(counter),
     }
 }
 
-// Nothing works, or nothing but what the arguments say.
-fn broken(allowed: Allowed, stored: bool, good: bool) -> Hardware {
+// With a counter that fails.
+fn broken(allowed: Allowed, stored: bool, attestation: Attestation, good: bool) -> Hardware {
     Hardware {
         allowed,
         stored,
-        attestation: Attestation::Missing,
-        good,
-        counter: Counter::Failed,
-    }
-}
-
-fn attested(attestation: Attestation) -> Hardware {
-    Hardware {
-        allowed: Allowed::Yes,
-        stored: true,
         attestation,
-        good: true,
+        good,
         counter: Counter::Failed,
     }
 }
@@ -68,10 +60,6 @@ struct Sizes {
     h: usize,
     c: usize,
     room: usize,
-}
-
-fn sized(h: usize, c: usize, room: usize) -> Sizes {
-    Sizes { h, c, room }
 }
 
 fn name_trial(name: &[u8], sizes: Sizes, t: u64) {
@@ -150,8 +138,8 @@ fn register(presence: Presence, t: u64, h: usize, c: usize, room: usize) -> Pres
         &frames::REGISTER,
         presence,
         t,
-        working(),
-        sized(h, c, room),
+        working(COUNTER),
+        Sizes { h, c, room },
     )
 }
 
@@ -164,8 +152,12 @@ fn login(p1: u8, presence: Presence, t: u64, room: usize) -> Presence {
         &frame,
         presence,
         t,
-        working(),
-        sized(64, 300, room),
+        working(COUNTER),
+        Sizes {
+            h: 64,
+            c: 300,
+            room,
+        },
     )
 }
 
@@ -218,21 +210,26 @@ fn login_rooms() {
     login(0x00, touched(), 1000, 77);
 }
 
-fn version(room: usize) {
+// With a touch, and hardware that works.
+fn plain(name: &[u8], frame: &[u8], room: usize) {
     trial(
-        b"Version",
-        &frames::VERSION,
+        name,
+        frame,
         touched(),
         1000,
-        working(),
-        sized(64, 300, room),
+        working(COUNTER),
+        Sizes {
+            h: 64,
+            c: 300,
+            room,
+        },
     );
 }
 
 fn versions() {
-    version(1024);
-    version(6);
-    version(5);
+    plain(b"Version", &frames::VERSION, 1024);
+    plain(b"Version", &frames::VERSION, 6);
+    plain(b"Version", &frames::VERSION, 5);
 }
 
 // A frame of three bytes with nothing that works: the checks before the frame's status.
@@ -242,8 +239,12 @@ fn short_frame(name: &[u8], presence: Presence, t: u64, allowed: Allowed) {
         b"\x00\x01\x00",
         presence,
         t,
-        broken(allowed, false, false),
-        sized(256, 300, 0),
+        broken(allowed, false, Attestation::Missing, false),
+        Sizes {
+            h: 256,
+            c: 300,
+            room: 0,
+        },
     );
 }
 
@@ -279,13 +280,13 @@ fn enrols(name: &[u8], presence: Presence, hardware: Hardware, h: usize, room: u
         presence,
         1000,
         hardware,
-        sized(h, 300, room),
+        Sizes { h, c: 300, room },
     );
 }
 
 // Each trial breaks one check and every check after it.
 fn register_checks() {
-    let nothing = broken(Allowed::Yes, false, false);
+    let nothing = broken(Allowed::Yes, false, Attestation::Missing, false);
     enrols(b"Register without room", fresh(), nothing, 256, 694);
     enrols(b"Register without a touch", fresh(), nothing, 256, 695);
     enrols(b"Register not stored", touched(), nothing, 256, 695);
@@ -295,34 +296,33 @@ fn more_register_checks() {
     enrols(
         b"Register h 256",
         touched(),
-        broken(Allowed::Yes, true, false),
+        broken(Allowed::Yes, true, Attestation::Missing, false),
         256,
         695,
     );
     enrols(
         b"Register not attested",
         touched(),
-        attested(Attestation::Missing),
+        broken(Allowed::Yes, true, Attestation::Missing, true),
         64,
         503,
     );
     enrols(
         b"Register attestation failed",
         touched(),
-        attested(Attestation::Failed),
+        broken(Allowed::Yes, true, Attestation::Failed, true),
         64,
         503,
     );
     enrols(
         b"Register attested",
         touched(),
-        attested(Attestation::Present),
+        broken(Allowed::Yes, true, Attestation::Present, true),
         64,
         503,
     );
 }
 
-// With a counter that fails.
 fn signs(name: &[u8], p1: u8, presence: Presence, good: bool, room: usize) {
     let frame = frames::authenticate(p1);
     trial(
@@ -330,8 +330,12 @@ fn signs(name: &[u8], p1: u8, presence: Presence, good: bool, room: usize) {
         &frame,
         presence,
         1000,
-        broken(Allowed::Yes, false, good),
-        sized(64, 300, room),
+        broken(Allowed::Yes, false, Attestation::Missing, good),
+        Sizes {
+            h: 64,
+            c: 300,
+            room,
+        },
     );
 }
 
@@ -348,7 +352,7 @@ fn authenticate_checks() {
 fn framed(frame: &[u8]) {
     say::words(b"frame ");
     say::bytes(octets::part(frame, 0, 5));
-    trial(b"", frame, touched(), 1000, working(), sized(64, 300, 503));
+    plain(b"", frame, 503);
 }
 
 // A frame of shape 3, or 2 where Lc is 0, its data zeros but for data[64].
@@ -400,128 +404,79 @@ fn shapeless() {
     framed(b"\x00\x03\x00\x00\x02\x01");
 }
 
-// The presence byte and the counter in the bytes to sign.
-fn presence_byte(p1: u8) {
-    let frame = frames::authenticate(p1);
-    let mut reply = [0xaau8; 77];
-    let made = decided(
-        &frame,
-        touched(),
-        1000,
-        working(),
-        sized(64, 300, 77),
-        &mut reply,
-    );
-    let order = made.order;
-    say::words(b"P1 ");
-    say::bytes(&[p1]);
-    say::to_sign(b" Authenticate", order);
-}
-
-// h 64, c 300 and a signature of 70.
-fn finish_register() {
+// A decision with h 64, c 300 and a counter of 01020304, finished: the bytes to sign and the body.
+fn completed(name: &[u8], frame: &[u8], presence: Presence, certificate: &[u8], signature: &[u8]) {
     let mut reply = [0xaau8; 503];
     let made = decided(
+        frame,
+        presence,
+        1000,
+        working(COUNTER),
+        Sizes {
+            h: 64,
+            c: 300,
+            room: 503,
+        },
+        &mut reply,
+    );
+    let order = made.order;
+    say::to_sign(name, order);
+    let answer = signing::finish(order, certificate, true, signature, &mut reply);
+    say::finished(name, answer, &reply);
+}
+
+// Where there is no order, finishing what stands in its place is R7.
+fn finishing() {
+    let present = frames::authenticate(0x03);
+    let absent = frames::authenticate(0x08);
+    let certificate = [0x30u8; 300];
+    completed(b"P1 03", &present, touched(), b"", &[0x5a; 72]);
+    completed(b"P1 08", &absent, touched(), b"", &[0x5a; 70]);
+    completed(
+        b"Register",
         &frames::REGISTER,
         touched(),
-        1000,
-        working(),
-        sized(64, 300, 503),
-        &mut reply,
+        &certificate,
+        &[0x5a; 70],
     );
-    let order = made.order;
-    let answer = signing::finish(order, &[0x30; 300], true, &[0x5a; 70], &mut reply);
-    say::finished(b"Register", answer, &reply);
+    completed(b"no order", &frames::REGISTER, fresh(), b"", b"");
 }
 
-fn finish_login() {
-    let frame = frames::authenticate(0x03);
-    let mut reply = [0xaau8; 77];
-    let made = decided(
-        &frame,
-        touched(),
-        1000,
-        working(),
-        sized(64, 300, 77),
-        &mut reply,
-    );
-    let order = made.order;
-    let answer = signing::finish(order, b"", true, &[0x5a; 72], &mut reply);
-    say::finished(b"Authenticate", answer, &reply);
-}
-
-// An answer without an order: finishing what stands there is R7.
-fn finish_nothing() {
-    let mut reply = [0xaau8; 503];
-    let made = decided(
-        &frames::REGISTER,
-        fresh(),
-        1000,
-        working(),
-        sized(64, 300, 503),
-        &mut reply,
-    );
-    let order = made.order;
-    let answer = signing::finish(order, b"", true, b"", &mut reply);
-    say::finished(b"no order", answer, &reply);
-}
-
-fn counting(n: u32) -> Hardware {
-    Hardware {
-        allowed: Allowed::Yes,
-        stored: true,
-        attestation: Attestation::Present,
-        good: true,
-        counter: Counter::Offered(n),
-    }
-}
-
-fn registration() {
+// FIDO's example: the frame in, the bytes to sign and the body out.
+fn example(name: &[u8], frame: &[u8], certificate: &[u8], signature: &[u8]) {
     let x = fido::REGISTER_X;
     let y = fido::REGISTER_Y;
     let mut reply = [0xaau8; 523];
     let made = ctap1::decide(
-        &fido::REGISTER_FRAME,
+        frame,
         1000,
         touched(),
-        counting(0),
+        working(1),
         &fido::REGISTER_HANDLE,
-        &fido::REGISTER_CERTIFICATE,
+        certificate,
         &x,
         &y,
         &mut reply,
     );
     let order = made.order;
-    say::to_sign(b"FIDO 8.1", order);
-    let answer = signing::finish(
-        order,
-        &fido::REGISTER_CERTIFICATE,
-        true,
-        &fido::REGISTER_SIGNATURE,
-        &mut reply,
-    );
-    say::finished(b"FIDO 8.1", answer, &reply);
+    say::to_sign(name, order);
+    let answer = signing::finish(order, certificate, true, signature, &mut reply);
+    say::finished(name, answer, &reply);
 }
 
-fn authentication() {
-    let x = [0u8; 32];
-    let y = [0u8; 32];
-    let mut reply = [0xaau8; 77];
-    let made = ctap1::decide(
-        &fido::AUTHENTICATE_FRAME,
-        1000,
-        touched(),
-        counting(1),
-        b"",
-        b"",
-        &x,
-        &y,
-        &mut reply,
+fn examples() {
+    example(
+        b"FIDO 8.1",
+        &fido::REGISTER_FRAME,
+        &fido::REGISTER_CERTIFICATE,
+        &fido::REGISTER_SIGNATURE,
     );
-    let order = made.order;
-    say::to_sign(b"FIDO 8.2", order);
-    let answer = signing::finish(order, b"", true, &fido::AUTHENTICATE_SIGNATURE, &mut reply);
-    say::finished(b"FIDO 8.2", answer, &reply);
+    example(
+        b"FIDO 8.2",
+        &fido::AUTHENTICATE_FRAME,
+        b"",
+        &fido::AUTHENTICATE_SIGNATURE,
+    );
 }
 
 fn checks() {
@@ -543,11 +498,6 @@ fn main() {
     login_rooms();
     versions();
     checks();
-    presence_byte(0x03);
-    presence_byte(0x08);
-    finish_register();
-    finish_login();
-    finish_nothing();
-    registration();
-    authentication();
+    finishing();
+    examples();
 }
