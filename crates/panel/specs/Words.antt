@@ -1,0 +1,33 @@
+-- The types that cross to C, and the enums that their numbers stand for: the files here take the names from this one.
+pub use Prim.Native.Nat.{ℕ, _+_, _-_, _^_, _≤_, _<_}
+pub use mathlib.Core.Path.{_≡_}
+pub use mathlib.Core.Bool.{Bool, true, false}
+pub use mathlib.Core.List.{List}
+pub use lib.Dec.{eqb}
+pub use lib.ListN.{length}
+pub use Rattle.outcome.specs.Notation.{if_then_else_, AtMostOne}
+pub use Rattle.outcome.specs.Outcome.{Outcome, R, SW, Gives}
+pub use Rattle.apdu.specs.declared.Case.{Case}
+pub use Rattle.apdu.specs.declared.Case.the-variants.{Instruction, Le1, Lc1Data, Lc1DataLe1, Lc3Data, Lc3DataLe1, Lc3DataLe2, Le3}
+pub use Rattle.apdu.specs.declared.ApduHeader.{ApduHeader}
+pub use Rattle.u2f_up.specs.declared.Window.{Window}
+pub use Rattle.u2f_up.specs.declared.Window.the-variants.{Closed, Opened}
+pub use Rattle.u2f_up.specs.declared.Presence.{Presence}
+pub use Rattle.signing.specs.declared.Kind.{Kind}
+pub use Rattle.signing.specs.declared.Order.{Order}
+pub use Rattle.ctap1.specs.declared.Allowed.{Allowed}
+pub use Rattle.ctap1.specs.declared.Attestation.{Attestation}
+pub use Rattle.ctap1.specs.declared.Counter.{Counter}
+pub use Rattle.ctap1.specs.declared.Hardware.{Hardware}
+pub use Rattle.panel.specs.declared.PresenceRecord.{PresenceRecord}
+pub use Rattle.panel.specs.declared.HardwareSaid.{HardwareSaid}
+pub use Rattle.panel.specs.declared.OrderNumbers.{OrderNumbers}
+pub use Rattle.panel.specs.declared.FrameSaid.{FrameSaid}
+pub use Rattle.panel.specs.declared.CommandSaid.{CommandSaid}
+pub use Rattle.panel.specs.declared.Wrote.{Wrote}
+pub use Rattle.panel.specs.declared.Made.{Made}
+pub use Rattle.panel.specs.declared.Touched.{Touched}
+pub use Rattle.panel.specs.declared.Asked.{Asked}
+pub use Rattle.panel.specs.declared.DecisionSaid.{DecisionSaid}
+pub use Rattle.panel.specs.declared.frames.Shaped.{Shaped}
+pub use Rattle.panel.specs.declared.orders.Kinded.{Kinded}

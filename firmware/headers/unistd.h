@@ -1,0 +1,14 @@
+#ifndef UNISTD_H
+#define UNISTD_H
+
+#include <stddef.h>
+
+typedef __PTRDIFF_TYPE__ ssize_t;
+
+enum { STDIN_FILENO = 0, STDOUT_FILENO = 1 };
+
+ssize_t read(int file, void *to, size_t count);
+ssize_t write(int file, const void *from, size_t count);
+void _exit(int status) __attribute__((noreturn));
+
+#endif

@@ -1,0 +1,478 @@
+/* A whole panel on a pipe: the firmware that links the proved core, with its peer in the place of finger, clock, key store,
+ * counter and signer. It holds the presence record, the reply buffer and one order; there is no heap.
+ *
+ * A call is a line of words between single spaces, and each is answered by one line, in its order. Numbers are decimal, a
+ * header's four bytes and all byte strings are in hex, `-` is the empty byte string. Moments T are in milliseconds.
+ *
+ *   new W                                  ok                     a fresh record with touch window W; a refusal keeps the old
+ *   touch T   check T   ask T              yes | no
+ *   record                                 W PROMPT TOUCH LAST    the record as it stands; a closed window is `-`
+ *   room N                                 ok                     the reply buffer has N bytes from now on (1024 at first)
+ *   read FRAME   strict FRAME              SHAPE LC LE START END  data from START, up to and without END
+ *   write CLA INS P1 P2 SHAPE LE DATA      9000 FRAME             written into the reply buffer
+ *   command FRAME                          register CHALLENGE APPLICATION | version
+ *                                          | authenticate P1 CHALLENGE APPLICATION HANDLE END    places in the frame
+ *   decide T ALLOWED FRAME HANDLE STORED CERTIFICATE ATTESTATION X Y GOOD COUNTER COUNTED
+ *                                          9000 BODY | order KIND TAKEN TOSIGN CERTIFICATELENGTH
+ *          ALLOWED 0 no, 1 yes, 2 failed; ATTESTATION 0 missing, 1 present, 2 failed; STORED, GOOD, COUNTED 0 or 1;
+ *          KIND 1 Register, 2 Authenticate; TAKEN 0 or 1
+ *   finish CERTIFICATE SIGNED SIGNATURE    9000 BODY              of the order held; SIGNED 0 or 1
+ *
+ * Any of them may be refused, `R1` to `R7`, or answered with a status word, as `6985`. A line that is no call is answered
+ * `? ` and why, and changes nothing. The order held is that of the last decision that was not refused, if it gave one; it is
+ * gone once it is finished with 9000 or a status word. Before the first `new` there is no record: R6. Answers go out when
+ * no more calls are waiting, so a peer may send one call at a time or a million at once.
+ */
+#include <unistd.h>
+
+#include "brinecandle.h"
+
+enum { ROOM = 1024, ROOM_MOST = 131072, LINE_MOST = 1048576, WORDS_MOST = 13, PIPE = 65536 };
+
+/* ---- the panel's state */
+
+static struct brinecandle_presence presence;
+static struct brinecandle_order order;
+static uint8_t block[BRINECANDLE_BLOCK];
+static uint8_t reply[ROOM_MOST];
+static size_t room = ROOM;
+
+/* ---- lines in and out */
+
+static char outgoing[PIPE];
+static size_t outgoing_length;
+
+static void flush(void)
+{
+    size_t sent = 0;
+    while (sent < outgoing_length) {
+        ssize_t n = write(STDOUT_FILENO, outgoing + sent, outgoing_length - sent);
+        if (n <= 0)
+            _exit(1);
+        sent += (size_t)n;
+    }
+    outgoing_length = 0;
+}
+
+static void put(char c)
+{
+    if (outgoing_length == PIPE)
+        flush();
+    outgoing[outgoing_length++] = c;
+}
+
+static void put_text(const char *text)
+{
+    while (*text)
+        put(*text++);
+}
+
+static void put_number(uint64_t n)
+{
+    char digits[20];
+    size_t count = 0;
+    do {
+        digits[count++] = (char)('0' + n % 10);
+        n /= 10;
+    } while (n);
+    while (count)
+        put(digits[--count]);
+}
+
+/* A number after a space. */
+static void then_number(uint64_t n)
+{
+    put(' ');
+    put_number(n);
+}
+
+static void put_hex(unsigned n, unsigned digits)
+{
+    while (digits--)
+        put("0123456789abcdef"[n >> 4 * digits & 15]);
+}
+
+/* Bytes after a space. */
+static void then_bytes(const uint8_t *bytes, size_t length)
+{
+    put_text(length ? " " : " -");
+    for (size_t i = 0; i < length; i++)
+        put_hex(bytes[i], 2);
+}
+
+static void put_answer(uint16_t answer)
+{
+    if (1 <= answer && answer <= 7) {
+        put('R');
+        put_number(answer);
+    } else {
+        put_hex(answer, 4);
+    }
+}
+
+static int next_char(void)
+{
+    static char incoming[PIPE];
+    static size_t at, length;
+    if (at == length) {
+        flush();
+        ssize_t n = read(STDIN_FILENO, incoming, PIPE);
+        if (n <= 0)
+            return -1;
+        at = 0;
+        length = (size_t)n;
+    }
+    return (unsigned char)incoming[at++];
+}
+
+/* ---- words: each reads its word and says whether it could */
+
+struct bytes {
+    const uint8_t *at;
+    size_t length;
+};
+
+static bool number(const char *word, uint64_t most, uint64_t *to)
+{
+    uint64_t n = 0;
+    if (!*word)
+        return false;
+    for (; *word; word++) {
+        uint64_t digit = (uint64_t)(*word - '0');
+        if (*word < '0' || '9' < *word || most < digit || (most - digit) / 10 < n)
+            return false;
+        n = n * 10 + digit;
+    }
+    *to = n;
+    return true;
+}
+
+static bool flag(const char *word, bool *to)
+{
+    uint64_t n = 0;
+    bool is = number(word, 1, &n);
+    *to = n == 1;
+    return is;
+}
+
+static int hex_digit(char c)
+{
+    if ('0' <= c && c <= '9')
+        return c - '0';
+    if ('a' <= c && c <= 'f')
+        return c - 'a' + 10;
+    if ('A' <= c && c <= 'F')
+        return c - 'A' + 10;
+    return -1;
+}
+
+/* The bytes replace the digits that said them: a line needs no second buffer. */
+static bool bytes(char *word, struct bytes *to)
+{
+    to->at = (const uint8_t *)word;
+    to->length = 0;
+    if (word[0] == '-')
+        return !word[1];
+    for (; word[2 * to->length]; to->length++) {
+        int high = hex_digit(word[2 * to->length]);
+        int low = high < 0 ? -1 : hex_digit(word[2 * to->length + 1]);
+        if (low < 0)
+            return false;
+        word[to->length] = (char)(high * 16 + low);
+    }
+    return to->length != 0;
+}
+
+static bool byte(char *word, uint8_t *to)
+{
+    struct bytes b;
+    bool is = bytes(word, &b) && b.length == 1;
+    *to = is ? b.at[0] : 0;
+    return is;
+}
+
+/* ---- calls: each reads its words, and says false, with nothing changed, where they are not its own */
+
+static bool call_new(char **word)
+{
+    uint64_t w;
+    if (!number(word[0], UINT64_MAX, &w))
+        return false;
+    struct brinecandle_made made = brinecandle_new(w);
+    if (made.answer == BRINECANDLE_OK) {
+        presence = made.presence;
+        put_text("ok");
+    } else {
+        put_answer(made.answer);
+    }
+    return true;
+}
+
+static void put_yes(uint16_t answer, bool yes)
+{
+    if (answer == BRINECANDLE_OK)
+        put_text(yes ? "yes" : "no");
+    else
+        put_answer(answer);
+}
+
+static bool call_touch(char **word)
+{
+    uint64_t t;
+    if (!number(word[0], UINT64_MAX, &t))
+        return false;
+    struct brinecandle_touch touch = brinecandle_grant_up(presence, t);
+    presence = touch.presence;
+    put_yes(touch.answer, touch.yes);
+    return true;
+}
+
+static bool call_check(char **word)
+{
+    uint64_t t;
+    if (!number(word[0], UINT64_MAX, &t))
+        return false;
+    struct brinecandle_touch check = brinecandle_consume_up(presence, t);
+    presence = check.presence;
+    put_yes(check.answer, check.yes);
+    return true;
+}
+
+static bool call_ask(char **word)
+{
+    uint64_t t;
+    if (!number(word[0], UINT64_MAX, &t))
+        return false;
+    struct brinecandle_asked asked = brinecandle_is_up_needed(presence, t);
+    put_yes(asked.answer, asked.yes);
+    return true;
+}
+
+static void then_window(uint64_t window)
+{
+    if (window == UINT64_MAX)
+        put_text(" -");
+    else
+        then_number(window);
+}
+
+static bool call_record(char **word)
+{
+    (void)word;
+    put_number(presence.w);
+    then_window(presence.prompt);
+    then_window(presence.touch);
+    then_number(presence.last);
+    return true;
+}
+
+static bool call_room(char **word)
+{
+    uint64_t n;
+    if (!number(word[0], ROOM_MOST, &n))
+        return false;
+    room = (size_t)n;
+    put_text("ok");
+    return true;
+}
+
+static void put_frame(struct brinecandle_frame frame)
+{
+    if (frame.answer != BRINECANDLE_OK) {
+        put_answer(frame.answer);
+        return;
+    }
+    put_number(frame.shape);
+    then_number(frame.lc);
+    then_number(frame.le);
+    then_number(frame.start);
+    then_number(frame.end);
+}
+
+static bool call_read(char **word)
+{
+    struct bytes frame;
+    if (!bytes(word[0], &frame))
+        return false;
+    put_frame(brinecandle_read(frame.at, frame.length));
+    return true;
+}
+
+static bool call_strict(char **word)
+{
+    struct bytes frame;
+    if (!bytes(word[0], &frame))
+        return false;
+    put_frame(brinecandle_read_strict(frame.at, frame.length));
+    return true;
+}
+
+/* What was written at the front of the reply buffer. */
+static void put_wrote(uint16_t answer, size_t length)
+{
+    put_answer(answer);
+    if (answer == BRINECANDLE_OK)
+        then_bytes(reply, length);
+}
+
+static bool call_write(char **word)
+{
+    uint8_t cla, ins, p1, p2;
+    uint64_t shape, le;
+    struct bytes content;
+    if (!byte(word[0], &cla) || !byte(word[1], &ins) || !byte(word[2], &p1) || !byte(word[3], &p2)
+        || !number(word[4], UINT32_MAX, &shape) || !number(word[5], UINT32_MAX, &le) || !bytes(word[6], &content))
+        return false;
+    struct brinecandle_wrote wrote = brinecandle_write(cla, ins, p1, p2, (uint32_t)shape, content.at, content.length,
+                                                       (uint32_t)le, reply, room);
+    put_wrote(wrote.answer, wrote.length);
+    return true;
+}
+
+static bool call_command(char **word)
+{
+    struct bytes frame;
+    if (!bytes(word[0], &frame))
+        return false;
+    struct brinecandle_command command = brinecandle_read_command(frame.at, frame.length);
+    if (command.answer != BRINECANDLE_OK) {
+        put_answer(command.answer);
+    } else if (command.command == 1) {
+        put_text("register");
+        then_number(command.challenge);
+        then_number(command.application);
+    } else if (command.command == 2) {
+        put_text("authenticate");
+        then_number(command.p1);
+        then_number(command.challenge);
+        then_number(command.application);
+        then_number(command.handle);
+        then_number(command.handle_end);
+    } else {
+        put_text("version");
+    }
+    return true;
+}
+
+static bool call_decide(char **word)
+{
+    uint64_t t, allowed, attestation, counter;
+    struct bytes frame, handle, certificate, x, y;
+    struct brinecandle_hardware hardware;
+    if (!number(word[0], UINT64_MAX, &t) || !number(word[1], 2, &allowed) || !bytes(word[2], &frame)
+        || !bytes(word[3], &handle) || !flag(word[4], &hardware.stored) || !bytes(word[5], &certificate)
+        || !number(word[6], 2, &attestation) || !bytes(word[7], &x) || !bytes(word[8], &y) || x.length != 32
+        || y.length != 32 || !flag(word[9], &hardware.good) || !number(word[10], UINT32_MAX, &counter)
+        || !flag(word[11], &hardware.counted))
+        return false;
+    hardware.allowed = (uint32_t)allowed;
+    hardware.attestation = (uint32_t)attestation;
+    hardware.counter = (uint32_t)counter;
+    struct brinecandle_decision decision = brinecandle_decide(frame.at, frame.length, t, presence, hardware, handle.at,
+                                                              handle.length, certificate.at, certificate.length, x.at,
+                                                              y.at, reply, room, block);
+    presence = decision.presence;
+    if (decision.answer == BRINECANDLE_ORDER) {
+        order = decision.order;
+        put_text("order");
+        then_number(order.kind);
+        then_number(decision.taken);
+        then_bytes(block, order.to_sign);
+        then_number(order.certificate_length);
+        return true;
+    }
+    if (7 < decision.answer)
+        order = decision.order; /* none: the one before is over */
+    put_wrote(decision.answer, decision.length);
+    return true;
+}
+
+static bool call_finish(char **word)
+{
+    struct bytes certificate, signature;
+    bool is_signed;
+    if (!bytes(word[0], &certificate) || !flag(word[1], &is_signed) || !bytes(word[2], &signature))
+        return false;
+    struct brinecandle_wrote wrote = brinecandle_finish(order, block, certificate.at, certificate.length, is_signed,
+                                                        signature.at, signature.length, reply, room);
+    if (7 < wrote.answer)
+        order = (struct brinecandle_order){0, 0, 0};
+    put_wrote(wrote.answer, wrote.length);
+    return true;
+}
+
+static const struct call {
+    const char *name;
+    size_t words;
+    bool (*run)(char **word);
+} calls[] = {
+    {"new", 1, call_new},         {"touch", 1, call_touch},    {"check", 1, call_check},   {"ask", 1, call_ask},
+    {"record", 0, call_record},   {"room", 1, call_room},      {"read", 1, call_read},     {"strict", 1, call_strict},
+    {"write", 7, call_write},     {"command", 1, call_command}, {"decide", 12, call_decide}, {"finish", 3, call_finish},
+};
+
+static bool same(const char *a, const char *b)
+{
+    while (*a && *a == *b) {
+        a++;
+        b++;
+    }
+    return *a == *b;
+}
+
+/* ---- the pipe */
+
+/* Cuts the line into its words in place; one more than there may be means too many. */
+static size_t cut(char *line, char **word)
+{
+    size_t count = 1;
+    word[0] = line;
+    for (; *line && count <= WORDS_MOST; line++) {
+        if (*line == ' ') {
+            *line = 0;
+            word[count++] = line + 1;
+        }
+    }
+    return count;
+}
+
+static void answer_line(char *line)
+{
+    char *word[WORDS_MOST + 1];
+    size_t count = cut(line, word);
+    for (size_t i = 0; i < sizeof calls / sizeof calls[0]; i++) {
+        if (same(word[0], calls[i].name)) {
+            if (count != calls[i].words + 1)
+                put_text("? another number of words");
+            else if (!calls[i].run(word + 1))
+                put_text("? a word that it does not take");
+            put('\n');
+            return;
+        }
+    }
+    put_text("? no such call\n");
+}
+
+int main(void)
+{
+    static char line[LINE_MOST];
+    for (;;) {
+        size_t length = 0;
+        int c = next_char();
+        if (c < 0)
+            break;
+        for (; 0 <= c && c != '\n'; c = next_char()) {
+            if (length < LINE_MOST)
+                line[length] = (char)c;
+            length++;
+        }
+        if (length < LINE_MOST) {
+            line[length] = 0;
+            answer_line(line);
+        } else {
+            put_text("? line too long\n");
+        }
+    }
+    flush();
+    return 0;
+}
