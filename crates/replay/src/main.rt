@@ -16,6 +16,9 @@ use u2f_up::Window;
 
 mod text;
 
+ghost use mathlib.Core.Path.{_≡_};
+ghost use lib.ListN.{length};
+
 // The touch window of the upstream repository.
 const W: u64 = 30000;
 
@@ -41,7 +44,7 @@ struct Replay {
 }
 
 // An answer as the sample's lines say it.
-struct Told {
+struct Said {
     kind: u64,
     number: u64,
 }
@@ -160,23 +163,23 @@ fn hardware(line: &[u8]) -> Hardware {
     }
 }
 
-fn told(answer: Decided, order: Order) -> Told {
+fn told(answer: Decided, order: Order) -> Said {
     match answer {
-        Decided::Refused(why) => Told {
+        Decided::Refused(why) => Said {
             kind: REFUSED,
             number: outcome::refusal_number(why) as u64,
         },
-        Decided::Status(status) => Told {
+        Decided::Status(status) => Said {
             kind: 0,
             number: outcome::status_number(status) as u64,
         },
-        Decided::Body(n) => Told {
+        Decided::Body(n) => Said {
             kind: 3,
             number: n as u64,
         },
         Decided::Order => {
             let kind = order.kind;
-            Told {
+            Said {
                 kind: signing::kind_number(kind) as u64,
                 number: 0,
             }
@@ -201,7 +204,7 @@ fn has_found(before: Presence, after: Presence) -> bool {
     is_open(was)
 }
 
-fn is_decided(told: Told, taken: bool, found: bool, line: &[u8]) -> bool {
+fn is_decided(told: Said, taken: bool, found: bool, line: &[u8]) -> bool {
     if told.kind != text::number(line, 42, 43) {
         return false;
     }
@@ -216,13 +219,13 @@ fn is_decided(told: Told, taken: bool, found: bool, line: &[u8]) -> bool {
 
 fn decide(run: Replay, frame: &[u8], line: &[u8], reply: &mut [u8]) -> Replay {
     let mut x = [0u8; 32];
-    text::fill(&mut x, X);
+    text::fill(&mut x, 32, X);
     let mut y = [0u8; 32];
-    text::fill(&mut y, Y);
+    text::fill(&mut y, 32, Y);
     let mut handle = [0u8; 512];
-    text::fill(&mut handle, HANDLE);
+    text::fill(&mut handle, 512, HANDLE);
     let mut certificate = [0u8; 512];
-    text::fill(&mut certificate, CERTIFICATE);
+    text::fill(&mut certificate, 512, CERTIFICATE);
     let before = run.presence;
     let decision = ctap1::decide(
         frame,
@@ -262,9 +265,9 @@ fn finished(run: Replay, body: usize, status: u64, line: &[u8]) -> Replay {
 
 fn finish(run: Replay, line: &[u8], reply: &mut [u8]) -> Replay {
     let mut certificate = [0u8; 512];
-    text::fill(&mut certificate, CERTIFICATE);
+    text::fill(&mut certificate, 512, CERTIFICATE);
     let mut signature = [0u8; 256];
-    text::fill(&mut signature, SIGNATURE);
+    text::fill(&mut signature, 256, SIGNATURE);
     let order = run.order;
     let answer = signing::finish(
         order,
@@ -286,7 +289,7 @@ fn finish(run: Replay, line: &[u8], reply: &mut [u8]) -> Replay {
 fn is_same(line: &[u8], given: &[u8], long: usize) -> bool {
     let mut space = [0u8; 1024];
     let said: &mut [u8] = &mut space;
-    let n = text::bytes(line, 2, said);
+    let n = text::bytes(line, 2, said, 0);
     if n != long {
         return false;
     }
@@ -308,9 +311,7 @@ fn signed(run: Replay, line: &[u8]) -> Replay {
 fn framed(run: Replay, line: &[u8], frame: &mut [u8]) -> Replay {
     let n = text::number(line, 2, 7) as usize;
     let from = text::number(line, 8, 10) as usize;
-    if n <= frame.len() {
-        text::fill(&mut frame[..n], 251 - from % 251);
-    }
+    text::fill(frame, n, 251 - from % 251);
     let presence = run.presence;
     let order = run.order;
     Replay {
@@ -324,9 +325,7 @@ fn framed(run: Replay, line: &[u8], frame: &mut [u8]) -> Replay {
 
 fn pieced(run: Replay, line: &[u8], frame: &mut [u8]) -> Replay {
     let at = text::number(line, 2, 7) as usize;
-    if at <= frame.len() {
-        text::bytes(line, 8, &mut frame[at..]);
-    }
+    text::bytes(line, 8, frame, at);
     compared(run, true)
 }
 
@@ -402,10 +401,7 @@ fn run_lines(lines: &[u8], frame: &mut [u8], reply: &mut [u8], counts: &mut [u64
             differs(line, counts[0]);
             count(counts, 0);
         }
-        if end == lines.len() {
-            return;
-        }
-        at = end + 1;
+        at = text::line_after(lines, at, end);
     }
 }
 
@@ -421,9 +417,22 @@ fn summary(counts: &[u64; 256]) {
     say(b"lines that differ: ", counts[0]);
 }
 
+// The sample has to fit. A function each: what it says of the length saves main a proof.
+fn lines_space() -> [u8; 262144]
+    ensures { λ r. ⌜ 262144 ≡ length r ⌝ }
+{
+    [0; 262144]
+}
+
+fn frame_space() -> [u8; 65600]
+    ensures { λ r. ⌜ 65600 ≡ length r ⌝ }
+{
+    [0; 65600]
+}
+
 fn main() {
-    let mut lines = [0u8; 262144];
-    let mut frame = [0u8; 65600];
+    let mut lines = lines_space();
+    let mut frame = frame_space();
     let mut reply = [0u8; 1024];
     let mut counts = [0u64; 256];
     let n = io::read_full(0, &mut lines);

@@ -18,6 +18,17 @@ pub fn line_end(text: &[u8], at: usize) -> usize
     i
 }
 
+// Where the line after the one from `at` to `end` begins.
+pub fn line_after(text: &[u8], at: usize, end: usize) -> usize
+    requires { ⌜ (at < length (now text)) × (at ≤ end) ⌝ }
+    ensures { λ r. ⌜ (at < r) × (r ≤ length (now (text .entry))) ⌝ }
+{
+    if text.len() <= end {
+        return text.len();
+    }
+    end + 1
+}
+
 fn value(b: u8) -> u8
     ensures { λ r. ⌜ r < 16 ⌝ }
 {
@@ -61,12 +72,10 @@ pub fn flag(line: &[u8], at: usize) -> bool {
     digit(line, at) == 1
 }
 
-// The bytes that the digits from column `start` to the line's end say, at the front of out; how many there were.
-pub fn bytes(line: &[u8], start: usize, out: &mut [u8]) -> usize
-    ensures { λ r. ⌜ r ≤ length (now (out .exit)) ⌝ }
-{
+// The bytes that the digits from column `start` to the line's end say go into out, from its byte `to` on; where they end.
+pub fn bytes(line: &[u8], start: usize, out: &mut [u8], to: usize) -> usize {
     let mut i = start;
-    let mut n = 0;
+    let mut n = to;
     while i < line.len() {
         if out.len() <= n {
             return n;
@@ -81,10 +90,13 @@ pub fn bytes(line: &[u8], start: usize, out: &mut [u8]) -> usize
     n
 }
 
-// Plain bytes: byte i is i + salt, modulo 251.
-pub fn fill(out: &mut [u8], salt: usize) {
+// Plain bytes at the front of out, as many as `count`: byte i is i + salt, modulo 251.
+pub fn fill(out: &mut [u8], count: usize, salt: usize) {
     let mut i = 0;
-    while i < out.len() {
+    while i < count {
+        if out.len() <= i {
+            return;
+        }
         out[i] = ((i % 251 + salt % 251) % 251) as u8;
         i += 1;
     }
