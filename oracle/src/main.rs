@@ -4,22 +4,45 @@
 extern crate arrayref;
 extern crate alloc;
 
+mod compare;
 mod ctap;
 mod device;
 mod generate;
 mod lent;
+mod panel;
 mod sample;
 mod standins;
 use standins::{api, env};
 
+const USAGE: &str = "oracle sample SEED                          the sample for crates/replay, on standard output
+oracle compare PANEL FRAMES CALLS SEED JOBS the panel (a command) against upstream";
+
+fn number<T: std::str::FromStr>(word: &str) -> T {
+    word.parse().unwrap_or_else(|_| {
+        eprintln!("oracle: {word} is no number\n{USAGE}");
+        std::process::exit(2)
+    })
+}
+
 fn main() {
     let args: Vec<String> = std::env::args().skip(1).collect();
     let words: Vec<&str> = args.iter().map(String::as_str).collect();
-    match words.as_slice() {
-        ["sample", seed] => print!("{}", sample::make(seed.parse().expect("a seed"))),
-        _ => {
-            eprintln!("oracle sample SEED");
-            std::process::exit(2);
+    let good = match words.as_slice() {
+        ["sample", seed] => {
+            print!("{}", sample::make(number(seed)));
+            true
         }
-    }
+        ["compare", panel, frames, calls, seed, jobs] => compare::run(&compare::Plan {
+            panel: panel.to_string(),
+            frames: number(frames),
+            calls: number(calls),
+            seed: number(seed),
+            jobs: number::<usize>(jobs).max(1),
+        }),
+        _ => {
+            eprintln!("{USAGE}");
+            false
+        }
+    };
+    std::process::exit(if good { 0 } else { 1 });
 }
