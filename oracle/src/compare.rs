@@ -1,6 +1,6 @@
 //! The comparison: the same calls to the panel and to upstream, answer by answer.
 
-use crate::device::{read, Answer, Call, Device, Outcome, Touch};
+use crate::device::{read, reading_name, yes_name, Answer, Call, Device, Outcome, Touch, ANSWERS};
 use crate::generate::{all, all_count, boundary, damaged, Dice, History, ALL_UP_TO};
 use crate::lent::Hardware;
 use crate::panel::{decided, finished, next_line, put_call, put_finish, Panel, Record};
@@ -12,6 +12,10 @@ use std::sync::Arc;
 /// Calls of a block, which has its own dice: what is compared does not depend on how many panels share the work.
 const BLOCK: usize = 1000;
 const HISTORY_CALLS: usize = 25;
+
+/// Lines that are compared too, and are no answers of upstream's.
+const RECORD: &str = "record";
+const FRESH: &str = "new";
 
 /// What a line of the panel's has to say.
 enum Expected {
@@ -39,11 +43,7 @@ impl Block {
 
     fn frame(&mut self, frame: Vec<u8>) {
         let answer = read(&frame);
-        let key = match &answer {
-            Answer::Frame(says) => format!("read shape {}", says.shape),
-            Answer::Status(status) => format!("read {status:04x}"),
-            other => panic!("a reading is {other:?}"),
-        };
+        let key = reading_name(&answer);
         let mut device = Device::new();
         let trial = Call::Command(0, frame.clone(), Box::new(Hardware::default()));
         let Answer::Command(outcome) = device.answer(&trial) else { unreachable!() };
@@ -56,30 +56,19 @@ impl Block {
 
     fn record(&mut self, record: &Record) {
         self.lines.extend_from_slice(b"record\n");
-        self.words("record".into(), |said| record.put(said));
+        self.words(RECORD.into(), |said| record.put(said));
     }
 
     fn yes(&mut self, what: &str, yes: bool) {
-        let word = if yes { "yes" } else { "no" };
-        self.words(format!("{what} {word}"), |said| said.extend_from_slice(word.as_bytes()));
+        let word: &[u8] = if yes { b"yes" } else { b"no" };
+        self.words(yes_name(what, yes), |said| said.extend_from_slice(word));
     }
 
     fn command(&mut self, call: &Call, frame: &[u8], outcome: &Outcome) {
-        let kind = match (outcome.ordered, outcome.status) {
-            (true, _) if frame[1] == 0x01 => "register".into(),
-            (true, _) => "authenticate".into(),
-            (false, 0x9000) => "version".into(),
-            (false, status) => format!("{status:04x}"),
-        };
-        let touch = match outcome.touch {
-            Touch::NotLookedFor => "",
-            Touch::Missing => ", no touch",
-            Touch::Found => ", touch found",
-        };
-        self.words(format!("decide {kind}{touch}"), |said| decided(call, outcome, said));
+        self.words(outcome.decision_name(frame), |said| decided(call, outcome, said));
         if outcome.ordered {
             put_finish(&mut self.lines, call);
-            self.words(format!("finish {kind} {:04x}", outcome.status), |said| finished(outcome, said));
+            self.words(outcome.finish_name(frame), |said| finished(outcome, said));
         }
     }
 
@@ -88,7 +77,7 @@ impl Block {
         match (call, device.answer(call)) {
             (Call::New, _) => {
                 *record = Record::default();
-                self.words("new ok".into(), |said| said.extend_from_slice(b"ok"));
+                self.words(FRESH.into(), |said| said.extend_from_slice(b"ok"));
             }
             (Call::Touch(t), Answer::Yes(yes)) => {
                 self.yes("touch", yes);
@@ -305,19 +294,6 @@ fn share(plan: &Plan, job: usize) -> Result<Tally, String> {
     result.map(|()| tally)
 }
 
-/// Every answer that the domain has, so that one which was never met shows.
-const ANSWERS: [&str; 45] = [
-    "read shape 1", "read shape 2", "read shape 3", "read shape 4", "read shape 5", "read shape 6", "read shape 7",
-    "read shape 8", "read 6a80", "read 6700",
-    "command register", "command authenticate 3", "command authenticate 7", "command authenticate 8",
-    "command version", "command 6a80", "command 6700", "command 6e00", "command 6d00",
-    "new ok", "touch yes", "touch no", "check yes", "check no", "ask yes", "ask no", "record",
-    "decide 6f00", "decide 6986", "decide 6a80", "decide 6700", "decide 6e00", "decide 6d00", "decide 6985",
-    "decide 6985, no touch", "decide 6f00, touch found", "decide 6a80, touch found", "decide version",
-    "decide register, touch found", "decide authenticate", "decide authenticate, touch found",
-    "finish register 9000", "finish register 6f00", "finish authenticate 9000", "finish authenticate 6f00",
-];
-
 /// Compares, prints what the cases came to, and says whether all agreed and every answer was met.
 pub fn run(plan: &Plan) -> bool {
     println!("{} frames, {} history calls, seed {}", plan.frames, plan.calls, plan.seed);
@@ -341,7 +317,7 @@ pub fn run(plan: &Plan) -> bool {
         return false;
     }
     for (key, n) in &tally {
-        println!("{n:>9}  {key}{}", if ANSWERS.contains(&key.as_str()) { "" } else { "  (not on the list)" });
+        println!("{n:>9}  {key}");
     }
     let missing: Vec<&String> = tally.iter().filter(|(_, n)| **n == 0).map(|(key, _)| key).collect();
     println!("{} answers compared, no difference", tally.values().sum::<u64>());

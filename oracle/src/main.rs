@@ -7,6 +7,7 @@ extern crate alloc;
 mod compare;
 mod ctap;
 mod device;
+mod differences;
 mod generate;
 mod lent;
 mod panel;
@@ -14,8 +15,9 @@ mod sample;
 mod standins;
 use standins::{api, env};
 
-const USAGE: &str = "oracle sample SEED                          the sample for crates/replay, on standard output
-oracle compare PANEL FRAMES CALLS SEED JOBS the panel (a command) against upstream";
+const USAGE: &str = "oracle sample SEED FOLDER                   the sample and what its replay prints, to FOLDER/stdin and FOLDER/stdout
+oracle compare PANEL FRAMES CALLS SEED JOBS the panel (a command) against upstream
+oracle differences PANEL                    the differences that are known, shown on both";
 
 fn number<T: std::str::FromStr>(word: &str) -> T {
     word.parse().unwrap_or_else(|_| {
@@ -28,8 +30,11 @@ fn main() {
     let args: Vec<String> = std::env::args().skip(1).collect();
     let words: Vec<&str> = args.iter().map(String::as_str).collect();
     let good = match words.as_slice() {
-        ["sample", seed] => {
-            print!("{}", sample::make(number(seed)));
+        ["sample", seed, folder] => {
+            let (sample, summary) = sample::make(number(seed));
+            let write = |name: &str, text: String| std::fs::write(format!("{folder}/{name}"), text).expect(name);
+            write("stdin", sample);
+            write("stdout", summary);
             true
         }
         ["compare", panel, frames, calls, seed, jobs] => compare::run(&compare::Plan {
@@ -39,6 +44,7 @@ fn main() {
             seed: number(seed),
             jobs: number::<usize>(jobs).max(1),
         }),
+        ["differences", panel] => differences::run(panel),
         _ => {
             eprintln!("{USAGE}");
             false
