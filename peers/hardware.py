@@ -24,6 +24,14 @@ def ecdsa(key, message):
     return key.sign(message, ec.ECDSA(SHA256()))
 
 
+def coordinates(key):
+    """x and y of the public key; zeros where there is no key."""
+    if key is None:
+        return bytes(32), bytes(32)
+    public = key.public_key().public_numbers()
+    return public.x.to_bytes(32, "big"), public.y.to_bytes(32, "big")
+
+
 def utf8_string(text):
     """In DER, for under 65,536 bytes."""
     n = len(text)
@@ -81,7 +89,7 @@ class Device(CtapDevice):
         self.panel.call("new", TOUCH_WINDOW)
 
     def close(self):
-        self.panel.__exit__()
+        self.panel.close()
 
     @classmethod
     def list_devices(cls):
@@ -109,10 +117,8 @@ class Device(CtapDevice):
 
     def answer(self, frame):
         key, handle = self.key_for(frame)
-        public = key.public_key().public_numbers() if key else None
-        x, y = (n.to_bytes(32, "big") for n in ((public.x, public.y) if public else (0, 0)))
-        decided = self.panel.call("decide", self.clock(), 1, frame, handle, True, self.attestation.certificate, 1, x, y,
-                                  key is not None, self.counter, True)
+        decided = self.panel.call("decide", self.clock(), 1, frame, handle, True, self.attestation.certificate, 1,
+                                  *coordinates(key), key is not None, self.counter, True)
         if decided[0] == "order":
             decided = self.carry_out(key, *decided[1:])
         status, *body = decided
@@ -121,11 +127,13 @@ class Device(CtapDevice):
     def key_for(self, frame):
         """The key that a command is about, and the handle of a new one."""
         command, *places = self.panel.call("command", frame)
-        at = list(map(int, places))
+        places = map(int, places)
         if command == "register":
-            return self.keys.new(frame[at[1]:at[1] + 32])
+            _challenge, application = places
+            return self.keys.new(frame[application:application + 32])
         if command == "authenticate":
-            return self.keys.open(frame[at[3]:at[4]], frame[at[2]:at[2] + 32]), b""
+            _p1, _challenge, application, handle, end = places
+            return self.keys.open(frame[handle:end], frame[application:application + 32]), b""
         return None, b""
 
     def carry_out(self, key, kind, taken, to_sign, _certificate_length):

@@ -20,6 +20,9 @@ class Panel:
         return self
 
     def __exit__(self, *_):
+        self.close()
+
+    def close(self):
         self.process.stdin.close()
         if self.process.wait() != 0:
             raise RuntimeError("the panel ended in a failure")
