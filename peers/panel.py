@@ -5,7 +5,7 @@ import subprocess
 from pathlib import Path
 
 ROOT = Path(__file__).resolve().parent.parent
-PANEL = os.environ.get("PANEL", str(ROOT / "firmware" / "run"))
+PANEL = os.environ.get("PANEL") or str(ROOT / "firmware" / "run")
 
 
 class Refusal(Exception):
