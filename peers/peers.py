@@ -1,25 +1,20 @@
 """Clients and a server that others wrote, against the panel: python3-fido2 and libu2f-server's own tool, `u2f-server`."""
 
-import json
 import os
-import subprocess
 import sys
 import tempfile
 import traceback
 from hashlib import sha256
-from pathlib import Path
-from threading import Event
 
 from cryptography.exceptions import InvalidSignature as InvalidLogin
 from cryptography.x509 import load_der_x509_certificate
 from fido2.attestation import InvalidSignature as InvalidEnrolment
-from fido2.client import ClientError, U2fClient
-from fido2.ctap1 import APDU, ApduError, Ctap1, RegistrationData, SignatureData
+from fido2.ctap1 import APDU, ApduError, Ctap1, SignatureData
 
 from hardware import Attestation, Device
 from panel import Refusal
+from server import ORIGIN, Server, is_known, server_enrolment, server_login
 
-ORIGIN = "https://example.com"
 APPLICATION = sha256(ORIGIN.encode()).digest()
 OTHER_APPLICATION = sha256(b"https://example.org").digest()
 HANDLE = 64
@@ -101,6 +96,16 @@ def enrolment_and_logins(device):
         say(f"9000, login with counter {counter}: verified by fido2")
 
 
+def login_without_touch(device):
+    """fido2 logs in with P1 08, which asks for no touch"""
+    client, challenge, key = Ctap1(device), os.urandom(32), enrolled(device)
+    data = challenge + APPLICATION + bytes([HANDLE]) + key.key_handle
+    reply = SignatureData(client.send_apdu(ins=Ctap1.INS.AUTHENTICATE, p1=8, data=data))
+    reply.verify(APPLICATION, challenge, key.public_key)
+    assert (reply.user_presence, reply.counter) == (0, 1)
+    say("9000 at once, presence byte 00: verified by fido2")
+
+
 def changed_replies(device):
     """fido2 rejects replies of which one bit was turned"""
     challenge = os.urandom(32)
@@ -179,49 +184,6 @@ def room_to_the_byte(device):
     say(f"enrolment: {enough - 1} is R2, {enough} is enough; login: 76 is R2, 77 is enough")
 
 
-class Server:
-    """`u2f-server`: it says a challenge, takes the client's response and judges it. What it learns of an enrolment is in its
-    folder afterwards."""
-
-    def __init__(self, folder):
-        self.folder = Path(folder)
-
-    def key(self):
-        return {"version": "U2F_V2", "keyHandle": (self.folder / "handle").read_text()}
-
-    def judge(self, action, respond):
-        """Accepted? And what it says."""
-        words = ["-a", action, "-o", ORIGIN, "-i", ORIGIN, "-k", self.folder / "handle", "-p", self.folder / "key"]
-        with subprocess.Popen(["stdbuf", "-oL", "u2f-server", *words], stdin=subprocess.PIPE, stdout=subprocess.PIPE,
-                              stderr=subprocess.STDOUT, text=True) as server:
-            response = respond(json.loads(server.stdout.readline()))
-            said = server.communicate(json.dumps(response))[0].strip()
-        return server.returncode == 0, said
-
-
-def finger(device, event):
-    """A client that waits for a touch gets it; if the panel does not accept it, the client stops waiting."""
-    return lambda _: None if device.touch() else event.set()
-
-
-def server_enrolment(device, server, change=lambda reply: reply):
-    def respond(asked):
-        event = Event()
-        response = U2fClient(device, ORIGIN).register(ORIGIN, [asked], [], event, finger(device, event))
-        return response | {"registrationData": change(RegistrationData.from_b64(response["registrationData"])).b64}
-
-    return server.judge("register", respond)
-
-
-def server_login(device, server, change=lambda reply: reply):
-    def respond(asked):
-        event = Event()
-        response = U2fClient(device, ORIGIN).sign(ORIGIN, asked["challenge"], [server.key()], event, finger(device, event))
-        return response | {"signatureData": change(SignatureData.from_b64(response["signatureData"])).b64}
-
-    return server.judge("authenticate", respond)
-
-
 def server_accepts(device):
     """libu2f-server judges an enrolment and two logins that fido2 made with the panel"""
     with tempfile.TemporaryDirectory() as folder:
@@ -233,11 +195,7 @@ def server_accepts(device):
             accepted, said = server_login(device, server)
             say(f"u2f-server: {said}")
             assert accepted and f"Successful authentication, counter: {counter}, user presence 1" in said
-        try:
-            U2fClient(device, ORIGIN).register(ORIGIN, [], [server.key()])
-            assert False
-        except ClientError as error:
-            assert error.code == ClientError.ERR.DEVICE_INELIGIBLE
+        assert is_known(device, server)
         say("a second enrolment for the same account: fido2 sees that this panel is enrolled")
 
 
@@ -257,6 +215,7 @@ CASES = [
     (version, 300),
     (enrolment_and_logins, 300),
     (enrolment_and_logins, 600),
+    (login_without_touch, 300),
     (changed_replies, 300),
     (handles, 300),
     (lapsed_touch, 300),
