@@ -12,14 +12,11 @@ mod orders;
 mod presence;
 
 ghost use mathlib.Core.Path.{_≡_};
-ghost use lib.ListN.{length};
 ghost use Rattle.apdu.specs.Reading.{readOf, strictOf};
 ghost use Rattle.command.specs.Command.{commandOf};
 ghost use Rattle.u2f_up.specs.Moments.{newOf, touchOf, checkOf, askOf};
-ghost use Rattle.signing.specs.Finishing.{lengthOf, replyOf};
-ghost use Rattle.ctap1.specs.Decision.{decisionOf, replyLeft};
-ghost use Rattle.panel.specs.Numbers.{presenceOf, hardwareOf};
-ghost use Rattle.panel.specs.Exports.{frameNumbers, commandNumbers, madeNumbers, stepNumbers, askedNumbers, decisionNumbers, lengthNumbers, blockLeft, plainWrite, plainWritten, plainFinish};
+ghost use Rattle.panel.specs.Numbers.{presenceOf};
+ghost use Rattle.panel.specs.Exports.{frameNumbers, commandNumbers, madeNumbers, stepNumbers, askedNumbers, Writes, Decides, Finishes};
 
 // The presence record. A window is the moment at which it was opened, or u64's greatest number where it is closed.
 #[repr(C)]
@@ -137,8 +134,7 @@ pub extern "C" fn brinecandle_write(
     le: u32,
     out: &mut [u8],
 ) -> Wrote
-    ensures { λ r. ⌜ r ≡ lengthNumbers (plainWrite (record { header = record { cla = cla; ins = ins; p1 = p1; p2 = p2 }; shape = shape; content = now (content .entry); le = le }) (length (now (out .entry)))) ⌝ }
-    ensures { λ _. ⌜ now (out .exit) ≡ plainWritten (record { header = record { cla = cla; ins = ins; p1 = p1; p2 = p2 }; shape = shape; content = now (content .entry); le = le }) (now (out .entry)) ⌝ }
+    ensures { λ r. ⌜ Writes (record { header = record { cla = cla; ins = ins; p1 = p1; p2 = p2 }; shape = shape; content = now (content .entry); le = le; out = now (out .entry) }) r (now (out .exit)) ⌝ }
 {
     let header = apdu::ApduHeader { cla, ins, p1, p2 };
     frames::write_numbered(header, shape, content, le, out)
@@ -192,9 +188,7 @@ pub extern "C" fn brinecandle_decide(
     reply: &mut [u8],
     block: &mut [u8; 385],
 ) -> DecisionSaid
-    ensures { λ r. ⌜ r ≡ decisionNumbers (decisionOf (record { frame = now (frame .entry); moment = t; presence = presenceOf presence; hardware = hardwareOf hardware; newHandle = now (handle .entry); certificate = now (certificate .entry); x = now (x .entry); y = now (y .entry); room = length (now (reply .entry)) })) ⌝ }
-    ensures { λ _. ⌜ now (reply .exit) ≡ replyLeft (decisionOf (record { frame = now (frame .entry); moment = t; presence = presenceOf presence; hardware = hardwareOf hardware; newHandle = now (handle .entry); certificate = now (certificate .entry); x = now (x .entry); y = now (y .entry); room = length (now (reply .entry)) })) (now (reply .entry)) ⌝ }
-    ensures { λ _. ⌜ now (block .exit) ≡ blockLeft (decisionOf (record { frame = now (frame .entry); moment = t; presence = presenceOf presence; hardware = hardwareOf hardware; newHandle = now (handle .entry); certificate = now (certificate .entry); x = now (x .entry); y = now (y .entry); room = length (now (reply .entry)) })) (now (block .entry)) ⌝ }
+    ensures { λ r. ⌜ Decides (record { frame = now (frame .entry); moment = t; presence = presence; hardware = hardware; newHandle = now (handle .entry); certificate = now (certificate .entry); x = now (x .entry); y = now (y .entry); reply = now (reply .entry); block = now (block .entry) }) r (now (reply .exit)) (now (block .exit)) ⌝ }
 {
     let kept = presence::lent(presence);
     let answers = orders::hardware_of(hardware);
@@ -215,8 +209,7 @@ pub extern "C" fn brinecandle_finish(
     signature: &[u8],
     reply: &mut [u8],
 ) -> Wrote
-    ensures { λ r. ⌜ r ≡ lengthNumbers (lengthOf (plainFinish (record { order = order; block = now (block .entry); certificate = now (certificate .entry); signed = «is_signed»; signature = now (signature .entry); reply = now (reply .entry) }))) ⌝ }
-    ensures { λ _. ⌜ now (reply .exit) ≡ replyOf (plainFinish (record { order = order; block = now (block .entry); certificate = now (certificate .entry); signed = «is_signed»; signature = now (signature .entry); reply = now (reply .entry) })) (now (reply .entry)) ⌝ }
+    ensures { λ r. ⌜ Finishes (record { order = order; block = now (block .entry); certificate = now (certificate .entry); signed = «is_signed»; signature = now (signature .entry); reply = now (reply .entry) }) r (now (reply .exit)) ⌝ }
 {
     let numbered = orders::kind_of(order.kind);
     match numbered {
