@@ -25,7 +25,7 @@ pub struct Row {
     pub name: String,
     kind: Kind,
     touched: bool,
-    frame: Vec<u8>,
+    frame: &'static [u8],
 }
 
 /// A frame of the shape; the data's bytes count up.
@@ -58,7 +58,7 @@ impl Row {
             name: name.into(),
             kind,
             touched,
-            frame,
+            frame: frame.leak(),
         }
     }
 
@@ -125,7 +125,7 @@ pub struct World {
     reply: [u8; ROOM],
     env: Lent,
     state: CtapState<Lent>,
-    read: fn(&[u8]) -> Result<Apdu, ApduStatusCode>,
+    read: fn(&'static [u8]) -> Result<Apdu, ApduStatusCode>,
     process: fn(&mut Lent, &[u8], &mut CtapState<Lent>) -> Result<Vec<u8>, ApduStatusCode>,
 }
 
@@ -162,7 +162,7 @@ impl World {
             reply: [0; ROOM],
             env,
             state,
-            read: |frame| Apdu::try_from(frame),
+            read: Apdu::try_from,
             process: Ctap1Command::process_command::<Lent>,
         };
         world.order = world.decided().order;
@@ -173,7 +173,7 @@ impl World {
         match (name, self.row.kind) {
             ("nothing", _) => Some(|_| ()),
             ("core", Kind::Read) => Some(|w| drop(w.said())),
-            ("rust", Kind::Read) => Some(|w| drop((w.read)(&w.row.frame))),
+            ("rust", Kind::Read) => Some(|w| drop((w.read)(w.row.frame))),
             ("core" | "decide", Kind::Answered) => Some(|w| drop(w.decided())),
             ("core", _) => Some(|w| {
                 w.order = w.decided().order;
@@ -240,7 +240,7 @@ impl World {
     #[inline(always)]
     fn processed(&mut self) -> Result<Vec<u8>, ApduStatusCode> {
         let mut state: CtapState<Lent> = unsafe { std::ptr::read(&self.state) };
-        (self.process)(&mut self.env, &self.row.frame, &mut state)
+        (self.process)(&mut self.env, self.row.frame, &mut state)
     }
 
     /// Both sides say the same of the row's frame; the process ends where they do not.
@@ -262,7 +262,7 @@ impl World {
     }
 
     fn rust_reading(&self) -> (u16, Vec<u8>, [u32; 2]) {
-        match (self.read)(&self.row.frame) {
+        match (self.read)(self.row.frame) {
             Ok(apdu) => {
                 let header = [apdu.header.cla, apdu.header.ins, apdu.header.p1, apdu.header.p2];
                 (0x9000, [&header[..], &apdu.data].concat(), [apdu.lc.into(), apdu.le])
