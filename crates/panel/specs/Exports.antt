@@ -122,7 +122,7 @@ madeNumbers o = record { answer = answerNo o; presence = recordIn o }
 abbrev pub yesIn : Outcome Bool → Bool
 yesIn (R n) = false
 yesIn (SW n) = false
-yesIn (Gives yes) = yes
+yesIn (Gives b) = b
 
 abbrev pub askedNumbers : Outcome Bool → Asked
 askedNumbers o = record { answer = answerNo o; yes = yesIn o }

@@ -19,8 +19,7 @@ ghost use Rattle.u2f_up.specs.Moments.{newOf, touchOf, checkOf, askOf};
 ghost use Rattle.signing.specs.Finishing.{lengthOf, replyOf};
 ghost use Rattle.ctap1.specs.Decision.{decisionOf, replyLeft};
 ghost use Rattle.panel.specs.Numbers.{presenceOf, hardwareOf};
-ghost use Rattle.panel.specs.Exports.{frameNumbers, commandNumbers, madeNumbers, stepNumbers, askedNumbers, decisionNumbers, lengthNumbers, blockLeft, plainWrite, plainWritten, plainFinish, plainReply};
-
+ghost use Rattle.panel.specs.Exports.{frameNumbers, commandNumbers, madeNumbers, stepNumbers, askedNumbers, decisionNumbers, lengthNumbers, blockLeft, plainWrite, plainWritten, plainFinish};
 
 // The presence record. A window is the moment at which it was opened, or u64's greatest number where it is closed.
 #[repr(C)]

@@ -1,43 +1,34 @@
+-- `shape_of` meets its contract: by the number.
 use Rattle.panel.proofs.frames.shape_of.Statement.{statement}
 use Rattle.panel.proofs.frames.shape_of.Tie as tie
-use Rattle.panel.proofs.frames.shape_of.Reads as reads
-use Rattle.panel.proofs.frames.shape_of.Lts as lts
+use Rattle.panel.proofs.FrameCases
 
--- src/frames.rt:26:1
 returns : tie.Need-returns
-returns c = ?
+returns c = FrameCases.shape-1 _ (c .match .keys1)
 
--- src/frames.rt:26:1
 returns-2 : tie.Need-returns-2
-returns-2 c = ?
+returns-2 c = FrameCases.shape-2 _ (c .match .keys2)
 
--- src/frames.rt:26:1
 returns-3 : tie.Need-returns-3
-returns-3 c = ?
+returns-3 c = FrameCases.shape-3 _ (c .match .keys3)
 
--- src/frames.rt:26:1
 returns-4 : tie.Need-returns-4
-returns-4 c = ?
+returns-4 c = FrameCases.shape-4 _ (c .match .keys4)
 
--- src/frames.rt:26:1
 returns-5 : tie.Need-returns-5
-returns-5 c = ?
+returns-5 c = FrameCases.shape-5 _ (c .match .keys5)
 
--- src/frames.rt:26:1
 returns-6 : tie.Need-returns-6
-returns-6 c = ?
+returns-6 c = FrameCases.shape-6 _ (c .match .keys6)
 
--- src/frames.rt:26:1
 returns-7 : tie.Need-returns-7
-returns-7 c = ?
+returns-7 c = FrameCases.shape-7 _ (c .match .keys7)
 
--- src/frames.rt:26:1
 returns-8 : tie.Need-returns-8
-returns-8 c = ?
+returns-8 c = FrameCases.shape-8 _ (c .match .keys8)
 
--- src/frames.rt:26:1
 returns-9 : tie.Need-returns-9
-returns-9 c = ?
+returns-9 c = FrameCases.no-shape _ (c .match .rest .0 .0 .0 .0 .0 .0 .0 .1) (c .match .rest .0 .0 .0 .0 .0 .0 .1) (c .match .rest .0 .0 .0 .0 .0 .1) (c .match .rest .0 .0 .0 .0 .1) (c .match .rest .0 .0 .0 .1) (c .match .rest .0 .0 .1) (c .match .rest .0 .1) (c .match .rest .1)
 
 pub shape-of-spec : {M : Type 1} → statement M
 shape-of-spec =

@@ -1,19 +1,16 @@
+-- `attestation_of` meets its contract.
 use Rattle.panel.proofs.orders.attestation_of.Statement.{statement}
 use Rattle.panel.proofs.orders.attestation_of.Tie as tie
-use Rattle.panel.proofs.orders.attestation_of.Reads as reads
-use Rattle.panel.proofs.orders.attestation_of.Lts as lts
+use Rattle.panel.proofs.OrderCases
 
--- src/orders.rt:32:1
 returns : tie.Need-returns
-returns c = ?
+returns c = OrderCases.attestation-missing _ (c .match .keys1)
 
--- src/orders.rt:32:1
 returns-2 : tie.Need-returns-2
-returns-2 c = ?
+returns-2 c = OrderCases.attestation-present _ (c .match .keys2)
 
--- src/orders.rt:32:1
 returns-3 : tie.Need-returns-3
-returns-3 c = ?
+returns-3 c = OrderCases.attestation-failed _ (c .match .rest .0 .1) (c .match .rest .1)
 
 pub attestation-of-spec : {M : Type 1} → statement M
 attestation-of-spec = tie.close (tie.spec returns returns-2 returns-3)

@@ -1,16 +1,14 @@
+-- `counter_of` meets its contract.
 use borrow.Author.Needs.{needs}
 use Rattle.panel.proofs.orders.counter_of.Statement.{statement}
 use Rattle.panel.proofs.orders.counter_of.Tie as tie
-use Rattle.panel.proofs.orders.counter_of.Reads as reads
-use Rattle.panel.proofs.orders.counter_of.Lts as lts
+use Rattle.panel.proofs.OrderCases
 
--- src/orders.rt:46:9
 returns : tie.Need-returns
-returns c = ?
+returns c = search (needs, OrderCases.counter-offered)
 
--- src/orders.rt:42:1
 returns-2 : tie.Need-returns-2
-returns-2 c = search needs
+returns-2 c = search (needs, OrderCases.counter-failed)
 
 pub counter-of-spec : {M : Type 1} → statement M
 counter-of-spec = tie.close (tie.spec returns returns-2)

@@ -1,62 +1,47 @@
+-- `order_said` meets its contract: an order alone has numbers.
 use borrow.Author.Needs.{needs}
 use Rattle.panel.proofs.orders.order_said.Statement.{statement}
 use Rattle.panel.proofs.orders.order_said.Tie as tie
-use Rattle.panel.proofs.orders.order_said.Reads as reads
-use Rattle.panel.proofs.orders.order_said.Lts as lts
-use Rattle.panel.proofs.orders.no_order.Reads as no-order-reads
-use Rattle.signing.proofs.kind_number.Reads as kind-number-reads
+use Rattle.panel.proofs.OrderCases
 
--- src/orders.rt:118:32
 enum-told : tie.Need-enum-told
 enum-told c = search needs
 
--- src/orders.rt:118:32
 no-order-requires : tie.Need-no-order-requires
 no-order-requires c κs = search needs
 
--- src/orders.rt:119:31
 enum-told-2 : tie.Need-enum-told-2
 enum-told-2 c = search needs
 
--- src/orders.rt:119:31
 no-order-requires-2 : tie.Need-no-order-requires-2
 no-order-requires-2 c κs = search needs
 
--- src/orders.rt:120:29
 enum-told-3 : tie.Need-enum-told-3
 enum-told-3 c = search needs
 
--- src/orders.rt:120:29
 no-order-requires-3 : tie.Need-no-order-requires-3
 no-order-requires-3 c κs = search needs
 
--- src/orders.rt:122:19
 enum-told-4 : tie.Need-enum-told-4
 enum-told-4 c = search needs
 
--- src/orders.rt:122:19
 kind-number-requires : tie.Need-kind-number-requires
 kind-number-requires c κs = search needs
 
--- src/orders.rt:122:19
 cast-t6 : tie.Need-cast-t6
 cast-t6 c = search needs
 
--- src/orders.rt:113:1
 returns : tie.Need-returns
 returns c = search needs
 
--- src/orders.rt:113:1
 returns-2 : tie.Need-returns-2
 returns-2 c = search needs
 
--- src/orders.rt:113:1
 returns-3 : tie.Need-returns-3
 returns-3 c = search needs
 
--- src/orders.rt:113:1
 returns-4 : tie.Need-returns-4
-returns-4 c = ?
+returns-4 c = search (needs, OrderCases.order-said)
 
 pub order-said-spec : {M : Type 1} → statement M
 order-said-spec =

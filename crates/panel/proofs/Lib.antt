@@ -1,0 +1,3 @@
+pub mod FrameCases
+pub mod RecordCases
+pub mod OrderCases
