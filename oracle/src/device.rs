@@ -157,3 +157,52 @@ impl Device {
         }
     }
 }
+
+/// Every answer that the domain has, so that one which was never met shows.
+pub const ANSWERS: [&str; 43] = [
+    "read shape 1", "read shape 2", "read shape 3", "read shape 4", "read shape 5", "read shape 6", "read shape 7",
+    "read shape 8", "read 6a80", "read 6700",
+    "command register", "command authenticate 3", "command authenticate 7", "command authenticate 8",
+    "command version", "command 6a80", "command 6700", "command 6e00", "command 6d00",
+    "touch yes", "touch no", "check yes", "check no", "ask yes", "ask no",
+    "decide 6f00", "decide 6986", "decide 6a80", "decide 6700", "decide 6e00", "decide 6d00", "decide 6985",
+    "decide 6985, no touch", "decide 6f00, touch found", "decide 6a80, touch found", "decide version",
+    "decide register, touch found", "decide authenticate", "decide authenticate, touch found",
+    "finish register 9000", "finish register 6f00", "finish authenticate 9000", "finish authenticate 6f00",
+];
+
+pub fn reading_name(answer: &Answer) -> String {
+    match answer {
+        Answer::Frame(says) => format!("read shape {}", says.shape),
+        Answer::Status(status) => format!("read {status:04x}"),
+        other => panic!("a reading is {other:?}"),
+    }
+}
+
+pub fn yes_name(what: &str, yes: bool) -> String {
+    format!("{what} {}", if yes { "yes" } else { "no" })
+}
+
+impl Outcome {
+    fn kind(&self, frame: &[u8]) -> String {
+        match (self.ordered, self.status) {
+            (true, _) if frame[1] == 0x01 => "register".into(),
+            (true, _) => "authenticate".into(),
+            (false, 0x9000) => "version".into(),
+            (false, status) => format!("{status:04x}"),
+        }
+    }
+
+    pub fn decision_name(&self, frame: &[u8]) -> String {
+        let touch = match self.touch {
+            Touch::NotLookedFor => "",
+            Touch::Missing => ", no touch",
+            Touch::Found => ", touch found",
+        };
+        format!("decide {}{touch}", self.kind(frame))
+    }
+
+    pub fn finish_name(&self, frame: &[u8]) -> String {
+        format!("finish {} {:04x}", self.kind(frame), self.status)
+    }
+}

@@ -144,8 +144,10 @@ const LONG: [usize; 6] = [4095, 4096, 32768, 65533, 65534, 65535];
 
 /// A frame whose length is within three bytes of what its first bytes say. Long ones are rare: they cost most.
 pub fn boundary(dice: &mut Dice) -> Vec<u8> {
-    let said = if dice.one_in(4000) {
+    let said = if dice.one_in(2000) {
         dice.pick(&LONG)
+    } else if dice.one_in(3) {
+        dice.below(330)
     } else {
         dice.pick(&LENGTHS)
     };
@@ -322,7 +324,7 @@ impl History {
     }
 
     fn moment(&mut self, dice: &mut Dice) -> u64 {
-        let aimed = match (dice.below(4), self.opened.as_slice()) {
+        let aimed = match (dice.below(2), self.opened.as_slice()) {
             (0, _) | (_, []) => self.now + dice.pick(&[0, 0, 1, 2, 500, 4_000]),
             (_, opened) => {
                 let from = opened[opened.len() - 1 - dice.below(opened.len().min(2))];

@@ -17,9 +17,10 @@
 //!
 //! Hardware answers that are bytes are plain: byte i of each is (i + salt) mod 251.
 
-use crate::device::{Answer, Call, Device, Outcome, Touch};
+use crate::device::{reading_name, yes_name, Answer, Call, Device, Outcome, Touch, ANSWERS};
 use crate::generate::{all, all_count, boundary, damaged, hardware, plain, Dice, History};
 use crate::lent::{Allowed, Attested, Counter, Handle, Hardware};
+use std::collections::BTreeMap;
 use std::fmt::Write;
 
 const SALT_X: usize = 16;
@@ -28,7 +29,10 @@ const SALT_HANDLE: usize = 112;
 const SALT_CERTIFICATE: usize = 160;
 const SALT_SIGNATURE: usize = 208;
 
-const FRAMES: usize = 600;
+/// What crates/replay takes.
+const MOST: usize = 262_144;
+
+const FRAMES: usize = 260;
 const HISTORIES: usize = 90;
 const HISTORY_CALLS: usize = 20;
 
@@ -67,14 +71,20 @@ fn pieces(frame: &[u8], from: usize) -> Vec<(usize, &[u8])> {
     out
 }
 
+#[derive(Default)]
 struct Sample {
     text: String,
     frame: Option<Vec<u8>>,
+    tally: BTreeMap<String, u64>,
 }
 
 impl Sample {
     fn line(&mut self, words: std::fmt::Arguments) {
         writeln!(self.text, "{words}").unwrap();
+    }
+
+    fn count(&mut self, answer: String) {
+        *self.tally.entry(answer).or_default() += 1;
     }
 
     fn frame(&mut self, frame: &[u8]) {
@@ -94,7 +104,9 @@ impl Sample {
 
     fn read(&mut self, frame: &[u8]) {
         self.frame(frame);
-        match crate::device::read(frame) {
+        let answer = crate::device::read(frame);
+        self.count(reading_name(&answer));
+        match answer {
             Answer::Frame(says) => self.line(format_args!("r {:x} {:04x} {:05x}", says.shape, says.lc, says.le)),
             Answer::Status(status) => self.line(format_args!("r 0 {status:04x} 00000")),
             other => panic!("a reading is {other:?}"),
@@ -123,10 +135,12 @@ impl Sample {
             out.taken as u8,
             (out.touch == Touch::Found) as u8,
         ));
+        self.count(out.decision_name(frame));
         if let Some(bytes) = &out.to_sign {
             self.line(format_args!("s {}", hex(bytes)));
         }
         if out.ordered {
+            self.count(out.finish_name(frame));
             let (signed, n) = match &hw.signature {
                 Some(bytes) => (1, bytes.len()),
                 None => (0, 0),
@@ -138,13 +152,17 @@ impl Sample {
         }
     }
 
+    fn yes(&mut self, what: &str, t: u64, yes: bool) {
+        self.count(yes_name(what, yes));
+        self.line(format_args!("{} {t:012x} {}", &what[..1], yes as u8));
+    }
+
     fn call(&mut self, device: &mut Device, call: &Call) {
-        let answer = device.answer(call);
-        match (call, answer) {
+        match (call, device.answer(call)) {
             (Call::New, _) => self.line(format_args!("n")),
-            (Call::Touch(t), Answer::Yes(yes)) => self.line(format_args!("t {t:012x} {}", yes as u8)),
-            (Call::Check(t), Answer::Yes(yes)) => self.line(format_args!("c {t:012x} {}", yes as u8)),
-            (Call::Ask(t), Answer::Yes(yes)) => self.line(format_args!("a {t:012x} {}", yes as u8)),
+            (Call::Touch(t), Answer::Yes(yes)) => self.yes("touch", *t, yes),
+            (Call::Check(t), Answer::Yes(yes)) => self.yes("check", *t, yes),
+            (Call::Ask(t), Answer::Yes(yes)) => self.yes("ask", *t, yes),
             (Call::Command(t, frame, hw), Answer::Command(out)) => self.decided(*t, frame, hw, &out),
             (call, answer) => panic!("{answer:?} to {call:?}"),
         }
@@ -173,14 +191,8 @@ fn plain_call(call: Call) -> Call {
     }
 }
 
-pub fn make(seed: u64) -> String {
-    let mut sample = Sample {
-        text: String::new(),
-        frame: None,
-    };
-    sample.line(format_args!(
-        "# Answers of the upstream Rust, written by `oracle/run sample {seed}`; the lines are explained in oracle/src/sample.rs."
-    ));
+fn sampled(seed: u64) -> Sample {
+    let mut sample = Sample::default();
     let mut dice = Dice::plain(seed);
     for at in 0..all_count(4) {
         sample.read(&all(at));
@@ -196,8 +208,8 @@ pub fn make(seed: u64) -> String {
         for _ in 0..HISTORY_CALLS {
             let call = plain_call(history.next(&mut dice));
             sample.call(&mut device, &call);
-            if let Call::Command(t, ..) = call {
-                sample.call(&mut device, &Call::Ask(t));
+            if let (Call::Command(t, ..), true) = (&call, dice.one_in(2)) {
+                sample.call(&mut device, &Call::Ask(*t));
             }
         }
     }
@@ -213,5 +225,32 @@ pub fn make(seed: u64) -> String {
         let call = Call::Command(0, damaged(&mut dice), Box::new(answering.clone()));
         sample.call(&mut device, &call);
     }
-    sample.text
+    sample
+}
+
+/// What crates/replay has to print where every line agrees.
+fn summary(text: &str) -> String {
+    let kinds = [
+        ('r', "readings"), ('t', "touches"), ('c', "checks"), ('a', "asks"), ('d', "decisions"),
+        ('s', "bytes to sign"), ('z', "finishings"), ('b', "bodies"),
+    ];
+    let count = |kind| text.lines().filter(|line| line.starts_with(kind)).count();
+    let agreed: String = kinds.iter().map(|(kind, name)| format!("{name} agreed: {}\n", count(*kind))).collect();
+    agreed + "lines that differ: 0\n"
+}
+
+/// The sample as crates/replay reads it, and what that has to print. Panics where the sample misses an answer.
+pub fn make(seed: u64) -> (String, String) {
+    let sample = sampled(seed);
+    let mut text = format!(
+        "# Answers of the upstream Rust, made by `oracle/sample {seed}`; the lines are explained in oracle/src/sample.rs.\n"
+    );
+    for answer in ANSWERS.iter().filter(|a| !a.starts_with("command ")) {
+        let n = sample.tally.get(*answer).unwrap_or_else(|| panic!("no line of the sample comes to: {answer}"));
+        writeln!(text, "# {n} {answer}").unwrap();
+    }
+    text += &sample.text;
+    assert!(text.len() <= MOST, "{} bytes are too many for crates/replay", text.len());
+    let summary = summary(&text);
+    (text, summary)
 }

@@ -43,6 +43,8 @@ pub mod api {
             VerificationRequired,
         }
 
+        /// The key store is lent: what upstream puts in beside the key is looked at by nobody.
+        #[allow(dead_code)]
         pub struct CredentialSource {
             pub wrapped_private_key: Vec<u8>,
             pub rp_id_hash: [u8; 32],
