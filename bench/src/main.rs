@@ -14,6 +14,7 @@ extern crate alloc;
 
 #[path = "../../oracle/src/ctap.rs"]
 mod ctap;
+mod heap;
 mod lent;
 mod panel;
 #[path = "../../oracle/src/standins.rs"]
@@ -25,7 +26,9 @@ use std::time::Instant;
 use world::{Row, Side, World};
 
 fn repeat(side: Side, world: &mut World, count: usize) {
+    let place = heap::place();
     for _ in 0..count {
+        heap::start_at(place);
         side(world);
     }
 }
