@@ -1,0 +1,68 @@
+//! The driver: one call of the proved core, or of the upstream Rust, made so many times.
+//!
+//!     driver rows                 the calls that are measured, one to a line
+//!     driver check                makes each once on both sides and compares the answers
+//!     driver SIDE ROW COUNT       makes the call COUNT times on the side
+//!     driver time SIDE ROW COUNT  the same, and prints nanoseconds a call
+//!
+//! Sides: `core` and `rust`; `decide` and `finish`, the two parts of `core`; `lent`, what the upstream's stand-ins allocate
+//! to hand over the hardware's answers; `nothing`, the loop alone.
+
+#[macro_use]
+extern crate arrayref;
+extern crate alloc;
+
+#[path = "../../oracle/src/ctap.rs"]
+mod ctap;
+mod heap;
+mod lent;
+mod panel;
+#[path = "../../oracle/src/standins.rs"]
+mod standins;
+mod world;
+use standins::{api, env};
+
+use std::time::Instant;
+use world::{Row, Side, World};
+
+fn repeat(side: Side, world: &mut World, count: usize) {
+    let place = heap::place();
+    for _ in 0..count {
+        heap::start_at(place);
+        side(world);
+    }
+}
+
+fn main() {
+    let args: Vec<String> = std::env::args().skip(1).collect();
+    let words: Vec<&str> = args.iter().map(String::as_str).collect();
+    match words.as_slice() {
+        ["rows"] => Row::all().iter().for_each(|row| println!("{}", row.name)),
+        ["check"] => Row::all().into_iter().for_each(|row| World::new(row).compare()),
+        ["time", side, row, count] => {
+            let (side, mut world) = chosen(side, row);
+            let count = number(count);
+            let start = Instant::now();
+            repeat(side, &mut world, count);
+            println!("{:.1}", start.elapsed().as_nanos() as f64 / count as f64);
+        }
+        [side, row, count] => {
+            let (side, mut world) = chosen(side, row);
+            repeat(side, &mut world, number(count));
+        }
+        _ => {
+            eprintln!("driver rows | check | [time] SIDE ROW COUNT");
+            std::process::exit(2);
+        }
+    }
+}
+
+fn chosen(side: &str, name: &str) -> (Side, World) {
+    let row = Row::all().into_iter().find(|row| row.name == name).expect("a row");
+    let mut world = World::new(row);
+    (world.side(side).expect("a side of this row"), world)
+}
+
+fn number(word: &str) -> usize {
+    word.parse().expect("a number")
+}

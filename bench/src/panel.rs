@@ -1,0 +1,104 @@
+//! The functions of include/brinecandle.h that are measured.
+
+#[repr(C)]
+pub struct Frame {
+    pub answer: u16,
+    pub header: [u8; 4],
+    pub shape: u32,
+    pub lc: u16,
+    pub le: u32,
+    pub start: usize,
+    pub end: usize,
+}
+
+#[repr(C)]
+#[derive(Clone, Copy)]
+pub struct Presence {
+    pub w: u64,
+    pub prompt: u64,
+    pub touch: u64,
+    pub last: u64,
+}
+
+#[repr(C)]
+pub struct Made {
+    pub answer: u16,
+    pub presence: Presence,
+}
+
+#[repr(C)]
+pub struct Touched {
+    pub answer: u16,
+    pub yes: bool,
+    pub presence: Presence,
+}
+
+#[repr(C)]
+#[derive(Clone, Copy)]
+pub struct Hardware {
+    pub allowed: u32,
+    pub attestation: u32,
+    pub stored: bool,
+    pub good: bool,
+    pub counted: bool,
+    pub counter: u32,
+}
+
+#[repr(C)]
+#[derive(Clone, Copy)]
+pub struct Order {
+    pub kind: u32,
+    pub to_sign: usize,
+    pub certificate_length: usize,
+}
+
+#[repr(C)]
+pub struct Decision {
+    pub answer: u16,
+    pub taken: bool,
+    pub length: usize,
+    pub order: Order,
+    pub presence: Presence,
+}
+
+#[repr(C)]
+pub struct Wrote {
+    pub answer: u16,
+    pub length: usize,
+}
+
+pub const BLOCK: usize = 385;
+
+extern "C" {
+    pub fn brinecandle_read(frame: *const u8, frame_length: usize) -> Frame;
+    pub fn brinecandle_new(w: u64) -> Made;
+    pub fn brinecandle_grant_up(presence: Presence, t: u64) -> Touched;
+    pub fn brinecandle_consume_up(presence: Presence, t: u64) -> Touched;
+    pub fn brinecandle_decide(
+        frame: *const u8,
+        frame_length: usize,
+        t: u64,
+        presence: Presence,
+        hardware: Hardware,
+        handle: *const u8,
+        handle_length: usize,
+        certificate: *const u8,
+        certificate_length: usize,
+        x: *const [u8; 32],
+        y: *const [u8; 32],
+        reply: *mut u8,
+        reply_length: usize,
+        block: *mut [u8; BLOCK],
+    ) -> Decision;
+    pub fn brinecandle_finish(
+        order: Order,
+        block: *const [u8; BLOCK],
+        certificate: *const u8,
+        certificate_length: usize,
+        is_signed: bool,
+        signature: *const u8,
+        signature_length: usize,
+        reply: *mut u8,
+        reply_length: usize,
+    ) -> Wrote;
+}

@@ -1,0 +1,54 @@
+//! The oracle: the upstream Rust over lent hardware, and what is done with its answers.
+
+#[macro_use]
+extern crate arrayref;
+extern crate alloc;
+
+mod compare;
+mod ctap;
+mod device;
+mod differences;
+mod generate;
+mod lent;
+mod panel;
+mod sample;
+mod standins;
+use standins::{api, env};
+
+const USAGE: &str = "oracle sample SEED FOLDER                   the sample and what its replay prints, to FOLDER/stdin and FOLDER/stdout
+oracle compare PANEL FRAMES CALLS SEED JOBS the panel (a command) against upstream
+oracle differences PANEL                    the differences that are known, shown on both";
+
+fn number<T: std::str::FromStr>(word: &str) -> T {
+    word.parse().unwrap_or_else(|_| {
+        eprintln!("oracle: {word} is no number\n{USAGE}");
+        std::process::exit(2)
+    })
+}
+
+fn main() {
+    let args: Vec<String> = std::env::args().skip(1).collect();
+    let words: Vec<&str> = args.iter().map(String::as_str).collect();
+    let good = match words.as_slice() {
+        ["sample", seed, folder] => {
+            let (sample, summary) = sample::make(number(seed));
+            let write = |name: &str, text: String| std::fs::write(format!("{folder}/{name}"), text).expect(name);
+            write("stdin", sample);
+            write("stdout", summary);
+            true
+        }
+        ["compare", panel, frames, calls, seed, jobs] => compare::run(&compare::Plan {
+            panel: panel.to_string(),
+            frames: number(frames),
+            calls: number(calls),
+            seed: number(seed),
+            jobs: number::<usize>(jobs).max(1),
+        }),
+        ["differences", panel] => differences::run(panel),
+        _ => {
+            eprintln!("{USAGE}");
+            false
+        }
+    };
+    std::process::exit(if good { 0 } else { 1 });
+}
