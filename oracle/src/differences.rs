@@ -1,9 +1,9 @@
 //! The differences that docs/DIFFERENCES.md lists, each shown on an input: what upstream answers, and what the panel does.
 
-use crate::device::{Answer, Call, Device};
+use crate::device::{Answer, Call, Device, Touch};
 use crate::generate::frame;
 use crate::lent::{Counter, Hardware};
-use crate::panel::{next_line, put_call, put_finish, Panel};
+use crate::panel::{next_line, put_call, put_finish, put_strict, Panel};
 use std::io::Write;
 
 struct Difference {
@@ -13,7 +13,8 @@ struct Difference {
     /// The last one shows the difference; the others lead up to it.
     calls: Vec<Call>,
     rust: &'static str,
-    /// The panel's answers to the last call: two to a read (reading and command), and one more where an order is finished.
+    /// The panel's answers to the last call: three to a read (reading, command and strict reading), and one more where
+    /// upstream came to a signature, to the finish.
     panel: &'static [&'static str],
 }
 
@@ -80,19 +81,101 @@ fn list() -> Vec<Difference> {
         panel,
     };
     vec![
-        show("shape 6 is read, though no case of ISO's", read(&[0, 3, 0, 0, 0, 0, 0, 5]), "shape 6, Lc 0, Le 5", &["6 0 5 7 7", "version"]),
-        show("an extended Lc of 0 is read", read(&[0, 3, 0, 0, 0, 0, 0, 0, 5]), "shape 7, Lc 0, Le 5", &["7 0 5 7 7", "version"]),
-        show("a short frame is wrong data, not wrong length", read(&[0, 3, 0]), "6a80", &["6a80", "6a80"]),
-        show("Le is looked at by no command", after(vec![Call::New], command(0, version(1), Hardware::default())), "9000, 6 bytes", &["9000 5532465f5632"]),
-        show("a vendor's command is decoded and then refused", after(vec![Call::New], command(0, frame(1, [0, 0x40, 0, 0], &[], 0), Hardware::default())), "6d00", &["6d00"]),
-        show("the counter grows and then cannot be read", after(vec![Call::New], command(0, authenticate(8), unread)), "6a80, counter taken", &["6a80"]),
-        within(502, "no room for the enrolment", after(touched(), command(2, register(), enrolling(64, 300))), "9000, 501 bytes, touch spent", &["R2", "R7"]),
-        within(503, "just enough room", after(touched(), command(2, register(), enrolling(64, 300))), "9000, 501 bytes, touch spent", &["order 1 0 *", "9000 *"]),
-        within(76, "no room for the login", after(vec![Call::New], command(0, authenticate(8), signed(70))), "9000, 75 bytes, counter taken", &["R2", "R7"]),
-        within(5, "no room for the version", after(vec![Call::New], command(0, version(0), Hardware::default())), "9000, 6 bytes", &["R2"]),
-        within(502, "a handle over 255 and no room", after(touched(), command(2, register(), enrolling(256, 300))), "6f00, touch spent", &["R2"]),
-        show("a signature over 72 bytes", after(vec![Call::New], command(0, authenticate(8), signed(73))), "9000, 78 bytes, counter taken", &["order 2 1 *", "R3"]),
-        show("a moment that goes back", vec![Call::New, Call::Check(100), Call::Touch(99)], "yes", &["R1"]),
+        show(
+            "shape 6 is read, though no case of ISO's",
+            read(&[0, 3, 0, 0, 0, 0, 0, 5]),
+            "shape 6, Lc 0, Le 5",
+            &["6 0 5 7 7", "version", "6700"],
+        ),
+        show(
+            "an extended Lc of 0 is read",
+            read(&[0, 3, 0, 0, 0, 0, 0, 0, 5]),
+            "shape 7, Lc 0, Le 5",
+            &["7 0 5 7 7", "version", "7 0 5 7 7"],
+        ),
+        show(
+            "a short frame is wrong data, not wrong length",
+            read(&[0, 3, 0]),
+            "6a80",
+            &["6a80", "6a80", "6a80"],
+        ),
+        show(
+            "Le is looked at by no command",
+            after(vec![Call::New], command(0, version(1), Hardware::default())),
+            "9000, 6 bytes",
+            &["9000 5532465f5632"],
+        ),
+        show(
+            "Register looks at no P1",
+            after(
+                vec![Call::New],
+                command(0, frame(3, [0, 1, 0xff, 0], &[7; 64], 0), Hardware::default()),
+            ),
+            "6985, no touch",
+            &["6985"],
+        ),
+        show(
+            "a vendor's command is decoded and then refused",
+            after(
+                vec![Call::New],
+                command(0, frame(1, [0, 0x40, 0, 0], &[], 0), Hardware::default()),
+            ),
+            "6d00",
+            &["6d00"],
+        ),
+        show(
+            "the counter grows and then cannot be read",
+            after(vec![Call::New], command(0, authenticate(8), unread)),
+            "6a80, counter taken",
+            &["6a80"],
+        ),
+        within(
+            502,
+            "no room for the enrolment",
+            after(touched(), command(2, register(), enrolling(64, 300))),
+            "9000, 501 bytes, touch spent",
+            &["R2", "R7"],
+        ),
+        within(
+            503,
+            "just enough room",
+            after(touched(), command(2, register(), enrolling(64, 300))),
+            "9000, 501 bytes, touch spent",
+            &["order 1 0 *", "9000 *"],
+        ),
+        within(
+            76,
+            "no room for the login",
+            after(vec![Call::New], command(0, authenticate(8), signed(70))),
+            "9000, 75 bytes, counter taken",
+            &["R2", "R7"],
+        ),
+        within(
+            5,
+            "no room for the version",
+            after(vec![Call::New], command(0, version(0), Hardware::default())),
+            "9000, 6 bytes",
+            &["R2"],
+        ),
+        within(
+            502,
+            "a handle over 255 and no room",
+            after(touched(), command(2, register(), enrolling(256, 300))),
+            "6f00, touch spent",
+            &["R2"],
+        ),
+        show(
+            "a signature over 72 bytes",
+            after(vec![Call::New], command(0, authenticate(8), signed(73))),
+            "9000, 78 bytes, counter taken",
+            &["order 2 1 *", "R3"],
+        ),
+        show(
+            "a moment that goes back",
+            vec![Call::New, Call::Check(100), Call::Touch(99)],
+            "yes",
+            &["R1"],
+        ),
         show("a moment of 2^48", vec![Call::New, Call::Check(1 << 48)], "no", &["R1"]),
     ]
 }
@@ -112,8 +195,10 @@ fn words(answer: &Answer) -> String {
             if out.taken {
                 said += ", counter taken";
             }
-            if out.touch == crate::device::Touch::Found {
-                said += ", touch spent";
+            match out.touch {
+                Touch::NotLookedFor => {}
+                Touch::Missing => said += ", no touch",
+                Touch::Found => said += ", touch spent",
             }
             said
         }
@@ -149,17 +234,25 @@ pub fn run(command: &str) -> bool {
             last = lines.len();
             put_call(&mut lines, call);
         }
-        if let Answer::Command(out) = &answer {
-            if out.ordered {
-                put_finish(&mut lines, difference.calls.last().unwrap());
-            }
+        match (difference.calls.last(), &answer) {
+            (Some(call), Answer::Command(out)) if out.ordered => put_finish(&mut lines, call),
+            (Some(Call::Read(frame)), _) => put_strict(&mut lines, frame),
+            _ => {}
         }
-        panel.calls.write_all(&lines).and_then(|()| panel.calls.flush()).expect("the panel takes calls");
+        panel
+            .calls
+            .write_all(&lines)
+            .and_then(|()| panel.calls.flush())
+            .expect("the panel takes calls");
         let before = lines[..last].iter().filter(|b| **b == b'\n').count();
         let all = lines.iter().filter(|b| **b == b'\n').count();
         let mut space = String::new();
         let said: Vec<String> = (0..all)
-            .map(|_| next_line(&mut panel.answers, &mut space).unwrap_or("(ended)").to_string())
+            .map(|_| {
+                next_line(&mut panel.answers, &mut space)
+                    .unwrap_or("(ended)")
+                    .to_string()
+            })
             .skip(before)
             .collect();
         let rust = words(&answer);

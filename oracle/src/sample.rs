@@ -180,7 +180,9 @@ fn shortened(mut hw: Hardware) -> Hardware {
     hw.certificate = salted(SALT_CERTIFICATE, c);
     hw.x = salted(SALT_X, 32).try_into().unwrap();
     hw.y = salted(SALT_Y, 32).try_into().unwrap();
-    hw.signature = hw.signature.map(|s| salted(SALT_SIGNATURE, if s.len() == 72 { 72 } else { s.len() % 9 }));
+    hw.signature = hw
+        .signature
+        .map(|s| salted(SALT_SIGNATURE, if s.len() == 72 { 72 } else { s.len() % 9 }));
     hw
 }
 
@@ -231,11 +233,20 @@ fn sampled(seed: u64) -> Sample {
 /// What crates/replay has to print where every line agrees.
 fn summary(text: &str) -> String {
     let kinds = [
-        ('r', "readings"), ('t', "touches"), ('c', "checks"), ('a', "asks"), ('d', "decisions"),
-        ('s', "bytes to sign"), ('z', "finishings"), ('b', "bodies"),
+        ('r', "readings"),
+        ('t', "touches"),
+        ('c', "checks"),
+        ('a', "asks"),
+        ('d', "decisions"),
+        ('s', "bytes to sign"),
+        ('z', "finishings"),
+        ('b', "bodies"),
     ];
     let count = |kind| text.lines().filter(|line| line.starts_with(kind)).count();
-    let agreed: String = kinds.iter().map(|(kind, name)| format!("{name} agreed: {}\n", count(*kind))).collect();
+    let agreed: String = kinds
+        .iter()
+        .map(|(kind, name)| format!("{name} agreed: {}\n", count(*kind)))
+        .collect();
     agreed + "lines that differ: 0\n"
 }
 
@@ -246,11 +257,18 @@ pub fn make(seed: u64) -> (String, String) {
         "# Answers of the upstream Rust, made by `oracle/sample {seed}`; the lines are explained in oracle/src/sample.rs.\n"
     );
     for answer in ANSWERS.iter().filter(|a| !a.starts_with("command ")) {
-        let n = sample.tally.get(*answer).unwrap_or_else(|| panic!("no line of the sample comes to: {answer}"));
+        let n = sample
+            .tally
+            .get(*answer)
+            .unwrap_or_else(|| panic!("no line of the sample comes to: {answer}"));
         writeln!(text, "# {n} {answer}").unwrap();
     }
     text += &sample.text;
-    assert!(text.len() <= MOST, "{} bytes are too many for crates/replay", text.len());
+    assert!(
+        text.len() <= MOST,
+        "{} bytes are too many for crates/replay",
+        text.len()
+    );
     let summary = summary(&text);
     (text, summary)
 }
