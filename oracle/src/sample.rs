@@ -1,7 +1,7 @@
 //! A sample of the oracle's answers as text, for the program crates/replay. A line is a letter and fields at fixed columns,
 //! in hexadecimal digits; a field of bytes stands at a line's end.
 //!
-//!     F length from          the frame: so many bytes, byte i is (i - from) mod 251, counted from 0 below `from` too
+//!     F length from          the frame: so many bytes, byte i is (i + 251 - from) mod 251
 //!     P place bytes          bytes put over the frame's
 //!     r shape Lc Le          reading: what the frame says; or shape 0, the status word and 0
 //!     n                      a fresh record with W
@@ -18,7 +18,7 @@
 //! Hardware answers that are bytes are plain: byte i of each is (i + salt) mod 251.
 
 use crate::device::{reading_name, yes_name, Answer, Call, Device, Outcome, Touch, ANSWERS};
-use crate::generate::{all, all_count, boundary, damaged, hardware, plain, Dice, History};
+use crate::generate::{all, all_count, boundary, damaged, frame, hardware, plain, Dice, History, LONG};
 use crate::lent::{Allowed, Attested, Counter, Handle, Hardware};
 use std::collections::BTreeMap;
 use std::fmt::Write;
@@ -202,6 +202,13 @@ fn sampled(seed: u64) -> Sample {
     for _ in 0..FRAMES {
         sample.read(&boundary(&mut dice));
         sample.read(&damaged(&mut dice));
+    }
+    for n in LONG {
+        for shape in 5..=7 {
+            let long = frame(shape, [0, 3, 0, 0], &dice.bytes(n), 1);
+            sample.read(&long);
+            sample.read(&long[..long.len() - 3]);
+        }
     }
     let mut device = Device::new();
     for _ in 0..HISTORIES {
