@@ -2,10 +2,10 @@
  *
  * Link target/staticlib/libpanel.a (x86-64; it needs memcpy and memset, no heap, no other library).
  *
- * Every function may be called with anything: nothing is asked of the caller but that a pointer points to as many readable
- * bytes (of `out`, `reply` and `block` in brinecandle_decide: writable bytes) as the length after it says, or its array has,
- * and that what is lent for writing overlaps nothing else that is lent. With length 0 the pointer may be null. No call keeps
- * a pointer, and none has a state of its own: the record and the orders are the caller's.
+ * Every function may be called with any numbers and any bytes. A pointer must point to as many bytes as the length after it
+ * says or its array has, to be read (const) or written, and what is lent for writing must overlap nothing else that is lent.
+ * With length 0 the pointer may be null. No call keeps a pointer, and none has a state of its own: the record and the orders
+ * are the caller's. A frame stays in the caller's buffer, and places in it are handed back.
  *
  * An answer is one number:
  *   0             an order to sign (brinecandle_decide alone)
@@ -27,6 +27,10 @@
 #include <stdbool.h>
 #include <stddef.h>
 #include <stdint.h>
+
+#ifdef __cplusplus
+extern "C" {
+#endif
 
 enum {
     BRINECANDLE_ORDER = 0,
@@ -173,5 +177,9 @@ struct brinecandle_wrote brinecandle_finish(struct brinecandle_order order, cons
                                             bool is_signed,
                                             const uint8_t *signature, size_t signature_length,
                                             uint8_t *reply, size_t reply_length);
+
+#ifdef __cplusplus
+}
+#endif
 
 #endif

@@ -140,7 +140,7 @@ fn is_command(frame: &[u8], outcome: &Outcome, shown: &Option<(Vec<u8>, Vec<u8>)
                     && said.to_string() == p1
                     && at(*place) == Some(application)
                     && frame.get(*start..*end) == Some(handle)
-                    && outcome.to_sign.as_ref().is_none_or(|bytes| at(*challenge) == Some(&bytes[37..]))
+                    && outcome.to_sign.iter().all(|bytes| at(*challenge) == Some(&bytes[37..]))
             }
             _ => false,
         },
@@ -198,16 +198,14 @@ impl Plan {
         self.frame_blocks() + self.calls.div_ceil(BLOCK)
     }
 
-    /// The first frames are all those over the alphabet; from then on boundaries and damaged copies take turns.
+    /// Every third frame is the next of all those over the alphabet; the others are boundaries and damaged copies.
     fn frames_of(&self, dice: &mut Dice, first: usize) -> Block {
         let mut block = Block::default();
         for at in first..self.frames.min(first + BLOCK) {
-            block.frame(if at < all_count(ALL_UP_TO) {
-                all(at)
-            } else if at % 2 == 0 {
-                boundary(dice)
-            } else {
-                damaged(dice)
+            block.frame(match at % 3 {
+                0 if at / 3 < all_count(ALL_UP_TO) => all(at / 3),
+                1 => boundary(dice),
+                _ => damaged(dice),
             });
         }
         block
@@ -297,6 +295,8 @@ fn share(plan: &Plan, job: usize) -> Result<Tally, String> {
 /// Compares, prints what the cases came to, and says whether all agreed and every answer was met.
 pub fn run(plan: &Plan) -> bool {
     println!("{} frames, {} history calls, seed {}", plan.frames, plan.calls, plan.seed);
+    let tried = all_count(ALL_UP_TO).min(plan.frames.div_ceil(3));
+    println!("{tried} of the {} short frames over the alphabet among them", all_count(ALL_UP_TO));
     let shares: Vec<Result<Tally, String>> = std::thread::scope(|scope| {
         let handles: Vec<_> = (0..plan.jobs).map(|job| scope.spawn(move || share(plan, job))).collect();
         handles.into_iter().map(|h| h.join().expect("a share")).collect()

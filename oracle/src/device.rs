@@ -120,7 +120,7 @@ impl Device {
                 self.begin(*t);
                 self.state.u2f_up_state.grant_up(&mut self.env);
                 // Upstream says nothing here: it looks at the prompt alone, and grants where that has not elapsed.
-                Answer::Yes(self.env.noted.timers == [false])
+                Answer::Yes(self.env.noted.live)
             }
             Call::Check(t) => {
                 self.begin(*t);
@@ -146,11 +146,11 @@ impl Device {
                     ordered: signer.asked,
                     to_sign: signer.to_sign,
                     taken: self.env.noted.grown > 0,
-                    touch: match self.env.noted.timers.as_slice() {
-                        [] => Touch::NotLookedFor,
-                        [true] => Touch::Missing,
-                        [false] => Touch::Found,
-                        more => panic!("the touch was looked for {} times", more.len()),
+                    touch: match (self.env.noted.looked, self.env.noted.live) {
+                        (0, _) => Touch::NotLookedFor,
+                        (1, false) => Touch::Missing,
+                        (1, true) => Touch::Found,
+                        (more, _) => panic!("the touch was looked for {more} times"),
                     },
                 })
             }

@@ -74,8 +74,9 @@ impl Default for Hardware {
 /// What one call asked of the hardware.
 #[derive(Clone, Debug, Default, PartialEq, Eq)]
 pub struct Noted {
-    /// Each timer that was looked at, and whether it had elapsed.
-    pub timers: Vec<bool>,
+    /// How often a timer was looked at, and whether the last one was live.
+    pub looked: u32,
+    pub live: bool,
     /// Times that the counter grew.
     pub grown: u32,
     /// The handle and the application that the key store was shown.
@@ -95,7 +96,7 @@ thread_local! {
 }
 
 pub fn take_signer() -> Signer {
-    SIGNER.take()
+    SIGNER.with(|s| s.take())
 }
 
 /// The environment of one device: its moment, the answers lent to the running call, and what the call asked.
@@ -124,7 +125,8 @@ impl Clock for Lent {
             Some((m, d)) => self.now >= m + d,
             None => true,
         };
-        self.noted.timers.push(elapsed);
+        self.noted.looked += 1;
+        self.noted.live = !elapsed;
         elapsed
     }
 }
@@ -221,13 +223,13 @@ impl EcSecretKey for Key {
     }
 
     fn sign(&self, message: &[u8]) -> Der {
-        SIGNER.with_borrow_mut(|s| s.to_sign = Some(message.to_vec()));
+        SIGNER.with(|s| s.borrow_mut().to_sign = Some(message.to_vec()));
         Der(self.signature.clone())
     }
 
     /// None where the signer fails. The message is then not seen either, as upstream never comes to sign it.
     fn import(bytes: &[u8]) -> Option<Key> {
-        SIGNER.with_borrow_mut(|s| s.asked = true);
+        SIGNER.with(|s| s.borrow_mut().asked = true);
         let (_, signature) = bytes.split_first()?;
         Some(Key {
             x: [0; 32],

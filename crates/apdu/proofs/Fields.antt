@@ -84,7 +84,7 @@ unfolding frameOf payloadOf
 frame-long h s content le =
     let lc = lc-long s (length content) in
     let l = le-long s le in
-    rw (length-append, length-append, length-append) (omega arith)
+    simp length-append (omega arith)
 
 -- ---- the writer's answers
 -- a refusal leaves the buffer as it was; a frame stands at its front

@@ -1,15 +1,10 @@
 -- What is promised of frames: open this file first. Each claim is inhabited in proofs/Theorems.antt under the same name.
 -- The words: `readOf`, `strictOf`, `dataOf` (Reading.antt), `writeOf`, `bufferOf`, `frameOf` (Writing.antt), `canCarry` (Table.antt).
-use Prim.Native.Nat.{ℕ, _≤_, _<_}
-use mathlib.Core.Path.{_≡_}
-use mathlib.Core.Bool.{true, false}
 use mathlib.Core.Logic.{_↔_}
-use mathlib.Core.List.{List, [], _∷_, _++_, map}
-use lib.ListN.{length, take, drop}
 use Rattle.outcome.specs.Notation.{AtMostOne}
 use Rattle.outcome.specs.Outcome.{Outcome, SW, Gives}
 use Rattle.octets.specs.Bytes.{AreBytes}
-use Rattle.apdu.specs.Words.{Case, shapeNo}
+use Rattle.apdu.specs.Words.{ℕ, _≤_, _<_, _≡_, true, false, List, _++_, length, take, drop, Case, shapeNo}
 use Rattle.apdu.specs.Answers.{Apdu, Place, Reading, Written, Says, saysOf, readingOf, writtenOf}
 use Rattle.apdu.specs.Table.{canCarry}
 use Rattle.apdu.specs.Reading.{readOf, strictOf, placeOf, dataOf}

@@ -1,5 +1,11 @@
--- Document 01, 'Eight frame shapes', the columns "no" and "shape". The files of specs/ take the cases' names from here.
-use Prim.Native.Nat.{ℕ}
+-- Document 01, 'Eight frame shapes', the columns "no" and "shape". The other files of specs/ take their
+-- notation and the cases' names from here.
+pub use Prim.Native.Nat.{ℕ, _+_, _≤_, _<_}
+pub use mathlib.Core.Path.{_≡_}
+pub use mathlib.Core.Bool.{Bool, true, false, not, _&&_, _||_}
+pub use mathlib.Core.List.{List, [], _∷_, _++_, map}
+pub use lib.ListN.{length, take, drop}
+pub use lib.Dec.{leb, ltb, eqb}
 pub use Rattle.apdu.specs.declared.ApduHeader.{ApduHeader}
 pub use Rattle.apdu.specs.declared.Case.{Case}
 pub use Rattle.apdu.specs.declared.Case.the-variants.{Instruction, Le1, Lc1Data, Lc1DataLe1, Lc3Data, Lc3DataLe1, Lc3DataLe2, Le3}

@@ -1,16 +1,7 @@
 -- What is promised of command reading beyond its contracts. Inhabited in proofs/Theorems.antt under the same names.
-use Prim.Native.Nat.{ℕ, _+_, _-_, _≤_}
-use mathlib.Core.Path.{_≡_}
-use mathlib.Core.Bool.{true}
 use mathlib.Core.Logic.{_↔_}
-use mathlib.Core.List.{List, [], _∷_, _++_}
-use lib.ListN.{length}
-use Rattle.outcome.specs.Notation.{AtMostOne}
-use Rattle.outcome.specs.Outcome.{SW, Gives}
-use Rattle.octets.specs.Bytes.{byte}
+use Rattle.command.specs.Words.{ℕ, _+_, _≤_, _≡_, true, List, _∷_, _++_, length, AtMostOne, Gives, byte, Apdu, Place}
 use Rattle.apdu.specs.Answers.{Says, saysOf}
-use Rattle.apdu.specs.declared.Apdu.{Apdu}
-use Rattle.apdu.specs.declared.Place.{Place}
 use Rattle.apdu.specs.Reading.{readOf, dataOf}
 use Rattle.command.specs.Command.{Ctap1Flags, U2fCommand, Command, Register, Authenticate, Version, flagsNo, isControl, commandSaid, commandOf, challengeOf, applicationOf, handlePlaceOf, handleOf}
 

@@ -1,14 +1,7 @@
 -- Document 01, 'From frame to command': "In this order: shape (6a80, 6700); CLA not 0 gives 6e00; then by INS".
 -- Covered: every status of command reading, in its order; the parts of the data.
-use Prim.Native.Nat.{ℕ, _+_}
-use mathlib.Core.Bool.{Bool, not, _||_}
-use mathlib.Core.List.{List}
-use lib.Dec.{ltb, eqb}
-use Rattle.outcome.specs.Notation.{if_then_else_}
-use Rattle.outcome.specs.Outcome.{Outcome, R, SW, Gives, statusNo}
-use Rattle.octets.specs.Bytes.{byte, partOf}
+use Rattle.command.specs.Words.{ℕ, _+_, Bool, not, _||_, List, ltb, eqb, if_then_else_, Outcome, R, SW, Gives, statusNo, byte, partOf, Place}
 use Rattle.apdu.specs.Answers.{Says, saysOf}
-use Rattle.apdu.specs.declared.Place.{Place}
 use Rattle.apdu.specs.Reading.{readOf, dataOf}
 pub use Rattle.command.specs.declared.Ctap1Flags.{Ctap1Flags}
 pub use Rattle.command.specs.declared.Ctap1Flags.the-variants.{CheckOnly, EnforceUpAndSign, DontEnforceUpAndSign}

@@ -18,7 +18,7 @@ use Rattle.signing.specs.Layouts.{presenceByte}
 use Rattle.signing.specs.Orders.{blankOrder, registerOrder, authenticateOrder}
 use Rattle.signing.specs.declared.Order.{Order}
 use Rattle.signing.specs.Finishing.{registerRoom, authenticateRoom}
-use Rattle.ctap1.specs.Words.{Inputs, isPresent, Given, Result, Counter}
+use Rattle.ctap1.specs.Words.{Inputs, Enrolment, enrolment, Login, isPresent, Given, Result, Counter}
 use Rattle.ctap1.specs.Decision.{refuse, answer, body, orderOf, versionBytes, versionDecision, registerOrdered, registerDecision, countedBy, enforced, authenticateDecision, replyLeft}
 use Rattle.ctap1.specs.declared.Counter.the-variants as Counter′
 
@@ -84,16 +84,16 @@ module _ (i : Inputs) (said : Says) (settled : Presence) (r : Result) (b : Bool)
           unfolding registerDecision
           register-no-attestation n e = e ∙ rw (roomy, ← is-found, touch, stored, le-ltb 255 (length (i .newHandle)) fits, ← is-p, n)
 
-          pub register-order : not p ≡ false → r ≡ registerOrdered i said (found .presence) → r ≡ registerDecision i said settled
+          pub register-order : not p ≡ false → r ≡ registerOrdered (i .frame) said (enrolment i) (found .presence) → r ≡ registerDecision i said settled
           unfolding registerDecision
           register-order n e = e ∙ rw (roomy, ← is-found, touch, stored, le-ltb 255 (length (i .newHandle)) fits, ← is-p, n)
 
-pub ordered-register : (i : Inputs) (said : Says) (p : Presence) (r : Result) (application challenge : List ℕ) (order : Order)
-    → application ≡ applicationOf (i .frame) said → challenge ≡ challengeOf (i .frame) said
-    → order ≡ registerOrder (record { application = application; challenge = challenge; handle = i .newHandle; x = i .x; y = i .y }) (length (i .certificate))
-    → r ≡ orderOf order p false → r ≡ registerOrdered i said p
+pub ordered-register : (frame : List ℕ) (said : Says) (n : Enrolment) (p : Presence) (r : Result) (application challenge : List ℕ) (order : Order)
+    → application ≡ applicationOf frame said → challenge ≡ challengeOf frame said
+    → order ≡ registerOrder (record { application = application; challenge = challenge; handle = n .newHandle; x = n .x; y = n .y }) (length (n .certificate))
+    → r ≡ orderOf order p false → r ≡ registerOrdered frame said n p
 unfolding registerOrdered
-ordered-register i said p r application challenge order is-a is-c is-o e = e ∙ rw (is-o, is-a, is-c)
+ordered-register frame said n p r application challenge order is-a is-c is-o e = e ∙ rw (is-o, is-a, is-c)
 
 -- ---- Authenticate
 module _ (frame : List ℕ) (said : Says) (present : Bool) (p : Presence) (r : Result) (c : Counter) where
@@ -117,7 +117,7 @@ module _ (c : Counter) (frame : List ℕ) (said : Says) (settled : Presence) (t 
   unfolding enforced
   enforced-touch n e = e ∙ rw (← is-found, n)
 
-module _ (i : Inputs) (n : ℕ) (said : Says) (settled : Presence) (r : Result) (p1 : ℕ) (is-p1 : p1 ≡ n) where
+module _ (i : Login) (n : ℕ) (said : Says) (settled : Presence) (r : Result) (p1 : ℕ) (is-p1 : p1 ≡ n) where
   pub auth-bad : not (i .hardware .good) ≡ true → r ≡ answer 0x6a80 settled → r ≡ authenticateDecision i n said settled
   unfolding authenticateDecision
   auth-bad g e = e ∙ rw g

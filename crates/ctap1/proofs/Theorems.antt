@@ -27,7 +27,7 @@ use Rattle.signing.specs.declared.Order.{Order}
 use Rattle.signing.proofs.Fit.{RegisterLengths, AuthenticateLengths, register-fit, authenticate-fit}
 use Rattle.signing.proofs.Made.{register-order-fit, authenticate-order-fit}
 use Rattle.signing.proofs.Theorems.{made-of-layout, blank-refused, room-of-made, room-kept}
-use Rattle.ctap1.specs.Words.{Inputs, Given, Body, Ordered, Result, Allowed, Decision, Decided, decidedOf, decisionSaid}
+use Rattle.ctap1.specs.Words.{Inputs, login, Given, Body, Ordered, Result, Allowed, Decision, Decided, decidedOf, decisionSaid}
 use Rattle.ctap1.specs.Decision.{answer, versionBytes, authenticateDecision, onCommand, onAllowed, onSettled, decisionOf, replyLeft}
 use Rattle.ctap1.specs.declared.Allowed.the-variants as Allowed′
 use Rattle.ctap1.specs.declared.Decided.the-variants as Decided′
@@ -75,10 +75,10 @@ BodyIsVersion i n old e long = go (decisionOf i) (way i) e
     same : (m : ℕ) → _≡_ {A = Outcome Given} (Gives (Body m)) (Gives (Body n)) → n ≡ m
     same m x = cc
 
-    go : (o : Result) → Way i o → o .answer ≡ Gives (Body n) → (n ≡ 6) × (replyLeft o old ≡ versionBytes ++ drop 6 old)
+    go : (o : Result) → Way i o → o .answer ≡ Gives (Body n) → (n ≡ 6) × (6 ≤ i .room) × (replyLeft o old ≡ versionBytes ++ drop 6 old)
     go _ (refused m) x = absurd (r-gives _ _ x)
     go _ (stated m p) x = absurd (sw-gives _ _ x)
-    go _ (versioned p room) x = (same 6 x, laid-fits versionBytes old (omega arith))
+    go _ (versioned p room) x = (same 6 x, room, laid-fits versionBytes old (omega arith))
     go _ (enrolled said p c room h) x = absurd (body-order _ (sym x))
     go _ (signed p1 m said present p c room) x = absurd (body-order _ (sym x))
 
@@ -180,7 +180,7 @@ settled-is p t q e = go (isR6 (p .w)) (isR1 (p .last) t) e
     go false true x = absurd (r-gives _ _ x)
     go false false x = sym (gives-same _ _ x)
 
-check-only : (i : Inputs) (said : Says) (q : Presence) (good : Bool) → i .hardware .good ≡ good → authenticateDecision i 0x07 said q ≡ answer (if good then 0x6985 else 0x6a80) q
+check-only : (i : Inputs) (said : Says) (q : Presence) (good : Bool) → i .hardware .good ≡ good → authenticateDecision (login i) 0x07 said q ≡ answer (if good then 0x6985 else 0x6a80) q
 unfolding authenticateDecision
 check-only i said q true g = rw g
 check-only i said q false g = rw g

@@ -1,9 +1,7 @@
 -- Document 01, 'Moments and touches', "In history terms": the calls on a presence record, decisions among them.
-use Rattle.ctap1.specs.Words.{ℕ, Bool, true, not, ltb, eqb, length, Presence, Allowed, Inputs, Given, Result}
+use Rattle.ctap1.specs.Words.{if_then_else_, Outcome, R, SW, Gives, ℕ, Bool, true, not, ltb, eqb, length, Presence, Allowed, Inputs, Given, Result}
 use Rattle.ctap1.specs.Decision.{decisionOf}
 use Rattle.ctap1.specs.declared.Allowed.the-variants as Allowed′
-use Rattle.outcome.specs.Notation.{if_then_else_}
-use Rattle.outcome.specs.Outcome.{Outcome, R, SW, Gives}
 use Rattle.command.specs.Command.{Command, Register, Authenticate, Version, commandOf}
 use Rattle.signing.specs.Finishing.{registerRoom, authenticateRoom}
 use Rattle.u2f_up.specs.Moments.{Told, touchOf, checkOf, askOf}

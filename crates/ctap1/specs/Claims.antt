@@ -1,19 +1,15 @@
 -- What is promised of the decision beyond its contract: open this file first. Inhabited in proofs/Theorems.antt, same names.
 use mathlib.Core.Logic.{_↔_, _⊎_}
-use mathlib.Core.List.{_++_}
-use lib.ListN.{drop}
-use Rattle.ctap1.specs.Words.{ℕ, _<_, _≤_, _≡_, Bool, true, false, List, length, Presence, Decision, Decided, Inputs, Given, Body, Ordered, decidedOf, decisionSaid, Result, Allowed, isPresent}
-use Rattle.ctap1.specs.Decision.{decisionOf, replyLeft, versionBytes, refuse, answer}
+use Rattle.ctap1.specs.Words.{if_then_else_, AtMostOne, R, SW, Gives, _++_, drop, ℕ, _<_, _≤_, _≡_, Bool, true, false, List, length, Presence, Decision, Decided, Inputs, Given, Body, Ordered, decidedOf, decisionSaid, Allowed}
+use Rattle.ctap1.specs.Decision.{decisionOf, replyLeft, versionBytes, answer}
 use Rattle.ctap1.specs.Calls.{PanelCall, panel}
 use Rattle.ctap1.specs.declared.Allowed.the-variants as Allowed′
-use Rattle.outcome.specs.Notation.{AtMostOne, if_then_else_}
-use Rattle.outcome.specs.Outcome.{Outcome, R, SW, Gives}
 use Rattle.apdu.specs.Answers.{Says}
 use Rattle.command.specs.Command.{Authenticate, commandOf}
 use Rattle.u2f_up.specs.Moments.{settleOf, movedTo}
 use Rattle.u2f_up.specs.Claims.{Demand3}
 use Rattle.signing.specs.Orders.{kindNo, certificateLength, blankOrder, isOfLayout}
-use Rattle.signing.specs.Finishing.{Finishing, finishOf, roomAsked}
+use Rattle.signing.specs.Finishing.{Finishing, finishOf}
 
 -- x and y are lent as blocks of 32 bytes; a definition over lists has to say so
 abbrev pub AreBlocks : Inputs → Type 0
@@ -35,11 +31,12 @@ OnlyBodiesWrite =
     → ((n : ℕ) → decisionOf i .answer ≡ SW n → replyLeft (decisionOf i) old ≡ old)
     × (decisionOf i .answer ≡ Gives Ordered → replyLeft (decisionOf i) old ≡ old)
 
--- "A 9000 body fills the front of the buffer; the rest stays", and a body is Version's six bytes.
+-- "A 9000 body fills the front of the buffer; the rest stays"; a decision's body is Version's six bytes, and never exceeds the
+-- room. A Version that writes into five bytes fails it.
 abbrev pub BodyIsVersion : Type 0
 BodyIsVersion =
     (i : Inputs) (n : ℕ) (old : List ℕ) → decisionOf i .answer ≡ Gives (Body n) → length old ≡ i .room
-    → (n ≡ 6) × (replyLeft (decisionOf i) old ≡ versionBytes ++ drop 6 old)
+    → (n ≡ 6) × (6 ≤ i .room) × (replyLeft (decisionOf i) old ≡ versionBytes ++ drop 6 old)
 
 -- "In every other answer it is not taken": the counter is taken exactly for an Authenticate order. A decision that takes it
 -- for P1 03 without a touch fails it.

@@ -1,10 +1,8 @@
 -- Document 01, 'The decision': its checks, in their order, and 'Refusal numbers' as far as they speak of the decision.
 use Rattle.ctap1.specs.Words.{ℕ, _+_, Bool, true, false, not, List, [], _∷_, ltb, eqb, length, Presence, Order, Allowed, Counter}
-use Rattle.ctap1.specs.Words.{Inputs, isPresent, Given, Body, Ordered, Result}
+use Rattle.ctap1.specs.Words.{if_then_else_, Outcome, R, SW, Gives, Inputs, Enrolment, enrolment, Login, login, isPresent, Given, Body, Ordered, Result}
 use Rattle.ctap1.specs.declared.Allowed.the-variants as Allowed′
 use Rattle.ctap1.specs.declared.Counter.the-variants as Counter′
-use Rattle.outcome.specs.Notation.{if_then_else_}
-use Rattle.outcome.specs.Outcome.{Outcome, R, SW, Gives}
 use Rattle.octets.specs.Bytes.{laid, bytes4}
 use Rattle.apdu.specs.Answers.{Says}
 use Rattle.command.specs.Command.{Command, Register, Authenticate, Version, commandOf, challengeOf, applicationOf}
@@ -38,18 +36,18 @@ versionDecision kept settled room =
     else body 6 settled
 
 -- the order of a Register: 00, application, challenge, handle, public key, with the certificate's length
-unfoldable pub registerOrdered : Inputs → Says → Presence → Result
-registerOrdered i said p =
+unfoldable pub registerOrdered : List ℕ → Says → Enrolment → Presence → Result
+registerOrdered frame said e p =
     orderOf
     (registerOrder
     (record {
-      application = applicationOf (i .frame) said;
-      challenge = challengeOf (i .frame) said;
-      handle = i .newHandle;
-      x = i .x;
-      y = i .y;
+      application = applicationOf frame said;
+      challenge = challengeOf frame said;
+      handle = e .newHandle;
+      x = e .x;
+      y = e .y;
     })
-    (length (i .certificate)))
+    (length (e .certificate)))
     p
     false
 
@@ -63,7 +61,7 @@ registerDecision i said settled =
     else if not (i .hardware .stored) then answer 0x6f00 (found .presence)
     else if ltb 255 (length (i .newHandle)) then answer 0x6f00 (found .presence)
     else if not (isPresent (i .hardware .attestation)) then answer 0x6f00 (found .presence)
-    else registerOrdered i said (found .presence)
+    else registerOrdered (i .frame) said (enrolment i) (found .presence)
 
 -- 6. "counter answer failed gives 6a80; else the offered counter is reported as taken, and an order"
 unfoldable pub countedBy : Counter → List ℕ → Says → Bool → Presence → Result
@@ -87,7 +85,7 @@ enforced counter frame said found =
     else countedBy counter frame said true (found .presence)
 
 -- 6. "Authenticate: handle not good gives 6a80; P1 07 gives 6985; buffer under 77 gives R2; for P1 03 touch check, 6985; .."
-unfoldable pub authenticateDecision : Inputs → ℕ → Says → Presence → Result
+unfoldable pub authenticateDecision : Login → ℕ → Says → Presence → Result
 authenticateDecision i p1 said settled =
     let counter = i .hardware .counter in
     if not (i .hardware .good) then answer 0x6a80 settled
@@ -102,7 +100,7 @@ onCommand i settled (R n) = refuse n (i .presence)
 onCommand i settled (SW n) = answer n settled
 onCommand i settled (Gives Version) = versionDecision (i .presence) settled (i .room)
 onCommand i settled (Gives (Register said)) = registerDecision i said settled
-onCommand i settled (Gives (Authenticate p1 said)) = authenticateDecision i p1 said settled
+onCommand i settled (Gives (Authenticate p1 said)) = authenticateDecision (login i) p1 said settled
 
 -- 2. "failed gives 6f00, no gives 6986"
 unfoldable pub onAllowed : Allowed → Inputs → Presence → Result

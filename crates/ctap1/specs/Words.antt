@@ -2,10 +2,11 @@
 pub use Prim.Native.Nat.{ℕ, _+_, _<_, _≤_}
 pub use mathlib.Core.Path.{_≡_}
 pub use mathlib.Core.Bool.{Bool, true, false, not}
-pub use mathlib.Core.List.{List, [], _∷_}
+pub use mathlib.Core.List.{List, [], _∷_, _++_}
 pub use lib.Dec.{ltb, eqb}
-pub use lib.ListN.{length}
-use Rattle.outcome.specs.Outcome.{Outcome, R, SW, Gives, statusNo, refusalNo}
+pub use lib.ListN.{length, drop}
+pub use Rattle.outcome.specs.Notation.{if_then_else_, AtMostOne}
+pub use Rattle.outcome.specs.Outcome.{Outcome, R, SW, Gives, statusNo, refusalNo}
 pub use Rattle.u2f_up.specs.declared.Presence.{Presence}
 pub use Rattle.signing.specs.declared.Order.{Order}
 pub use Rattle.ctap1.specs.declared.Allowed.{Allowed}
@@ -28,6 +29,27 @@ pub record Inputs : Type 0 where
   pub x : List ℕ
   pub y : List ℕ
   pub room : ℕ  -- the reply buffer's length
+
+-- what of this goes into the order of a Register
+pub record Enrolment : Type 0 where
+  pub newHandle : List ℕ
+  pub certificate : List ℕ
+  pub x : List ℕ
+  pub y : List ℕ
+
+abbrev pub enrolment : Inputs → Enrolment
+enrolment i = record { newHandle = i .newHandle; certificate = i .certificate; x = i .x; y = i .y }
+
+-- what of this an Authenticate looks at
+pub record Login : Type 0 where
+  pub frame : List ℕ
+  pub moment : ℕ
+  pub presence : Presence
+  pub hardware : Hardware
+  pub room : ℕ
+
+abbrev pub login : Inputs → Login
+login i = record { frame = i .frame; moment = i .moment; presence = i .presence; hardware = i .hardware; room = i .room }
 
 -- 01, The decision, 5: "the attestation is missing or failed"
 abbrev pub isPresent : Attestation → Bool

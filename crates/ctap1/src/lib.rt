@@ -123,18 +123,14 @@ fn version(kept: Presence, settled: Presence, reply: &mut [u8]) -> Decision
 
 fn enrol(
     frame: &[u8],
-    t: u64,
-    kept: Presence,
-    hardware: Hardware,
+    says: Apdu,
     handle: &[u8],
     certificate: &[u8],
     x: &[u8; 32],
     y: &[u8; 32],
-    room: usize,
-    says: Apdu,
     after: Presence,
 ) -> Decision
-    ensures { λ r. ⌜ decisionSaid r ≡ registerOrdered (record { frame = now (frame .entry); moment = t; presence = kept; hardware = hardware; newHandle = now (handle .entry); certificate = now (certificate .entry); x = now (x .entry); y = now (y .entry); room = room }) (saysOf says) after ⌝ }
+    ensures { λ r. ⌜ decisionSaid r ≡ registerOrdered (now (frame .entry)) (saysOf says) (record { newHandle = now (handle .entry); certificate = now (certificate .entry); x = now (x .entry); y = now (y .entry) }) after ⌝ }
 {
     let application = command::application(frame, says);
     let challenge = command::challenge(frame, says);
@@ -176,19 +172,7 @@ fn register(
     if !is_present(attestation) {
         return answered(ApduStatusCode::InternalException, after);
     }
-    enrol(
-        frame,
-        t,
-        kept,
-        hardware,
-        handle,
-        certificate,
-        x,
-        y,
-        room,
-        says,
-        after,
-    )
+    enrol(frame, says, handle, certificate, x, y, after)
 }
 
 // The counter is taken last: no check comes after it.
@@ -223,16 +207,12 @@ fn authenticate(
     t: u64,
     kept: Presence,
     hardware: Hardware,
-    handle: &[u8],
-    certificate: &[u8],
-    x: &[u8; 32],
-    y: &[u8; 32],
     room: usize,
     flags: Ctap1Flags,
     says: Apdu,
     settled: Presence,
 ) -> Decision
-    ensures { λ r. ⌜ decisionSaid r ≡ authenticateDecision (record { frame = now (frame .entry); moment = t; presence = kept; hardware = hardware; newHandle = now (handle .entry); certificate = now (certificate .entry); x = now (x .entry); y = now (y .entry); room = room }) (flagsNo flags) (saysOf says) settled ⌝ }
+    ensures { λ r. ⌜ decisionSaid r ≡ authenticateDecision (record { frame = now (frame .entry); moment = t; presence = kept; hardware = hardware; room = room }) (flagsNo flags) (saysOf says) settled ⌝ }
 {
     let counter = hardware.counter;
     let p1 = command::flags_number(flags);
@@ -289,10 +269,6 @@ fn commanded(
             t,
             kept,
             hardware,
-            handle,
-            certificate,
-            x,
-            y,
             room,
             flags,
             says,

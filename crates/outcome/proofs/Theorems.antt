@@ -4,12 +4,12 @@ use mathlib.Core.Path.{_≡_, refl}
 use lib.Dec.{eqb}
 use Rattle.outcome.specs.Notation.{if_then_else_}
 use Rattle.outcome.specs.Outcome.{statusNo, refusalNo}
-use Rattle.outcome.specs.Claims.{StatusOneToOne, RefusalOneToOne}
+use Rattle.outcome.specs.Claims.{StatusOneToOne, RefusalOneToOne, Determined}
 use Rattle.outcome.specs.declared.ApduStatusCode.{ApduStatusCode}
 use Rattle.outcome.specs.declared.ApduStatusCode.the-variants.{Success, WrongData, WrongLength, CondUseNotSatisfied, CommandNotAllowed, InsInvalid, ClaInvalid, InternalException}
 use Rattle.outcome.specs.declared.Refusal.{Refusal}
 use Rattle.outcome.specs.declared.Refusal.the-variants.{R1, R2, R3, R4, R5, R6, R7}
-use Rattle.outcome.proofs.Laws.{one-to-one}
+use Rattle.outcome.proofs.Laws.{one-to-one, both-are}
 
 pub statusOf : ℕ → ApduStatusCode
 statusOf n =
@@ -58,3 +58,6 @@ refusal-back R7 = refl
 
 pub refusal-one-to-one : RefusalOneToOne
 refusal-one-to-one = one-to-one refusalNo refusalOf refusal-back
+
+pub determined : Determined
+determined = record { status-number = λ s a b. both-are a b; refusal-number = λ r a b. both-are a b }

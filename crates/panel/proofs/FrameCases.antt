@@ -1,11 +1,10 @@
 -- What reading, writing and command reading answer in plain numbers, case by case, as the code meets it. It mentions no function.
 use Prim.Native.Nat.{ℕ, _+_}
-use mathlib.Core.Path.{_≡_, refl, ap, _∙_}
+use mathlib.Core.Path.{_≡_, ap, _∙_}
 use mathlib.Core.List.{List}
 use borrow.Author.Tests.{ne-eqb}
 use lib.ListN.{length}
-use Rattle.outcome.specs.Notation.{if_then_else_}
-use Rattle.outcome.specs.Outcome.{Outcome, Gives, statusNo, refusalNo}
+use Rattle.outcome.specs.Outcome.{Gives, statusNo, refusalNo}
 use Rattle.outcome.specs.declared.ApduStatusCode.{ApduStatusCode}
 use Rattle.outcome.specs.declared.Refusal.{Refusal}
 use Rattle.apdu.specs.Words.{shapeNo}
@@ -13,6 +12,7 @@ use Rattle.apdu.specs.Answers.{saysOf, readingOf, writtenOf}
 use Rattle.apdu.specs.Reading.{placeOf}
 use Rattle.apdu.specs.Writing.{parts, writeOf, bufferOf}
 use Rattle.apdu.specs.declared.Apdu.{Apdu}
+use Rattle.apdu.specs.declared.ApduHeader.{ApduHeader}
 use Rattle.apdu.specs.declared.Case.{Case}
 use Rattle.apdu.specs.declared.Case.the-variants.{Instruction, Le1, Lc1Data, Lc1DataLe1, Lc3Data, Lc3DataLe1, Lc3DataLe2, Le3}
 use Rattle.apdu.specs.declared.Place.{Place}
@@ -26,7 +26,7 @@ use Rattle.command.specs.declared.U2fCommand.{U2fCommand}
 use Rattle.command.specs.declared.U2fCommand.the-variants as U2fCommand′
 use Rattle.panel.specs.Words.{FrameSaid, CommandSaid, Wrote, Shaped}
 use Rattle.panel.specs.Numbers.{shapeOf}
-use Rattle.panel.specs.Exports.{saidNumbers, noFrame, frameNumbers, lengthNumbers, ToWrite, plainWrite, plainWritten, bareCommand, commandNumbers}
+use Rattle.panel.specs.Exports.{noFrame, frameNumbers, lengthNumbers, ToWrite, plainWrite, bufferAs, bareCommand, commandNumbers}
 use Rattle.panel.specs.declared.frames.Shaped.the-variants as Shaped′
 
 -- ---- a definition over an outcome, at the outcome that the call's contract names
@@ -82,55 +82,38 @@ module _ (written : Written) where
   pub wrote-frame : (n : ℕ) → written ≡ Written′.Frame n → _≡_ {A = Wrote} (record { answer = 0x9000; length = n }) (lengthNumbers (writtenOf written))
   wrote-frame n z = rw z
 
-module _ (number : ℕ) where
-  pub shape-1 : number ≡ 1 → Shaped′.As Instruction ≡ shapeOf number
-  unfolding shapeOf
-  shape-1 e = rw e
+-- a shape's number is that shape
+pub shaped : (s : Case) (number : ℕ) → number ≡ shapeNo s → Shaped′.As s ≡ shapeOf number
+unfolding shapeOf
+shaped Instruction number e = rw e
+shaped Le1 number e = rw e
+shaped Lc1Data number e = rw e
+shaped Lc1DataLe1 number e = rw e
+shaped Lc3Data number e = rw e
+shaped Lc3DataLe1 number e = rw e
+shaped Lc3DataLe2 number e = rw e
+shaped Le3 number e = rw e
 
-  pub shape-2 : number ≡ 2 → Shaped′.As Le1 ≡ shapeOf number
-  unfolding shapeOf
-  shape-2 e = rw e
+pub no-shape : (number : ℕ) → (number ≡ 1 → ⊥) → (number ≡ 2 → ⊥) → (number ≡ 3 → ⊥) → (number ≡ 4 → ⊥) → (number ≡ 5 → ⊥) → (number ≡ 6 → ⊥) → (number ≡ 7 → ⊥) → (number ≡ 8 → ⊥) → Shaped′.Nothing ≡ shapeOf number
+unfolding shapeOf
+no-shape number a b c d e f g h =
+    rw (ne-eqb number 1 a, ne-eqb number 2 b, ne-eqb number 3 c, ne-eqb number 4 d, ne-eqb number 5 e, ne-eqb number 6 f, ne-eqb number 7 g, ne-eqb number 8 h)
 
-  pub shape-3 : number ≡ 3 → Shaped′.As Lc1Data ≡ shapeOf number
-  unfolding shapeOf
-  shape-3 e = rw e
+abbrev toWrite : ApduHeader → ℕ → List ℕ → ℕ → List ℕ → ToWrite
+toWrite header shape content le out = record { header = header; shape = shape; content = content; le = le; out = out }
 
-  pub shape-4 : number ≡ 4 → Shaped′.As Lc1DataLe1 ≡ shapeOf number
-  unfolding shapeOf
-  shape-4 e = rw e
+module _ (header : ApduHeader) (shape : ℕ) (content : List ℕ) (le : ℕ) (old : List ℕ) (shaped : Shaped) (is-shaped : shaped ≡ shapeOf shape) where
+  module _ (s : Case) (z : shaped ≡ Shaped′.As s) where
+    pub write-as : (written : Written) (r : Wrote) → writtenOf written ≡ writeOf (parts header s content le) (length old) → r ≡ lengthNumbers (writtenOf written)
+        → r ≡ lengthNumbers (plainWrite (toWrite header shape content le old))
+    write-as written r is-written is = is ∙ ap lengthNumbers is-written ∙ rw (← is-shaped, z)
 
-  pub shape-5 : number ≡ 5 → Shaped′.As Lc3Data ≡ shapeOf number
-  unfolding shapeOf
-  shape-5 e = rw e
+    pub buffer-as : (new : List ℕ) → new ≡ bufferOf (parts header s content le) old → new ≡ bufferAs (shapeOf shape) (toWrite header shape content le old)
+    buffer-as new is = is ∙ rw (← is-shaped, z)
 
-  pub shape-6 : number ≡ 6 → Shaped′.As Lc3DataLe1 ≡ shapeOf number
-  unfolding shapeOf
-  shape-6 e = rw e
+  module _ (z : shaped ≡ Shaped′.Nothing) where
+    pub write-as-none : _≡_ {A = Wrote} (record { answer = 5; length = 0 }) (lengthNumbers (plainWrite (toWrite header shape content le old)))
+    write-as-none = rw (← is-shaped, z)
 
-  pub shape-7 : number ≡ 7 → Shaped′.As Lc3DataLe2 ≡ shapeOf number
-  unfolding shapeOf
-  shape-7 e = rw e
-
-  pub shape-8 : number ≡ 8 → Shaped′.As Le3 ≡ shapeOf number
-  unfolding shapeOf
-  shape-8 e = rw e
-
-  pub no-shape : (number ≡ 1 → ⊥) → (number ≡ 2 → ⊥) → (number ≡ 3 → ⊥) → (number ≡ 4 → ⊥) → (number ≡ 5 → ⊥) → (number ≡ 6 → ⊥) → (number ≡ 7 → ⊥) → (number ≡ 8 → ⊥) → Shaped′.Nothing ≡ shapeOf number
-  unfolding shapeOf
-  no-shape a b c d e f g h =
-      rw (ne-eqb number 1 a, ne-eqb number 2 b, ne-eqb number 3 c, ne-eqb number 4 d, ne-eqb number 5 e, ne-eqb number 6 f, ne-eqb number 7 g, ne-eqb number 8 h)
-
-module _ (w : ToWrite) (old : List ℕ) (shaped : Shaped) (is-shaped : shaped ≡ shapeOf (w .shape)) where
-  pub write-as : (s : Case) (written : Written) (r : Wrote) → shaped ≡ Shaped′.As s
-      → writtenOf written ≡ writeOf (parts (w .header) s (w .content) (w .le)) (length old) → r ≡ lengthNumbers (writtenOf written)
-      → r ≡ lengthNumbers (plainWrite w (length old))
-  write-as s written r z is-written is = is ∙ ap lengthNumbers is-written ∙ rw (← is-shaped, z)
-
-  pub buffer-as : (s : Case) (new : List ℕ) → shaped ≡ Shaped′.As s → new ≡ bufferOf (parts (w .header) s (w .content) (w .le)) old → new ≡ plainWritten w old
-  buffer-as s new z is = is ∙ rw (← is-shaped, z)
-
-  pub write-as-none : shaped ≡ Shaped′.Nothing → _≡_ {A = Wrote} (record { answer = 5; length = 0 }) (lengthNumbers (plainWrite w (length old)))
-  write-as-none z = rw (← is-shaped, z)
-
-  pub buffer-as-none : shaped ≡ Shaped′.Nothing → old ≡ plainWritten w old
-  buffer-as-none z = rw (← is-shaped, z)
+    pub buffer-as-none : old ≡ bufferAs (shapeOf shape) (toWrite header shape content le old)
+    buffer-as-none = rw (← is-shaped, z)

@@ -1,12 +1,11 @@
 -- The hardware's answers, decisions and orders in plain numbers, as the code meets them. It mentions no function.
 use Prim.Native.Nat.{ℕ}
-use mathlib.Core.Path.{_≡_, refl, ap, sym, _∙_}
+use mathlib.Core.Path.{_≡_, ap, _∙_}
 use mathlib.Core.Bool.{Bool, true, false}
 use mathlib.Core.List.{List}
 use borrow.Author.Tests.{ne-eqb}
 use lib.ListN.{length}
-use Rattle.outcome.specs.Notation.{if_then_else_}
-use Rattle.outcome.specs.Outcome.{Outcome, Gives, statusNo, refusalNo}
+use Rattle.outcome.specs.Outcome.{statusNo, refusalNo}
 use Rattle.outcome.specs.declared.ApduStatusCode.{ApduStatusCode}
 use Rattle.outcome.specs.declared.Refusal.{Refusal}
 use Rattle.u2f_up.specs.declared.Presence.{Presence}
@@ -61,17 +60,15 @@ module _ (number : ℕ) where
     unfolding attestationOf
     attestation-failed = rw (ne-eqb number 0 zero, ne-eqb number 1 one)
 
-  pub kind-register : number ≡ 1 → Kinded′.As Kind′.Register ≡ kindOf number
-  unfolding kindOf
-  kind-register e = rw e
+-- a kind's number is that kind
+pub kinded : (k : Kind) (number : ℕ) → number ≡ kindNo k → Kinded′.As k ≡ kindOf number
+unfolding kindOf
+kinded Kind′.Register number e = rw e
+kinded Kind′.Authenticate number e = rw e
 
-  pub kind-authenticate : number ≡ 2 → Kinded′.As Kind′.Authenticate ≡ kindOf number
-  unfolding kindOf
-  kind-authenticate e = rw e
-
-  pub no-kind : (number ≡ 1 → ⊥) → (number ≡ 2 → ⊥) → Kinded′.Nothing ≡ kindOf number
-  unfolding kindOf
-  no-kind a b = rw (ne-eqb number 1 a, ne-eqb number 2 b)
+pub no-kind : (number : ℕ) → (number ≡ 1 → ⊥) → (number ≡ 2 → ⊥) → Kinded′.Nothing ≡ kindOf number
+unfolding kindOf
+no-kind number a b = rw (ne-eqb number 1 a, ne-eqb number 2 b)
 
 module _ (counted : Bool) (n : ℕ) where
   pub counter-offered : counted ≡ true → Counter′.Offered n ≡ counterOf counted n

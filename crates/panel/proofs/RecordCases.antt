@@ -1,10 +1,9 @@
 -- Presence records as plain numbers, and the answers to touch, check and ask, as the code meets them. It mentions no function.
 use Prim.Native.Nat.{ℕ}
-use mathlib.Core.Path.{_≡_, refl, ap, _∙_}
-use mathlib.Core.Bool.{Bool, true, false}
+use mathlib.Core.Path.{_≡_, ap, _∙_}
+use mathlib.Core.Bool.{true, false}
 use borrow.Author.Tests.{ne-eqb}
-use Rattle.outcome.specs.Notation.{if_then_else_}
-use Rattle.outcome.specs.Outcome.{Outcome, Gives, refusalNo}
+use Rattle.outcome.specs.Outcome.{refusalNo}
 use Rattle.outcome.specs.declared.Refusal.{Refusal}
 use Rattle.u2f_up.specs.Moments.{touchOf, checkOf, askOf}
 use Rattle.u2f_up.specs.Answers.{readyOf, outcomeOf, toldOf}

@@ -1,18 +1,12 @@
 -- What each export answers, in plain numbers, by the outcome that the definitions of the other crates give for its call.
 -- A number that an answer has no use for is 0.
-use Rattle.panel.specs.Words.{ℕ, _+_, _≡_, Bool, false, List, Outcome, R, SW, Gives, Case, ApduHeader, Presence, Kind, Order}
-use Rattle.panel.specs.Words.{PresenceRecord, OrderNumbers, FrameSaid, CommandSaid, Wrote, Made, Touched, Asked, DecisionSaid, Shaped, Kinded}
-use Rattle.panel.specs.Numbers.{answerNo, decidedNo, presenceNumbers, shapeOf, kindOf, noOrder}
+use Rattle.panel.specs.Words.{ℕ, _+_, _≡_, Bool, false, List, length, Outcome, R, SW, Gives, ApduHeader, Presence, Kind, Order}
+use Rattle.panel.specs.Words.{PresenceRecord, HardwareSaid, OrderNumbers, FrameSaid, CommandSaid, Wrote, Made, Touched, Asked, DecisionSaid, Shaped, Kinded}
+use Rattle.panel.specs.Words.{Says, placeOf, parts, writeOf, bufferOf, Command, Register, Authenticate, Version, handlePlaceOf, Told}
+use Rattle.panel.specs.Words.{kindNo, toSign, certificateLength, finishOf, lengthOf, replyOf, Inputs, Given, Body, Ordered, Result, decisionOf, replyLeft}
+use Rattle.panel.specs.Numbers.{answerNo, decidedNo, presenceOf, presenceNumbers, hardwareOf, shapeOf, kindOf, noOrder}
 use Rattle.panel.specs.declared.frames.Shaped.the-variants as Shaped′
 use Rattle.panel.specs.declared.orders.Kinded.the-variants as Kinded′
-use Rattle.apdu.specs.Answers.{Says}
-use Rattle.apdu.specs.Reading.{placeOf}
-use Rattle.apdu.specs.Writing.{parts, writeOf, bufferOf}
-use Rattle.command.specs.Command.{Command, Register, Authenticate, Version, handlePlaceOf}
-use Rattle.u2f_up.specs.Moments.{Told}
-use Rattle.signing.specs.Orders.{kindNo, toSign, certificateLength}
-use Rattle.signing.specs.Finishing.{finishOf}
-use Rattle.ctap1.specs.Words.{Given, Body, Ordered, Result}
 
 -- ---- frames
 -- what a frame says, and where its data stands: "data comes back as a part of the caller's frame"
@@ -49,27 +43,29 @@ lengthIn (Gives n) = n
 abbrev pub lengthNumbers : Outcome ℕ → Wrote
 lengthNumbers o = record { answer = answerNo o; length = lengthIn o }
 
--- what the writer is given, the shape as a number
+-- what the writer is lent, the shape as a number
 pub record ToWrite : Type 0 where
   pub header : ApduHeader
   pub shape : ℕ
   pub content : List ℕ  -- the data
   pub le : ℕ
+  pub out : List ℕ  -- the buffer before the call
 
--- 01: "It refuses (R5) exactly when data length or Le is not one that the shape can carry": no shape can carry anything
-abbrev pub writeAs : Shaped → ToWrite → ℕ → Outcome ℕ
-writeAs (Shaped′.As s) w room = writeOf (parts (w .header) s (w .content) (w .le)) room
-writeAs Shaped′.Nothing w room = R 5
+-- 01: "It refuses (R5) exactly when data length or Le is not one that the shape can carry": where there is no shape, nothing is
+abbrev pub writeAs : Shaped → ToWrite → Outcome ℕ
+writeAs (Shaped′.As s) w = writeOf (parts (w .header) s (w .content) (w .le)) (length (w .out))
+writeAs Shaped′.Nothing w = R 5
 
-abbrev pub bufferAs : Shaped → ToWrite → List ℕ → List ℕ
-bufferAs (Shaped′.As s) w old = bufferOf (parts (w .header) s (w .content) (w .le)) old
-bufferAs Shaped′.Nothing w old = old
+abbrev pub bufferAs : Shaped → ToWrite → List ℕ
+bufferAs (Shaped′.As s) w = bufferOf (parts (w .header) s (w .content) (w .le)) (w .out)
+bufferAs Shaped′.Nothing w = w .out
 
-abbrev pub plainWrite : ToWrite → ℕ → Outcome ℕ
-plainWrite w room = writeAs (shapeOf (w .shape)) w room
+abbrev pub plainWrite : ToWrite → Outcome ℕ
+plainWrite w = writeAs (shapeOf (w .shape)) w
 
-abbrev pub plainWritten : ToWrite → List ℕ → List ℕ
-plainWritten w old = bufferAs (shapeOf (w .shape)) w old
+-- what is promised of the writer: its answer, and the buffer after the call
+abbrev pub Writes : ToWrite → Wrote → List ℕ → Type 0
+Writes w r after = (r ≡ lengthNumbers (plainWrite w)) × (after ≡ bufferAs (shapeOf (w .shape)) w)
 
 -- ---- commands
 -- a command without parts, or a status word alone
@@ -165,6 +161,41 @@ decisionNumbers r =
       presence = presenceNumbers (r .presence);
     }
 
+-- what the decision is lent, the record and the hardware's answers as numbers
+pub record ToDecide : Type 0 where
+  pub frame : List ℕ
+  pub moment : ℕ
+  pub presence : PresenceRecord
+  pub hardware : HardwareSaid
+  pub newHandle : List ℕ
+  pub certificate : List ℕ
+  pub x : List ℕ
+  pub y : List ℕ
+  pub reply : List ℕ  -- the reply buffer before the call
+  pub block : List ℕ  -- the block before the call
+
+-- what the numbers stand for
+abbrev pub inputsOf : ToDecide → Inputs
+inputsOf i =
+    record {
+      frame = i .frame;
+      moment = i .moment;
+      presence = presenceOf (i .presence);
+      hardware = hardwareOf (i .hardware);
+      newHandle = i .newHandle;
+      certificate = i .certificate;
+      x = i .x;
+      y = i .y;
+      room = length (i .reply);
+    }
+
+-- what is promised of the decision: its answer, and the reply buffer and the block after the call
+abbrev pub Decides : ToDecide → DecisionSaid → List ℕ → List ℕ → Type 0
+Decides i r reply block =
+    (r ≡ decisionNumbers (decisionOf (inputsOf i)))
+    × (reply ≡ replyLeft (decisionOf (inputsOf i)) (i .reply))
+    × (block ≡ blockLeft (decisionOf (inputsOf i)) (i .block))
+
 -- ---- finishing
 -- what finishing is lent, the order as numbers and a block
 pub record ToFinish : Type 0 where
@@ -195,3 +226,7 @@ finishAs (Kinded′.As kind) i =
 
 abbrev pub plainFinish : ToFinish → Outcome (List ℕ)
 plainFinish i = finishAs (kindOf (i .order .kind)) i
+
+-- what is promised of finishing: its answer, and the reply buffer after the call
+abbrev pub Finishes : ToFinish → Wrote → List ℕ → Type 0
+Finishes i r after = (r ≡ lengthNumbers (lengthOf (plainFinish i))) × (after ≡ replyOf (plainFinish i) (i .reply))

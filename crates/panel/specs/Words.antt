@@ -1,4 +1,5 @@
--- The types that cross to C, and the enums that their numbers stand for: the files here take the names from this one.
+-- The types that cross to C, the enums that their numbers stand for, and the other crates' definitions that the exports are
+-- stated through: the files here take the names from this one.
 pub use Prim.Native.Nat.{ℕ, _+_, _-_, _^_, _≤_, _<_}
 pub use mathlib.Core.Path.{_≡_}
 pub use mathlib.Core.Bool.{Bool, true, false}
@@ -31,3 +32,13 @@ pub use Rattle.panel.specs.declared.Asked.{Asked}
 pub use Rattle.panel.specs.declared.DecisionSaid.{DecisionSaid}
 pub use Rattle.panel.specs.declared.frames.Shaped.{Shaped}
 pub use Rattle.panel.specs.declared.orders.Kinded.{Kinded}
+pub use Rattle.apdu.specs.Words.{shapeNo}
+pub use Rattle.apdu.specs.Answers.{Says}
+pub use Rattle.apdu.specs.Reading.{readOf, strictOf, placeOf}
+pub use Rattle.apdu.specs.Writing.{parts, writeOf, bufferOf}
+pub use Rattle.command.specs.Command.{Command, Register, Authenticate, Version, commandOf, handlePlaceOf}
+pub use Rattle.u2f_up.specs.Moments.{Told, newOf, touchOf, checkOf, askOf}
+pub use Rattle.signing.specs.Orders.{kindNo, toSign, certificateLength}
+pub use Rattle.signing.specs.Finishing.{finishOf, lengthOf, replyOf}
+pub use Rattle.ctap1.specs.Words.{Inputs, Given, Body, Ordered, Result}
+pub use Rattle.ctap1.specs.Decision.{decisionOf, replyLeft}

@@ -10,12 +10,11 @@ use apdu::Written;
 use command::Ctap1Flags;
 use command::U2fCommand;
 ghost use mathlib.Core.Path.{_≡_};
-ghost use lib.ListN.{length};
 ghost use Rattle.outcome.specs.Outcome.{Gives};
 ghost use Rattle.apdu.specs.Answers.{saysOf, readingOf, writtenOf};
 ghost use Rattle.command.specs.Command.{commandSaid, flagsNo, Register, Authenticate};
 ghost use Rattle.panel.specs.Numbers.{shapeOf};
-ghost use Rattle.panel.specs.Exports.{frameNumbers, bareCommand, commandNumbers, lengthNumbers, plainWrite, plainWritten};
+ghost use Rattle.panel.specs.Exports.{frameNumbers, bareCommand, commandNumbers, lengthNumbers, Writes};
 
 // A number that is one of the eight shapes', or none.
 pub enum Shaped {
@@ -101,8 +100,7 @@ pub fn write_numbered(
     le: u32,
     out: &mut [u8],
 ) -> Wrote
-    ensures { λ r. ⌜ r ≡ lengthNumbers (plainWrite (record { header = header; shape = shape; content = now (content .entry); le = le }) (length (now (out .entry)))) ⌝ }
-    ensures { λ _. ⌜ now (out .exit) ≡ plainWritten (record { header = header; shape = shape; content = now (content .entry); le = le }) (now (out .entry)) ⌝ }
+    ensures { λ r. ⌜ Writes (record { header = header; shape = shape; content = now (content .entry); le = le; out = now (out .entry) }) r (now (out .exit)) ⌝ }
 {
     let shaped = shape_of(shape);
     match shaped {

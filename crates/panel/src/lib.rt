@@ -12,14 +12,11 @@ mod orders;
 mod presence;
 
 ghost use mathlib.Core.Path.{_≡_};
-ghost use lib.ListN.{length};
 ghost use Rattle.apdu.specs.Reading.{readOf, strictOf};
 ghost use Rattle.command.specs.Command.{commandOf};
 ghost use Rattle.u2f_up.specs.Moments.{newOf, touchOf, checkOf, askOf};
-ghost use Rattle.signing.specs.Finishing.{lengthOf, replyOf};
-ghost use Rattle.ctap1.specs.Decision.{decisionOf, replyLeft};
-ghost use Rattle.panel.specs.Numbers.{presenceOf, hardwareOf};
-ghost use Rattle.panel.specs.Exports.{frameNumbers, commandNumbers, madeNumbers, stepNumbers, askedNumbers, decisionNumbers, lengthNumbers, blockLeft, plainWrite, plainWritten, plainFinish};
+ghost use Rattle.panel.specs.Numbers.{presenceOf};
+ghost use Rattle.panel.specs.Exports.{frameNumbers, commandNumbers, madeNumbers, stepNumbers, askedNumbers, Writes, Decides, Finishes};
 
 // The presence record. A window is the moment at which it was opened, or u64's greatest number where it is closed.
 #[repr(C)]
@@ -112,6 +109,7 @@ pub struct DecisionSaid {
     pub presence: PresenceRecord,
 }
 
+// Reads any bytes as a frame; its data comes back as a place in the caller's frame.
 #[no_mangle]
 pub extern "C" fn brinecandle_read(frame: &[u8]) -> FrameSaid
     ensures { λ r. ⌜ r ≡ frameNumbers (readOf (now (frame .entry))) ⌝ }
@@ -119,6 +117,7 @@ pub extern "C" fn brinecandle_read(frame: &[u8]) -> FrameSaid
     frames::frame_said(apdu::read(frame))
 }
 
+// The same without shape 6.
 #[no_mangle]
 pub extern "C" fn brinecandle_read_strict(frame: &[u8]) -> FrameSaid
     ensures { λ r. ⌜ r ≡ frameNumbers (strictOf (now (frame .entry))) ⌝ }
@@ -126,6 +125,7 @@ pub extern "C" fn brinecandle_read_strict(frame: &[u8]) -> FrameSaid
     frames::frame_said(apdu::read_strict(frame))
 }
 
+// Writes a frame at the front of out.
 #[no_mangle]
 pub extern "C" fn brinecandle_write(
     cla: u8,
@@ -137,13 +137,13 @@ pub extern "C" fn brinecandle_write(
     le: u32,
     out: &mut [u8],
 ) -> Wrote
-    ensures { λ r. ⌜ r ≡ lengthNumbers (plainWrite (record { header = record { cla = cla; ins = ins; p1 = p1; p2 = p2 }; shape = shape; content = now (content .entry); le = le }) (length (now (out .entry)))) ⌝ }
-    ensures { λ _. ⌜ now (out .exit) ≡ plainWritten (record { header = record { cla = cla; ins = ins; p1 = p1; p2 = p2 }; shape = shape; content = now (content .entry); le = le }) (now (out .entry)) ⌝ }
+    ensures { λ r. ⌜ Writes (record { header = record { cla = cla; ins = ins; p1 = p1; p2 = p2 }; shape = shape; content = now (content .entry); le = le; out = now (out .entry) }) r (now (out .exit)) ⌝ }
 {
     let header = apdu::ApduHeader { cla, ins, p1, p2 };
     frames::write_numbered(header, shape, content, le, out)
 }
 
+// Reads any bytes as a command; its parts come back as places in the caller's frame.
 #[no_mangle]
 pub extern "C" fn brinecandle_read_command(frame: &[u8]) -> CommandSaid
     ensures { λ r. ⌜ r ≡ commandNumbers (commandOf (now (frame .entry))) ⌝ }
@@ -151,6 +151,7 @@ pub extern "C" fn brinecandle_read_command(frame: &[u8]) -> CommandSaid
     frames::command_said(command::read_command(frame))
 }
 
+// A fresh record. What stands for one after a refusal has W 0, so no call takes it.
 #[no_mangle]
 pub extern "C" fn brinecandle_new(w: u64) -> Made
     ensures { λ r. ⌜ r ≡ madeNumbers (newOf w) ⌝ }
@@ -158,6 +159,7 @@ pub extern "C" fn brinecandle_new(w: u64) -> Made
     presence::made_said(u2f_up::new(w))
 }
 
+// A finger touches at t.
 #[no_mangle]
 pub extern "C" fn brinecandle_grant_up(presence: PresenceRecord, t: u64) -> Touched
     ensures { λ r. ⌜ r ≡ stepNumbers (touchOf (presenceOf presence) t) ⌝ }
@@ -165,6 +167,7 @@ pub extern "C" fn brinecandle_grant_up(presence: PresenceRecord, t: u64) -> Touc
     presence::step_said(u2f_up::grant_up(presence::lent(presence), t))
 }
 
+// The touch check at t.
 #[no_mangle]
 pub extern "C" fn brinecandle_consume_up(presence: PresenceRecord, t: u64) -> Touched
     ensures { λ r. ⌜ r ≡ stepNumbers (checkOf (presenceOf presence) t) ⌝ }
@@ -172,6 +175,7 @@ pub extern "C" fn brinecandle_consume_up(presence: PresenceRecord, t: u64) -> To
     presence::step_said(u2f_up::consume_up(presence::lent(presence), t))
 }
 
+// Whether a prompt is live at t. It hands back no record, since it changes none.
 #[no_mangle]
 pub extern "C" fn brinecandle_is_up_needed(presence: PresenceRecord, t: u64) -> Asked
     ensures { λ r. ⌜ r ≡ askedNumbers (askOf (presenceOf presence) t .outcome) ⌝ }
@@ -179,6 +183,8 @@ pub extern "C" fn brinecandle_is_up_needed(presence: PresenceRecord, t: u64) -> 
     presence::asked_said(u2f_up::is_up_needed(presence::lent(presence), t))
 }
 
+// Decides what a frame is answered. The block is written for an order alone: a refused call leaves an order that waits
+// for its signature whole.
 #[no_mangle]
 pub extern "C" fn brinecandle_decide(
     frame: &[u8],
@@ -192,9 +198,7 @@ pub extern "C" fn brinecandle_decide(
     reply: &mut [u8],
     block: &mut [u8; 385],
 ) -> DecisionSaid
-    ensures { λ r. ⌜ r ≡ decisionNumbers (decisionOf (record { frame = now (frame .entry); moment = t; presence = presenceOf presence; hardware = hardwareOf hardware; newHandle = now (handle .entry); certificate = now (certificate .entry); x = now (x .entry); y = now (y .entry); room = length (now (reply .entry)) })) ⌝ }
-    ensures { λ _. ⌜ now (reply .exit) ≡ replyLeft (decisionOf (record { frame = now (frame .entry); moment = t; presence = presenceOf presence; hardware = hardwareOf hardware; newHandle = now (handle .entry); certificate = now (certificate .entry); x = now (x .entry); y = now (y .entry); room = length (now (reply .entry)) })) (now (reply .entry)) ⌝ }
-    ensures { λ _. ⌜ now (block .exit) ≡ blockLeft (decisionOf (record { frame = now (frame .entry); moment = t; presence = presenceOf presence; hardware = hardwareOf hardware; newHandle = now (handle .entry); certificate = now (certificate .entry); x = now (x .entry); y = now (y .entry); room = length (now (reply .entry)) })) (now (block .entry)) ⌝ }
+    ensures { λ r. ⌜ Decides (record { frame = now (frame .entry); moment = t; presence = presence; hardware = hardware; newHandle = now (handle .entry); certificate = now (certificate .entry); x = now (x .entry); y = now (y .entry); reply = now (reply .entry); block = now (block .entry) }) r (now (reply .exit)) (now (block .exit)) ⌝ }
 {
     let kept = presence::lent(presence);
     let answers = orders::hardware_of(hardware);
@@ -206,6 +210,7 @@ pub extern "C" fn brinecandle_decide(
     orders::decision_said(decision)
 }
 
+// Turns an order and its signature into a reply. The order is whatever the firmware hands in: a kind that is none is R7.
 #[no_mangle]
 pub extern "C" fn brinecandle_finish(
     order: OrderNumbers,
@@ -215,8 +220,7 @@ pub extern "C" fn brinecandle_finish(
     signature: &[u8],
     reply: &mut [u8],
 ) -> Wrote
-    ensures { λ r. ⌜ r ≡ lengthNumbers (lengthOf (plainFinish (record { order = order; block = now (block .entry); certificate = now (certificate .entry); signed = «is_signed»; signature = now (signature .entry); reply = now (reply .entry) }))) ⌝ }
-    ensures { λ _. ⌜ now (reply .exit) ≡ replyOf (plainFinish (record { order = order; block = now (block .entry); certificate = now (certificate .entry); signed = «is_signed»; signature = now (signature .entry); reply = now (reply .entry) })) (now (reply .entry)) ⌝ }
+    ensures { λ r. ⌜ Finishes (record { order = order; block = now (block .entry); certificate = now (certificate .entry); signed = «is_signed»; signature = now (signature .entry); reply = now (reply .entry) }) r (now (reply .exit)) ⌝ }
 {
     let numbered = orders::kind_of(order.kind);
     match numbered {

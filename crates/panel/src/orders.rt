@@ -19,6 +19,9 @@ ghost use Rattle.ctap1.specs.Words.{decidedOf, decisionSaid};
 ghost use Rattle.panel.specs.Numbers.{allowedOf, attestationOf, counterOf, hardwareOf, kindOf, noOrder, decidedNo};
 ghost use Rattle.panel.specs.Exports.{bodyLength, orderAfter, blockAfter, decisionNumbers, lengthNumbers};
 
+// The answer that is no refusal and no status word: what stands in the block is to be signed.
+const ORDER: u16 = 0;
+
 fn allowed_of(number: u32) -> Allowed
     ensures { λ r. ⌜ r ≡ allowedOf number ⌝ }
 {
@@ -95,7 +98,7 @@ fn decided_number(answer: Decided) -> u16
         Decided::Refused(why) => outcome::refusal_number(why) as u16,
         Decided::Status(status) => outcome::status_number(status),
         Decided::Body(_) => 0x9000,
-        Decided::Order => 0,
+        Decided::Order => ORDER,
     }
 }
 

@@ -1,311 +1,13 @@
 // Replays a sample of the upstream Rust's answers (the lines of standard input; oracle/src/sample.rs says what they mean) and
 // prints how many lines of each kind agreed, and the first that did not.
-use apdu::Reading;
-use ctap1::Allowed;
-use ctap1::Attestation;
-use ctap1::Counter;
-use ctap1::Decided;
-use ctap1::Hardware;
+use calls::Replay;
 use libc::STDOUT_FILENO;
-use signing::Finished;
-use signing::Order;
-use u2f_up::Answer;
-use u2f_up::Presence;
-use u2f_up::Ready;
-use u2f_up::Window;
 
+mod calls;
 mod text;
 
 ghost use mathlib.Core.Path.{_≡_};
 ghost use lib.ListN.{length};
-
-// The touch window of the upstream repository.
-const W: u64 = 30000;
-
-// The salts of the hardware's plain bytes.
-const X: usize = 16;
-
-const Y: usize = 64;
-
-const HANDLE: usize = 112;
-
-const CERTIFICATE: usize = 160;
-
-const SIGNATURE: usize = 208;
-
-// Where the replay stands: the record, the latest order, how long the frame and the latest body are, and whether the latest
-// line agreed.
-struct Replay {
-    presence: Presence,
-    order: Order,
-    frame: usize,
-    body: usize,
-    agreed: bool,
-}
-
-// An answer as the sample's lines say it.
-struct Said {
-    kind: u64,
-    number: u64,
-}
-
-// A refusal is an answer that no line has.
-const REFUSED: u64 = 15;
-
-fn fresh() -> Presence {
-    match u2f_up::new(W) {
-        Ready::Record(presence) => presence,
-        Ready::Refused(_) => Presence {
-            w: 0,
-            prompt: Window::Closed,
-            touch: Window::Closed,
-            last: 0,
-        },
-    }
-}
-
-fn read(frame: &[u8], line: &[u8]) -> bool {
-    let reading = apdu::read(frame);
-    match reading {
-        Reading::Status(status) => {
-            if text::number(line, 2, 3) != 0 {
-                return false;
-            }
-            text::number(line, 4, 8) == (outcome::status_number(status) as u64)
-        }
-        Reading::Frame(says) => {
-            let shape = says.shape;
-            if text::number(line, 2, 3) != (apdu::shape_number(shape) as u64) {
-                return false;
-            }
-            if text::number(line, 4, 8) != (says.lc as u64) {
-                return false;
-            }
-            text::number(line, 9, 14) == (says.le as u64)
-        }
-    }
-}
-
-fn is_said(answer: Answer, line: &[u8]) -> bool {
-    match answer {
-        Answer::Refused(_) => false,
-        Answer::Yes => text::flag(line, 15),
-        Answer::No => !text::flag(line, 15),
-    }
-}
-
-fn went_on(run: Replay, presence: Presence, agreed: bool) -> Replay {
-    let order = run.order;
-    Replay {
-        presence,
-        order,
-        frame: run.frame,
-        body: run.body,
-        agreed,
-    }
-}
-
-fn touch(run: Replay, line: &[u8]) -> Replay {
-    let presence = run.presence;
-    let step = u2f_up::grant_up(presence, text::number(line, 2, 14));
-    let after = step.presence;
-    let answer = step.answer;
-    went_on(run, after, is_said(answer, line))
-}
-
-fn check(run: Replay, line: &[u8]) -> Replay {
-    let presence = run.presence;
-    let step = u2f_up::consume_up(presence, text::number(line, 2, 14));
-    let after = step.presence;
-    let answer = step.answer;
-    went_on(run, after, is_said(answer, line))
-}
-
-fn ask(run: Replay, line: &[u8]) -> Replay {
-    let presence = run.presence;
-    let answer = u2f_up::is_up_needed(presence, text::number(line, 2, 14));
-    went_on(run, presence, is_said(answer, line))
-}
-
-fn allowed(n: u64) -> Allowed {
-    if n == 0 {
-        return Allowed::Yes;
-    }
-    if n == 1 { Allowed::No } else { Allowed::Failed }
-}
-
-fn attestation(n: u64) -> Attestation {
-    if n == 0 {
-        return Attestation::Present;
-    }
-    if n == 1 {
-        Attestation::Missing
-    } else {
-        Attestation::Failed
-    }
-}
-
-fn counter(offered: bool, n: u64) -> Counter {
-    if offered {
-        Counter::Offered((n % 0x1_0000_0000) as u32)
-    } else {
-        Counter::Failed
-    }
-}
-
-fn hardware(line: &[u8]) -> Hardware {
-    Hardware {
-        allowed: allowed(text::number(line, 15, 16)),
-        stored: text::flag(line, 17),
-        attestation: attestation(text::number(line, 19, 20)),
-        good: text::flag(line, 21),
-        counter: counter(text::flag(line, 23), text::number(line, 25, 33)),
-    }
-}
-
-fn told(answer: Decided, order: Order) -> Said {
-    match answer {
-        Decided::Refused(why) => Said {
-            kind: REFUSED,
-            number: outcome::refusal_number(why) as u64,
-        },
-        Decided::Status(status) => Said {
-            kind: 0,
-            number: outcome::status_number(status) as u64,
-        },
-        Decided::Body(n) => Said {
-            kind: 3,
-            number: n as u64,
-        },
-        Decided::Order => {
-            let kind = order.kind;
-            Said {
-                kind: signing::kind_number(kind) as u64,
-                number: 0,
-            }
-        }
-    }
-}
-
-fn is_open(window: Window) -> bool {
-    match window {
-        Window::Closed => false,
-        Window::Opened(_) => true,
-    }
-}
-
-// A call finds a touch exactly where it closes the touch window: nothing else does.
-fn has_found(before: Presence, after: Presence) -> bool {
-    let was = before.touch;
-    let is = after.touch;
-    if is_open(is) {
-        return false;
-    }
-    is_open(was)
-}
-
-fn is_decided(told: Said, taken: bool, found: bool, line: &[u8]) -> bool {
-    if told.kind != text::number(line, 42, 43) {
-        return false;
-    }
-    if told.number != text::number(line, 44, 48) {
-        return false;
-    }
-    if taken != text::flag(line, 49) {
-        return false;
-    }
-    found == text::flag(line, 51)
-}
-
-fn decide(run: Replay, frame: &[u8], line: &[u8], reply: &mut [u8]) -> Replay {
-    let mut x = [0u8; 32];
-    text::fill(&mut x, 32, X);
-    let mut y = [0u8; 32];
-    text::fill(&mut y, 32, Y);
-    let mut handle = [0u8; 512];
-    text::fill(&mut handle, 512, HANDLE);
-    let mut certificate = [0u8; 512];
-    text::fill(&mut certificate, 512, CERTIFICATE);
-    let before = run.presence;
-    let decision = ctap1::decide(
-        frame,
-        text::number(line, 2, 14),
-        before,
-        hardware(line),
-        octets::part(&handle, 0, text::number(line, 34, 37) as usize),
-        octets::part(&certificate, 0, text::number(line, 38, 41) as usize),
-        &x,
-        &y,
-        reply,
-    );
-    let presence = decision.presence;
-    let order = decision.order;
-    let answer = decision.answer;
-    let said = told(answer, order);
-    Replay {
-        presence,
-        order,
-        frame: run.frame,
-        body: said.number as usize,
-        agreed: is_decided(said, decision.taken, has_found(before, presence), line),
-    }
-}
-
-fn finished(run: Replay, body: usize, status: u64, line: &[u8]) -> Replay {
-    let presence = run.presence;
-    let order = run.order;
-    Replay {
-        presence,
-        order,
-        frame: run.frame,
-        body,
-        agreed: status == text::number(line, 7, 11),
-    }
-}
-
-fn finish(run: Replay, line: &[u8], reply: &mut [u8]) -> Replay {
-    let mut certificate = [0u8; 512];
-    text::fill(&mut certificate, 512, CERTIFICATE);
-    let mut signature = [0u8; 256];
-    text::fill(&mut signature, 256, SIGNATURE);
-    let order = run.order;
-    let answer = signing::finish(
-        order,
-        octets::part(&certificate, 0, order.certificate_length),
-        text::flag(line, 2),
-        octets::part(&signature, 0, text::number(line, 4, 6) as usize),
-        reply,
-    );
-    match answer {
-        Finished::Refused(_) => finished(run, 0, REFUSED, line),
-        Finished::Status(status) => {
-            finished(run, 0, outcome::status_number(status) as u64, line)
-        }
-        Finished::Body(n) => finished(run, n, 0x9000, line),
-    }
-}
-
-// Whether the bytes that the line says are those at the front of `given`, as many as `long`.
-fn is_same(line: &[u8], given: &[u8], long: usize) -> bool {
-    let mut space = [0u8; 1024];
-    let said: &mut [u8] = &mut space;
-    let n = text::bytes(line, 2, said, 0);
-    if n != long {
-        return false;
-    }
-    check::same(octets::part(said, 0, n), octets::part(given, 0, long))
-}
-
-fn compared(run: Replay, agreed: bool) -> Replay {
-    let presence = run.presence;
-    went_on(run, presence, agreed)
-}
-
-fn signed(run: Replay, line: &[u8]) -> Replay {
-    let order = run.order;
-    let block = order.bytes;
-    compared(run, is_same(line, &block, order.to_sign))
-}
 
 // A new frame of plain bytes.
 fn framed(run: Replay, line: &[u8], frame: &mut [u8]) -> Replay {
@@ -326,22 +28,22 @@ fn framed(run: Replay, line: &[u8], frame: &mut [u8]) -> Replay {
 fn pieced(run: Replay, line: &[u8], frame: &mut [u8]) -> Replay {
     let at = text::number(line, 2, 7) as usize;
     text::bytes(line, 8, frame, at);
-    compared(run, true)
+    calls::compared(run, true)
 }
 
 fn answered(run: Replay, kind: u8, line: &[u8], frame: &[u8], reply: &mut [u8]) -> Replay {
     match kind {
-        b'n' => went_on(run, fresh(), true),
-        b'r' => compared(run, read(frame, line)),
-        b't' => touch(run, line),
-        b'c' => check(run, line),
-        b'a' => ask(run, line),
-        b'd' => decide(run, frame, line, reply),
-        b's' => signed(run, line),
-        b'z' => finish(run, line, reply),
-        b'b' => compared(run, is_same(line, reply, run.body)),
-        b'#' => compared(run, true),
-        _ => compared(run, false),
+        b'n' => calls::went_on(run, calls::fresh(), true),
+        b'r' => calls::compared(run, calls::read(frame, line)),
+        b't' => calls::touch(run, line),
+        b'c' => calls::check(run, line),
+        b'a' => calls::ask(run, line),
+        b'd' => calls::decide(run, frame, line, reply),
+        b's' => calls::signed(run, line),
+        b'z' => calls::finish(run, line, reply),
+        b'b' => calls::compared(run, calls::is_same(line, reply, run.body)),
+        b'#' => calls::compared(run, true),
+        _ => calls::compared(run, false),
     }
 }
 
@@ -369,6 +71,7 @@ fn differs(line: &[u8], before: u64) {
     }
 }
 
+// Lines that agreed are counted by their letter, all others under 0.
 fn count(counts: &mut [u64; 256], kind: u8) {
     let k = octets::wide(kind);
     counts[k] = std::num::wrapping_add_u64(counts[k], 1);
@@ -383,7 +86,7 @@ fn kind_of(line: &[u8]) -> u8 {
 
 fn run_lines(lines: &[u8], frame: &mut [u8], reply: &mut [u8], counts: &mut [u64; 256]) {
     let mut run = Replay {
-        presence: fresh(),
+        presence: calls::fresh(),
         order: signing::blank(),
         frame: 0,
         body: 0,
@@ -405,19 +108,24 @@ fn run_lines(lines: &[u8], frame: &mut [u8], reply: &mut [u8], counts: &mut [u64
     }
 }
 
+fn say_agreed(counts: &[u64; 256], kind: u8, words: &[u8]) {
+    let k = octets::wide(kind);
+    say(words, counts[k]);
+}
+
 fn summary(counts: &[u64; 256]) {
-    say(b"readings agreed: ", counts[114]);
-    say(b"touches agreed: ", counts[116]);
-    say(b"checks agreed: ", counts[99]);
-    say(b"asks agreed: ", counts[97]);
-    say(b"decisions agreed: ", counts[100]);
-    say(b"bytes to sign agreed: ", counts[115]);
-    say(b"finishings agreed: ", counts[122]);
-    say(b"bodies agreed: ", counts[98]);
+    say_agreed(counts, b'r', b"readings agreed: ");
+    say_agreed(counts, b't', b"touches agreed: ");
+    say_agreed(counts, b'c', b"checks agreed: ");
+    say_agreed(counts, b'a', b"asks agreed: ");
+    say_agreed(counts, b'd', b"decisions agreed: ");
+    say_agreed(counts, b's', b"bytes to sign agreed: ");
+    say_agreed(counts, b'z', b"finishings agreed: ");
+    say_agreed(counts, b'b', b"bodies agreed: ");
     say(b"lines that differ: ", counts[0]);
 }
 
-// The sample has to fit. A function each: what it says of the length saves main a proof.
+// Room for the sample and for the longest frame. What each says of the length saves main a proof.
 fn lines_space() -> [u8; 262144]
     ensures { λ r. ⌜ 262144 ≡ length r ⌝ }
 {

@@ -1,6 +1,6 @@
 -- The bodies, as the code puts them together from parts of the block.
-use Prim.Native.Nat.{ℕ, suc, _+_, _-_, _≤_, _<_}
-use mathlib.Core.Path.{_≡_, refl, sym, ap, _∙_}
+use Prim.Native.Nat.{ℕ, suc, _+_, _-_, _≤_}
+use mathlib.Core.Path.{_≡_, sym, ap, _∙_}
 use mathlib.Core.List.{List, [], _∷_, _++_, append-assoc}
 use native.Mathlib.Omega.{arith}
 use lib.ListN.{length, take, drop, length-append}
@@ -8,8 +8,12 @@ use lib.Seq.{drop-cons}
 use Rattle.octets.specs.Bytes.{byte, laid}
 use Rattle.octets.proofs.Parts.{length-part, parts-join}
 use Rattle.signing.specs.Layouts.{registerBody, authenticateBody, publicKey}
-use Rattle.signing.specs.Orders.{Order, Kind, Register, Authenticate, toSign, registerFields, authenticateFields, part}
+use Rattle.signing.specs.Orders.{Order, Kind, Register, Authenticate, toSign, registerFields, authenticateFields}
 use Rattle.signing.specs.Finishing.{bodyOf}
+
+-- `part from count s`: count bytes of s, the first at place from
+abbrev pub part : (from count : ℕ) → List ℕ → List ℕ
+part from count s = take count (drop from s)
 
 pub six : (a b c d e f : List ℕ) → a ++ b ++ c ++ d ++ e ++ f ≡ a ++ (b ++ (c ++ (d ++ (e ++ f))))
 six a b c d e f = simp append-assoc

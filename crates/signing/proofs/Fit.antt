@@ -1,5 +1,5 @@
 -- Fields that fit, as lengths.
-use Prim.Native.Nat.{ℕ, _≤_}
+use Prim.Native.Nat.{_≤_}
 use mathlib.Core.Bool.{true}
 use mathlib.Core.Path.{_≡_}
 use borrow.Author.Tests.{eq-eqb, le-leb, eqb-true, leb-true}

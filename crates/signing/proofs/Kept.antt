@@ -6,13 +6,13 @@ use mathlib.Core.List.{List, [], _∷_, _++_, append-assoc}
 use native.Mathlib.Omega.{arith}
 use lib.ListN.{length, take, drop, replicate, length-append, length-drop, take-append-drop}
 use lib.Seq.{length-take-le, take-at, drop-at, drop-cons, take-add, getD-drop, getD-take}
-use Rattle.octets.specs.Bytes.{byte, laid, allZero}
+use Rattle.octets.specs.Bytes.{byte, allZero}
 use Rattle.octets.proofs.Parts.{field-at, length-part, laid-zeros, all-zero-replicate, replicate-all-zero}
 use Rattle.signing.specs.Layouts.{RegisterFields, AuthenticateFields, registerToSign, authenticateToSign, publicKey}
-use Rattle.signing.specs.Orders.{Order, Kind, Register, Authenticate, toSign, certificateLength, block, part, registerFields, authenticateFields, registerOrder, authenticateOrder}
+use Rattle.signing.specs.Orders.{Order, Register, Authenticate, toSign, certificateLength, block, registerFields, authenticateFields, registerOrder, authenticateOrder}
 use Rattle.signing.proofs.Fit.{RegisterLengths, AuthenticateLengths}
 use Rattle.signing.proofs.Judged.{RegisterShape, AuthenticateShape}
-use Rattle.signing.proofs.Bodies.{key-at}
+use Rattle.signing.proofs.Bodies.{part, key-at}
 use Rattle.signing.proofs.Made.{register-order-fit, authenticate-order-fit}
 
 -- a block is what was laid, then zeros

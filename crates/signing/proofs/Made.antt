@@ -5,7 +5,7 @@ use mathlib.Core.Path.{_≡_, refl, sym, ap, _∙_}
 use mathlib.Core.List.{List, [], _∷_, _++_, append-assoc, append-nil}
 use native.Mathlib.Omega.{arith}
 use borrow.Author.Tests.{eq-eqb, ne-eqb, lt-leb}
-use lib.ListN.{length, replicate, drop, length-append, length-replicate, drop-of-length-le}
+use lib.ListN.{length, replicate, length-append, length-replicate, drop-of-length-le}
 use Rattle.octets.specs.Bytes.{laid, bytes4}
 use Rattle.octets.proofs.Laid.{laid-fits}
 use Rattle.signing.specs.Layouts.{RegisterFields, AuthenticateFields, registerToSign, authenticateToSign, presenceByte, publicKey}

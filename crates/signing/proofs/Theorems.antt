@@ -1,25 +1,25 @@
 -- The promises of specs/Claims.antt.
 use Prim.Native.Nat.{ℕ, _+_, _-_, _≤_}
-use mathlib.Core.Bool.{Bool, true, false}
+use mathlib.Core.Bool.{Bool, true, false, not}
 use mathlib.Core.Path.{_≡_, refl, sym, ap, _∙_}
 use mathlib.Core.Logic.{_⊎_, inl, inr}
-use mathlib.Core.List.{List, _++_}
+use mathlib.Core.List.{List, [], _++_}
 use native.Mathlib.Omega.{arith}
-use lib.ListN.{length, take, drop}
-use Rattle.outcome.specs.Notation.{AtMostOne}
+use lib.ListN.{length, drop, replicate, length-replicate}
+use Rattle.outcome.specs.Notation.{if_then_else_, AtMostOne}
 use Rattle.outcome.specs.Outcome.{Outcome, R, SW, Gives}
 use Rattle.outcome.proofs.Theorems.{status-one-to-one, refusal-one-to-one}
-use Rattle.octets.proofs.Laid.{laid-fits}
+use Rattle.octets.proofs.Laid.{laid-fits, length-laid}
 use Rattle.signing.specs.Claims as claims
 use Rattle.signing.specs.Layouts.{RegisterFields, AuthenticateFields, registerToSign, authenticateToSign, registerBody, authenticateBody, isRegisterFit, isAuthenticateFit}
-use Rattle.signing.specs.Orders.{Order, Kind, Register, Authenticate, toSign, certificateLength, blankOrder, registerOrder, authenticateOrder, block, isRegisterLayout, isOfLayout, registerFields, authenticateFields, IsRegisterOrder, IsAuthenticateOrder, IsWhole}
-use Rattle.signing.specs.Finishing.{registerRoom, Finishing, Finished, Refused, Status, Body, Finishes, finishOf, finishedOf, lengthOf, replyOf, roomAsked, bodyOf}
+use Rattle.signing.specs.Orders.{Order, Kind, Register, Authenticate, toSign, certificateLength, blankOrder, registerOrder, authenticateOrder, block, isRegisterLayout, isOfLayout, registerFields, authenticateFields, IsRegisterOrder, IsAuthenticateOrder, IsWhole, HoldsJust}
+use Rattle.signing.specs.Finishing.{registerRoom, authenticateRoom, Finishing, Finished, Refused, Status, Body, finishOf, finishedOf, lengthOf, replyOf, roomAsked, bodyOf}
 use Rattle.signing.proofs.Fit.{register-lengths, authenticate-lengths, register-fit, authenticate-fit}
 use Rattle.signing.proofs.Made.{register-order-fit, authenticate-order-fit}
 use Rattle.signing.proofs.Judged.{shape-register, shape-authenticate, register-shaped, authenticate-shaped}
 use Rattle.signing.proofs.Kept.{block-front, register-to-sign-length, authenticate-to-sign-length, register-kept, authenticate-kept, register-made-shape, authenticate-made-shape, register-fields-lengths, authenticate-fields-lengths, register-order-of, authenticate-order-of}
 use Rattle.signing.proofs.Checks.{comes-to-r7, comes-to-body}
-use Rattle.signing.proofs.Ways.{Passed, way, told-r7, told-r3, told-body, body-within}
+use Rattle.signing.proofs.Ways.{way, told-r7, told-r3, told-body, body-within}
 
 pub kind-one-to-one : claims.KindOneToOne
 kind-one-to-one Register Register e = refl
@@ -103,6 +103,29 @@ layout-exactly o whole = (is-made (o .kind) refl, is-judged)
     is-judged (inl m) = ap isOfLayout (m .3) ∙ register-made-of-layout (m .0) (m .1) (m .2)
     is-judged (inr m) = ap isOfLayout (m .2) ∙ authenticate-made-of-layout (m .0) (m .1)
 
+block-length : (s : List ℕ) → length (block s) ≡ 385
+unfolding block
+block-length s = length-laid s (replicate 385 0) ∙ length-replicate {A = ℕ} 385 0
+
+pick-whole : (t : Bool) (o p : Order) → IsWhole o → IsWhole p → IsWhole (if t then o else p)
+pick-whole true o p a b = a
+pick-whole false o p a b = b
+
+blank-whole : IsWhole blankOrder
+unfolding blankOrder
+blank-whole = block-length []
+
+register-whole : (f : RegisterFields) (c : ℕ) → IsWhole (registerOrder f c)
+unfolding registerOrder
+register-whole f c = pick-whole (not (isRegisterFit f)) blankOrder _ blank-whole (block-length (registerToSign f))
+
+authenticate-whole : (f : AuthenticateFields) → IsWhole (authenticateOrder f)
+unfolding authenticateOrder
+authenticate-whole f = pick-whole (not (isAuthenticateFit f)) blankOrder _ blank-whole (block-length (authenticateToSign f))
+
+pub made-whole : claims.MadeWhole
+made-whole = (blank-whole, register-whole, authenticate-whole)
+
 pub r7-exactly : claims.R7Exactly
 r7-exactly i whole = (refused, by-layout (isOfLayout (i .order)) refl)
   where
@@ -127,26 +150,17 @@ pub bytes-to-sign : claims.BytesToSign
 bytes-to-sign = (for-register, for-authenticate)
   where
     for-register : (f : RegisterFields) (c : ℕ) → isRegisterFit f ≡ true
-        → (take (toSign (registerOrder f c)) (registerOrder f c .bytes) ≡ registerToSign f)
-        × (toSign (registerOrder f c) ≡ 130 + length (f .handle))
+        → HoldsJust (registerToSign f) (130 + length (f .handle)) (registerOrder f c)
     for-register f c fit =
         let l = register-lengths f fit in
-        let made = register-order-fit f c l in (
-          ap (λ (o : Order). take (toSign o) (o .bytes)) made
-              ∙ block-front (registerToSign f) (130 + length (f .handle)) (register-to-sign-length f l) (omega (arith, l .handle)),
-          ap toSign made,
-        )
+        rw (register-order-fit f c l)
+        (refl, block-front (registerToSign f) (130 + length (f .handle)) (register-to-sign-length f l) (omega (arith, l .handle)), register-made-shape f l .rest)
 
-    for-authenticate : (f : AuthenticateFields) → isAuthenticateFit f ≡ true
-        → (take (toSign (authenticateOrder f)) (authenticateOrder f .bytes) ≡ authenticateToSign f)
-        × (toSign (authenticateOrder f) ≡ 69)
+    for-authenticate : (f : AuthenticateFields) → isAuthenticateFit f ≡ true → HoldsJust (authenticateToSign f) 69 (authenticateOrder f)
     for-authenticate f fit =
         let l = authenticate-lengths f fit in
-        let made = authenticate-order-fit f l in (
-          ap (λ (o : Order). take (toSign o) (o .bytes)) made
-              ∙ block-front (authenticateToSign f) 69 (authenticate-to-sign-length f l) (omega arith),
-          ap toSign made,
-        )
+        rw (authenticate-order-fit f l)
+        (refl, block-front (authenticateToSign f) 69 (authenticate-to-sign-length f l) (omega arith), authenticate-made-shape f l .rest)
 
 pub fields-kept : claims.FieldsKept
 fields-kept = (
@@ -178,6 +192,34 @@ room-kept i ok its room = (
   λ e. let z = told-r3 2 (way i) e ok its room in omega arith,
 )
 
+-- a made order, with the certificate and the room that it was made for, passes the first three checks
+register-ready : (i : Finishing) (f : RegisterFields) → isRegisterFit f ≡ true → i .order ≡ registerOrder f (length (i .certificate))
+    → registerRoom (length (f .handle)) (length (i .certificate)) ≤ length (i .reply)
+    → (isOfLayout (i .order) ≡ true) × (length (i .certificate) ≡ certificateLength (i .order)) × (roomAsked (i .order) ≤ length (i .reply))
+register-ready i f fit e room =
+    let c : ℕ = length (i .certificate) in
+    let asked = ap roomAsked e ∙ room-of-made .0 f c fit in (
+      ap isOfLayout e ∙ register-made-of-layout f c fit,
+      sym (ap certificateLength (e ∙ register-order-fit f c (register-lengths f fit))),
+      rw asked room,
+    )
+
+authenticate-ready : (i : Finishing) (f : AuthenticateFields) → isAuthenticateFit f ≡ true → i .order ≡ authenticateOrder f
+    → length (i .certificate) ≡ 0 → authenticateRoom ≤ length (i .reply)
+    → (isOfLayout (i .order) ≡ true) × (length (i .certificate) ≡ certificateLength (i .order)) × (roomAsked (i .order) ≤ length (i .reply))
+authenticate-ready i f fit e none room =
+    let asked = ap roomAsked e ∙ room-of-made .1 f fit in (
+      ap isOfLayout e ∙ authenticate-made-of-layout f fit,
+      none ∙ sym (ap certificateLength (e ∙ authenticate-order-fit f (authenticate-lengths f fit))),
+      rw asked room,
+    )
+
+pub made-order-kept : claims.MadeOrderKept
+made-order-kept = (
+  λ i f fit e room. let r = register-ready i f fit e room in room-kept i (r .0) (r .1) (r .2),
+  λ i f fit e none room. let r = authenticate-ready i f fit e none room in room-kept i (r .0) (r .1) (r .2),
+)
+
 pub body-exactly : claims.BodyExactly
 body-exactly i = (
   λ w.
@@ -187,22 +229,19 @@ body-exactly i = (
 
 pub register-round-trip : claims.RegisterRoundTrip
 register-round-trip i f fit e room done short =
-    let c : ℕ = length (i .certificate) in
-    let made = e ∙ register-order-fit f c (register-lengths f fit) in
-    let ok = ap isOfLayout e ∙ register-made-of-layout f c fit in
-    let asked = ap roomAsked e ∙ room-of-made .0 f c fit in
-    comes-to-body i ok (sym (ap certificateLength made)) (rw asked room) done short
-    ∙ ap (λ (o : Order). Gives (bodyOf (o .kind) o (i .certificate) (i .signature))) made
-    ∙ ap (λ (g : RegisterFields). Gives (registerBody g (i .certificate) (i .signature))) (register-kept f (register-lengths f fit))
+    let l = register-lengths f fit in
+    let r = register-ready i f fit e room in
+    comes-to-body i (r .0) (r .1) (r .2) done short
+    ∙ ap (λ (o : Order). Gives (bodyOf (o .kind) o (i .certificate) (i .signature))) (e ∙ register-order-fit f (length (i .certificate)) l)
+    ∙ ap (λ (g : RegisterFields). Gives (registerBody g (i .certificate) (i .signature))) (register-kept f l)
 
 pub authenticate-round-trip : claims.AuthenticateRoundTrip
 authenticate-round-trip i f fit e none room done short =
-    let made = e ∙ authenticate-order-fit f (authenticate-lengths f fit) in
-    let ok = ap isOfLayout e ∙ authenticate-made-of-layout f fit in
-    let asked = ap roomAsked e ∙ room-of-made .1 f fit in
-    comes-to-body i ok (none ∙ sym (ap certificateLength made)) (rw asked room) done short
-    ∙ ap (λ (o : Order). Gives (bodyOf (o .kind) o (i .certificate) (i .signature))) made
-    ∙ ap (λ (g : AuthenticateFields). Gives (authenticateBody g (i .signature))) (authenticate-kept f (authenticate-lengths f fit))
+    let l = authenticate-lengths f fit in
+    let r = authenticate-ready i f fit e none room in
+    comes-to-body i (r .0) (r .1) (r .2) done short
+    ∙ ap (λ (o : Order). Gives (bodyOf (o .kind) o (i .certificate) (i .signature))) (e ∙ authenticate-order-fit f l)
+    ∙ ap (λ (g : AuthenticateFields). Gives (authenticateBody g (i .signature))) (authenticate-kept f l)
 
 pub other-answers-keep-reply : claims.OtherAnswersKeepReply
 other-answers-keep-reply i answer after p none = go (finishOf i) answer (p .says) (p .leaves) none

@@ -5,11 +5,11 @@ use mathlib.Core.Path.{_≡_}
 use mathlib.Core.Logic.{_↔_, _⊎_}
 use mathlib.Core.List.{List, _++_}
 use lib.Dec.{leb}
-use lib.ListN.{length, take, drop}
+use lib.ListN.{length, drop}
 use Rattle.outcome.specs.Notation.{AtMostOne}
-use Rattle.outcome.specs.Outcome.{R, SW, Gives}
+use Rattle.outcome.specs.Outcome.{R, Gives}
 use Rattle.signing.specs.Layouts.{RegisterFields, AuthenticateFields, registerToSign, authenticateToSign, registerBody, authenticateBody, isRegisterFit, isAuthenticateFit}
-use Rattle.signing.specs.Orders.{Kind, Order, kindNo, toSign, certificateLength, blankOrder, registerOrder, authenticateOrder, isOfLayout, registerFields, authenticateFields, IsRegisterOrder, IsAuthenticateOrder, IsWhole}
+use Rattle.signing.specs.Orders.{Kind, Order, kindNo, toSign, certificateLength, blankOrder, registerOrder, authenticateOrder, isOfLayout, registerFields, authenticateFields, IsRegisterOrder, IsAuthenticateOrder, IsWhole, HoldsJust}
 use Rattle.signing.specs.Finishing.{Finishing, Finished, Body, Finishes, finishOf, finishedOf, registerRoom, authenticateRoom, roomAsked}
 
 -- The numbers tell the cases apart. 01: "a definition gives this paper's number and values for each of its cases".
@@ -49,21 +49,30 @@ FinishDetermined = (i : Finishing) → AtMostOne (λ (r : Finished × List ℕ).
 abbrev pub LayoutExactly : Type 0
 LayoutExactly = (o : Order) → IsWhole o → (isOfLayout o ≡ true) ↔ (IsRegisterOrder o ⊎ IsAuthenticateOrder o)
 
+-- Every order that is made here has a block of 385 bytes, the blank one too, so the claims that ask for it speak of all of
+-- them. 01: "in a block of 385 bytes". An order of just its bytes to sign fails it.
+abbrev pub MadeWhole : Type 0
+MadeWhole =
+    IsWhole blankOrder
+    × ((f : RegisterFields) (c : ℕ) → IsWhole (registerOrder f c))
+    × ((f : AuthenticateFields) → IsWhole (authenticateOrder f))
+
 -- R7 comes exactly for orders of neither layout. 01, 'Refusal numbers': "R7 .. exactly when".
 -- A finisher that says R4 before R7 fails it, at a blank order with a certificate of one byte.
 abbrev pub R7Exactly : Type 0
 R7Exactly = (i : Finishing) → IsWhole (i .order)
     → (finishOf i ≡ R 7) ↔ (IsRegisterOrder (i .order) ⊎ IsAuthenticateOrder (i .order) → ⊥)
 
--- Every order made from fitting fields is of its layout. 01: "A signing order holds ..". An order that drops the 04 before
--- x fails it, and so does one whose handle of 255 bytes runs over the block's end.
+-- Every order made from fitting fields is of its layout. 01: "A signing order holds its kind, the number of bytes to sign,
+-- ..". An order that drops the 04 before x fails it, and a block of 384 bytes does at a handle of 255.
 abbrev pub MadeOfLayout : Type 0
 MadeOfLayout =
     ((f : RegisterFields) (c : ℕ) → isRegisterFit f ≡ true → isOfLayout (registerOrder f c) ≡ true)
     × ((f : AuthenticateFields) → isAuthenticateFit f ≡ true → isOfLayout (authenticateOrder f) ≡ true)
 
 -- What stands in an answer without an order is of neither layout, and finishing it gives R7, whatever is lent beside it.
--- A blank order of kind Authenticate that counts 69 bytes fails it: its zeros are an Authenticate order.
+-- Ours: DECISIONS, "blank order"; 01, R7: "order not of either layout". A blank order of kind Authenticate that counts 69
+-- bytes fails it: its zeros are an Authenticate order.
 abbrev pub BlankRefused : Type 0
 BlankRefused = (isOfLayout blankOrder ≡ false) × ((i : Finishing) → i .order ≡ blankOrder → finishOf i ≡ R 7)
 
@@ -71,15 +80,11 @@ BlankRefused = (isOfLayout blankOrder ≡ false) × ((i : Finishing) → i .orde
 -- "Authenticate, 69", "zero after their end". An order that counts 129 + h loses the last byte of y.
 abbrev pub BytesToSign : Type 0
 BytesToSign =
-    ((f : RegisterFields) (c : ℕ) → isRegisterFit f ≡ true
-    → (take (toSign (registerOrder f c)) (registerOrder f c .bytes) ≡ registerToSign f)
-    × (toSign (registerOrder f c) ≡ 130 + length (f .handle)))
-    × ((f : AuthenticateFields) → isAuthenticateFit f ≡ true
-    → (take (toSign (authenticateOrder f)) (authenticateOrder f .bytes) ≡ authenticateToSign f)
-    × (toSign (authenticateOrder f) ≡ 69))
+    ((f : RegisterFields) (c : ℕ) → isRegisterFit f ≡ true → HoldsJust (registerToSign f) (130 + length (f .handle)) (registerOrder f c))
+    × ((f : AuthenticateFields) → isAuthenticateFit f ≡ true → HoldsJust (authenticateToSign f) 69 (authenticateOrder f))
 
--- The fields that went into an order are read back from it. A reading that takes the challenge for the application, or a
--- handle one byte short, fails it.
+-- The fields that went into an order are read back from it. 01: "00, application, challenge, handle, public key (04, x, y)"
+-- has one reading. One that takes the challenge for the application, or a handle one byte short, fails it.
 abbrev pub FieldsKept : Type 0
 FieldsKept =
     ((f : RegisterFields) (c : ℕ) → isRegisterFit f ≡ true
@@ -96,12 +101,25 @@ RoomOfMade =
 abbrev pub BodyWithinRoom : Type 0
 BodyWithinRoom = (i : Finishing) (body : List ℕ) → finishOf i ≡ Gives body → length body ≤ roomAsked (i .order)
 
--- Once the layout is right, the certificate is the order's and the room is there, finishing gives none of R7, R4 and R2:
--- a decision that asked for the room does not ask in vain. A finisher that wants room for 73 signature bytes fails it.
+-- finishing gives none of R7, R4 and R2: the room that was asked for was not asked for in vain
+abbrev pub NotAskedInVain : Finishing → Type 0
+NotAskedInVain i = (finishOf i ≡ R 7 → ⊥) × (finishOf i ≡ R 4 → ⊥) × (finishOf i ≡ R 2 → ⊥)
+
+-- So it is once the layout is right, the certificate is the order's and the room is there. 01, 'Mistakes a quick port
+-- makes': "R2 found after the touch is spent or the counter taken". A finisher that wants room for 73 signature bytes fails
+-- it, at h 64, c 300 and a buffer of 503.
 abbrev pub RoomKept : Type 0
 RoomKept = (i : Finishing) → isOfLayout (i .order) ≡ true → length (i .certificate) ≡ certificateLength (i .order)
-    → roomAsked (i .order) ≤ length (i .reply)
-    → (finishOf i ≡ R 7 → ⊥) × (finishOf i ≡ R 4 → ⊥) × (finishOf i ≡ R 2 → ⊥)
+    → roomAsked (i .order) ≤ length (i .reply) → NotAskedInVain i
+
+-- So it is for a made order, finished with the certificate and the room that it was made for. An order that notes c + 1
+-- as its certificate length fails it, with R4, at any certificate.
+abbrev pub MadeOrderKept : Type 0
+MadeOrderKept =
+    ((i : Finishing) (f : RegisterFields) → isRegisterFit f ≡ true → i .order ≡ registerOrder f (length (i .certificate))
+    → registerRoom (length (f .handle)) (length (i .certificate)) ≤ length (i .reply) → NotAskedInVain i)
+    × ((i : Finishing) (f : AuthenticateFields) → isAuthenticateFit f ≡ true → i .order ≡ authenticateOrder f
+    → length (i .certificate) ≡ 0 → authenticateRoom ≤ length (i .reply) → NotAskedInVain i)
 
 -- A body comes exactly when every check passes. 01: "Checks: R7, R4, R2 .., signer failed 6f00, R3". A finisher that
 -- refuses a signature of 72 bytes, or an empty one, fails it.

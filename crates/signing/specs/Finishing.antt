@@ -11,8 +11,7 @@ use Rattle.outcome.specs.Outcome.{Outcome, R, SW, Gives, statusNo, refusalNo}
 use Rattle.octets.specs.Bytes.{laid}
 use Rattle.signing.specs.Orders.{Kind, Register, Authenticate, Order, toSign, certificateLength, isOfLayout, registerFields, authenticateFields}
 use Rattle.signing.specs.Layouts.{registerBody, authenticateBody}
-pub use Rattle.signing.specs.declared.Finished.{Finished}
-pub use Rattle.signing.specs.declared.Finished.the-variants.{Refused, Status, Body}
+pub use Rattle.signing.specs.Words.{Finished, Refused, Status, Body}
 
 -- what finishing is lent
 pub record Finishing : Type 0 where

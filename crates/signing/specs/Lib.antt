@@ -1,3 +1,4 @@
+pub mod Words
 pub mod Layouts
 pub mod Orders
 pub mod Finishing

@@ -9,9 +9,7 @@ use lib.Dec.{eqb, leb}
 use lib.ListN.{length, take, drop, replicate}
 use Rattle.outcome.specs.Notation.{if_then_else_}
 use Rattle.octets.specs.Bytes.{byte, laid, allZero}
-pub use Rattle.signing.specs.declared.Kind.{Kind}
-pub use Rattle.signing.specs.declared.Kind.the-variants.{Register, Authenticate}
-pub use Rattle.signing.specs.declared.Order.{Order}
+pub use Rattle.signing.specs.Words.{Kind, Register, Authenticate, Order}
 use Rattle.signing.specs.Layouts.{RegisterFields, AuthenticateFields, registerToSign, authenticateToSign, isRegisterFit, isAuthenticateFit}
 
 -- ours: DECISIONS, "kind numbers": the INS of the command that the order answers
@@ -79,29 +77,26 @@ isLayout Authenticate o = isAuthenticateLayout (toSign o) (certificateLength o) 
 abbrev pub isOfLayout : Order → Bool
 isOfLayout o = isLayout (o .kind) o
 
--- `part from count s`: count bytes of s, the first at place from
-abbrev pub part : (from count : ℕ) → List ℕ → List ℕ
-part from count s = take count (drop from s)
-
--- the fields of a Register order of its layout: its length is 130 or more
+-- the fields of a Register order of its layout, whose length is 130 or more: `take n (drop i bytes)` is the n bytes from
+-- place i on
 abbrev pub registerFields : (size : ℕ) (bytes : List ℕ) → RegisterFields
 registerFields size bytes =
     record {
-      application = part 1 32 bytes;
-      challenge = part 33 32 bytes;
-      handle = part 65 (size - 130) bytes;
-      x = part (size - 64) 32 bytes;
-      y = part (size - 32) 32 bytes;
+      application = take 32 (drop 1 bytes);
+      challenge = take 32 (drop 33 bytes);
+      handle = take (size - 130) (drop 65 bytes);
+      x = take 32 (drop (size - 64) bytes);
+      y = take 32 (drop (size - 32) bytes);
     }
 
 -- the fields of an Authenticate order of its layout
 abbrev pub authenticateFields : (bytes : List ℕ) → AuthenticateFields
 authenticateFields bytes =
     record {
-      application = part 0 32 bytes;
+      application = take 32 bytes;
       presence = byte bytes 32;
-      counter = part 33 4 bytes;
-      challenge = part 37 32 bytes;
+      counter = take 4 (drop 33 bytes);
+      challenge = take 32 (drop 37 bytes);
     }
 
 -- an order of a layout: one that fields of the right lengths make
@@ -114,3 +109,7 @@ IsAuthenticateOrder o = (f : AuthenticateFields) × (isAuthenticateFit f ≡ tru
 -- every order in memory has a block of 385 bytes; a definition has to say so
 abbrev pub IsWhole : Order → Type 0
 IsWhole o = length (o .bytes) ≡ 385
+
+-- `HoldsJust s n o`: the order o has n bytes to sign, they are s, and zeros follow
+abbrev pub HoldsJust : List ℕ → ℕ → Order → Type 0
+HoldsJust s n o = (toSign o ≡ n) × (take n (o .bytes) ≡ s) × (allZero (drop n (o .bytes)) ≡ true)

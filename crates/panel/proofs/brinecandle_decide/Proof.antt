@@ -23,7 +23,7 @@ same-length : tie.Need-same-length
 same-length c = search needs
 
 returns : tie.Need-returns
-returns c = (search (needs, OrderCases.decide-answer), (search (needs, OrderCases.decide-reply), search (needs, OrderCases.decide-block)))
+returns c = (search (needs, OrderCases.decide-answer), search (needs, OrderCases.decide-reply), search (needs, OrderCases.decide-block))
 
 pub brinecandle-decide-spec : {M : Type 1} → statement M
 brinecandle-decide-spec =

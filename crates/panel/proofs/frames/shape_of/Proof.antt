@@ -1,31 +1,32 @@
 -- `shape_of` meets its contract: by the number.
+use Rattle.apdu.specs.declared.Case.the-variants.{Instruction, Le1, Lc1Data, Lc1DataLe1, Lc3Data, Lc3DataLe1, Lc3DataLe2, Le3}
+use Rattle.panel.proofs.FrameCases
 use Rattle.panel.proofs.frames.shape_of.Statement.{statement}
 use Rattle.panel.proofs.frames.shape_of.Tie as tie
-use Rattle.panel.proofs.FrameCases
 
 returns : tie.Need-returns
-returns c = FrameCases.shape-1 _ (c .match .keys1)
+returns c = FrameCases.shaped Instruction _ (c .match .keys1)
 
 returns-2 : tie.Need-returns-2
-returns-2 c = FrameCases.shape-2 _ (c .match .keys2)
+returns-2 c = FrameCases.shaped Le1 _ (c .match .keys2)
 
 returns-3 : tie.Need-returns-3
-returns-3 c = FrameCases.shape-3 _ (c .match .keys3)
+returns-3 c = FrameCases.shaped Lc1Data _ (c .match .keys3)
 
 returns-4 : tie.Need-returns-4
-returns-4 c = FrameCases.shape-4 _ (c .match .keys4)
+returns-4 c = FrameCases.shaped Lc1DataLe1 _ (c .match .keys4)
 
 returns-5 : tie.Need-returns-5
-returns-5 c = FrameCases.shape-5 _ (c .match .keys5)
+returns-5 c = FrameCases.shaped Lc3Data _ (c .match .keys5)
 
 returns-6 : tie.Need-returns-6
-returns-6 c = FrameCases.shape-6 _ (c .match .keys6)
+returns-6 c = FrameCases.shaped Lc3DataLe1 _ (c .match .keys6)
 
 returns-7 : tie.Need-returns-7
-returns-7 c = FrameCases.shape-7 _ (c .match .keys7)
+returns-7 c = FrameCases.shaped Lc3DataLe2 _ (c .match .keys7)
 
 returns-8 : tie.Need-returns-8
-returns-8 c = FrameCases.shape-8 _ (c .match .keys8)
+returns-8 c = FrameCases.shaped Le3 _ (c .match .keys8)
 
 returns-9 : tie.Need-returns-9
 returns-9 c = FrameCases.no-shape _ (c .match .rest .0 .0 .0 .0 .0 .0 .0 .1) (c .match .rest .0 .0 .0 .0 .0 .0 .1) (c .match .rest .0 .0 .0 .0 .0 .1) (c .match .rest .0 .0 .0 .0 .1) (c .match .rest .0 .0 .0 .1) (c .match .rest .0 .0 .1) (c .match .rest .0 .1) (c .match .rest .1)

@@ -1,0 +1,50 @@
+"""The panel on its pipe; firmware/panel.c says what is spoken there. Python's standard library alone."""
+
+import os
+import subprocess
+from pathlib import Path
+
+ROOT = Path(__file__).resolve().parent.parent
+PANEL = os.environ.get("PANEL") or str(ROOT / "firmware" / "run")
+
+
+class Refusal(Exception):
+    """R1 to R7: the core decided nothing and changed nothing. It is for the firmware; a host never sees it."""
+
+
+class Panel:
+    def __init__(self):
+        self.process = subprocess.Popen([PANEL], stdin=subprocess.PIPE, stdout=subprocess.PIPE, text=True)
+
+    def __enter__(self):
+        return self
+
+    def __exit__(self, *_):
+        self.close()
+
+    def close(self):
+        self.process.stdin.close()
+        if self.process.wait() != 0:
+            raise RuntimeError("the panel ended in a failure")
+
+    def call(self, *words):
+        """One call, as words; its answer, as words."""
+        self.process.stdin.write(" ".join(map(written, words)) + "\n")
+        self.process.stdin.flush()
+        answer = self.process.stdout.readline().split()
+        if not answer or answer[0] == "?":
+            raise RuntimeError(f"the panel does not take this {words[0]}: {' '.join(answer)}")
+        if answer[0].startswith("R"):
+            raise Refusal(answer[0])
+        return answer
+
+
+def written(word):
+    if isinstance(word, bytes):
+        return word.hex() or "-"
+    return str(int(word)) if isinstance(word, (bool, int)) else word
+
+
+def given(word):
+    """The bytes of a word in an answer."""
+    return b"" if word == "-" else bytes.fromhex(word)

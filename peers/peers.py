@@ -1,0 +1,246 @@
+"""Clients and a server that others wrote, against the panel: python3-fido2 and libu2f-server's own tool, `u2f-server`."""
+
+import os
+import sys
+import tempfile
+import traceback
+from hashlib import sha256
+
+from cryptography.exceptions import InvalidSignature as InvalidLogin
+from cryptography.x509 import load_der_x509_certificate
+from fido2.attestation import InvalidSignature as InvalidEnrolment
+from fido2.ctap1 import APDU, ApduError, Ctap1, SignatureData
+
+from hardware import Attestation, Device
+from panel import Refusal
+from server import ORIGIN, Server, is_known, server_enrolment, server_login
+
+APPLICATION = sha256(ORIGIN.encode()).digest()
+OTHER_APPLICATION = sha256(b"https://example.org").digest()
+HANDLE = 64
+ROOM = 1024
+
+
+def say(text):
+    print(f"    {text}")
+
+
+def status(ask):
+    """The status word that the client gets."""
+    try:
+        ask()
+    except ApduError as error:
+        return error.code
+    return APDU.OK
+
+
+def refusal(ask):
+    """The core's refusal, if it refused."""
+    try:
+        ask()
+    except Refusal as refused:
+        return str(refused)
+    return None
+
+
+def spoiled(reply):
+    """The same reply with one bit of its last byte turned."""
+    return type(reply)(reply[:-1] + bytes([reply[-1] ^ 1]))
+
+
+def rejected(verify):
+    try:
+        verify()
+    except (InvalidEnrolment, InvalidLogin):
+        return True
+    return False
+
+
+def touched(device, ask):
+    """What a client does: it asks, is told that a finger is needed, waits for it, and asks again."""
+    assert status(ask) == APDU.USE_NOT_SATISFIED and device.asks()
+    assert device.touch() and not device.asks()
+    say("6985, the light asks; a touch, accepted; asked again")
+    return ask()
+
+
+def enrolled(device):
+    challenge = os.urandom(32)
+    reply = touched(device, lambda: Ctap1(device).register(challenge, APPLICATION))
+    assert_enrolment(device, reply, challenge)
+    return reply
+
+
+def assert_enrolment(device, reply, challenge):
+    assert reply.certificate == device.attestation.certificate
+    assert load_der_x509_certificate(reply.certificate) and len(reply.key_handle) == HANDLE
+    reply.verify(APPLICATION, challenge)
+    say(f"9000, enrolment of {len(reply)} bytes, certificate {len(reply.certificate)}: verified by fido2")
+
+
+def version(device):
+    """fido2 asks for the version"""
+    said = Ctap1(device).get_version()
+    assert said == "U2F_V2"
+    say(f"9000, {said}")
+
+
+def enrolment_and_logins(device):
+    """fido2 enrols and logs in twice"""
+    key = enrolled(device)
+    for counter in (1, 2):
+        challenge = os.urandom(32)
+        reply = touched(device, lambda: Ctap1(device).authenticate(challenge, APPLICATION, key.key_handle))
+        reply.verify(APPLICATION, challenge, key.public_key)
+        assert (reply.user_presence, reply.counter) == (1, counter)
+        say(f"9000, login with counter {counter}: verified by fido2")
+
+
+def login_without_touch(device):
+    """fido2 logs in with P1 08, which asks for no touch"""
+    client, challenge, key = Ctap1(device), os.urandom(32), enrolled(device)
+    data = challenge + APPLICATION + bytes([HANDLE]) + key.key_handle
+    reply = SignatureData(client.send_apdu(ins=Ctap1.INS.AUTHENTICATE, p1=8, data=data))
+    reply.verify(APPLICATION, challenge, key.public_key)
+    assert (reply.user_presence, reply.counter) == (0, 1)
+    say("9000 at once, presence byte 00: verified by fido2")
+
+
+def changed_replies(device):
+    """fido2 rejects replies of which one bit was turned"""
+    challenge = os.urandom(32)
+    key = touched(device, lambda: Ctap1(device).register(challenge, APPLICATION))
+    assert not rejected(lambda: key.verify(APPLICATION, challenge))
+    assert rejected(lambda: spoiled(key).verify(APPLICATION, challenge))
+    login = touched(device, lambda: Ctap1(device).authenticate(challenge, APPLICATION, key.key_handle))
+    counted_on = SignatureData(login[:4] + bytes([login[4] ^ 1]) + login[5:])
+    for changed in (spoiled(login), counted_on):
+        assert rejected(lambda: changed.verify(APPLICATION, challenge, key.public_key))
+    say("enrolment with another signature, login with another signature, login with another counter: rejected")
+
+
+def handles(device):
+    """fido2 asks which handles are known, with no touch"""
+    client, challenge = Ctap1(device), os.urandom(32)
+    handle = enrolled(device).key_handle
+    before = device.record()
+    assert status(lambda: client.authenticate(challenge, APPLICATION, handle, check_only=True)) == 0x6985
+    assert device.record()[:3] == before[:3] and not device.asks()
+    say("its own handle, check only: 6985, and the light does not ask")
+    for foreign, application in (handle, OTHER_APPLICATION), (os.urandom(HANDLE), APPLICATION), (b"", APPLICATION):
+        for check_only in (True, False):
+            assert status(lambda: client.authenticate(challenge, application, foreign, check_only)) == 0x6A80
+    say("for another application, an invented one, an empty one: 6a80")
+
+
+def lapsed_touch(device):
+    """fido2 comes too late for a touch"""
+    register = lambda: Ctap1(device).register(os.urandom(32), APPLICATION)
+    assert status(register) == 0x6985 and device.touch()
+    device.now += 5000
+    assert status(register) == 0x6985
+    say("6985, a touch, five seconds: 6985 again")
+
+
+def too_long(device):
+    """a certificate too long for the reply buffer costs no touch"""
+    short, long = device.attestation, Attestation(900)
+    challenge = os.urandom(32)
+    register = lambda: Ctap1(device).register(challenge, APPLICATION)
+
+    device.attestation, fresh = long, device.record()
+    assert refusal(register) == "R2" and device.record() == fresh
+    assert not device.asks() and not device.touch()
+    say(f"certificate of 900 bytes, buffer of {ROOM}: R2; the light does not ask, a touch is not accepted")
+
+    device.attestation = short
+    assert status(register) == 0x6985 and device.asks() and device.touch()
+    say("certificate of 300: 6985; the light asks, a touch is accepted")
+
+    device.attestation, held = long, device.record()
+    assert refusal(register) == "R2" and device.record() == held
+    say("certificate of 900 again: R2; the record is as it was, so the touch is still there")
+
+    device.attestation = short
+    assert_enrolment(device, register(), challenge)
+    assert status(register) == 0x6985
+    say("that was with the same touch, and now it is spent: 6985")
+
+
+def room_to_the_byte(device):
+    """the reply buffer has the room that is asked for, or one byte less"""
+    challenge, enough = os.urandom(32), 139 + HANDLE + len(device.attestation.certificate)
+    register = lambda: Ctap1(device).register(challenge, APPLICATION)
+    device.panel.call("room", enough - 1)
+    assert refusal(register) == "R2"
+    device.panel.call("room", enough)
+    reply = touched(device, register)
+    assert_enrolment(device, reply, challenge)
+    device.panel.call("room", 76)
+    login = lambda: Ctap1(device).authenticate(challenge, APPLICATION, reply.key_handle)
+    assert refusal(login) == "R2"
+    device.panel.call("room", 77)
+    touched(device, login).verify(APPLICATION, challenge, reply.public_key)
+    say(f"enrolment: {enough - 1} is R2, {enough} is enough; login: 76 is R2, 77 is enough")
+
+
+def server_accepts(device):
+    """libu2f-server judges an enrolment and two logins that fido2 made with the panel"""
+    with tempfile.TemporaryDirectory() as folder:
+        server = Server(folder)
+        accepted, said = server_enrolment(device, server)
+        say(f"u2f-server: {said}")
+        assert accepted and "Registration successful" in said
+        for counter in (1, 2):
+            accepted, said = server_login(device, server)
+            say(f"u2f-server: {said}")
+            assert accepted and f"Successful authentication, counter: {counter}, user presence 1" in said
+        assert is_known(device, server)
+        say("a second enrolment for the same account: fido2 sees that this panel is enrolled")
+
+
+def server_rejects(device):
+    """libu2f-server rejects an enrolment and a login of which one bit was turned"""
+    with tempfile.TemporaryDirectory() as folder:
+        server = Server(folder)
+        enrolment = server_enrolment(device, server, spoiled)
+        assert server_enrolment(device, server)[0]
+        login = server_login(device, server, spoiled)
+        for accepted, said in enrolment, login:
+            say(f"u2f-server: {said}")
+            assert not accepted and "Unable to verify signature" in said
+
+
+CASES = [
+    (version, 300),
+    (enrolment_and_logins, 300),
+    (enrolment_and_logins, 600),
+    (login_without_touch, 300),
+    (changed_replies, 300),
+    (handles, 300),
+    (lapsed_touch, 300),
+    (too_long, 300),
+    (room_to_the_byte, 300),
+    (room_to_the_byte, 600),
+    (server_accepts, 300),
+    (server_accepts, 600),
+    (server_rejects, 300),
+]
+
+
+def passes(case, length):
+    print(f"{case.__doc__} (certificate of {length} bytes)")
+    try:
+        with Device(Attestation(length)) as device:
+            case(device)
+    except Exception:
+        traceback.print_exc(file=sys.stdout)
+        say("FAILED")
+        return False
+    return True
+
+
+if __name__ == "__main__":
+    passed = sum(passes(case, length) for case, length in CASES)
+    print(f"peers: {passed} of {len(CASES)} passed")
+    sys.exit(passed != len(CASES))
