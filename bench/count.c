@@ -1,5 +1,5 @@
-/* Counts the instructions that a program executes, as a plugin of qemu-user (interface 1, as in qemu 4.2 to 8.2). Debian's
- * package brings no header, so what is used of it is declared here. */
+/* Counts the instructions that a program executes, as a plugin of qemu-user (its interface 1, as in Debian 12). Debian's package
+ * brings no header, so what is used of it is declared here. */
 #include <inttypes.h>
 #include <stddef.h>
 #include <stdio.h>

@@ -46,7 +46,9 @@ impl Block {
         let key = reading_name(&answer);
         let mut device = Device::new();
         let trial = Call::Command(0, frame.clone(), Box::new(Hardware::default()));
-        let Answer::Command(outcome) = device.answer(&trial) else { unreachable!() };
+        let Answer::Command(outcome) = device.answer(&trial) else {
+            unreachable!()
+        };
         let shown = device.shown().cloned();
         put_call(&mut self.lines, &Call::Read(frame.clone()));
         self.expected.push((Expected::Reading(frame.clone(), answer), key));
@@ -155,7 +157,10 @@ fn is_words(expected: &[u8], line: &str) -> bool {
         return expected == line;
     }
     expected.split(' ').count() == line.split(' ').count()
-        && expected.split(' ').zip(line.split(' ')).all(|(e, l)| e == "*" || e == l)
+        && expected
+            .split(' ')
+            .zip(line.split(' '))
+            .all(|(e, l)| e == "*" || e == l)
 }
 
 impl Expected {
@@ -171,7 +176,13 @@ impl Expected {
         match self {
             Expected::Words(words) => String::from_utf8_lossy(words).into_owned(),
             Expected::Reading(_, Answer::Frame(says)) => {
-                format!("shape {}, Lc {}, Le {}, {} bytes of data", says.shape, says.lc, says.le, says.data.len())
+                format!(
+                    "shape {}, Lc {}, Le {}, {} bytes of data",
+                    says.shape,
+                    says.lc,
+                    says.le,
+                    says.data.len()
+                )
             }
             Expected::Reading(_, answer) => format!("{answer:?}"),
             Expected::Command(_, outcome, shown) => command_name(outcome, shown.is_some()),
@@ -247,7 +258,10 @@ fn story(lines: &[u8], at: usize) -> String {
     } else {
         at
     };
-    lines[from..].iter().filter(|l| **l != "record" || **l == lines[at]).fold(String::new(), |out, l| out + "  " + l + "\n")
+    lines[from..]
+        .iter()
+        .filter(|l| **l != "record" || **l == lines[at])
+        .fold(String::new(), |out, l| out + "  " + l + "\n")
 }
 
 /// The share of one panel: every block of `jobs` from the `job`th on.
@@ -261,7 +275,8 @@ fn share(plan: &Plan, job: usize) -> Result<Tally, String> {
             for at in (job..plan.blocks()).step_by(plan.jobs) {
                 let block = Arc::new(plan.block(at));
                 // Either fails only where the comparison has ended.
-                if send.send(block.clone()).is_err() || calls.write_all(&block.lines).is_err() || calls.flush().is_err() {
+                if send.send(block.clone()).is_err() || calls.write_all(&block.lines).is_err() || calls.flush().is_err()
+                {
                     return;
                 }
             }
@@ -294,18 +309,28 @@ fn share(plan: &Plan, job: usize) -> Result<Tally, String> {
 
 /// Compares, prints what the cases came to, and says whether all agreed and every answer was met.
 pub fn run(plan: &Plan) -> bool {
-    println!("{} frames, {} history calls, seed {}", plan.frames, plan.calls, plan.seed);
+    println!(
+        "{} frames, {} history calls, seed {}",
+        plan.frames, plan.calls, plan.seed
+    );
     let tried = all_count(ALL_UP_TO).min(plan.frames.div_ceil(3));
-    println!("{tried} of the {} short frames over the alphabet among them", all_count(ALL_UP_TO));
+    println!(
+        "{tried} of the {} short frames over the alphabet among them",
+        all_count(ALL_UP_TO)
+    );
     let shares: Vec<Result<Tally, String>> = std::thread::scope(|scope| {
-        let handles: Vec<_> = (0..plan.jobs).map(|job| scope.spawn(move || share(plan, job))).collect();
+        let handles: Vec<_> = (0..plan.jobs)
+            .map(|job| scope.spawn(move || share(plan, job)))
+            .collect();
         handles.into_iter().map(|h| h.join().expect("a share")).collect()
     });
     let mut tally: Tally = ANSWERS.iter().map(|key| (key.to_string(), 0)).collect();
     let mut agreed = true;
     for share in shares {
         match share {
-            Ok(part) => part.into_iter().for_each(|(key, n)| *tally.entry(key).or_default() += n),
+            Ok(part) => part
+                .into_iter()
+                .for_each(|(key, n)| *tally.entry(key).or_default() += n),
             Err(difference) if agreed => {
                 println!("FIRST DIFFERENCE\n{difference}");
                 agreed = false;

@@ -1,11 +1,12 @@
 //! The differences that docs/DIFFERENCES.md lists, each shown on an input: what upstream answers, and what the panel does.
 
-use crate::device::{Answer, Call, Device};
-use crate::generate::frame;
-use crate::lent::{Counter, Hardware};
-use crate::panel::{next_line, put_call, put_finish, Panel};
+use crate::device::{Answer, Call, Device, Touch};
+use crate::generate::{frame, ROOM};
+use crate::lent::{Allowed, Counter, Hardware};
+use crate::panel::{next_line, put_call, put_finish, put_strict, Panel};
 use std::io::Write;
 
+#[derive(Clone)]
 struct Difference {
     name: &'static str,
     /// The panel's reply buffer.
@@ -13,7 +14,8 @@ struct Difference {
     /// The last one shows the difference; the others lead up to it.
     calls: Vec<Call>,
     rust: &'static str,
-    /// The panel's answers to the last call: two to a read (reading and command), and one more where an order is finished.
+    /// The panel's answers to the last call: three to a read (reading, command and strict reading), and one more where
+    /// upstream came to a signature, to the finish.
     panel: &'static [&'static str],
 }
 
@@ -46,6 +48,20 @@ fn enrolling(h: usize, c: usize) -> Hardware {
     }
 }
 
+fn counting(counter: Counter) -> Hardware {
+    Hardware {
+        counter,
+        ..Hardware::default()
+    }
+}
+
+fn signing(n: usize) -> Hardware {
+    Hardware {
+        signature: Some(vec![3; n]),
+        ..Hardware::default()
+    }
+}
+
 /// A record with a live touch.
 fn touched() -> Vec<Call> {
     vec![Call::New, Call::Check(0), Call::Touch(1)]
@@ -56,43 +72,176 @@ fn after(mut calls: Vec<Call>, call: Call) -> Vec<Call> {
     calls
 }
 
-fn list() -> Vec<Difference> {
-    let signed = |n| Hardware {
-        signature: Some(vec![3; n]),
-        ..Hardware::default()
-    };
-    let unread = Hardware {
-        counter: Counter::Unread,
-        ..Hardware::default()
-    };
-    let show = |name, calls, rust, panel| Difference {
+/// Shown with the reply buffer that the panel has by default.
+fn show(name: &'static str, calls: Vec<Call>, rust: &'static str, panel: &'static [&'static str]) -> Difference {
+    Difference {
         name,
-        room: 1024,
+        room: ROOM,
         calls,
         rust,
         panel,
-    };
-    let within = |room, name, calls, rust, panel| Difference {
-        name,
-        room,
-        calls,
-        rust,
-        panel,
+    }
+}
+
+fn within(room: usize, difference: Difference) -> Difference {
+    Difference { room, ..difference }
+}
+
+fn fresh(frame: Vec<u8>, hardware: Hardware) -> Vec<Call> {
+    vec![Call::New, command(0, frame, hardware)]
+}
+
+/// Upstream and the panel alike, and not as the public documents have it.
+fn against_the_documents() -> Vec<Difference> {
+    let good = Hardware::default;
+    let allowed = |allowed| Hardware { allowed, ..good() };
+    vec![
+        show(
+            "shape 6 is read, though no case of ISO's",
+            read(&[0, 3, 0, 0, 0, 0, 0, 5]),
+            "shape 6, Lc 0, Le 5",
+            &["6 0 5 7 7", "version", "6700"],
+        ),
+        show(
+            "an extended Lc of 0 is read",
+            read(&[0, 3, 0, 0, 0, 0, 0, 0, 5]),
+            "shape 7, Lc 0, Le 5",
+            &["7 0 5 7 7", "version", "7 0 5 7 7"],
+        ),
+        show(
+            "a short frame is wrong data, not wrong length",
+            read(&[0, 3, 0]),
+            "6a80",
+            &["6a80", "6a80", "6a80"],
+        ),
+        show(
+            "Le is looked at by no command",
+            fresh(version(1), good()),
+            "9000, 6 bytes",
+            &["9000 5532465f5632"],
+        ),
+        show(
+            "Register looks at no P1",
+            fresh(frame(3, [0, 1, 0xff, 0], &[7; 64], 0), good()),
+            "6985, no touch",
+            &["6985"],
+        ),
+        show(
+            "a vendor's command is refused",
+            fresh(frame(1, [0, 0x40, 0, 0], &[], 0), good()),
+            "6d00",
+            &["6d00"],
+        ),
+        show(
+            "the handle's length comes before P1",
+            fresh(frame(3, [0, 2, 5, 0], &[7; 66], 0), good()),
+            "6700",
+            &["6700"],
+        ),
+        show(
+            "CTAP1 is not allowed",
+            fresh(version(0), allowed(Allowed::No)),
+            "6986",
+            &["6986"],
+        ),
+        show(
+            "whether CTAP1 is allowed is not known",
+            fresh(version(0), allowed(Allowed::Failed)),
+            "6f00",
+            &["6f00"],
+        ),
+        show(
+            "a failed counter costs the touch",
+            after(touched(), command(2, authenticate(3), counting(Counter::Failed))),
+            "6a80, touch spent",
+            &["6a80"],
+        ),
+    ]
+}
+
+/// The panel and upstream apart.
+fn against_upstream() -> Vec<Difference> {
+    let enrol = |h, c| after(touched(), command(2, register(), enrolling(h, c)));
+    let unsigned = |hardware| Hardware {
+        signature: None,
+        ..hardware
     };
     vec![
-        show("shape 6 is read, though no case of ISO's", read(&[0, 3, 0, 0, 0, 0, 0, 5]), "shape 6, Lc 0, Le 5", &["6 0 5 7 7", "version"]),
-        show("an extended Lc of 0 is read", read(&[0, 3, 0, 0, 0, 0, 0, 0, 5]), "shape 7, Lc 0, Le 5", &["7 0 5 7 7", "version"]),
-        show("a short frame is wrong data, not wrong length", read(&[0, 3, 0]), "6a80", &["6a80", "6a80"]),
-        show("Le is looked at by no command", after(vec![Call::New], command(0, version(1), Hardware::default())), "9000, 6 bytes", &["9000 5532465f5632"]),
-        show("a vendor's command is decoded and then refused", after(vec![Call::New], command(0, frame(1, [0, 0x40, 0, 0], &[], 0), Hardware::default())), "6d00", &["6d00"]),
-        show("the counter grows and then cannot be read", after(vec![Call::New], command(0, authenticate(8), unread)), "6a80, counter taken", &["6a80"]),
-        within(502, "no room for the enrolment", after(touched(), command(2, register(), enrolling(64, 300))), "9000, 501 bytes, touch spent", &["R2", "R7"]),
-        within(503, "just enough room", after(touched(), command(2, register(), enrolling(64, 300))), "9000, 501 bytes, touch spent", &["order 1 0 *", "9000 *"]),
-        within(76, "no room for the login", after(vec![Call::New], command(0, authenticate(8), signed(70))), "9000, 75 bytes, counter taken", &["R2", "R7"]),
-        within(5, "no room for the version", after(vec![Call::New], command(0, version(0), Hardware::default())), "9000, 6 bytes", &["R2"]),
-        within(502, "a handle over 255 and no room", after(touched(), command(2, register(), enrolling(256, 300))), "6f00, touch spent", &["R2"]),
-        show("a signature over 72 bytes", after(vec![Call::New], command(0, authenticate(8), signed(73))), "9000, 78 bytes, counter taken", &["order 2 1 *", "R3"]),
-        show("a moment that goes back", vec![Call::New, Call::Check(100), Call::Touch(99)], "yes", &["R1"]),
+        show(
+            "the counter grows and then cannot be read",
+            fresh(authenticate(8), counting(Counter::Unread)),
+            "6a80, counter taken",
+            &["6a80"],
+        ),
+        within(
+            502,
+            show(
+                "no room for the enrolment",
+                enrol(64, 300),
+                "9000, 501 bytes, touch spent",
+                &["R2", "R7"],
+            ),
+        ),
+        within(
+            503,
+            show(
+                "just enough room",
+                enrol(64, 300),
+                "9000, 501 bytes, touch spent",
+                &["order 1 0 *", "9000 *"],
+            ),
+        ),
+        within(
+            76,
+            show(
+                "no room for the login",
+                fresh(authenticate(8), signing(70)),
+                "9000, 75 bytes, counter taken",
+                &["R2", "R7"],
+            ),
+        ),
+        within(
+            5,
+            show(
+                "no room for the version",
+                fresh(version(0), Hardware::default()),
+                "9000, 6 bytes",
+                &["R2"],
+            ),
+        ),
+        within(
+            502,
+            show(
+                "a handle over 255 and no room",
+                enrol(256, 300),
+                "6f00, touch spent",
+                &["R2"],
+            ),
+        ),
+        show(
+            "a signature over 72 bytes",
+            fresh(authenticate(8), signing(73)),
+            "9000, 78 bytes, counter taken",
+            &["order 2 1 *", "R3"],
+        ),
+        show(
+            "the enrolment's signer fails",
+            after(touched(), command(2, register(), unsigned(enrolling(64, 300)))),
+            "6f00, touch spent",
+            &["order 1 0 *", "6f00"],
+        ),
+        show(
+            "the login's signer fails",
+            fresh(authenticate(8), unsigned(signing(0))),
+            "6f00, counter taken",
+            &["order 2 1 *", "6f00"],
+        ),
+        show(
+            "a moment that goes back",
+            vec![Call::New, Call::Check(100), Call::Touch(99)],
+            "yes",
+            &["R1"],
+        ),
         show("a moment of 2^48", vec![Call::New, Call::Check(1 << 48)], "no", &["R1"]),
     ]
 }
@@ -112,8 +261,10 @@ fn words(answer: &Answer) -> String {
             if out.taken {
                 said += ", counter taken";
             }
-            if out.touch == crate::device::Touch::Found {
-                said += ", touch spent";
+            match out.touch {
+                Touch::NotLookedFor => {}
+                Touch::Missing => said += ", no touch",
+                Touch::Found => said += ", touch spent",
             }
             said
         }
@@ -135,46 +286,67 @@ fn shortened(line: &str) -> String {
     }
 }
 
-/// Shows each on both sides; false where one is no longer what the list says.
+/// The lines that show a difference, and how many of them lead up to it; what upstream answers.
+fn lines(difference: &Difference) -> (Vec<u8>, usize, Answer) {
+    let mut device = Device::new();
+    let mut lines = format!("room {}\n", difference.room).into_bytes();
+    let mut answer = Answer::Fresh;
+    let mut before = 0;
+    for call in &difference.calls {
+        answer = device.answer(call);
+        before = count(&lines);
+        put_call(&mut lines, call);
+    }
+    match (difference.calls.last(), &answer) {
+        (Some(call), Answer::Command(out)) if out.ordered => put_finish(&mut lines, call),
+        (Some(Call::Read(frame)), _) => put_strict(&mut lines, frame),
+        _ => {}
+    }
+    (lines, before, answer)
+}
+
+fn count(lines: &[u8]) -> usize {
+    lines.iter().filter(|b| **b == b'\n').count()
+}
+
+/// Shows it on both sides; false where it is no longer what the list says.
+fn is_as_listed(difference: &Difference, panel: &mut Panel) -> bool {
+    let (lines, before, answer) = lines(difference);
+    panel
+        .calls
+        .write_all(&lines)
+        .and_then(|()| panel.calls.flush())
+        .expect("the panel takes calls");
+    let mut space = String::new();
+    let said: Vec<String> = (0..count(&lines))
+        .map(|_| {
+            next_line(&mut panel.answers, &mut space)
+                .unwrap_or("(ended)")
+                .to_string()
+        })
+        .skip(before)
+        .collect();
+    let rust = words(&answer);
+    let same = rust == difference.rust
+        && said.len() == difference.panel.len()
+        && difference.panel.iter().zip(&said).all(|(p, s)| is_like(p, s));
+    println!("{}{}", difference.name, if same { "" } else { ": NOT AS LISTED" });
+    for line in String::from_utf8_lossy(&lines).lines().skip(before) {
+        println!("    call   {}", shortened(line));
+    }
+    println!("    Rust   {rust}");
+    for line in &said {
+        println!("    panel  {}", shortened(line));
+    }
+    same
+}
+
+/// Shows them all; false where one is not as listed.
 pub fn run(command: &str) -> bool {
     let mut panel = Panel::start(command);
-    let mut good = true;
-    for difference in list() {
-        let mut device = Device::new();
-        let mut lines = format!("room {}\n", difference.room).into_bytes();
-        let mut answer = Answer::Fresh;
-        let mut last = 0;
-        for call in &difference.calls {
-            answer = device.answer(call);
-            last = lines.len();
-            put_call(&mut lines, call);
-        }
-        if let Answer::Command(out) = &answer {
-            if out.ordered {
-                put_finish(&mut lines, difference.calls.last().unwrap());
-            }
-        }
-        panel.calls.write_all(&lines).and_then(|()| panel.calls.flush()).expect("the panel takes calls");
-        let before = lines[..last].iter().filter(|b| **b == b'\n').count();
-        let all = lines.iter().filter(|b| **b == b'\n').count();
-        let mut space = String::new();
-        let said: Vec<String> = (0..all)
-            .map(|_| next_line(&mut panel.answers, &mut space).unwrap_or("(ended)").to_string())
-            .skip(before)
-            .collect();
-        let rust = words(&answer);
-        let same = rust == difference.rust
-            && said.len() == difference.panel.len()
-            && difference.panel.iter().zip(&said).all(|(p, s)| is_like(p, s));
-        good &= same;
-        println!("{}{}", difference.name, if same { "" } else { ": NOT AS LISTED" });
-        for line in String::from_utf8_lossy(&lines[last..]).lines() {
-            println!("    call   {}", shortened(line));
-        }
-        println!("    Rust   {rust}");
-        for line in &said {
-            println!("    panel  {}", shortened(line));
-        }
-    }
-    good
+    let all = [against_the_documents(), against_upstream()].concat();
+    all.iter()
+        .filter(|difference| !is_as_listed(difference, &mut panel))
+        .count()
+        == 0
 }

@@ -140,7 +140,7 @@ fn le(dice: &mut Dice) -> u16 {
 
 /// Lengths of data at which something changes.
 const LENGTHS: [usize; 16] = [0, 1, 2, 63, 64, 65, 66, 96, 128, 254, 255, 256, 257, 319, 320, 321];
-const LONG: [usize; 6] = [4095, 4096, 32768, 65533, 65534, 65535];
+pub const LONG: [usize; 6] = [4095, 4096, 32768, 65533, 65534, 65535];
 
 /// A frame whose length is within three bytes of what its first bytes say. Long ones are rare: they cost most.
 pub fn boundary(dice: &mut Dice) -> Vec<u8> {

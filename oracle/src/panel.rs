@@ -62,7 +62,7 @@ fn then_hex(out: &mut Vec<u8>, bytes: &[u8]) {
     hex(out, bytes);
 }
 
-/// The panel's lines for a call; the finish of an order is a line of its own.
+/// The panel's lines for a call, two for a read; the finish of an order is a line of its own.
 pub fn put_call(out: &mut Vec<u8>, call: &Call) {
     match call {
         Call::New => write!(out, "new {W}").unwrap(),
@@ -109,6 +109,13 @@ pub fn put_call(out: &mut Vec<u8>, call: &Call) {
             then(out, counted);
         }
     }
+    out.push(b'\n');
+}
+
+/// The line for the strict reading, which upstream has not.
+pub fn put_strict(out: &mut Vec<u8>, frame: &[u8]) {
+    out.extend_from_slice(b"strict");
+    then_hex(out, frame);
     out.push(b'\n');
 }
 

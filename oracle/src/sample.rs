@@ -1,7 +1,7 @@
 //! A sample of the oracle's answers as text, for the program crates/replay. A line is a letter and fields at fixed columns,
 //! in hexadecimal digits; a field of bytes stands at a line's end.
 //!
-//!     F length from          the frame: so many bytes, byte i is (i - from) mod 251, counted from 0 below `from` too
+//!     F length from          the frame: so many bytes, byte i is (i + 251 - from) mod 251
 //!     P place bytes          bytes put over the frame's
 //!     r shape Lc Le          reading: what the frame says; or shape 0, the status word and 0
 //!     n                      a fresh record with W
@@ -18,7 +18,7 @@
 //! Hardware answers that are bytes are plain: byte i of each is (i + salt) mod 251.
 
 use crate::device::{reading_name, yes_name, Answer, Call, Device, Outcome, Touch, ANSWERS};
-use crate::generate::{all, all_count, boundary, damaged, hardware, plain, Dice, History};
+use crate::generate::{all, all_count, boundary, damaged, frame, hardware, plain, Dice, History, LONG};
 use crate::lent::{Allowed, Attested, Counter, Handle, Hardware};
 use std::collections::BTreeMap;
 use std::fmt::Write;
@@ -180,7 +180,9 @@ fn shortened(mut hw: Hardware) -> Hardware {
     hw.certificate = salted(SALT_CERTIFICATE, c);
     hw.x = salted(SALT_X, 32).try_into().unwrap();
     hw.y = salted(SALT_Y, 32).try_into().unwrap();
-    hw.signature = hw.signature.map(|s| salted(SALT_SIGNATURE, if s.len() == 72 { 72 } else { s.len() % 9 }));
+    hw.signature = hw
+        .signature
+        .map(|s| salted(SALT_SIGNATURE, if s.len() == 72 { 72 } else { s.len() % 9 }));
     hw
 }
 
@@ -200,6 +202,13 @@ fn sampled(seed: u64) -> Sample {
     for _ in 0..FRAMES {
         sample.read(&boundary(&mut dice));
         sample.read(&damaged(&mut dice));
+    }
+    for n in LONG {
+        for shape in 5..=7 {
+            let long = frame(shape, [0, 3, 0, 0], &dice.bytes(n), 1);
+            sample.read(&long);
+            sample.read(&long[..long.len() - 3]);
+        }
     }
     let mut device = Device::new();
     for _ in 0..HISTORIES {
@@ -231,11 +240,20 @@ fn sampled(seed: u64) -> Sample {
 /// What crates/replay has to print where every line agrees.
 fn summary(text: &str) -> String {
     let kinds = [
-        ('r', "readings"), ('t', "touches"), ('c', "checks"), ('a', "asks"), ('d', "decisions"),
-        ('s', "bytes to sign"), ('z', "finishings"), ('b', "bodies"),
+        ('r', "readings"),
+        ('t', "touches"),
+        ('c', "checks"),
+        ('a', "asks"),
+        ('d', "decisions"),
+        ('s', "bytes to sign"),
+        ('z', "finishings"),
+        ('b', "bodies"),
     ];
     let count = |kind| text.lines().filter(|line| line.starts_with(kind)).count();
-    let agreed: String = kinds.iter().map(|(kind, name)| format!("{name} agreed: {}\n", count(*kind))).collect();
+    let agreed: String = kinds
+        .iter()
+        .map(|(kind, name)| format!("{name} agreed: {}\n", count(*kind)))
+        .collect();
     agreed + "lines that differ: 0\n"
 }
 
@@ -246,11 +264,18 @@ pub fn make(seed: u64) -> (String, String) {
         "# Answers of the upstream Rust, made by `oracle/sample {seed}`; the lines are explained in oracle/src/sample.rs.\n"
     );
     for answer in ANSWERS.iter().filter(|a| !a.starts_with("command ")) {
-        let n = sample.tally.get(*answer).unwrap_or_else(|| panic!("no line of the sample comes to: {answer}"));
+        let n = sample
+            .tally
+            .get(*answer)
+            .unwrap_or_else(|| panic!("no line of the sample comes to: {answer}"));
         writeln!(text, "# {n} {answer}").unwrap();
     }
     text += &sample.text;
-    assert!(text.len() <= MOST, "{} bytes are too many for crates/replay", text.len());
+    assert!(
+        text.len() <= MOST,
+        "{} bytes are too many for crates/replay",
+        text.len()
+    );
     let summary = summary(&text);
     (text, summary)
 }

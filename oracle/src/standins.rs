@@ -54,11 +54,7 @@ pub mod api {
 
         pub trait KeyStore {
             fn wrap_credential(&mut self, credential: CredentialSource) -> Result<Vec<u8>, ()>;
-            fn unwrap_credential(
-                &mut self,
-                bytes: &[u8],
-                rp_id_hash: &[u8],
-            ) -> Result<Option<CredentialSource>, ()>;
+            fn unwrap_credential(&mut self, bytes: &[u8], rp_id_hash: &[u8]) -> Result<Option<CredentialSource>, ()>;
         }
     }
 

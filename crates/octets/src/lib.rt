@@ -1,6 +1,6 @@
 // Bytes into and out of lent slices: what frames, orders and replies are written and read with.
 // Nothing here asks anything of its caller: a write stops where the buffer ends.
-ghost use Prim.Native.Nat.{_+_, _*_, _<_};
+ghost use Prim.Native.Nat.{_+_, _*_, _<_, max};
 ghost use mathlib.Core.Path.{_≡_};
 ghost use mathlib.Core.List.{[], _∷_};
 ghost use Rattle.octets.specs.Bytes.{laid, bytes2, bytes4, allZero, partOf};
@@ -64,18 +64,24 @@ pub fn put_word(dst: &mut [u8], n: u32)
     );
 }
 
-// Whether every byte is 0.
+fn larger(a: u8, b: u8) -> u8
+    ensures { λ r. ⌜ r ≡ max a b ⌝ }
+{
+    if a < b { b } else { a }
+}
+
+// Whether every byte is 0: whether the largest is. There is no way out of the loop before its end, so that the compiler can
+// take many bytes at a time.
 pub fn all_zero(s: &[u8]) -> bool
     ensures { λ r. ⌜ r ≡ allZero (now (s .entry)) ⌝ }
 {
+    let mut most = 0;
     let mut i = 0;
     while i < s.len() {
-        if s[i] != 0 {
-            return false;
-        }
+        most = larger(most, s[i]);
         i += 1;
     }
-    true
+    most == 0
 }
 
 // The bytes from start up to and without end, as a part of s; none where there are no such bytes.

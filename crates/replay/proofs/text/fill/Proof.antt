@@ -1,8 +1,7 @@
 -- `fill` is safe and ends. The measure is what is left to fill.
-use Prim.Native.Nat.{_≤_, _-_}
+use Prim.Native.Nat.{_-_}
 use mathlib.Core.Path.{_≡_}
 use borrow.Author.Needs.{needs}
-use native.Mathlib.Omega.{arith}
 use lib.ListN.{length}
 use Rattle.replay.proofs.text.fill.Statement.{statement}
 use Rattle.replay.proofs.text.fill.Tie as tie

@@ -1,8 +1,6 @@
 -- `line_end` meets its contract: the loop stays between the start of the line and the end of the text.
 use Prim.Native.Nat.{_≤_, _-_}
-use mathlib.Core.Path.{_≡_}
 use borrow.Author.Needs.{needs}
-use native.Mathlib.Omega.{arith}
 use lib.ListN.{length}
 use Rattle.replay.proofs.text.line_end.Statement.{statement}
 use Rattle.replay.proofs.text.line_end.Tie as tie

@@ -1,9 +1,6 @@
 -- `number` is safe and ends. The measure is how many columns are left.
-use Prim.Native.Nat.{_≤_, _-_}
-use mathlib.Core.Path.{_≡_}
+use Prim.Native.Nat.{_-_}
 use borrow.Author.Needs.{needs}
-use native.Mathlib.Omega.{arith}
-use lib.ListN.{length}
 use Rattle.replay.proofs.text.number.Statement.{statement}
 use Rattle.replay.proofs.text.number.Tie as tie
 
