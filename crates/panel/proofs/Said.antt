@@ -18,7 +18,7 @@ use Rattle.u2f_up.specs.declared.Found.{Found}
 use Rattle.u2f_up.specs.declared.Presence.{Presence}
 use Rattle.signing.specs.Orders.{isOfLayout, certificateLength}
 use Rattle.signing.specs.Finishing.{Finishing, finishOf, roomAsked, registerRoom, authenticateRoom}
-use Rattle.ctap1.specs.Words.{Inputs, Result, isPresent}
+use Rattle.ctap1.specs.Words.{Inputs, Login, login, Result, isPresent}
 use Rattle.ctap1.specs.Decision as Decision′
 use Rattle.ctap1.specs.Decision.{versionDecision, registerOrdered, registerDecision, countedBy, enforced, authenticateDecision, onCommand, onAllowed, decisionOf}
 use Rattle.ctap1.specs.declared.Allowed.{Allowed}
@@ -115,24 +115,26 @@ module _ (p : Presence) (t : ℕ) where
 abbrev Says-so : Result → Type 0
 Says-so r = IsSaid (r .answer)
 
+counted-said : (c : Counter) (frame : List ℕ) (said : Says) (present : Bool) (p : Presence) → Says-so (countedBy c frame said present p)
+unfolding countedBy
+counted-said Counter′.Failed frame said present p = (omega arith, omega arith)
+counted-said (Counter′.Offered n) frame said present p = tt
+
+enforced-said : (c : Counter) (frame : List ℕ) (said : Says) (f : Found) → Says-so (enforced c frame said f)
+unfolding enforced
+enforced-said c frame said f = either Says-so (not (f .yes)) _ _ (omega arith, omega arith) (counted-said c frame said true (f .presence))
+
+authenticate-said : (i : Login) (p1 : ℕ) (said : Says) (settled : Presence) → Says-so (authenticateDecision i p1 said settled)
+unfolding authenticateDecision
+authenticate-said i p1 said settled =
+    either Says-so (not (i .hardware .good)) _ _ (omega arith, omega arith)
+    (either Says-so (eqb p1 0x07) _ _ (omega arith, omega arith)
+    (either Says-so (ltb (i .room) authenticateRoom) _ _ (omega arith, omega arith)
+    (either Says-so (eqb p1 0x03) _ _
+    (enforced-said (i .hardware .counter) (i .frame) said (checkedOf settled (i .moment)))
+    (counted-said (i .hardware .counter) (i .frame) said false settled))))
+
 module _ (i : Inputs) where
-  counted-said : (c : Counter) (said : Says) (present : Bool) (p : Presence) → Says-so (countedBy c (i .frame) said present p)
-  unfolding countedBy
-  counted-said Counter′.Failed said present p = (omega arith, omega arith)
-  counted-said (Counter′.Offered n) said present p = tt
-
-  enforced-said : (c : Counter) (said : Says) (f : Found) → Says-so (enforced c (i .frame) said f)
-  unfolding enforced
-  enforced-said c said f = either Says-so (not (f .yes)) _ _ (omega arith, omega arith) (counted-said c said true (f .presence))
-
-  authenticate-said : (p1 : ℕ) (said : Says) (settled : Presence) → Says-so (authenticateDecision i p1 said settled)
-  unfolding authenticateDecision
-  authenticate-said p1 said settled =
-      either Says-so (not (i .hardware .good)) _ _ (omega arith, omega arith)
-      (either Says-so (eqb p1 0x07) _ _ (omega arith, omega arith)
-      (either Says-so (ltb (i .room) authenticateRoom) _ _ (omega arith, omega arith)
-      (either Says-so (eqb p1 0x03) _ _ (enforced-said (i .hardware .counter) said (checkedOf settled (i .moment))) (counted-said (i .hardware .counter) said false settled))))
-
   register-said : (said : Says) (settled : Presence) → Says-so (registerDecision i said settled)
   unfolding registerDecision registerOrdered
   register-said said settled =
@@ -149,7 +151,7 @@ module _ (i : Inputs) where
   on-command-said settled (SW n) h = h
   on-command-said settled (Gives Version) h = either Says-so (ltb (i .room) 6) _ _ (omega arith, omega arith) tt
   on-command-said settled (Gives (Register said)) h = register-said said settled
-  on-command-said settled (Gives (Authenticate p1 said)) h = authenticate-said p1 said settled
+  on-command-said settled (Gives (Authenticate p1 said)) h = authenticate-said (login i) p1 said settled
 
   allowed-said : (a : Allowed) (settled : Presence) → Says-so (onAllowed a i settled)
   unfolding onAllowed
