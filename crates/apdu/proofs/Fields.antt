@@ -12,7 +12,7 @@ use Rattle.octets.specs.Bytes.{laid, bytes2}
 use Rattle.octets.proofs.Tails.{laid-then}
 use Rattle.apdu.specs.Words.{Case, ApduHeader, Instruction, Le1, Lc1Data, Lc1DataLe1, Lc3Data, Lc3DataLe1, Lc3DataLe2, Le3}
 use Rattle.apdu.specs.Table.{lcField, leField, lcLeast, lcMost, lcFits, leFits, lcBytes, leBytes}
-use Rattle.apdu.specs.Writing.{parts, headerBytes, payloadOf, frameOf, writeOf, bufferOf}
+use Rattle.apdu.specs.Writing.{partsOf, headerBytes, payloadOf, frameOf, writeOf, bufferOf}
 
 -- ---- the Le field
 module _ (s : Case) (le long : ℕ) (old : List ℕ) (is-long : long ≡ leField s) where
@@ -75,11 +75,11 @@ module _ (s : Case) (content : List ℕ) (le : ℕ) (old xs ys : List ℕ) where
   payload-then long is-long first rest = laid-then (lcBytes s (length content)) (content ++ leBytes s le) old xs ys long (lc-long s (length content) ∙ sym is-long) first rest
 
   pub frame-then : (h : ApduHeader) → xs ≡ laid (headerBytes h) old → ys ≡ laid (payloadOf s content le) (take (length xs - 4) (drop 4 xs))
-      → take 4 xs ++ (ys ++ drop (length xs - 4) (drop 4 xs)) ≡ laid (frameOf (parts h s content le)) old
+      → take 4 xs ++ (ys ++ drop (length xs - 4) (drop 4 xs)) ≡ laid (frameOf (partsOf h s content le)) old
   unfolding frameOf
   frame-then h first rest = laid-then (headerBytes h) (payloadOf s content le) old xs ys 4 refl first rest
 
-pub frame-long : (h : ApduHeader) (s : Case) (content : List ℕ) (le : ℕ) → length (frameOf (parts h s content le)) ≡ 4 + lcField s + length content + leField s
+pub frame-long : (h : ApduHeader) (s : Case) (content : List ℕ) (le : ℕ) → length (frameOf (partsOf h s content le)) ≡ 4 + lcField s + length content + leField s
 unfolding frameOf payloadOf
 frame-long h s content le =
     let lc = lc-long s (length content) in
@@ -88,39 +88,39 @@ frame-long h s content le =
 
 -- ---- the writer's answers
 -- a refusal leaves the buffer as it was; a frame stands at its front
-pub refused : (h : ApduHeader) (s : Case) (content : List ℕ) (le : ℕ) (old : List ℕ) (k : ℕ) → let w = parts h s content le in
+pub refused : (h : ApduHeader) (s : Case) (content : List ℕ) (le : ℕ) (old : List ℕ) (k : ℕ) → let w = partsOf h s content le in
     R k ≡ writeOf w (length old) → (R k ≡ writeOf w (length old)) × (old ≡ bufferOf w old)
 unfolding bufferOf
 refused h s content le old k e = (e, rw (← e))
 
-pub wrote : (h : ApduHeader) (s : Case) (content : List ℕ) (le : ℕ) (old new : List ℕ) (n : ℕ) → let w = parts h s content le in
+pub wrote : (h : ApduHeader) (s : Case) (content : List ℕ) (le : ℕ) (old new : List ℕ) (n : ℕ) → let w = partsOf h s content le in
     new ≡ laid (frameOf w) old → Gives n ≡ writeOf w (length old) → (Gives n ≡ writeOf w (length old)) × (new ≡ bufferOf w old)
 unfolding bufferOf
 wrote h s content le old new n is-new e = (e, is-new ∙ rw (← e))
 
 module _ (h : ApduHeader) (s : Case) (content : List ℕ) (le room : ℕ) (a : Bool) (is-a : a ≡ lcFits s (length content)) where
-  pub no-lc : not a ≡ true → R 5 ≡ writeOf (parts h s content le) room
+  pub no-lc : not a ≡ true → R 5 ≡ writeOf (partsOf h s content le) room
   unfolding writeOf
   no-lc n = rw (← is-a, not-true a n)
 
   module _ (b : Bool) (is-b : b ≡ leFits s le) (yes-lc : not a ≡ false) where
-    pub no-le : not b ≡ true → R 5 ≡ writeOf (parts h s content le) room
+    pub no-le : not b ≡ true → R 5 ≡ writeOf (partsOf h s content le) room
     unfolding writeOf
     no-le n = rw (← is-a, not-false a yes-lc, ← is-b, not-true b n)
 
     module _ (yes-le : not b ≡ false) (lcLong leLong : ℕ) (is-lc : lcLong ≡ lcField s) (is-le : leLong ≡ leField s) where
-      pub no-room : room < 4 + lcLong + length content + leLong → R 2 ≡ writeOf (parts h s content le) room
+      pub no-room : room < 4 + lcLong + length content + leLong → R 2 ≡ writeOf (partsOf h s content le) room
       unfolding writeOf
       no-room r =
           let long = frame-long h s content le in
-          rw (← is-a, not-false a yes-lc, ← is-b, not-false b yes-le, lt-ltb room (length (frameOf (parts h s content le))) (omega arith))
+          rw (← is-a, not-false a yes-lc, ← is-b, not-false b yes-le, lt-ltb room (length (frameOf (partsOf h s content le))) (omega arith))
 
-      pub has-room : 4 + lcLong + length content + leLong ≤ room → Gives (4 + lcLong + length content + leLong) ≡ writeOf (parts h s content le) room
+      pub has-room : 4 + lcLong + length content + leLong ≤ room → Gives (4 + lcLong + length content + leLong) ≡ writeOf (partsOf h s content le) room
       unfolding writeOf
       has-room r =
           let long = frame-long h s content le in
-          let same : 4 + lcLong + length content + leLong ≡ length (frameOf (parts h s content le)) = omega arith in
-          rw (← is-a, not-false a yes-lc, ← is-b, not-false b yes-le, le-ltb room (length (frameOf (parts h s content le))) (omega arith), same)
+          let same : 4 + lcLong + length content + leLong ≡ length (frameOf (partsOf h s content le)) = omega arith in
+          rw (← is-a, not-false a yes-lc, ← is-b, not-false b yes-le, le-ltb room (length (frameOf (partsOf h s content le))) (omega arith), same)
 
 -- what the fields' writers ask
 pub asks-room : (s : Case) (n long leLong room : ℕ) → long ≡ lcField s → 4 + long + n + leLong ≤ room → 4 + (lcField s + n) ≤ room

@@ -16,7 +16,7 @@ use Rattle.apdu.specs.Words.{Case, Instruction, Le1, Lc1Data, Lc1DataLe1
 use Rattle.apdu.specs.Answers.{Says}
 use Rattle.apdu.specs.Table.{lcField, leField, canCarry, lcBytes, leBytes}
 use Rattle.apdu.specs.Reading.{readOf, lengthsOf, headerOf, sayOf, dataOf}
-use Rattle.apdu.specs.Writing.{Parts, parts, headerBytes, payloadOf, frameOf}
+use Rattle.apdu.specs.Writing.{Parts, partsOf, headerBytes, payloadOf, frameOf}
 use Rattle.apdu.specs.Claims.{InTable, said}
 use Rattle.apdu.specs.declared.Lengths.{Lengths}
 use Rattle.apdu.specs.declared.Lengths.the-variants.{Found, Missing, Surplus}
@@ -65,7 +65,7 @@ pub in-table : (frame : List ℕ) → AreBytes frame → 4 ≤ length frame → 
 unfolding frameOf Laid
 in-table frame bytes long s lc le e =
     let laid : LaidAs (drop 4 frame) s lc le = sound (drop 4 frame) (payload-bytes frame bytes) (subst (Way (drop 4 frame)) (sym e) (way (drop 4 frame))) in (
-      parts (headerOf frame) s (laid .content) le,
+      partsOf (headerOf frame) s (laid .content) le,
       record { layout = four frame long ∙ ap (λ (p : List ℕ). headerBytes (headerOf frame) ++ p) (laid .is); carried = rw (laid .long) (laid .carried) },
       ap (λ (n : ℕ). saidBy frame s n le) (sym (laid .long)),
     )

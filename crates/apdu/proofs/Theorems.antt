@@ -19,7 +19,7 @@ use Rattle.apdu.specs.Table.{canCarry}
 use Rattle.apdu.specs.Reading.{readOf, lengthsOf, shortOf, extendedOf, afterData, sayOf, strictOf, strictly, dataOf}
 use Rattle.apdu.specs.Iso.{IsoCase, isCase, shapeFor, isTolerated}
 use Rattle.apdu.specs.declared.Lengths.the-variants.{Found}
-use Rattle.apdu.specs.Writing.{Parts, parts, frameOf, writeOf, bufferOf}
+use Rattle.apdu.specs.Writing.{Parts, partsOf, frameOf, writeOf, bufferOf}
 use Rattle.apdu.specs.Examples
 use Rattle.apdu.specs.Claims
 use Rattle.apdu.specs.Claims.{InTable, said}
@@ -74,7 +74,7 @@ abbrev apduOf : Parts → Apdu
 apduOf w = record { header = w .header; shape = w .shape; lc = length (w .content); le = w .le }
 
 parts-of : (v w : Parts) → apduOf v ≡ apduOf w → v .content ≡ w .content → v ≡ w
-parts-of v w a c = ap₂ (λ (x : Apdu) (l : List ℕ). parts (x .header) (x .shape) l (x .le)) a c
+parts-of v w a c = ap₂ (λ (x : Apdu) (l : List ℕ). partsOf (x .header) (x .shape) l (x .le)) a c
 
 pub AtMostOneShape : Claims.AtMostOneShape
 AtMostOneShape frame v w s t =
@@ -115,7 +115,7 @@ ReadThenWritten frame old a bytes e room =
     let t = ReadExactly frame bytes (saysOf a) .0 e in
     let same : a ≡ apduOf (t .0) = says-same a (apduOf (t .0)) (t .2) in
     let cut : dataOf frame (saysOf a) ≡ t .0 .content = ap (dataOf frame) (t .2) ∙ table-cut frame (t .0) (t .1) in
-    let it-is : parts (a .header) (a .shape) (dataOf frame (saysOf a)) (a .le) ≡ t .0 = ap₂ (λ (x : Apdu) (l : List ℕ). parts (x .header) (x .shape) l (x .le)) same cut in
+    let it-is : partsOf (a .header) (a .shape) (dataOf frame (saysOf a)) (a .le) ≡ t .0 = ap₂ (λ (x : Apdu) (l : List ℕ). partsOf (x .header) (x .shape) l (x .le)) same cut in
     again frame old _ (t .0) it-is (t .1) room
 
 accepted : (w : Parts) (room n : ℕ) → writeOf w room ≡ Gives n → (canCarry (w .shape) (length (w .content)) (w .le) ≡ true) × (length (frameOf w) ≤ room) × (n ≡ length (frameOf w))

@@ -8,7 +8,7 @@ use Rattle.apdu.specs.Words.{ℕ, _≤_, _<_, _≡_, true, false, List, 
 use Rattle.apdu.specs.Answers.{Apdu, Place, Reading, Written, Says, saysOf, readingOf, writtenOf}
 use Rattle.apdu.specs.Table.{canCarry}
 use Rattle.apdu.specs.Reading.{readOf, strictOf, placeOf, dataOf}
-use Rattle.apdu.specs.Writing.{Parts, parts, frameOf, writeOf, bufferOf}
+use Rattle.apdu.specs.Writing.{Parts, partsOf, frameOf, writeOf, bufferOf}
 use Rattle.apdu.specs.Iso.{IsoCase, isCase, shapeFor, isTolerated}
 
 -- A frame is in the table, with these parts: it is laid out as its row says, and the row can carry them.
@@ -85,8 +85,8 @@ StrictOtherwise =
 abbrev pub ReadThenWritten : Type 0
 ReadThenWritten =
     (frame old : List ℕ) (a : Apdu) → AreBytes frame → readOf frame ≡ Gives (saysOf a) → length frame ≤ length old
-    → (writeOf (parts (a .header) (a .shape) (dataOf frame (saysOf a)) (a .le)) (length old) ≡ Gives (length frame))
-    × (bufferOf (parts (a .header) (a .shape) (dataOf frame (saysOf a)) (a .le)) old ≡ frame ++ drop (length frame) old)
+    → (writeOf (partsOf (a .header) (a .shape) (dataOf frame (saysOf a)) (a .le)) (length old) ≡ Gives (length frame))
+    × (bufferOf (partsOf (a .header) (a .shape) (dataOf frame (saysOf a)) (a .le)) old ≡ frame ++ drop (length frame) old)
 
 -- Fields that the writer accepts read back as themselves: header, shape, data and Le.
 -- Rejects a writer that accepts Le 257 for one byte. Bites at shape 2 with Le 257.

@@ -10,15 +10,15 @@ use Rattle.octets.specs.Bytes.{bytes2}
 use Rattle.apdu.specs.Words.{Case, Instruction, Le1, Lc1Data, Lc1DataLe1, Lc3Data, Lc3DataLe1, Lc3DataLe2, Le3}
 
 -- a row: the Lc field's bytes, the least Lc, the Le field's bytes
-pub record Row : Type 0 where
+pub record TableRow : Type 0 where
   pub lcBytesLong : ℕ
   pub leastLc : ℕ
   pub leBytesLong : ℕ
 
-abbrev pub columns : ℕ → ℕ → ℕ → Row
+abbrev pub columns : ℕ → ℕ → ℕ → TableRow
 columns lcLong least leLong = record { lcBytesLong = lcLong; leastLc = least; leBytesLong = leLong }
 
-abbrev pub row : Case → Row
+abbrev pub row : Case → TableRow
 row Instruction = columns 0 0 0  -- 1 | empty |
 row Le1 = columns 0 0 1  -- 2 | Le (1 byte) |
 row Lc1Data = columns 1 1 0  -- 3 | Lc, data | Lc 1..255

@@ -18,8 +18,8 @@ pub record Parts : Type 0 where
   pub content : List ℕ  -- the data
   pub le : ℕ
 
-abbrev pub parts : ApduHeader → Case → List ℕ → ℕ → Parts
-parts header shape content le = record { header = header; shape = shape; content = content; le = le }
+abbrev pub partsOf : ApduHeader → Case → List ℕ → ℕ → Parts
+partsOf header shape content le = record { header = header; shape = shape; content = content; le = le }
 
 abbrev pub headerBytes : ApduHeader → List ℕ
 headerBytes h = h .cla ∷ h .ins ∷ h .p1 ∷ h .p2 ∷ []

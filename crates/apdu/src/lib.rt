@@ -13,7 +13,7 @@ ghost use Rattle.apdu.specs.Words.{shapeNo};
 ghost use Rattle.apdu.specs.Answers.{saysOf, readingOf, writtenOf};
 ghost use Rattle.apdu.specs.Table.{lcField, leField, lcLeast, lcMost, leLeast, leMost, lcFits, leFits, lcBytes, leBytes, leRead};
 ghost use Rattle.apdu.specs.Reading.{lengthsOf, shortOf, extendedOf, afterData, readOf, strictOf, placeOf, dataOf};
-ghost use Rattle.apdu.specs.Writing.{parts, payloadOf, frameOf, writeOf, bufferOf};
+ghost use Rattle.apdu.specs.Writing.{partsOf, payloadOf, frameOf, writeOf, bufferOf};
 use outcome::ApduStatusCode;
 use outcome::Refusal;
 
@@ -393,7 +393,7 @@ fn put_payload(out: &mut [u8], shape: Case, content: &[u8], le: u32)
 
 fn put_frame(out: &mut [u8], header: ApduHeader, shape: Case, content: &[u8], le: u32)
     requires { ⌜ (4 + (lcField shape + length (now content)) ≤ length (now out)) × (length (now content) ≤ lcMost (lcField shape)) ⌝ }
-    ensures { λ _. ⌜ now (out .exit) ≡ laid (frameOf (parts header shape (now (content .entry)) le)) (now (out .entry)) ⌝ }
+    ensures { λ _. ⌜ now (out .exit) ≡ laid (frameOf (partsOf header shape (now (content .entry)) le)) (now (out .entry)) ⌝ }
 {
     octets::put(out, &[header.cla, header.ins, header.p1, header.p2]);
     put_payload(&mut out[APDU_HEADER_LEN..], shape, content, le);
@@ -402,8 +402,8 @@ fn put_frame(out: &mut [u8], header: ApduHeader, shape: Case, content: &[u8], le
 // Writes a frame at the front of out and says its length: R5 where the shape cannot carry the data or Le, then R2 where
 // out is shorter than the frame. A refusal leaves out as it was.
 pub fn write(header: ApduHeader, shape: Case, content: &[u8], le: u32, out: &mut [u8]) -> Written
-    ensures { λ r. ⌜ writtenOf r ≡ writeOf (parts header shape (now (content .entry)) le) (length (now (out .entry))) ⌝ }
-    ensures { λ r. ⌜ now (out .exit) ≡ bufferOf (parts header shape (now (content .entry)) le) (now (out .entry)) ⌝ }
+    ensures { λ r. ⌜ writtenOf r ≡ writeOf (partsOf header shape (now (content .entry)) le) (length (now (out .entry))) ⌝ }
+    ensures { λ r. ⌜ now (out .exit) ≡ bufferOf (partsOf header shape (now (content .entry)) le) (now (out .entry)) ⌝ }
 {
     if !lc_fits(shape, content.len()) {
         return Written::Refused(Refusal::R5);

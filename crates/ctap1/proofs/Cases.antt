@@ -18,8 +18,8 @@ use Rattle.signing.specs.Layouts.{presenceByte}
 use Rattle.signing.specs.Orders.{blankOrder, registerOrder, authenticateOrder}
 use Rattle.signing.specs.declared.Order.{Order}
 use Rattle.signing.specs.Finishing.{registerRoom, authenticateRoom}
-use Rattle.ctap1.specs.Words.{Inputs, Enrolment, enrolment, Login, isPresent, Given, Result, Counter}
-use Rattle.ctap1.specs.Decision.{refuse, answer, body, orderOf, versionBytes, versionDecision, registerOrdered, registerDecision, countedBy, enforced, authenticateDecision, replyLeft}
+use Rattle.ctap1.specs.Words.{Inputs, Enrolment, enrolmentOf, Login, isPresent, Given, Result, Counter}
+use Rattle.ctap1.specs.Decision.{refuse, answer, bodyOf, orderOf, versionBytes, versionDecision, registerOrdered, registerDecision, countedBy, enforced, authenticateDecision, replyLeft}
 use Rattle.ctap1.specs.declared.Counter.the-variants as Counter′
 
 -- a decision's fields: only the order comes from a call
@@ -42,7 +42,7 @@ module _ (kept settled : Presence) (room : ℕ) (r : Result) where
   unfolding versionDecision
   version-short h e = e ∙ rw (lt-ltb room 6 h)
 
-  pub version-body : 6 ≤ room → r ≡ body 6 settled → r ≡ versionDecision kept settled room
+  pub version-body : 6 ≤ room → r ≡ bodyOf 6 settled → r ≡ versionDecision kept settled room
   unfolding versionDecision
   version-body h e = e ∙ rw (le-ltb room 6 h)
 
@@ -84,7 +84,7 @@ module _ (i : Inputs) (said : Says) (settled : Presence) (r : Result) (b : Bool)
           unfolding registerDecision
           register-no-attestation n e = e ∙ rw (roomy, ← is-found, touch, stored, le-ltb 255 (length (i .newHandle)) fits, ← is-p, n)
 
-          pub register-order : not p ≡ false → r ≡ registerOrdered (i .frame) said (enrolment i) (found .presence) → r ≡ registerDecision i said settled
+          pub register-order : not p ≡ false → r ≡ registerOrdered (i .frame) said (enrolmentOf i) (found .presence) → r ≡ registerDecision i said settled
           unfolding registerDecision
           register-order n e = e ∙ rw (roomy, ← is-found, touch, stored, le-ltb 255 (length (i .newHandle)) fits, ← is-p, n)
 

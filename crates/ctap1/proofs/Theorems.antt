@@ -27,7 +27,7 @@ use Rattle.signing.specs.declared.Order.{Order}
 use Rattle.signing.proofs.Fit.{RegisterLengths, AuthenticateLengths, register-fit, authenticate-fit}
 use Rattle.signing.proofs.Made.{register-order-fit, authenticate-order-fit}
 use Rattle.signing.proofs.Theorems.{made-of-layout, blank-refused, room-of-made, room-kept}
-use Rattle.ctap1.specs.Words.{Inputs, login, Given, Body, Ordered, Result, Allowed, Decision, Decided, decidedOf, decisionSaid}
+use Rattle.ctap1.specs.Words.{Inputs, loginOf, Given, Body, Ordered, Result, Allowed, Decision, Decided, decidedOf, decisionSaid}
 use Rattle.ctap1.specs.Decision.{answer, versionBytes, authenticateDecision, onCommand, onAllowed, onSettled, decisionOf, replyLeft}
 use Rattle.ctap1.specs.declared.Allowed.the-variants as Allowed′
 use Rattle.ctap1.specs.declared.Decided.the-variants as Decided′
@@ -180,7 +180,7 @@ settled-is p t q e = go (isR6 (p .w)) (isR1 (p .last) t) e
     go false true x = absurd (r-gives _ _ x)
     go false false x = sym (gives-same _ _ x)
 
-check-only : (i : Inputs) (said : Says) (q : Presence) (good : Bool) → i .hardware .good ≡ good → authenticateDecision (login i) 0x07 said q ≡ answer (if good then 0x6985 else 0x6a80) q
+check-only : (i : Inputs) (said : Says) (q : Presence) (good : Bool) → i .hardware .good ≡ good → authenticateDecision (loginOf i) 0x07 said q ≡ answer (if good then 0x6985 else 0x6a80) q
 unfolding authenticateDecision
 check-only i said q true g = rw g
 check-only i said q false g = rw g

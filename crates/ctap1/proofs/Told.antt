@@ -21,7 +21,7 @@ use Rattle.u2f_up.specs.declared.Presence.{Presence}
 use Rattle.u2f_up.specs.declared.Found.{Found}
 use Rattle.u2f_up.proofs.Callers.{done-refused, done-checking, done-settling, done-short, done-touch, done-check, done-ask}
 use Rattle.signing.specs.Finishing.{registerRoom, authenticateRoom}
-use Rattle.ctap1.specs.Words.{Inputs, enrolment, login, isPresent, Result, Allowed, Counter}
+use Rattle.ctap1.specs.Words.{Inputs, enrolmentOf, loginOf, isPresent, Result, Allowed, Counter}
 use Rattle.ctap1.specs.Decision.{refuse, answer, registerOrdered, registerDecision, countedBy, enforced, authenticateDecision, versionDecision, onCommand, onAllowed, onSettled, decisionOf}
 use Rattle.ctap1.specs.Calls.{kindOfRegister, kindOfAuthenticate, kindOfCommand, kindOfAllowed, kindOf, toldBy, with, PanelCall, TouchAt, CheckAt, AskAt, Decide, panel, panelDoes, callOf}
 use Rattle.ctap1.specs.declared.Allowed.the-variants as Allowed′
@@ -111,9 +111,9 @@ module _ (p q : Presence) (i : Inputs) (own : i .presence ≡ p) (settled : sett
       alone (not (i .hardware .stored)) Checking _ _ (λ c. internal y)
       (λ c. alone (ltb 255 (length (i .newHandle))) Checking _ _ (λ d. internal y)
       (λ d. alone (not (isPresent (i .hardware .attestation))) Checking _ _ (λ f. internal y)
-      (λ f. checked (registerOrdered (i .frame) said (enrolment i) (found .presence)) (yes-is found y))))))
+      (λ f. checked (registerOrdered (i .frame) said (enrolmentOf i) (found .presence)) (yes-is found y))))))
 
-  by-authenticate : (p1 : ℕ) (said : Says) → Done (kindOfAuthenticate i p1) (authenticateDecision (login i) p1 said q)
+  by-authenticate : (p1 : ℕ) (said : Says) → Done (kindOfAuthenticate i p1) (authenticateDecision (loginOf i) p1 said q)
   unfolding authenticateDecision enforced found
   by-authenticate p1 said =
       both (not (i .hardware .good)) Settling _ _ _ (λ a. is-settling 0x6a80)

@@ -23,7 +23,7 @@ use Rattle.u2f_up.specs.declared.Found.{Found}
 use Rattle.u2f_up.specs.declared.Ready.{Ready}
 use Rattle.u2f_up.specs.declared.Ready.the-variants as Ready′
 use Rattle.signing.specs.Finishing.{registerRoom, authenticateRoom}
-use Rattle.ctap1.specs.Words.{Inputs, Login, login, isPresent, Result, Allowed, Counter}
+use Rattle.ctap1.specs.Words.{Inputs, Login, loginOf, isPresent, Result, Allowed, Counter}
 use Rattle.ctap1.specs.Decision.{refuse, answer, registerOrdered, registerDecision, countedBy, enforced, authenticateDecision, versionDecision, onCommand, onAllowed, onSettled, decisionOf, replyLeft}
 use Rattle.ctap1.specs.declared.Allowed.the-variants as Allowed′
 use Rattle.ctap1.specs.declared.Counter.the-variants as Counter′
@@ -82,7 +82,7 @@ module _ (i : Inputs) (settled : Presence) (c : U2fCommand) (is-c : commandSaid 
     unfolding onCommand
     on-register a e q = q ∙ here (U2fCommand′.Register a) e
 
-    pub on-authenticate : (f : Ctap1Flags) (a : Apdu) → c ≡ U2fCommand′.Authenticate f a → r ≡ authenticateDecision (login i) (flagsNo f) (saysOf a) settled → r ≡ onCommand i settled (commandOf (i .frame))
+    pub on-authenticate : (f : Ctap1Flags) (a : Apdu) → c ≡ U2fCommand′.Authenticate f a → r ≡ authenticateDecision (loginOf i) (flagsNo f) (saysOf a) settled → r ≡ onCommand i settled (commandOf (i .frame))
     unfolding onCommand
     on-authenticate f a e q = q ∙ here (U2fCommand′.Authenticate f a) e
 
@@ -97,7 +97,7 @@ module _ (i : Inputs) (settled : Presence) (c : U2fCommand) (is-c : commandSaid 
 
     pub authenticate-kept : (f : Ctap1Flags) (a : Apdu) → c ≡ U2fCommand′.Authenticate f a → old ≡ replyLeft (onCommand i settled (commandOf (i .frame))) old
     unfolding onCommand
-    authenticate-kept f a e = kept-here (U2fCommand′.Authenticate f a) old e (authenticate-keeps (login i) (flagsNo f) (saysOf a) settled old)
+    authenticate-kept f a e = kept-here (U2fCommand′.Authenticate f a) old e (authenticate-keeps (loginOf i) (flagsNo f) (saysOf a) settled old)
 
     pub version-left : (new : List ℕ) → c ≡ U2fCommand′.Version → new ≡ replyLeft (versionDecision (i .presence) settled (i .room)) old → new ≡ replyLeft (onCommand i settled (commandOf (i .frame))) old
     unfolding onCommand

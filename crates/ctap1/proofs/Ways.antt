@@ -17,8 +17,8 @@ use Rattle.u2f_up.specs.declared.Found.{Found}
 use Rattle.signing.specs.Layouts.{AuthenticateFields, RegisterFields, presenceByte}
 use Rattle.signing.specs.Orders.{authenticateOrder, registerOrder}
 use Rattle.signing.specs.Finishing.{registerRoom, authenticateRoom}
-use Rattle.ctap1.specs.Words.{Inputs, login, isPresent, Result, Allowed, Counter}
-use Rattle.ctap1.specs.Decision.{refuse, answer, body, orderOf, registerOrdered, registerDecision, countedBy, enforced, authenticateDecision, versionDecision, onCommand, onAllowed, onSettled, decisionOf}
+use Rattle.ctap1.specs.Words.{Inputs, loginOf, isPresent, Result, Allowed, Counter}
+use Rattle.ctap1.specs.Decision.{refuse, answer, bodyOf, orderOf, registerOrdered, registerDecision, countedBy, enforced, authenticateDecision, versionDecision, onCommand, onAllowed, onSettled, decisionOf}
 use Rattle.ctap1.specs.declared.Allowed.the-variants as Allowed′
 use Rattle.ctap1.specs.declared.Counter.the-variants as Counter′
 
@@ -31,7 +31,7 @@ authenticateParts i said present n = record { application = applicationOf (i .fr
 pub data Way (i : Inputs) : Result → Type 0 where
   refused : (n : ℕ) → Way i (refuse n (i .presence))
   stated : (n : ℕ) (p : Presence) → Way i (answer n p)
-  versioned : (p : Presence) → 6 ≤ i .room → Way i (body 6 p)
+  versioned : (p : Presence) → 6 ≤ i .room → Way i (bodyOf 6 p)
   enrolled : (said : Says) (p : Presence) → commandOf (i .frame) ≡ Gives (Register said)
       → registerRoom (length (i .newHandle)) (length (i .certificate)) ≤ i .room → length (i .newHandle) ≤ 255
       → Way i (orderOf (registerOrder (registerParts i said) (length (i .certificate))) p false)
@@ -54,7 +54,7 @@ module _ (i : Inputs) where
   unfolding enforced
   enforced-way c p1 said f e room = split (Way i) (not (f .yes)) _ _ (λ n. stated 0x6985 (f .presence)) (λ y. counted-way c p1 said true (f .presence) e room)
 
-  authenticate-way : (p1 : ℕ) (said : Says) (settled : Presence) → commandOf (i .frame) ≡ Gives (Authenticate p1 said) → Way i (authenticateDecision (login i) p1 said settled)
+  authenticate-way : (p1 : ℕ) (said : Says) (settled : Presence) → commandOf (i .frame) ≡ Gives (Authenticate p1 said) → Way i (authenticateDecision (loginOf i) p1 said settled)
   unfolding authenticateDecision
   authenticate-way p1 said settled e =
       split (Way i) (not (i .hardware .good)) _ _ (λ a. stated 0x6a80 settled)

@@ -1,6 +1,6 @@
 -- Document 01, 'The decision': its checks, in their order, and 'Refusal numbers' as far as they speak of the decision.
 use Rattle.ctap1.specs.Words.{ℕ, _+_, Bool, true, false, not, List, [], _∷_, ltb, eqb, length, Presence, Order, Allowed, Counter}
-use Rattle.ctap1.specs.Words.{if_then_else_, Outcome, R, SW, Gives, Inputs, Enrolment, enrolment, Login, login, isPresent, Given, Body, Ordered, Result}
+use Rattle.ctap1.specs.Words.{if_then_else_, Outcome, R, SW, Gives, Inputs, Enrolment, enrolmentOf, Login, loginOf, isPresent, Given, Body, Ordered, Result}
 use Rattle.ctap1.specs.declared.Allowed.the-variants as Allowed′
 use Rattle.ctap1.specs.declared.Counter.the-variants as Counter′
 use Rattle.octets.specs.Bytes.{laid, bytes4}
@@ -20,8 +20,8 @@ refuse n kept = record { answer = R n; presence = kept; order = blankOrder; take
 abbrev pub answer : ℕ → Presence → Result
 answer n p = record { answer = SW n; presence = p; order = blankOrder; taken = false }
 
-abbrev pub body : ℕ → Presence → Result
-body n p = record { answer = Gives (Body n); presence = p; order = blankOrder; taken = false }
+abbrev pub bodyOf : ℕ → Presence → Result
+bodyOf n p = record { answer = Gives (Body n); presence = p; order = blankOrder; taken = false }
 
 abbrev pub orderOf : Order → Presence → Bool → Result
 orderOf o p taken = record { answer = Gives Ordered; presence = p; order = o; taken = taken }
@@ -33,7 +33,7 @@ versionBytes = 0x55 ∷ 0x32 ∷ 0x46 ∷ 0x5F ∷ 0x56 ∷ 0x32 ∷ []
 unfoldable pub versionDecision : (kept settled : Presence) (room : ℕ) → Result
 versionDecision kept settled room =
     if ltb room 6 then refuse 2 kept
-    else body 6 settled
+    else bodyOf 6 settled
 
 -- the order of a Register: 00, application, challenge, handle, public key, with the certificate's length
 unfoldable pub registerOrdered : List ℕ → Says → Enrolment → Presence → Result
@@ -61,7 +61,7 @@ registerDecision i said settled =
     else if not (i .hardware .stored) then answer 0x6f00 (found .presence)
     else if ltb 255 (length (i .newHandle)) then answer 0x6f00 (found .presence)
     else if not (isPresent (i .hardware .attestation)) then answer 0x6f00 (found .presence)
-    else registerOrdered (i .frame) said (enrolment i) (found .presence)
+    else registerOrdered (i .frame) said (enrolmentOf i) (found .presence)
 
 -- 6. "counter answer failed gives 6a80; else the offered counter is reported as taken, and an order"
 unfoldable pub countedBy : Counter → List ℕ → Says → Bool → Presence → Result
@@ -100,7 +100,7 @@ onCommand i settled (R n) = refuse n (i .presence)
 onCommand i settled (SW n) = answer n settled
 onCommand i settled (Gives Version) = versionDecision (i .presence) settled (i .room)
 onCommand i settled (Gives (Register said)) = registerDecision i said settled
-onCommand i settled (Gives (Authenticate p1 said)) = authenticateDecision (login i) p1 said settled
+onCommand i settled (Gives (Authenticate p1 said)) = authenticateDecision (loginOf i) p1 said settled
 
 -- 2. "failed gives 6f00, no gives 6986"
 unfoldable pub onAllowed : Allowed → Inputs → Presence → Result

@@ -37,8 +37,8 @@ pub record Enrolment : Type 0 where
   pub x : List ℕ
   pub y : List ℕ
 
-abbrev pub enrolment : Inputs → Enrolment
-enrolment i = record { newHandle = i .newHandle; certificate = i .certificate; x = i .x; y = i .y }
+abbrev pub enrolmentOf : Inputs → Enrolment
+enrolmentOf i = record { newHandle = i .newHandle; certificate = i .certificate; x = i .x; y = i .y }
 
 -- what of this an Authenticate looks at
 pub record Login : Type 0 where
@@ -48,8 +48,8 @@ pub record Login : Type 0 where
   pub hardware : Hardware
   pub room : ℕ
 
-abbrev pub login : Inputs → Login
-login i = record { frame = i .frame; moment = i .moment; presence = i .presence; hardware = i .hardware; room = i .room }
+abbrev pub loginOf : Inputs → Login
+loginOf i = record { frame = i .frame; moment = i .moment; presence = i .presence; hardware = i .hardware; room = i .room }
 
 -- 01, The decision, 5: "the attestation is missing or failed"
 abbrev pub isPresent : Attestation → Bool

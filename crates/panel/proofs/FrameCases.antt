@@ -10,7 +10,7 @@ use Rattle.outcome.specs.declared.Refusal.{Refusal}
 use Rattle.apdu.specs.Words.{shapeNo}
 use Rattle.apdu.specs.Answers.{saysOf, readingOf, writtenOf}
 use Rattle.apdu.specs.Reading.{placeOf}
-use Rattle.apdu.specs.Writing.{parts, writeOf, bufferOf}
+use Rattle.apdu.specs.Writing.{partsOf, writeOf, bufferOf}
 use Rattle.apdu.specs.declared.Apdu.{Apdu}
 use Rattle.apdu.specs.declared.ApduHeader.{ApduHeader}
 use Rattle.apdu.specs.declared.Case.{Case}
@@ -104,11 +104,11 @@ toWrite header shape content le out = record { header = header; shape = shape; c
 
 module _ (header : ApduHeader) (shape : ℕ) (content : List ℕ) (le : ℕ) (old : List ℕ) (shaped : Shaped) (is-shaped : shaped ≡ shapeOf shape) where
   module _ (s : Case) (z : shaped ≡ Shaped′.As s) where
-    pub write-as : (written : Written) (r : Wrote) → writtenOf written ≡ writeOf (parts header s content le) (length old) → r ≡ lengthNumbers (writtenOf written)
+    pub write-as : (written : Written) (r : Wrote) → writtenOf written ≡ writeOf (partsOf header s content le) (length old) → r ≡ lengthNumbers (writtenOf written)
         → r ≡ lengthNumbers (plainWrite (toWrite header shape content le old))
     write-as written r is-written is = is ∙ ap lengthNumbers is-written ∙ rw (← is-shaped, z)
 
-    pub buffer-as : (new : List ℕ) → new ≡ bufferOf (parts header s content le) old → new ≡ bufferAs (shapeOf shape) (toWrite header shape content le old)
+    pub buffer-as : (new : List ℕ) → new ≡ bufferOf (partsOf header s content le) old → new ≡ bufferAs (shapeOf shape) (toWrite header shape content le old)
     buffer-as new is = is ∙ rw (← is-shaped, z)
 
   module _ (z : shaped ≡ Shaped′.Nothing) where

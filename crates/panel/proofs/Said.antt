@@ -18,7 +18,7 @@ use Rattle.u2f_up.specs.declared.Found.{Found}
 use Rattle.u2f_up.specs.declared.Presence.{Presence}
 use Rattle.signing.specs.Orders.{isOfLayout, certificateLength}
 use Rattle.signing.specs.Finishing.{Finishing, finishOf, roomAsked, registerRoom, authenticateRoom}
-use Rattle.ctap1.specs.Words.{Inputs, Login, login, Result, isPresent}
+use Rattle.ctap1.specs.Words.{Inputs, Login, loginOf, Result, isPresent}
 use Rattle.ctap1.specs.Decision as Decision′
 use Rattle.ctap1.specs.Decision.{versionDecision, registerOrdered, registerDecision, countedBy, enforced, authenticateDecision, onCommand, onAllowed, decisionOf}
 use Rattle.ctap1.specs.declared.Allowed.{Allowed}
@@ -151,7 +151,7 @@ module _ (i : Inputs) where
   on-command-said settled (SW n) h = h
   on-command-said settled (Gives Version) h = either Says-so (ltb (i .room) 6) _ _ (omega arith, omega arith) tt
   on-command-said settled (Gives (Register said)) h = register-said said settled
-  on-command-said settled (Gives (Authenticate p1 said)) h = authenticate-said (login i) p1 said settled
+  on-command-said settled (Gives (Authenticate p1 said)) h = authenticate-said (loginOf i) p1 said settled
 
   allowed-said : (a : Allowed) (settled : Presence) → Says-so (onAllowed a i settled)
   unfolding onAllowed

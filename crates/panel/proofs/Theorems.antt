@@ -9,7 +9,7 @@ use lib.ListN.{length}
 use Rattle.outcome.specs.Outcome.{Outcome, R, SW, Gives}
 use Rattle.outcome.proofs.Laws.{sw-gives, r-gives, r-sw, both-are}
 use Rattle.apdu.specs.Words.{shapeNo}
-use Rattle.apdu.specs.Writing.{parts}
+use Rattle.apdu.specs.Writing.{partsOf}
 use Rattle.apdu.specs.declared.Case.{Case}
 use Rattle.apdu.specs.declared.Case.the-variants.{Instruction, Le1, Lc1Data, Lc1DataLe1, Lc3Data, Lc3DataLe1, Lc3DataLe2, Le3}
 use Rattle.u2f_up.specs.Moments.{Told, settleOf, onSettled, touchOf, checkOf}
@@ -48,7 +48,7 @@ Said =
     }
   where
     write : (s : Shaped) (w : ToWrite) → IsSaid (writeAs s w)
-    write (Shaped′.As s) w = Said′.write-said (parts (w .header) s (w .content) (w .le)) (length (w .out))
+    write (Shaped′.As s) w = Said′.write-said (partsOf (w .header) s (w .content) (w .le)) (length (w .out))
     write Shaped′.Nothing w = (omega arith, omega arith)
 
     finish : (k : Kinded) (i : ToFinish) → IsSaid (finishAs k i)

@@ -2,7 +2,7 @@
 -- A number that an answer has no use for is 0.
 use Rattle.panel.specs.Words.{ℕ, _+_, _≡_, Bool, false, List, length, Outcome, R, SW, Gives, ApduHeader, Presence, Kind, Order}
 use Rattle.panel.specs.Words.{PresenceRecord, HardwareSaid, OrderNumbers, FrameSaid, CommandSaid, Wrote, Made, Touched, Asked, DecisionSaid, Shaped, Kinded}
-use Rattle.panel.specs.Words.{Says, placeOf, parts, writeOf, bufferOf, Command, Register, Authenticate, Version, handlePlaceOf, Told}
+use Rattle.panel.specs.Words.{Says, placeOf, partsOf, writeOf, bufferOf, Command, Register, Authenticate, Version, handlePlaceOf, Told}
 use Rattle.panel.specs.Words.{kindNo, toSign, certificateLength, finishOf, lengthOf, replyOf, Inputs, Given, Body, Ordered, Result, decisionOf, replyLeft}
 use Rattle.panel.specs.Numbers.{answerNo, decidedNo, presenceOf, presenceNumbers, hardwareOf, shapeOf, kindOf, noOrder}
 use Rattle.panel.specs.declared.frames.Shaped.the-variants as Shaped′
@@ -53,11 +53,11 @@ pub record ToWrite : Type 0 where
 
 -- 01: "It refuses (R5) exactly when data length or Le is not one that the shape can carry": where there is no shape, nothing is
 abbrev pub writeAs : Shaped → ToWrite → Outcome ℕ
-writeAs (Shaped′.As s) w = writeOf (parts (w .header) s (w .content) (w .le)) (length (w .out))
+writeAs (Shaped′.As s) w = writeOf (partsOf (w .header) s (w .content) (w .le)) (length (w .out))
 writeAs Shaped′.Nothing w = R 5
 
 abbrev pub bufferAs : Shaped → ToWrite → List ℕ
-bufferAs (Shaped′.As s) w = bufferOf (parts (w .header) s (w .content) (w .le)) (w .out)
+bufferAs (Shaped′.As s) w = bufferOf (partsOf (w .header) s (w .content) (w .le)) (w .out)
 bufferAs Shaped′.Nothing w = w .out
 
 abbrev pub plainWrite : ToWrite → Outcome ℕ

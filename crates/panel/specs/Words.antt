@@ -35,7 +35,7 @@ pub use Rattle.panel.specs.declared.orders.Kinded.{Kinded}
 pub use Rattle.apdu.specs.Words.{shapeNo}
 pub use Rattle.apdu.specs.Answers.{Says}
 pub use Rattle.apdu.specs.Reading.{readOf, strictOf, placeOf}
-pub use Rattle.apdu.specs.Writing.{parts, writeOf, bufferOf}
+pub use Rattle.apdu.specs.Writing.{partsOf, writeOf, bufferOf}
 pub use Rattle.command.specs.Command.{Command, Register, Authenticate, Version, commandOf, handlePlaceOf}
 pub use Rattle.u2f_up.specs.Moments.{Told, newOf, touchOf, checkOf, askOf}
 pub use Rattle.signing.specs.Orders.{kindNo, toSign, certificateLength}

@@ -8,7 +8,7 @@ use lib.Seq.{drop-cons}
 use Rattle.octets.specs.Bytes.{byte, laid}
 use Rattle.octets.proofs.Parts.{length-part, parts-join}
 use Rattle.signing.specs.Layouts.{registerBody, authenticateBody, publicKey}
-use Rattle.signing.specs.Orders.{Order, Kind, Register, Authenticate, toSign, registerFields, authenticateFields}
+use Rattle.signing.specs.Orders.{Order, Kind, Register, Authenticate, toSign, registerFieldsOf, authenticateFieldsOf}
 use Rattle.signing.specs.Finishing.{bodyOf}
 
 -- `part from count s`: count bytes of s, the first at place from
@@ -40,11 +40,11 @@ module _ (n : ℕ) (b : List ℕ) (few : 130 ≤ n) (many : n ≤ 385) (whole : 
   module _ (certificate signature : List ℕ) where
     pub register-written : (old out : List ℕ) → byte b (n - 65) ≡ 0x04
         → out ≡ laid (0x05 ∷ [] ++ (take (n - (n - 65)) (drop (n - 65) b) ++ ((n - 130) ∷ [] ++ (take (n - 65 - 65) (drop 65 b) ++ (certificate ++ signature))))) old
-        → out ≡ laid (registerBody (registerFields n b) certificate signature) old
+        → out ≡ laid (registerBody (registerFieldsOf n b) certificate signature) old
     register-written old out marker e =
         let key : List ℕ = publicKey (part (n - 64) 32 b) (part (n - 32) 32 b) in
         let handle : List ℕ = part 65 (n - 130) b in
-        let grouped : registerBody (registerFields n b) certificate signature ≡ 0x05 ∷ [] ++ (key ++ (length handle ∷ [] ++ (handle ++ (certificate ++ signature)))) =
+        let grouped : registerBody (registerFieldsOf n b) certificate signature ≡ 0x05 ∷ [] ++ (key ++ (length handle ∷ [] ++ (handle ++ (certificate ++ signature)))) =
         six (0x05 ∷ []) key (length handle ∷ []) handle certificate signature in
         e
         ∙ ap (λ (k : List ℕ). laid (0x05 ∷ [] ++ (k ++ ((n - 130) ∷ [] ++ (take (n - 65 - 65) (drop 65 b) ++ (certificate ++ signature))))) old) (key-is marker)
@@ -52,40 +52,40 @@ module _ (n : ℕ) (b : List ℕ) (few : 130 ≤ n) (many : n ≤ 385) (whole : 
         ∙ ap (λ (h : ℕ). laid (0x05 ∷ [] ++ (key ++ (h ∷ [] ++ (handle ++ (certificate ++ signature))))) old) (sym handle-length)
         ∙ ap (λ (body : List ℕ). laid body old) (sym grouped)
 
-    pub register-body-length : 67 + (n - 130) + length certificate + length signature ≡ length (registerBody (registerFields n b) certificate signature)
+    pub register-body-length : 67 + (n - 130) + length certificate + length signature ≡ length (registerBody (registerFieldsOf n b) certificate signature)
     register-body-length =
         simp length-append
         (omega (arith, handle-length, length-part (n - 64) 32 b (omega arith), length-part (n - 32) 32 b (omega arith)))
 
 module _ (b signature : List ℕ) where
   pub authenticate-written : (old out : List ℕ) → out ≡ laid (byte b 32 ∷ [] ++ (take 4 (drop 33 b) ++ signature)) old
-      → out ≡ laid (authenticateBody (authenticateFields b) signature) old
+      → out ≡ laid (authenticateBody (authenticateFieldsOf b) signature) old
   authenticate-written old out e = e
 
-  pub authenticate-body-length : length b ≡ 385 → 5 + length signature ≡ length (authenticateBody (authenticateFields b) signature)
+  pub authenticate-body-length : length b ≡ 385 → 5 + length signature ≡ length (authenticateBody (authenticateFieldsOf b) signature)
   authenticate-body-length whole = simp length-append (omega (arith, length-part 33 4 b (omega arith)))
 
 module _ (o : Order) (certificate signature : List ℕ) where
   module _ (k : o .kind ≡ Register) where
-    its-body : registerBody (registerFields (toSign o) (o .bytes)) certificate signature ≡ bodyOf (o .kind) o certificate signature
+    its-body : registerBody (registerFieldsOf (toSign o) (o .bytes)) certificate signature ≡ bodyOf (o .kind) o certificate signature
     its-body = ap (λ (kind : Kind). bodyOf kind o certificate signature) (sym k)
 
-    pub register-length-said : (r : ℕ) → r ≡ length (registerBody (registerFields (toSign o) (o .bytes)) certificate signature)
+    pub register-length-said : (r : ℕ) → r ≡ length (registerBody (registerFieldsOf (toSign o) (o .bytes)) certificate signature)
         → r ≡ length (bodyOf (o .kind) o certificate signature)
     register-length-said r e = e ∙ ap length its-body
 
-    pub register-put : (old out : List ℕ) → out ≡ laid (registerBody (registerFields (toSign o) (o .bytes)) certificate signature) old
+    pub register-put : (old out : List ℕ) → out ≡ laid (registerBody (registerFieldsOf (toSign o) (o .bytes)) certificate signature) old
         → out ≡ laid (bodyOf (o .kind) o certificate signature) old
     register-put old out e = e ∙ ap (λ (body : List ℕ). laid body old) its-body
 
   module _ (k : o .kind ≡ Authenticate) where
-    this-body : authenticateBody (authenticateFields (o .bytes)) signature ≡ bodyOf (o .kind) o certificate signature
+    this-body : authenticateBody (authenticateFieldsOf (o .bytes)) signature ≡ bodyOf (o .kind) o certificate signature
     this-body = ap (λ (kind : Kind). bodyOf kind o certificate signature) (sym k)
 
-    pub authenticate-length-said : (r : ℕ) → r ≡ length (authenticateBody (authenticateFields (o .bytes)) signature)
+    pub authenticate-length-said : (r : ℕ) → r ≡ length (authenticateBody (authenticateFieldsOf (o .bytes)) signature)
         → r ≡ length (bodyOf (o .kind) o certificate signature)
     authenticate-length-said r e = e ∙ ap length this-body
 
-    pub authenticate-put : (old out : List ℕ) → out ≡ laid (authenticateBody (authenticateFields (o .bytes)) signature) old
+    pub authenticate-put : (old out : List ℕ) → out ≡ laid (authenticateBody (authenticateFieldsOf (o .bytes)) signature) old
         → out ≡ laid (bodyOf (o .kind) o certificate signature) old
     authenticate-put old out e = e ∙ ap (λ (body : List ℕ). laid body old) this-body

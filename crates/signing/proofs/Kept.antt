@@ -9,7 +9,7 @@ use lib.Seq.{length-take-le, take-at, drop-at, drop-cons, take-add, getD-drop, g
 use Rattle.octets.specs.Bytes.{byte, allZero}
 use Rattle.octets.proofs.Parts.{field-at, length-part, laid-zeros, all-zero-replicate, replicate-all-zero}
 use Rattle.signing.specs.Layouts.{RegisterFields, AuthenticateFields, registerToSign, authenticateToSign, publicKey}
-use Rattle.signing.specs.Orders.{Order, Register, Authenticate, toSign, certificateLength, block, registerFields, authenticateFields, registerOrder, authenticateOrder}
+use Rattle.signing.specs.Orders.{Order, Register, Authenticate, toSign, certificateLength, block, registerFieldsOf, authenticateFieldsOf, registerOrder, authenticateOrder}
 use Rattle.signing.proofs.Fit.{RegisterLengths, AuthenticateLengths}
 use Rattle.signing.proofs.Judged.{RegisterShape, AuthenticateShape}
 use Rattle.signing.proofs.Bodies.{part, key-at}
@@ -109,13 +109,13 @@ module _ (f : RegisterFields) (l : RegisterLengths f) where
       register-found (0x00 ∷ []) (f .application) (f .challenge) (f .handle) (0x04 ∷ []) (f .x) (f .y) rest-of (block (registerToSign f)) refl
       (l .application) (l .challenge) refl (l .x) (l .y) whole-is
 
-  pub register-kept : registerFields (130 + length (f .handle)) (block (registerToSign f)) ≡ f
+  pub register-kept : registerFieldsOf (130 + length (f .handle)) (block (registerToSign f)) ≡ f
   register-kept =
       let b : List ℕ = block (registerToSign f) in
       let h : 130 + length (f .handle) - 130 ≡ length (f .handle) = omega arith in
       let x : 130 + length (f .handle) - 64 ≡ 66 + length (f .handle) = omega arith in
       let y : 130 + length (f .handle) - 32 ≡ 98 + length (f .handle) = omega arith in
-      register-equal (registerFields (130 + length (f .handle)) (block (registerToSign f))) f (found .application) (found .challenge)
+      register-equal (registerFieldsOf (130 + length (f .handle)) (block (registerToSign f))) f (found .application) (found .challenge)
       (ap (λ (n : ℕ). part 65 n b) h ∙ found .handle)
       (ap (λ (n : ℕ). part n 32 b) x ∙ found .x)
       (ap (λ (n : ℕ). part n 32 b) y ∙ found .y)
@@ -142,9 +142,9 @@ module _ (f : AuthenticateFields) (l : AuthenticateLengths f) where
       (block (authenticateToSign f)) (l .application) refl (l .counter) (l .challenge)
       (block-is (authenticateToSign f) (omega (arith, authenticate-to-sign-length)))
 
-  pub authenticate-kept : authenticateFields (block (authenticateToSign f)) ≡ f
+  pub authenticate-kept : authenticateFieldsOf (block (authenticateToSign f)) ≡ f
   authenticate-kept =
-      authenticate-equal (authenticateFields (block (authenticateToSign f))) f (found-in .application)
+      authenticate-equal (authenticateFieldsOf (block (authenticateToSign f))) f (found-in .application)
       (one-byte (block (authenticateToSign f)) 32 (f .presence) (found-in .presence)) (found-in .counter) (found-in .challenge)
 
   pub authenticate-made-shape : AuthenticateShape 69 0 (block (authenticateToSign f))
@@ -169,7 +169,7 @@ first-byte : (b : List ℕ) (i v : ℕ) → i < length b → byte b i ≡ v → 
 first-byte b i v h e = ap (take 1) (drop-cons b i 0 h) ∙ ap (λ (x : ℕ). x ∷ []) e
 
 module _ (n : ℕ) (b : List ℕ) (whole : length b ≡ 385) (s : RegisterShape n b) where
-  register-front : take n b ≡ registerToSign (registerFields n b)
+  register-front : take n b ≡ registerToSign (registerFieldsOf n b)
   register-front =
       let at : 65 + (n - 130) ≡ n - 65 = omega (arith, s .least) in
       let key : part (65 + (n - 130)) 65 b ≡ publicKey (part (n - 64) 32 b) (part (n - 32) 32 b) =
@@ -183,7 +183,7 @@ module _ (n : ℕ) (b : List ℕ) (whole : length b ≡ 385) (s : RegisterShape 
       (sym (take-add 65 (n - 130) b))
       (ap (λ (k : List ℕ). take (65 + (n - 130)) b ++ k) (sym key) ∙ sym (take-add (65 + (n - 130)) 65 b) ∙ ap (λ (m : ℕ). take m b) all)
 
-  pub register-fields-lengths : RegisterLengths (registerFields n b)
+  pub register-fields-lengths : RegisterLengths (registerFieldsOf n b)
   register-fields-lengths =
       record {
         application = length-part 1 32 b (omega arith);
@@ -193,25 +193,25 @@ module _ (n : ℕ) (b : List ℕ) (whole : length b ≡ 385) (s : RegisterShape 
         y = length-part (n - 32) 32 b (omega (arith, s .least, s .most));
       }
 
-  register-block : b ≡ block (registerToSign (registerFields n b))
+  register-block : b ≡ block (registerToSign (registerFieldsOf n b))
   register-block = block-of b n whole (s .most) (s .rest) ∙ ap block register-front
 
-  pub register-order-of : (o : Order) → o .kind ≡ Register → toSign o ≡ n → o .bytes ≡ b → o ≡ registerOrder (registerFields n b) (certificateLength o)
+  pub register-order-of : (o : Order) → o .kind ≡ Register → toSign o ≡ n → o .bytes ≡ b → o ≡ registerOrder (registerFieldsOf n b) (certificateLength o)
   register-order-of o k e is-b =
       let handle : length (part 65 (n - 130) b) ≡ n - 130 = length-part 65 (n - 130) b (omega (arith, s .least, s .most)) in
-      order-equal o (record { kind = Register; «to_sign» = 130 + length (part 65 (n - 130) b); «certificate_length» = certificateLength o; bytes = block (registerToSign (registerFields n b)) })
+      order-equal o (record { kind = Register; «to_sign» = 130 + length (part 65 (n - 130) b); «certificate_length» = certificateLength o; bytes = block (registerToSign (registerFieldsOf n b)) })
       k (omega (arith, e, s .least, handle)) refl (is-b ∙ register-block)
-      ∙ sym (register-order-fit (registerFields n b) (certificateLength o) register-fields-lengths)
+      ∙ sym (register-order-fit (registerFieldsOf n b) (certificateLength o) register-fields-lengths)
 
 module _ (b : List ℕ) (whole : length b ≡ 385) (n c : ℕ) (s : AuthenticateShape n c b) where
-  authenticate-front : take 69 b ≡ authenticateToSign (authenticateFields b)
+  authenticate-front : take 69 b ≡ authenticateToSign (authenticateFieldsOf b)
   authenticate-front =
       four-parts (take 32 b) (take 33 b) (take 37 b) (take 69 b) (byte b 32 ∷ []) (part 33 4 b) (part 37 32 b)
       (ap (λ (p : List ℕ). take 32 b ++ p) (sym (first-byte b 32 (byte b 32) (omega arith) refl)) ∙ sym (take-add 32 1 b))
       (sym (take-add 33 4 b))
       (sym (take-add 37 32 b))
 
-  pub authenticate-fields-lengths : AuthenticateLengths (authenticateFields b)
+  pub authenticate-fields-lengths : AuthenticateLengths (authenticateFieldsOf b)
   authenticate-fields-lengths =
       record {
         application = length-part 0 32 b (omega arith);
@@ -221,8 +221,8 @@ module _ (b : List ℕ) (whole : length b ≡ 385) (n c : ℕ) (s : Authenticate
       }
 
   pub authenticate-order-of : (o : Order) → o .kind ≡ Authenticate → toSign o ≡ n → certificateLength o ≡ c → o .bytes ≡ b
-      → o ≡ authenticateOrder (authenticateFields b)
+      → o ≡ authenticateOrder (authenticateFieldsOf b)
   authenticate-order-of o k e is-c is-b =
-      order-equal o (record { kind = Authenticate; «to_sign» = 69; «certificate_length» = 0; bytes = block (authenticateToSign (authenticateFields b)) })
+      order-equal o (record { kind = Authenticate; «to_sign» = 69; «certificate_length» = 0; bytes = block (authenticateToSign (authenticateFieldsOf b)) })
       k (e ∙ s .long) (is-c ∙ s .no-certificate) (is-b ∙ block-of b 69 whole (omega arith) (s .rest) ∙ ap block authenticate-front)
-      ∙ sym (authenticate-order-fit (authenticateFields b) authenticate-fields-lengths)
+      ∙ sym (authenticate-order-fit (authenticateFieldsOf b) authenticate-fields-lengths)

@@ -12,7 +12,7 @@ use Rattle.outcome.proofs.Theorems.{status-one-to-one, refusal-one-to-one}
 use Rattle.octets.proofs.Laid.{laid-fits, length-laid}
 use Rattle.signing.specs.Claims as claims
 use Rattle.signing.specs.Layouts.{RegisterFields, AuthenticateFields, registerToSign, authenticateToSign, registerBody, authenticateBody, isRegisterFit, isAuthenticateFit}
-use Rattle.signing.specs.Orders.{Order, Kind, Register, Authenticate, toSign, certificateLength, blankOrder, registerOrder, authenticateOrder, block, isRegisterLayout, isOfLayout, registerFields, authenticateFields, IsRegisterOrder, IsAuthenticateOrder, IsWhole, HoldsJust}
+use Rattle.signing.specs.Orders.{Order, Kind, Register, Authenticate, toSign, certificateLength, blankOrder, registerOrder, authenticateOrder, block, isRegisterLayout, isOfLayout, registerFieldsOf, authenticateFieldsOf, IsRegisterOrder, IsAuthenticateOrder, IsWhole, HoldsJust}
 use Rattle.signing.specs.Finishing.{registerRoom, authenticateRoom, Finishing, Finished, Refused, Status, Body, finishOf, finishedOf, lengthOf, replyOf, roomAsked, bodyOf}
 use Rattle.signing.proofs.Fit.{register-lengths, authenticate-lengths, register-fit, authenticate-fit}
 use Rattle.signing.proofs.Made.{register-order-fit, authenticate-order-fit}
@@ -86,7 +86,7 @@ layout-exactly o whole = (is-made (o .kind) refl, is-judged)
     is-made Register k ok =
         let s = register-shaped o k ok in
         inl (
-          registerFields (toSign o) (o .bytes),
+          registerFieldsOf (toSign o) (o .bytes),
           certificateLength o,
           register-fit _ (register-fields-lengths (toSign o) (o .bytes) whole s),
           register-order-of (toSign o) (o .bytes) whole s o k refl refl,
@@ -94,7 +94,7 @@ layout-exactly o whole = (is-made (o .kind) refl, is-judged)
     is-made Authenticate k ok =
         let s = authenticate-shaped o k ok in
         inr (
-          authenticateFields (o .bytes),
+          authenticateFieldsOf (o .bytes),
           authenticate-fit _ (authenticate-fields-lengths (o .bytes) whole (toSign o) (certificateLength o) s),
           authenticate-order-of (o .bytes) whole (toSign o) (certificateLength o) s o k refl refl refl,
         )
@@ -165,10 +165,10 @@ bytes-to-sign = (for-register, for-authenticate)
 pub fields-kept : claims.FieldsKept
 fields-kept = (
   λ f c fit.
-      ap (λ (o : Order). registerFields (toSign o) (o .bytes)) (register-order-fit f c (register-lengths f fit))
+      ap (λ (o : Order). registerFieldsOf (toSign o) (o .bytes)) (register-order-fit f c (register-lengths f fit))
       ∙ register-kept f (register-lengths f fit),
   λ f fit.
-      ap (λ (o : Order). authenticateFields (o .bytes)) (authenticate-order-fit f (authenticate-lengths f fit))
+      ap (λ (o : Order). authenticateFieldsOf (o .bytes)) (authenticate-order-fit f (authenticate-lengths f fit))
       ∙ authenticate-kept f (authenticate-lengths f fit),
 )
 

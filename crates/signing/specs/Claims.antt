@@ -9,7 +9,7 @@ use lib.ListN.{length, drop}
 use Rattle.outcome.specs.Notation.{AtMostOne}
 use Rattle.outcome.specs.Outcome.{R, Gives}
 use Rattle.signing.specs.Layouts.{RegisterFields, AuthenticateFields, registerToSign, authenticateToSign, registerBody, authenticateBody, isRegisterFit, isAuthenticateFit}
-use Rattle.signing.specs.Orders.{Kind, Order, kindNo, toSign, certificateLength, blankOrder, registerOrder, authenticateOrder, isOfLayout, registerFields, authenticateFields, IsRegisterOrder, IsAuthenticateOrder, IsWhole, HoldsJust}
+use Rattle.signing.specs.Orders.{Kind, Order, kindNo, toSign, certificateLength, blankOrder, registerOrder, authenticateOrder, isOfLayout, registerFieldsOf, authenticateFieldsOf, IsRegisterOrder, IsAuthenticateOrder, IsWhole, HoldsJust}
 use Rattle.signing.specs.Finishing.{Finishing, Finished, Body, Finishes, finishOf, finishedOf, registerRoom, authenticateRoom, roomAsked}
 
 -- The numbers tell the cases apart. 01: "a definition gives this paper's number and values for each of its cases".
@@ -88,8 +88,8 @@ BytesToSign =
 abbrev pub FieldsKept : Type 0
 FieldsKept =
     ((f : RegisterFields) (c : ℕ) → isRegisterFit f ≡ true
-    → registerFields (toSign (registerOrder f c)) (registerOrder f c .bytes) ≡ f)
-    × ((f : AuthenticateFields) → isAuthenticateFit f ≡ true → authenticateFields (authenticateOrder f .bytes) ≡ f)
+    → registerFieldsOf (toSign (registerOrder f c)) (registerOrder f c .bytes) ≡ f)
+    × ((f : AuthenticateFields) → isAuthenticateFit f ≡ true → authenticateFieldsOf (authenticateOrder f .bytes) ≡ f)
 
 -- The room that a made order asks for. 01: "R2 (139 + h + c, or 77)". At h 64 and c 300 it is 503.
 abbrev pub RoomOfMade : Type 0

@@ -9,7 +9,7 @@ use lib.ListN.{length}
 use Rattle.outcome.specs.Notation.{if_then_else_}
 use Rattle.outcome.specs.Outcome.{Outcome, R, SW, Gives, statusNo, refusalNo}
 use Rattle.octets.specs.Bytes.{laid}
-use Rattle.signing.specs.Orders.{Kind, Register, Authenticate, Order, toSign, certificateLength, isOfLayout, registerFields, authenticateFields}
+use Rattle.signing.specs.Orders.{Kind, Register, Authenticate, Order, toSign, certificateLength, isOfLayout, registerFieldsOf, authenticateFieldsOf}
 use Rattle.signing.specs.Layouts.{registerBody, authenticateBody}
 pub use Rattle.signing.specs.Words.{Finished, Refused, Status, Body}
 
@@ -38,8 +38,8 @@ roomAsked o = roomOf (o .kind) o
 
 -- the body that an order of its layout comes to
 abbrev pub bodyOf : Kind → Order → (certificate signature : List ℕ) → List ℕ
-bodyOf Register o certificate signature = registerBody (registerFields (toSign o) (o .bytes)) certificate signature
-bodyOf Authenticate o certificate signature = authenticateBody (authenticateFields (o .bytes)) signature
+bodyOf Register o certificate signature = registerBody (registerFieldsOf (toSign o) (o .bytes)) certificate signature
+bodyOf Authenticate o certificate signature = authenticateBody (authenticateFieldsOf (o .bytes)) signature
 
 -- 01: "Checks: R7, R4, R2 (139 + h + c, or 77), signer failed 6f00, R3"
 unfoldable pub finishOf : Finishing → Outcome (List ℕ)

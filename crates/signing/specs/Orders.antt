@@ -79,8 +79,8 @@ isOfLayout o = isLayout (o .kind) o
 
 -- the fields of a Register order of its layout, whose length is 130 or more: `take n (drop i bytes)` is the n bytes from
 -- place i on
-abbrev pub registerFields : (size : ℕ) (bytes : List ℕ) → RegisterFields
-registerFields size bytes =
+abbrev pub registerFieldsOf : (size : ℕ) (bytes : List ℕ) → RegisterFields
+registerFieldsOf size bytes =
     record {
       application = take 32 (drop 1 bytes);
       challenge = take 32 (drop 33 bytes);
@@ -90,8 +90,8 @@ registerFields size bytes =
     }
 
 -- the fields of an Authenticate order of its layout
-abbrev pub authenticateFields : (bytes : List ℕ) → AuthenticateFields
-authenticateFields bytes =
+abbrev pub authenticateFieldsOf : (bytes : List ℕ) → AuthenticateFields
+authenticateFieldsOf bytes =
     record {
       application = take 32 bytes;
       presence = byte bytes 32;

@@ -18,7 +18,7 @@ ghost use lib.Dec.{leb};
 ghost use lib.ListN.{length};
 ghost use Rattle.octets.specs.Bytes.{byte, laid, bytes4};
 ghost use Rattle.signing.specs.Layouts.{presenceByte, registerBody, authenticateBody};
-ghost use Rattle.signing.specs.Orders.{kindNo, certificateLength, blankOrder, registerOrder, authenticateOrder, isRegisterLayout, isAuthenticateLayout, isOfLayout, registerFields, authenticateFields};
+ghost use Rattle.signing.specs.Orders.{kindNo, certificateLength, blankOrder, registerOrder, authenticateOrder, isRegisterLayout, isAuthenticateLayout, isOfLayout, registerFieldsOf, authenticateFieldsOf};
 ghost use Rattle.signing.specs.Finishing.{registerRoom, authenticateRoom, roomAsked, bodyOf, Finishes};
 
 // 05, public key, h and the longest signature: what a Register reply takes beside handle and certificate.
@@ -223,8 +223,8 @@ fn put_register_body(
 ) -> usize
     requires { ⌜ (130 ≤ «to_sign») × («to_sign» ≤ 385) × (byte bytes («to_sign» - 65) ≡ 0x04) ⌝ }
     requires { ⌜ 67 + («to_sign» - 130) + length (now certificate) + length (now signature) ≤ length (now reply) ⌝ }
-    ensures { λ r. ⌜ r ≡ length (registerBody (registerFields «to_sign» bytes) (now (certificate .entry)) (now (signature .entry))) ⌝ }
-    ensures { λ _. ⌜ now (reply .exit) ≡ laid (registerBody (registerFields «to_sign» bytes) (now (certificate .entry)) (now (signature .entry))) (now (reply .entry)) ⌝ }
+    ensures { λ r. ⌜ r ≡ length (registerBody (registerFieldsOf «to_sign» bytes) (now (certificate .entry)) (now (signature .entry))) ⌝ }
+    ensures { λ _. ⌜ now (reply .exit) ≡ laid (registerBody (registerFieldsOf «to_sign» bytes) (now (certificate .entry)) (now (signature .entry))) (now (reply .entry)) ⌝ }
 {
     let h = to_sign - 130;
     let key = to_sign - 65;
@@ -243,8 +243,8 @@ fn put_register_body(
 
 fn put_authenticate_body(bytes: [u8; 385], signature: &[u8], reply: &mut [u8]) -> usize
     requires { ⌜ 5 + length (now signature) ≤ length (now reply) ⌝ }
-    ensures { λ r. ⌜ r ≡ length (authenticateBody (authenticateFields bytes) (now (signature .entry))) ⌝ }
-    ensures { λ _. ⌜ now (reply .exit) ≡ laid (authenticateBody (authenticateFields bytes) (now (signature .entry))) (now (reply .entry)) ⌝ }
+    ensures { λ r. ⌜ r ≡ length (authenticateBody (authenticateFieldsOf bytes) (now (signature .entry))) ⌝ }
+    ensures { λ _. ⌜ now (reply .exit) ≡ laid (authenticateBody (authenticateFieldsOf bytes) (now (signature .entry))) (now (reply .entry)) ⌝ }
 {
     fields::put_three(reply, &[bytes[32]], &bytes[33..37], signature);
     5 + signature.len()

@@ -12,7 +12,7 @@ use borrow.Author.Tests.{ltb-true, leb-true, lt-ltb}
 use Rattle.outcome.specs.Outcome.{Outcome, R, Gives}
 use Rattle.u2f_up.specs.Moments.{isR1}
 use Rattle.u2f_up.specs.History.{Kind, Touching, Checking, Asking, Settling, Short, Event, Place, isAny, live, lastMoment, isPrompted, latest, isAccepted, isPromptingRefusal, isAfter, isPromptedBy, unrefused, foretold}
-use Rattle.u2f_up.specs.Claims.{Refused}
+use Rattle.u2f_up.specs.Claims.{RefusedAt}
 use Rattle.u2f_up.proofs.Cases.{r1-beyond}
 
 both : (a b : Bool) → a && b ≡ true → (a ≡ true) × (b ≡ true)
@@ -29,18 +29,18 @@ r1-back : (last t : ℕ) → t < last → isR1 last t ≡ true
 r1-back last t h = rw (lt-ltb t last h) (or-true (leb (2 ^ 48) t))
 
 module _ (h : List Event) (t : ℕ) where
-  r1-refused : isR1 (lastMoment h) t ≡ true → Refused h t
+  r1-refused : isR1 (lastMoment h) t ≡ true → RefusedAt h t
   r1-refused = go (leb (2 ^ 48) t) (ltb t (lastMoment h)) refl refl
     where
-      go : (a b : Bool) → leb (2 ^ 48) t ≡ a → ltb t (lastMoment h) ≡ b → a || b ≡ true → Refused h t
+      go : (a b : Bool) → leb (2 ^ 48) t ≡ a → ltb t (lastMoment h) ≡ b → a || b ≡ true → RefusedAt h t
       go true b p q e = inl (leb-true (2 ^ 48) t p)
       go false true p q e = inr (ltb-true t (lastMoment h) q)
       go false false p q e = absurd (false≢true e)
 
-  refused-r1 : Refused h t → isR1 (lastMoment h) t ≡ true
+  refused-r1 : RefusedAt h t → isR1 (lastMoment h) t ≡ true
   refused-r1 r = ⊎-elim (λ b. sym (r1-beyond (lastMoment h) t b)) (r1-back (lastMoment h) t) r
 
-  passed : isR1 (lastMoment h) t ≡ false → Refused h t → ⊥
+  passed : isR1 (lastMoment h) t ≡ false → RefusedAt h t → ⊥
   passed e r = true≢false (sym (refused-r1 r) ∙ e)
 
 module _ (w : ℕ) (h : List Event) (t : ℕ) (o : Outcome Bool) where
@@ -61,10 +61,10 @@ module _ (w : ℕ) (h : List Event) (t : ℕ) (o : Outcome Bool) where
   unrefused-no-r n d Settling e = no-refusal n _ (sym e)
   unrefused-no-r n d Short e = d (cc)
 
-  pub refuses : (k : Kind) → o ≡ foretold w h (record { kind = k; moment = t }) → (o ≡ R 1) ↔ Refused h t
+  pub refuses : (k : Kind) → o ≡ foretold w h (record { kind = k; moment = t }) → (o ≡ R 1) ↔ RefusedAt h t
   refuses k f = (go (isR1 (lastMoment h) t) refl, λ r. foretold-r1 k f (refused-r1 h t r))
     where
-      go : (b : Bool) → isR1 (lastMoment h) t ≡ b → o ≡ R 1 → Refused h t
+      go : (b : Bool) → isR1 (lastMoment h) t ≡ b → o ≡ R 1 → RefusedAt h t
       go true e q = r1-refused h t e
       go false e q = absurd (unrefused-no-r 1 (omega arith) k (sym (foretold-given k f e) ∙ q))
 
@@ -76,14 +76,14 @@ module _ (w : ℕ) (h : List Event) (t : ℕ) (o : Outcome Bool) where
       go false e q = unrefused-no-r 6 (omega arith) k (sym (foretold-given k f e) ∙ q)
 
   -- yes: the moment passes, and what was asked is so
-  yes : (k : Kind) (b : Bool) → unrefused w h k t ≡ Gives b → o ≡ foretold w h (record { kind = k; moment = t }) → (o ≡ Gives true) ↔ ((Refused h t → ⊥) × (b ≡ true))
+  yes : (k : Kind) (b : Bool) → unrefused w h k t ≡ Gives b → o ≡ foretold w h (record { kind = k; moment = t }) → (o ≡ Gives true) ↔ ((RefusedAt h t → ⊥) × (b ≡ true))
   yes k b u f = (go (isR1 (lastMoment h) t) refl, back (isR1 (lastMoment h) t) refl)
     where
-      go : (c : Bool) → isR1 (lastMoment h) t ≡ c → o ≡ Gives true → (Refused h t → ⊥) × (b ≡ true)
+      go : (c : Bool) → isR1 (lastMoment h) t ≡ c → o ≡ Gives true → (RefusedAt h t → ⊥) × (b ≡ true)
       go true e q = absurd (no-refusal 1 true (sym (foretold-r1 k f e) ∙ q))
       go false e q = (passed h t e, is-given b true (sym u ∙ sym (foretold-given k f e) ∙ q))
 
-      back : (c : Bool) → isR1 (lastMoment h) t ≡ c → (Refused h t → ⊥) × (b ≡ true) → o ≡ Gives true
+      back : (c : Bool) → isR1 (lastMoment h) t ≡ c → (RefusedAt h t → ⊥) × (b ≡ true) → o ≡ Gives true
       back true e q = absurd (q .0 (r1-refused h t e))
       back false e q = foretold-given k f e ∙ u ∙ ap {B = Outcome Bool} Gives (q .1)
 
@@ -109,18 +109,18 @@ only (k ∷ []) b = (λ e. (k, refl), λ s. refl)
 only (k ∷ (j ∷ ks)) b = (λ e. absurd (omega arith), λ s. refl)
 
 module _ (w : ℕ) (h : List Event) (t : ℕ) (o : Outcome Bool) where
-  pub accepts : o ≡ foretold w h (record { kind = Touching; moment = t }) → (o ≡ Gives true) ↔ ((Refused h t → ⊥) × Standing h t)
+  pub accepts : o ≡ foretold w h (record { kind = Touching; moment = t }) → (o ≡ Gives true) ↔ ((RefusedAt h t → ⊥) × Standing h t)
   accepts f = let y = yes w h t o Touching (isPrompted h t) refl f in
       (λ q. (y .0 q .0, standing h t .0 (y .0 q .1)), λ s. y .1 (s .0, standing h t .1 (s .1)))
 
   pub finds : (lastMoment h ≤ t → length (live w h t) ≤ 1) → o ≡ foretold w h (record { kind = Checking; moment = t })
-      → (o ≡ Gives true) ↔ ((Refused h t → ⊥) × ((k : Place) × (live w h t ≡ k ∷ [])))
+      → (o ≡ Gives true) ↔ ((RefusedAt h t → ⊥) × ((k : Place) × (live w h t ≡ k ∷ [])))
   finds one f = let y = yes w h t o Checking (isAny (live w h t)) refl f in (
     λ q. (y .0 q .0, only (live w h t) (one (late (y .0 q .0))) .0 (y .0 q .1)),
     λ s. y .1 (s .0, only (live w h t) (one (late (s .0))) .1 (s .1)),
   )
     where
-      late : (Refused h t → ⊥) → lastMoment h ≤ t
+      late : (RefusedAt h t → ⊥) → lastMoment h ≤ t
       late n = go (ltb t (lastMoment h)) refl
         where
           go : (b : Bool) → ltb t (lastMoment h) ≡ b → lastMoment h ≤ t

@@ -31,8 +31,8 @@ pub record Determined : Type 0 where
   pub is-up-needed-lent : (p : Presence) (t : ℕ) → AtMostOne (IsUpNeededLent p t)
 
 -- 01, Refusal numbers, R1: "moment 2^48 or more, or before the record's last moment"
-abbrev pub Refused : List Event → ℕ → Type 0
-Refused past t = (2 ^ 48 ≤ t) ⊎ (t < lastMoment past)
+abbrev pub RefusedAt : List Event → ℕ → Type 0
+RefusedAt past t = (2 ^ 48 ≤ t) ⊎ (t < lastMoment past)
 
 -- Demand 3, of the run of the calls `ds` (newest first) on a fresh record with touch window `w`, and of one more call `d`. It is
 -- proved for every `ds`, so that it speaks of every call of every run.
@@ -49,17 +49,17 @@ module _ {D : Type 0} (𝒞 : Caller D) (w : ℕ) (ds : List D) where
     pub foretells : (d : D) → next 𝒞 w ds d ≡ foretold w past (𝒞 .asCall d)
     -- A call is refused by R1 exactly when its moment is 2^48 or more or before the last moment, and by R6 never. A record
     -- that refuses every call fails at the first one.
-    pub refuses : (d : D) → (next 𝒞 w ds d ≡ R 1) ↔ Refused past (moment d)
+    pub refuses : (d : D) → (next 𝒞 w ds d ≡ R 1) ↔ RefusedAt past (moment d)
     pub refuses-no-window : (d : D) → next 𝒞 w ds d ≡ R 6 → ⊥
     -- 01, Moments and touches: "A touch at t is accepted exactly when it gets no R refusal, the latest prompting refusal, at s,
     -- comes after the latest accepted touch, and t - s < 10,000." A record that never closes the prompt fails at the second
     -- touch after it.
     pub accepts : (d : D) → 𝒞 .asCall d .kind ≡ Touching → (next 𝒞 w ds d ≡ Gives true)
-        ↔ ((Refused past (moment d) → ⊥) × ((s : Place) × (latest isPromptingRefusal past ≡ some s) × (isAfter s (latest isAccepted past) ≡ true) × (moment d < s .moment + 10000)))
+        ↔ ((RefusedAt past (moment d) → ⊥) × ((s : Place) × (latest isPromptingRefusal past ≡ some s) × (isAfter s (latest isAccepted past) ≡ true) × (moment d < s .moment + 10000)))
     -- A call that reaches the touch check finds a touch exactly when the history holds an accepted one, unspent and younger
     -- than W; it holds no second. A record that keeps a spent touch fails at the second check.
     pub finds : (d : D) → 𝒞 .asCall d .kind ≡ Checking → (next 𝒞 w ds d ≡ Gives true)
-        ↔ ((Refused past (moment d) → ⊥) × ((k : Place) × (live w past (moment d) ≡ k ∷ [])))
+        ↔ ((RefusedAt past (moment d) → ⊥) × ((k : Place) × (live w past (moment d) ≡ k ∷ [])))
     -- And that touch is the one that the record holds: in every record from that touch on, the touch window is the one that
     -- it opened. A record that reopens the window at another touch's moment fails, where the moments differ.
     pub holds : (k : Place) (t : ℕ) → lastMoment past ≤ t → live w past t ≡ k ∷ []
