@@ -9,66 +9,22 @@ ghost use mathlib.Core.Path.{_≡_};
 ghost use mathlib.Core.List.{_++_};
 ghost use lib.ListN.{length};
 ghost use Rattle.octets.specs.Bytes.{laid, byte, bytes2};
-ghost use Rattle.apdu.specs.Words.{shapeNo};
-ghost use Rattle.apdu.specs.Answers.{saysOf, readingOf, writtenOf};
-ghost use Rattle.apdu.specs.Table.{lcField, leField, lcLeast, lcMost, leLeast, leMost, lcFits, leFits, lcBytes, leBytes, leRead};
-ghost use Rattle.apdu.specs.Reading.{lengthsOf, shortOf, extendedOf, afterData, readOf, strictOf, placeOf, dataOf};
-ghost use Rattle.apdu.specs.Writing.{partsOf, payloadOf, frameOf, writeOf, bufferOf};
+ghost use Rattle.apdu_stated.specs.Words.{shapeNo};
+ghost use Rattle.apdu_stated.specs.Answers.{saysOf, readingOf, writtenOf};
+ghost use Rattle.apdu_stated.specs.Table.{lcField, leField, lcLeast, lcMost, leLeast, leMost, lcFits, leFits, lcBytes, leBytes, leRead};
+ghost use Rattle.apdu_stated.specs.Reading.{lengthsOf, shortOf, extendedOf, afterData, readOf, strictOf, placeOf, dataOf};
+ghost use Rattle.apdu_stated.specs.Writing.{partsOf, payloadOf, frameOf, writeOf, bufferOf};
+pub use apdu_stated::Apdu;
+pub use apdu_stated::ApduHeader;
+pub use apdu_stated::Case;
+use apdu_stated::Lengths;
+pub use apdu_stated::Place;
+pub use apdu_stated::Reading;
+pub use apdu_stated::Written;
 use outcome::ApduStatusCode;
 use outcome::Refusal;
 
 const APDU_HEADER_LEN: usize = 4;
-
-pub struct ApduHeader {
-    pub cla: u8,
-    pub ins: u8,
-    pub p1: u8,
-    pub p2: u8,
-}
-
-// The eight shapes. The names say the fields after the header: Lc3DataLe2 has three bytes of Lc, data and two of Le.
-pub enum Case {
-    Instruction,
-    Le1,
-    Lc1Data,
-    Lc1DataLe1,
-    Lc3Data,
-    // No case of ISO 7816-3: some clients put a short Le behind an extended Lc.
-    Lc3DataLe1,
-    Lc3DataLe2,
-    Le3,
-}
-
-// What a frame says. Its data stays in the frame: `data` hands out that part.
-pub struct Apdu {
-    pub header: ApduHeader,
-    pub shape: Case,
-    pub lc: u16,
-    pub le: u32,
-}
-
-pub enum Reading {
-    Frame(Apdu),
-    Status(ApduStatusCode),
-}
-
-// What the bytes after the header say. Too few bytes and too many are told apart here, though both are 6700.
-enum Lengths {
-    Found(Case, u16, u32),
-    Missing,
-    Surplus,
-}
-
-// Where data stands in its frame: from start, up to and without end.
-pub struct Place {
-    pub start: usize,
-    pub end: usize,
-}
-
-pub enum Written {
-    Refused(Refusal),
-    Frame(usize),
-}
 
 // The shape's number.
 pub fn shape_number(shape: Case) -> u8

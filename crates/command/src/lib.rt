@@ -6,12 +6,14 @@
 // Challenge, application and handle stay in the caller's frame and are handed out as parts of it.
 ghost use mathlib.Core.Path.{_≡_};
 ghost use Rattle.outcome.specs.Outcome.{Gives};
-ghost use Rattle.apdu.specs.Answers.{saysOf};
-ghost use Rattle.apdu.specs.Reading.{readOf};
-ghost use Rattle.command.specs.Command.{flagsNo, commandSaid, authenticateOf, byInstruction, commandOf, challengeOf, applicationOf, handlePlaceOf, handleOf};
+ghost use Rattle.apdu_stated.specs.Answers.{saysOf};
+ghost use Rattle.apdu_stated.specs.Reading.{readOf};
+ghost use Rattle.command_stated.specs.Command.{flagsNo, commandSaid, authenticateOf, byInstruction, commandOf, challengeOf, applicationOf, handlePlaceOf, handleOf};
 use apdu::Apdu;
 use apdu::Place;
 use apdu::Reading;
+pub use command_stated::Ctap1Flags;
+pub use command_stated::U2fCommand;
 use outcome::ApduStatusCode;
 
 const CTAP1_CLA: u8 = 0;
@@ -21,22 +23,6 @@ const U2F_REGISTER: u8 = 0x01;
 const U2F_AUTHENTICATE: u8 = 0x02;
 
 const U2F_VERSION: u8 = 0x03;
-
-// The control byte P1 of an Authenticate.
-pub enum Ctap1Flags {
-    CheckOnly,
-    EnforceUpAndSign,
-    DontEnforceUpAndSign,
-}
-
-// A command with what its frame says, or the status word that answers the frame. The vendor's own commands have no
-// variant: like every other INS they are 6d00.
-pub enum U2fCommand {
-    Register(Apdu),
-    Authenticate(Ctap1Flags, Apdu),
-    Version,
-    Status(ApduStatusCode),
-}
 
 // The control byte as its number.
 pub fn flags_number(flags: Ctap1Flags) -> u8

@@ -3,64 +3,27 @@
 use apdu::Apdu;
 use command::Ctap1Flags;
 use command::U2fCommand;
+pub use ctap1_stated::Allowed;
+pub use ctap1_stated::Attestation;
+pub use ctap1_stated::Counter;
+pub use ctap1_stated::Decided;
+pub use ctap1_stated::Decision;
+pub use ctap1_stated::Hardware;
 use outcome::ApduStatusCode;
 use outcome::Refusal;
 use signing::Order;
 use u2f_up::Presence;
 use u2f_up::Ready;
 ghost use mathlib.Core.Path.{_≡_};
+ghost use mathlib.Core.Bool.{true, false};
 ghost use lib.ListN.{length};
 ghost use Rattle.outcome.specs.Outcome.{statusNo, refusalNo};
-ghost use Rattle.apdu.specs.Answers.{saysOf};
-ghost use Rattle.command.specs.Command.{flagsNo, commandOf};
-ghost use Rattle.u2f_up.specs.Moments.{checkedOf};
-ghost use Rattle.ctap1.specs.Words.{isPresent, decisionSaid};
-ghost use Rattle.ctap1.specs.Decision.{refuse, answer, orderOf, countedBy, enforced, registerOrdered, registerDecision, authenticateDecision, versionDecision, onAllowed, onCommand, decisionOf, replyLeft};
-
-// Whether CTAP1 is allowed.
-pub enum Allowed {
-    Yes,
-    No,
-    Failed,
-}
-
-// The attestation that a Register is signed with.
-pub enum Attestation {
-    Present,
-    Missing,
-    Failed,
-}
-
-// The counter that an Authenticate would carry.
-pub enum Counter {
-    Offered(u32),
-    Failed,
-}
-
-// What the panel's hardware answers: whether CTAP1 is allowed, whether the new handle was stored, the attestation, whether
-// the given handle is good, and the counter. An answer that the path does not reach is not looked at.
-pub struct Hardware {
-    pub allowed: Allowed,
-    pub stored: bool,
-    pub attestation: Attestation,
-    pub good: bool,
-    pub counter: Counter,
-}
-
-pub enum Decided {
-    Refused(Refusal),
-    Status(ApduStatusCode),
-    Body(usize),
-    Order,
-}
-
-// The answer, the record to go on with, the order (blank where the answer is none), and whether the counter was taken.
-pub struct Decision {
-    pub answer: Decided,
-    pub presence: Presence,
-    pub order: Order,
-    pub taken: bool,
-}
+ghost use Rattle.apdu_stated.specs.Answers.{saysOf};
+ghost use Rattle.command_stated.specs.Command.{flagsNo, commandOf};
+ghost use Rattle.u2f_up_stated.specs.Moments.{checkedOf};
+ghost use Rattle.ctap1_stated.specs.Words.{isPresent, decisionSaid};
+ghost use Rattle.ctap1_stated.specs.Decision.{refuse, answer, orderOf, replyLeft};
+ghost use Rattle.ctap1_stated.specs.Path.{along, ended, touchChecked, versionPath, enrolmentOrder, registerPath, countedEnding, loginPath, commandPath, allowedPath, decisionAt};
 
 fn refused(why: Refusal, kept: Presence) -> Decision
     ensures { λ r. ⌜ decisionSaid r ≡ refuse (refusalNo why) kept ⌝ }
@@ -106,8 +69,8 @@ fn is_present(attestation: Attestation) -> bool
 }
 
 fn version(kept: Presence, settled: Presence, reply: &mut [u8]) -> Decision
-    ensures { λ r. ⌜ decisionSaid r ≡ versionDecision kept settled (length (now (reply .entry))) ⌝ }
-    ensures { λ _. ⌜ now (reply .exit) ≡ replyLeft (versionDecision kept settled (length (now (reply .entry)))) (now (reply .entry)) ⌝ }
+    ensures { λ r. ⌜ decisionSaid r ≡ along (versionPath (length (now (reply .entry)))) kept settled 0 ⌝ }
+    ensures { λ _. ⌜ now (reply .exit) ≡ replyLeft (along (versionPath (length (now (reply .entry)))) kept settled 0) (now (reply .entry)) ⌝ }
 {
     if reply.len() < 6 {
         return refused(Refusal::R2, kept);
@@ -130,7 +93,7 @@ fn enrol(
     y: &[u8; 32],
     after: Presence,
 ) -> Decision
-    ensures { λ r. ⌜ decisionSaid r ≡ registerOrdered (now (frame .entry)) (saysOf says) (record { newHandle = now (handle .entry); certificate = now (certificate .entry); x = now (x .entry); y = now (y .entry) }) after ⌝ }
+    ensures { λ r. ⌜ decisionSaid r ≡ orderOf (enrolmentOrder (now (frame .entry)) (saysOf says) (record { newHandle = now (handle .entry); certificate = now (certificate .entry); x = now (x .entry); y = now (y .entry) })) after false ⌝ }
 {
     let application = command::application(frame, says);
     let challenge = command::challenge(frame, says);
@@ -152,7 +115,7 @@ fn register(
     says: Apdu,
     settled: Presence,
 ) -> Decision
-    ensures { λ r. ⌜ decisionSaid r ≡ registerDecision (record { frame = now (frame .entry); moment = t; presence = kept; hardware = hardware; newHandle = now (handle .entry); certificate = now (certificate .entry); x = now (x .entry); y = now (y .entry); room = room }) (saysOf says) settled ⌝ }
+    ensures { λ r. ⌜ decisionSaid r ≡ along (registerPath (record { frame = now (frame .entry); hardware = hardware; newHandle = now (handle .entry); certificate = now (certificate .entry); x = now (x .entry); y = now (y .entry); room = room }) (saysOf says)) kept settled t ⌝ }
 {
     if !signing::has_register_room(room, handle.len(), certificate.len()) {
         return refused(Refusal::R2, kept);
@@ -177,7 +140,7 @@ fn register(
 
 // The counter is taken last: no check comes after it.
 fn counted(counter: Counter, frame: &[u8], says: Apdu, present: bool, settled: Presence) -> Decision
-    ensures { λ r. ⌜ decisionSaid r ≡ countedBy counter (now (frame .entry)) (saysOf says) present settled ⌝ }
+    ensures { λ r. ⌜ decisionSaid r ≡ ended (countedEnding (now (frame .entry)) (saysOf says) present counter) settled ⌝ }
 {
     match counter {
         Counter::Failed => answered(ApduStatusCode::WrongData, settled),
@@ -191,7 +154,7 @@ fn counted(counter: Counter, frame: &[u8], says: Apdu, present: bool, settled: P
 }
 
 fn enforce(counter: Counter, frame: &[u8], says: Apdu, t: u64, settled: Presence) -> Decision
-    ensures { λ r. ⌜ decisionSaid r ≡ enforced counter (now (frame .entry)) (saysOf says) (checkedOf settled t) ⌝ }
+    ensures { λ r. ⌜ decisionSaid r ≡ touchChecked (checkedOf settled t) (countedEnding (now (frame .entry)) (saysOf says) true counter) ⌝ }
 {
     let found = u2f_up::touch_check(settled, t);
     let after = found.presence;
@@ -212,7 +175,7 @@ fn authenticate(
     says: Apdu,
     settled: Presence,
 ) -> Decision
-    ensures { λ r. ⌜ decisionSaid r ≡ authenticateDecision (record { frame = now (frame .entry); moment = t; presence = kept; hardware = hardware; room = room }) (flagsNo flags) (saysOf says) settled ⌝ }
+    ensures { λ r. ⌜ decisionSaid r ≡ along (loginPath (now (frame .entry)) hardware room (flagsNo flags) (saysOf says)) kept settled t ⌝ }
 {
     let counter = hardware.counter;
     let p1 = command::flags_number(flags);
@@ -243,8 +206,8 @@ fn commanded(
     reply: &mut [u8],
     settled: Presence,
 ) -> Decision
-    ensures { λ r. ⌜ decisionSaid r ≡ onCommand (record { frame = now (frame .entry); moment = t; presence = kept; hardware = hardware; newHandle = now (handle .entry); certificate = now (certificate .entry); x = now (x .entry); y = now (y .entry); room = length (now (reply .entry)) }) settled (commandOf (now (frame .entry))) ⌝ }
-    ensures { λ _. ⌜ now (reply .exit) ≡ replyLeft (onCommand (record { frame = now (frame .entry); moment = t; presence = kept; hardware = hardware; newHandle = now (handle .entry); certificate = now (certificate .entry); x = now (x .entry); y = now (y .entry); room = length (now (reply .entry)) }) settled (commandOf (now (frame .entry)))) (now (reply .entry)) ⌝ }
+    ensures { λ r. ⌜ decisionSaid r ≡ along (commandPath (record { frame = now (frame .entry); hardware = hardware; newHandle = now (handle .entry); certificate = now (certificate .entry); x = now (x .entry); y = now (y .entry); room = length (now (reply .entry)) }) (commandOf (now (frame .entry)))) kept settled t ⌝ }
+    ensures { λ _. ⌜ now (reply .exit) ≡ replyLeft (along (commandPath (record { frame = now (frame .entry); hardware = hardware; newHandle = now (handle .entry); certificate = now (certificate .entry); x = now (x .entry); y = now (y .entry); room = length (now (reply .entry)) }) (commandOf (now (frame .entry)))) kept settled t) (now (reply .entry)) ⌝ }
 {
     let room = reply.len();
     let read = command::read_command(frame);
@@ -289,8 +252,8 @@ fn permitted(
     reply: &mut [u8],
     settled: Presence,
 ) -> Decision
-    ensures { λ r. ⌜ decisionSaid r ≡ onAllowed (hardware .allowed) (record { frame = now (frame .entry); moment = t; presence = kept; hardware = hardware; newHandle = now (handle .entry); certificate = now (certificate .entry); x = now (x .entry); y = now (y .entry); room = length (now (reply .entry)) }) settled ⌝ }
-    ensures { λ _. ⌜ now (reply .exit) ≡ replyLeft (onAllowed (hardware .allowed) (record { frame = now (frame .entry); moment = t; presence = kept; hardware = hardware; newHandle = now (handle .entry); certificate = now (certificate .entry); x = now (x .entry); y = now (y .entry); room = length (now (reply .entry)) }) settled) (now (reply .entry)) ⌝ }
+    ensures { λ r. ⌜ decisionSaid r ≡ along (allowedPath (hardware .allowed) (record { frame = now (frame .entry); hardware = hardware; newHandle = now (handle .entry); certificate = now (certificate .entry); x = now (x .entry); y = now (y .entry); room = length (now (reply .entry)) })) kept settled t ⌝ }
+    ensures { λ _. ⌜ now (reply .exit) ≡ replyLeft (along (allowedPath (hardware .allowed) (record { frame = now (frame .entry); hardware = hardware; newHandle = now (handle .entry); certificate = now (certificate .entry); x = now (x .entry); y = now (y .entry); room = length (now (reply .entry)) })) kept settled t) (now (reply .entry)) ⌝ }
 {
     let allowed = hardware.allowed;
     match allowed {
@@ -324,8 +287,8 @@ pub fn decide(
     y: &[u8; 32],
     reply: &mut [u8],
 ) -> Decision
-    ensures { λ r. ⌜ decisionSaid r ≡ decisionOf (record { frame = now (frame .entry); moment = t; presence = presence; hardware = hardware; newHandle = now (handle .entry); certificate = now (certificate .entry); x = now (x .entry); y = now (y .entry); room = length (now (reply .entry)) }) ⌝ }
-    ensures { λ _. ⌜ now (reply .exit) ≡ replyLeft (decisionOf (record { frame = now (frame .entry); moment = t; presence = presence; hardware = hardware; newHandle = now (handle .entry); certificate = now (certificate .entry); x = now (x .entry); y = now (y .entry); room = length (now (reply .entry)) })) (now (reply .entry)) ⌝ }
+    ensures { λ r. ⌜ decisionSaid r ≡ decisionAt presence t (record { frame = now (frame .entry); hardware = hardware; newHandle = now (handle .entry); certificate = now (certificate .entry); x = now (x .entry); y = now (y .entry); room = length (now (reply .entry)) }) ⌝ }
+    ensures { λ _. ⌜ now (reply .exit) ≡ replyLeft (decisionAt presence t (record { frame = now (frame .entry); hardware = hardware; newHandle = now (handle .entry); certificate = now (certificate .entry); x = now (x .entry); y = now (y .entry); room = length (now (reply .entry)) })) (now (reply .entry)) ⌝ }
 {
     let ready = u2f_up::settle(presence, t);
     match ready {

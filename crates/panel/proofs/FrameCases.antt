@@ -7,23 +7,23 @@ use lib.ListN.{length}
 use Rattle.outcome.specs.Outcome.{Gives, statusNo, refusalNo}
 use Rattle.outcome.specs.declared.ApduStatusCode.{ApduStatusCode}
 use Rattle.outcome.specs.declared.Refusal.{Refusal}
-use Rattle.apdu.specs.Words.{shapeNo}
-use Rattle.apdu.specs.Answers.{saysOf, readingOf, writtenOf}
-use Rattle.apdu.specs.Reading.{placeOf}
-use Rattle.apdu.specs.Writing.{partsOf, writeOf, bufferOf}
-use Rattle.apdu.specs.declared.Apdu.{Apdu}
-use Rattle.apdu.specs.declared.ApduHeader.{ApduHeader}
-use Rattle.apdu.specs.declared.Case.{Case}
-use Rattle.apdu.specs.declared.Case.the-variants.{Instruction, Le1, Lc1Data, Lc1DataLe1, Lc3Data, Lc3DataLe1, Lc3DataLe2, Le3}
-use Rattle.apdu.specs.declared.Place.{Place}
-use Rattle.apdu.specs.declared.Reading.{Reading}
-use Rattle.apdu.specs.declared.Reading.the-variants as Reading′
-use Rattle.apdu.specs.declared.Written.{Written}
-use Rattle.apdu.specs.declared.Written.the-variants as Written′
-use Rattle.command.specs.Command.{Register, Authenticate, Version, flagsNo, commandSaid, handlePlaceOf}
-use Rattle.command.specs.declared.Ctap1Flags.{Ctap1Flags}
-use Rattle.command.specs.declared.U2fCommand.{U2fCommand}
-use Rattle.command.specs.declared.U2fCommand.the-variants as U2fCommand′
+use Rattle.apdu_stated.specs.Words.{shapeNo}
+use Rattle.apdu_stated.specs.Answers.{saysOf, readingOf, writtenOf}
+use Rattle.apdu_stated.specs.Reading.{placeOf}
+use Rattle.apdu_stated.specs.Writing.{partsOf, writeOf, bufferOf}
+use Rattle.apdu_stated.specs.declared.Apdu.{Apdu}
+use Rattle.apdu_stated.specs.declared.ApduHeader.{ApduHeader}
+use Rattle.apdu_stated.specs.declared.Case.{Case}
+use Rattle.apdu_stated.specs.declared.Case.the-variants.{Instruction, Le1, Lc1Data, Lc1DataLe1, Lc3Data, Lc3DataLe1, Lc3DataLe2, Le3}
+use Rattle.apdu_stated.specs.declared.Place.{Place}
+use Rattle.apdu_stated.specs.declared.Reading.{Reading}
+use Rattle.apdu_stated.specs.declared.Reading.the-variants as Reading′
+use Rattle.apdu_stated.specs.declared.Written.{Written}
+use Rattle.apdu_stated.specs.declared.Written.the-variants as Written′
+use Rattle.command_stated.specs.Command.{Register, Authenticate, Version, flagsNo, commandSaid, handlePlaceOf}
+use Rattle.command_stated.specs.declared.Ctap1Flags.{Ctap1Flags}
+use Rattle.command_stated.specs.declared.U2fCommand.{U2fCommand}
+use Rattle.command_stated.specs.declared.U2fCommand.the-variants as U2fCommand′
 use Rattle.panel.specs.Words.{FrameSaid, CommandSaid, Wrote, Shaped}
 use Rattle.panel.specs.Numbers.{shapeOf}
 use Rattle.panel.specs.Exports.{noFrame, frameNumbers, lengthNumbers, ToWrite, plainWrite, bufferAs, bareCommand, commandNumbers}

@@ -1,6 +1,6 @@
 -- The hardware's answers, decisions and orders in plain numbers, as the code meets them. It mentions no function.
 use Prim.Native.Nat.{ℕ}
-use mathlib.Core.Path.{_≡_, ap, _∙_}
+use mathlib.Core.Path.{_≡_, ap, sym, _∙_}
 use mathlib.Core.Bool.{Bool, true, false}
 use mathlib.Core.List.{List}
 use borrow.Author.Tests.{ne-eqb}
@@ -8,26 +8,28 @@ use lib.ListN.{length}
 use Rattle.outcome.specs.Outcome.{statusNo, refusalNo}
 use Rattle.outcome.specs.declared.ApduStatusCode.{ApduStatusCode}
 use Rattle.outcome.specs.declared.Refusal.{Refusal}
-use Rattle.u2f_up.specs.declared.Presence.{Presence}
-use Rattle.signing.specs.Orders.{kindNo}
-use Rattle.signing.specs.Finishing.{Finishing, Finishes, finishedOf, lengthOf, replyOf}
-use Rattle.signing.specs.declared.Finished.{Finished}
-use Rattle.signing.specs.declared.Finished.the-variants as Finished′
-use Rattle.signing.specs.declared.Kind.{Kind}
-use Rattle.signing.specs.declared.Kind.the-variants as Kind′
-use Rattle.signing.specs.declared.Order.{Order}
-use Rattle.ctap1.specs.Words.{Inputs, Result, decidedOf, decisionSaid}
-use Rattle.ctap1.specs.Decision.{decisionOf, replyLeft}
-use Rattle.ctap1.specs.declared.Allowed.{Allowed}
-use Rattle.ctap1.specs.declared.Allowed.the-variants as Allowed′
-use Rattle.ctap1.specs.declared.Attestation.{Attestation}
-use Rattle.ctap1.specs.declared.Attestation.the-variants as Attestation′
-use Rattle.ctap1.specs.declared.Counter.{Counter}
-use Rattle.ctap1.specs.declared.Counter.the-variants as Counter′
-use Rattle.ctap1.specs.declared.Decided.{Decided}
-use Rattle.ctap1.specs.declared.Decided.the-variants as Decided′
-use Rattle.ctap1.specs.declared.Decision.{Decision}
-use Rattle.ctap1.specs.declared.Hardware.{Hardware}
+use Rattle.u2f_up_stated.specs.declared.Presence.{Presence}
+use Rattle.signing_stated.specs.Orders.{kindNo}
+use Rattle.signing_stated.specs.Finishing.{Finishing, Finishes, finishedOf, lengthOf, replyOf}
+use Rattle.signing_stated.specs.declared.Finished.{Finished}
+use Rattle.signing_stated.specs.declared.Finished.the-variants as Finished′
+use Rattle.signing_stated.specs.declared.Kind.{Kind}
+use Rattle.signing_stated.specs.declared.Kind.the-variants as Kind′
+use Rattle.signing_stated.specs.declared.Order.{Order}
+use Rattle.ctap1_stated.specs.Words.{Inputs, Result, decidedOf, decisionSaid}
+use Rattle.ctap1_stated.specs.Decision.{decisionOf, replyLeft}
+use Rattle.ctap1_stated.specs.Path.{Asked, decisionAt}
+use Rattle.ctap1_stated.proofs.Same as Same′
+use Rattle.ctap1_stated.specs.declared.Allowed.{Allowed}
+use Rattle.ctap1_stated.specs.declared.Allowed.the-variants as Allowed′
+use Rattle.ctap1_stated.specs.declared.Attestation.{Attestation}
+use Rattle.ctap1_stated.specs.declared.Attestation.the-variants as Attestation′
+use Rattle.ctap1_stated.specs.declared.Counter.{Counter}
+use Rattle.ctap1_stated.specs.declared.Counter.the-variants as Counter′
+use Rattle.ctap1_stated.specs.declared.Decided.{Decided}
+use Rattle.ctap1_stated.specs.declared.Decided.the-variants as Decided′
+use Rattle.ctap1_stated.specs.declared.Decision.{Decision}
+use Rattle.ctap1_stated.specs.declared.Hardware.{Hardware}
 use Rattle.panel.specs.Words.{PresenceRecord, HardwareSaid, OrderNumbers, DecisionSaid, Wrote, Kinded}
 use Rattle.panel.specs.Numbers.{presenceOf, presenceNumbers, allowedOf, attestationOf, counterOf, hardwareOf, kindOf, decidedNo}
 use Rattle.panel.specs.Exports.{bodyLength, orderAfter, blockAfter, blockLeft, decisionNumbers, lengthNumbers, ToFinish, orderFrom, plainFinish}
@@ -91,16 +93,20 @@ pub decided : (d : Decision) (answer long : ℕ) (order : OrderNumbers) (p : Pre
     → _≡_ {A = DecisionSaid} (record { answer = answer; taken = d .taken; length = long; order = order; presence = p }) (decisionNumbers (decisionSaid d))
 decided d answer long order p is-answer is-long is-order is-p = rw (is-answer, is-long, is-order, is-p)
 
+abbrev asked : (frame : List ℕ) (k : Hardware) (handle certificate x y : List ℕ) (room : ℕ) → Asked
+asked frame k handle certificate x y room =
+    record { frame = frame; hardware = k; newHandle = handle; certificate = certificate; x = x; y = y; room = room }
+
 abbrev inputs : (frame : List ℕ) (t : ℕ) (p : Presence) (k : Hardware) (handle certificate x y : List ℕ) (room : ℕ) → Inputs
 inputs frame t p k handle certificate x y room =
     record { frame = frame; moment = t; presence = p; hardware = k; newHandle = handle; certificate = certificate; x = x; y = y; room = room }
 
 -- a decision on lent numbers is the decision on the record and the answers that they stand for
 module _ (frame : List ℕ) (t : ℕ) (handle certificate x y : List ℕ) (n : PresenceRecord) (h : HardwareSaid) (p : Presence) (k : Hardware) (is-p : p ≡ presenceOf n) (is-k : k ≡ hardwareOf h) where
-  same : (room : ℕ) → decisionOf (inputs frame t p k handle certificate x y room) ≡ decisionOf (inputs frame t (presenceOf n) (hardwareOf h) handle certificate x y room)
-  same room = rw (is-p, is-k)
+  same : (room : ℕ) → decisionAt p t (asked frame k handle certificate x y room) ≡ decisionOf (inputs frame t (presenceOf n) (hardwareOf h) handle certificate x y room)
+  same room = rw (is-p, is-k) (sym (Same′.same (inputs frame t (presenceOf n) (hardwareOf h) handle certificate x y room)))
 
-  module _ (room : ℕ) (d : Decision) (is-d : decisionSaid d ≡ decisionOf (inputs frame t p k handle certificate x y room)) where
+  module _ (room : ℕ) (d : Decision) (is-d : decisionSaid d ≡ decisionAt p t (asked frame k handle certificate x y room)) where
     pub decide-answer : (r : DecisionSaid) → r ≡ decisionNumbers (decisionSaid d) → r ≡ decisionNumbers (decisionOf (inputs frame t (presenceOf n) (hardwareOf h) handle certificate x y room))
     decide-answer r is = is ∙ ap decisionNumbers (is-d ∙ same room)
 
@@ -108,7 +114,7 @@ module _ (frame : List ℕ) (t : ℕ) (handle certificate x y : List ℕ) (n : P
         → new ≡ blockLeft (decisionOf (inputs frame t (presenceOf n) (hardwareOf h) handle certificate x y room)) old
     decide-block old new is = is ∙ ap (λ (s : Result). blockLeft s old) (is-d ∙ same room)
 
-  pub decide-reply : (old new : List ℕ) → new ≡ replyLeft (decisionOf (inputs frame t p k handle certificate x y (length old))) old
+  pub decide-reply : (old new : List ℕ) → new ≡ replyLeft (decisionAt p t (asked frame k handle certificate x y (length old))) old
       → new ≡ replyLeft (decisionOf (inputs frame t (presenceOf n) (hardwareOf h) handle certificate x y (length old))) old
   decide-reply old new is = is ∙ ap (λ (s : Result). replyLeft s old) (same (length old))
 

@@ -5,16 +5,16 @@ use mathlib.Core.Bool.{true, false}
 use borrow.Author.Tests.{ne-eqb}
 use Rattle.outcome.specs.Outcome.{refusalNo}
 use Rattle.outcome.specs.declared.Refusal.{Refusal}
-use Rattle.u2f_up.specs.Moments.{touchOf, checkOf, askOf}
-use Rattle.u2f_up.specs.Answers.{readyOf, outcomeOf, toldOf}
-use Rattle.u2f_up.specs.declared.Answer.{Answer}
-use Rattle.u2f_up.specs.declared.Answer.the-variants as Answer′
-use Rattle.u2f_up.specs.declared.Ready.{Ready}
-use Rattle.u2f_up.specs.declared.Ready.the-variants as Ready′
-use Rattle.u2f_up.specs.declared.Step.{Step}
-use Rattle.u2f_up.specs.declared.Window.{Window}
-use Rattle.u2f_up.specs.declared.Window.the-variants.{Closed, Opened}
-use Rattle.u2f_up.specs.declared.Presence.{Presence}
+use Rattle.u2f_up_stated.specs.Moments.{touchOf, checkOf, askOf}
+use Rattle.u2f_up_stated.specs.Answers.{readyOf, outcomeOf, toldOf}
+use Rattle.u2f_up_stated.specs.declared.Answer.{Answer}
+use Rattle.u2f_up_stated.specs.declared.Answer.the-variants as Answer′
+use Rattle.u2f_up_stated.specs.declared.Ready.{Ready}
+use Rattle.u2f_up_stated.specs.declared.Ready.the-variants as Ready′
+use Rattle.u2f_up_stated.specs.declared.Step.{Step}
+use Rattle.u2f_up_stated.specs.declared.Window.{Window}
+use Rattle.u2f_up_stated.specs.declared.Window.the-variants.{Closed, Opened}
+use Rattle.u2f_up_stated.specs.declared.Presence.{Presence}
 use Rattle.panel.specs.Words.{PresenceRecord, Made, Touched, Asked}
 use Rattle.panel.specs.Numbers.{closedNo, windowOf, windowNo, presenceOf, presenceNumbers}
 use Rattle.panel.specs.Exports.{noRecord, madeNumbers, askedNumbers, stepNumbers}

@@ -7,24 +7,24 @@ use lib.Dec.{ltb, eqb}
 use lib.ListN.{length}
 use Rattle.outcome.specs.Notation.{if_then_else_}
 use Rattle.outcome.specs.Outcome.{Outcome, R, SW, Gives}
-use Rattle.apdu.specs.Answers.{Says}
-use Rattle.apdu.specs.Reading.{readOf, strictOf, strictly}
-use Rattle.apdu.specs.Table.{canCarry}
-use Rattle.apdu.specs.Writing.{Parts, frameOf, writeOf}
-use Rattle.apdu.proofs.Frames.{Answer, under, found, no-shape, answer}
-use Rattle.command.specs.Command.{Command, Register, Authenticate, Version, isControl, registerOf, authenticateOf, versionOf, byInstruction, onReading, commandOf}
-use Rattle.u2f_up.specs.Moments.{isR6, isR1, onSettled, Told, newOf, settleOf, checkedOf, touchOf, checkOf, askOf}
-use Rattle.u2f_up.specs.declared.Found.{Found}
-use Rattle.u2f_up.specs.declared.Presence.{Presence}
-use Rattle.signing.specs.Orders.{isOfLayout, certificateLength}
-use Rattle.signing.specs.Finishing.{Finishing, finishOf, roomAsked, registerRoom, authenticateRoom}
-use Rattle.ctap1.specs.Words.{Inputs, Login, loginOf, Result, isPresent}
-use Rattle.ctap1.specs.Decision as Decision′
-use Rattle.ctap1.specs.Decision.{versionDecision, registerOrdered, registerDecision, countedBy, enforced, authenticateDecision, onCommand, onAllowed, decisionOf}
-use Rattle.ctap1.specs.declared.Allowed.{Allowed}
-use Rattle.ctap1.specs.declared.Allowed.the-variants as Allowed′
-use Rattle.ctap1.specs.declared.Counter.{Counter}
-use Rattle.ctap1.specs.declared.Counter.the-variants as Counter′
+use Rattle.apdu_stated.specs.Answers.{Says}
+use Rattle.apdu_stated.specs.Reading.{readOf, strictOf, strictly}
+use Rattle.apdu_stated.specs.Table.{canCarry}
+use Rattle.apdu_stated.specs.Writing.{Parts, frameOf, writeOf}
+use Rattle.apdu_stated.proofs.Frames.{Answer, under, found, no-shape, answer}
+use Rattle.command_stated.specs.Command.{Command, Register, Authenticate, Version, isControl, registerOf, authenticateOf, versionOf, byInstruction, onReading, commandOf}
+use Rattle.u2f_up_stated.specs.Moments.{isR6, isR1, onSettled, Told, newOf, settleOf, checkedOf, touchOf, checkOf, askOf}
+use Rattle.u2f_up_stated.specs.declared.Found.{Found}
+use Rattle.u2f_up_stated.specs.declared.Presence.{Presence}
+use Rattle.signing_stated.specs.Orders.{isOfLayout, certificateLength}
+use Rattle.signing_stated.specs.Finishing.{Finishing, finishOf, roomAsked, registerRoom, authenticateRoom}
+use Rattle.ctap1_stated.specs.Words.{Inputs, Login, loginOf, Result, isPresent}
+use Rattle.ctap1_stated.specs.Decision as Decision′
+use Rattle.ctap1_stated.specs.Decision.{versionDecision, registerOrdered, registerDecision, countedBy, enforced, authenticateDecision, onCommand, onAllowed, decisionOf}
+use Rattle.ctap1_stated.specs.declared.Allowed.{Allowed}
+use Rattle.ctap1_stated.specs.declared.Allowed.the-variants as Allowed′
+use Rattle.ctap1_stated.specs.declared.Counter.{Counter}
+use Rattle.ctap1_stated.specs.declared.Counter.the-variants as Counter′
 use Rattle.panel.specs.Claims.{IsSaid}
 
 -- both branches of a test

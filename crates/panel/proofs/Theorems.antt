@@ -8,17 +8,17 @@ use borrow.Author.Tests.{eq-eqb, ne-eqb}
 use lib.ListN.{length}
 use Rattle.outcome.specs.Outcome.{Outcome, R, SW, Gives}
 use Rattle.outcome.proofs.Laws.{sw-gives, r-gives, r-sw, both-are}
-use Rattle.apdu.specs.Words.{shapeNo}
-use Rattle.apdu.specs.Writing.{partsOf}
-use Rattle.apdu.specs.declared.Case.{Case}
-use Rattle.apdu.specs.declared.Case.the-variants.{Instruction, Le1, Lc1Data, Lc1DataLe1, Lc3Data, Lc3DataLe1, Lc3DataLe2, Le3}
-use Rattle.u2f_up.specs.Moments.{Told, settleOf, onSettled, touchOf, checkOf}
-use Rattle.u2f_up.specs.declared.Presence.{Presence}
-use Rattle.u2f_up.specs.declared.Window.{Window}
-use Rattle.u2f_up.specs.declared.Window.the-variants.{Closed, Opened}
-use Rattle.signing.specs.Orders.{kindNo}
-use Rattle.ctap1.specs.Words.{Given, Body, Ordered}
-use Rattle.ctap1.proofs.Theorems as Decision′
+use Rattle.apdu_stated.specs.Words.{shapeNo}
+use Rattle.apdu_stated.specs.Writing.{partsOf}
+use Rattle.apdu_stated.specs.declared.Case.{Case}
+use Rattle.apdu_stated.specs.declared.Case.the-variants.{Instruction, Le1, Lc1Data, Lc1DataLe1, Lc3Data, Lc3DataLe1, Lc3DataLe2, Le3}
+use Rattle.u2f_up_stated.specs.Moments.{Told, settleOf, onSettled, touchOf, checkOf}
+use Rattle.u2f_up_stated.specs.declared.Presence.{Presence}
+use Rattle.u2f_up_stated.specs.declared.Window.{Window}
+use Rattle.u2f_up_stated.specs.declared.Window.the-variants.{Closed, Opened}
+use Rattle.signing_stated.specs.Orders.{kindNo}
+use Rattle.ctap1_stated.specs.Words.{Given, Body, Ordered}
+use Rattle.ctap1_stated.proofs.Theorems as Decision′
 use Rattle.panel.specs.Numbers.{answerNo, decidedNo, closedNo, windowOf, windowNo, presenceOf, presenceNumbers, shapeOf, kindOf}
 use Rattle.panel.specs.Exports.{ToWrite, ToFinish, inputsOf, writeAs, finishAs}
 use Rattle.panel.specs.Claims

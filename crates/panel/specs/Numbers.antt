@@ -4,10 +4,10 @@ use Rattle.panel.specs.Words.{ℕ, _-_, Bool, true, false, eqb, if_then_
 use Rattle.panel.specs.Words.{Instruction, Le1, Lc1Data, Lc1DataLe1, Lc3Data, Lc3DataLe1, Lc3DataLe2, Le3}
 use Rattle.panel.specs.Words.{Window, Closed, Opened, Presence, Allowed, Attestation, Counter, Hardware}
 use Rattle.panel.specs.Words.{PresenceRecord, HardwareSaid, OrderNumbers, Shaped, Kinded, Given, Body, Ordered}
-use Rattle.ctap1.specs.declared.Allowed.the-variants as Allowed′
-use Rattle.ctap1.specs.declared.Attestation.the-variants as Attestation′
-use Rattle.ctap1.specs.declared.Counter.the-variants as Counter′
-use Rattle.signing.specs.declared.Kind.the-variants.{Register, Authenticate}
+use Rattle.ctap1_stated.specs.declared.Allowed.the-variants as Allowed′
+use Rattle.ctap1_stated.specs.declared.Attestation.the-variants as Attestation′
+use Rattle.ctap1_stated.specs.declared.Counter.the-variants as Counter′
+use Rattle.signing_stated.specs.declared.Kind.the-variants.{Register, Authenticate}
 use Rattle.panel.specs.declared.frames.Shaped.the-variants as Shaped′
 use Rattle.panel.specs.declared.orders.Kinded.the-variants as Kinded′
 

@@ -8,18 +8,18 @@ pub use lib.Dec.{eqb}
 pub use lib.ListN.{length}
 pub use Rattle.outcome.specs.Notation.{if_then_else_, AtMostOne}
 pub use Rattle.outcome.specs.Outcome.{Outcome, R, SW, Gives}
-pub use Rattle.apdu.specs.declared.Case.{Case}
-pub use Rattle.apdu.specs.declared.Case.the-variants.{Instruction, Le1, Lc1Data, Lc1DataLe1, Lc3Data, Lc3DataLe1, Lc3DataLe2, Le3}
-pub use Rattle.apdu.specs.declared.ApduHeader.{ApduHeader}
-pub use Rattle.u2f_up.specs.declared.Window.{Window}
-pub use Rattle.u2f_up.specs.declared.Window.the-variants.{Closed, Opened}
-pub use Rattle.u2f_up.specs.declared.Presence.{Presence}
-pub use Rattle.signing.specs.declared.Kind.{Kind}
-pub use Rattle.signing.specs.declared.Order.{Order}
-pub use Rattle.ctap1.specs.declared.Allowed.{Allowed}
-pub use Rattle.ctap1.specs.declared.Attestation.{Attestation}
-pub use Rattle.ctap1.specs.declared.Counter.{Counter}
-pub use Rattle.ctap1.specs.declared.Hardware.{Hardware}
+pub use Rattle.apdu_stated.specs.declared.Case.{Case}
+pub use Rattle.apdu_stated.specs.declared.Case.the-variants.{Instruction, Le1, Lc1Data, Lc1DataLe1, Lc3Data, Lc3DataLe1, Lc3DataLe2, Le3}
+pub use Rattle.apdu_stated.specs.declared.ApduHeader.{ApduHeader}
+pub use Rattle.u2f_up_stated.specs.declared.Window.{Window}
+pub use Rattle.u2f_up_stated.specs.declared.Window.the-variants.{Closed, Opened}
+pub use Rattle.u2f_up_stated.specs.declared.Presence.{Presence}
+pub use Rattle.signing_stated.specs.declared.Kind.{Kind}
+pub use Rattle.signing_stated.specs.declared.Order.{Order}
+pub use Rattle.ctap1_stated.specs.declared.Allowed.{Allowed}
+pub use Rattle.ctap1_stated.specs.declared.Attestation.{Attestation}
+pub use Rattle.ctap1_stated.specs.declared.Counter.{Counter}
+pub use Rattle.ctap1_stated.specs.declared.Hardware.{Hardware}
 pub use Rattle.panel.specs.declared.PresenceRecord.{PresenceRecord}
 pub use Rattle.panel.specs.declared.HardwareSaid.{HardwareSaid}
 pub use Rattle.panel.specs.declared.OrderNumbers.{OrderNumbers}
@@ -32,13 +32,13 @@ pub use Rattle.panel.specs.declared.Asked.{Asked}
 pub use Rattle.panel.specs.declared.DecisionSaid.{DecisionSaid}
 pub use Rattle.panel.specs.declared.frames.Shaped.{Shaped}
 pub use Rattle.panel.specs.declared.orders.Kinded.{Kinded}
-pub use Rattle.apdu.specs.Words.{shapeNo}
-pub use Rattle.apdu.specs.Answers.{Says}
-pub use Rattle.apdu.specs.Reading.{readOf, strictOf, placeOf}
-pub use Rattle.apdu.specs.Writing.{partsOf, writeOf, bufferOf}
-pub use Rattle.command.specs.Command.{Command, Register, Authenticate, Version, commandOf, handlePlaceOf}
-pub use Rattle.u2f_up.specs.Moments.{Told, newOf, touchOf, checkOf, askOf}
-pub use Rattle.signing.specs.Orders.{kindNo, toSign, certificateLength}
-pub use Rattle.signing.specs.Finishing.{finishOf, lengthOf, replyOf}
-pub use Rattle.ctap1.specs.Words.{Inputs, Given, Body, Ordered, Result}
-pub use Rattle.ctap1.specs.Decision.{decisionOf, replyLeft}
+pub use Rattle.apdu_stated.specs.Words.{shapeNo}
+pub use Rattle.apdu_stated.specs.Answers.{Says}
+pub use Rattle.apdu_stated.specs.Reading.{readOf, strictOf, placeOf}
+pub use Rattle.apdu_stated.specs.Writing.{partsOf, writeOf, bufferOf}
+pub use Rattle.command_stated.specs.Command.{Command, Register, Authenticate, Version, commandOf, handlePlaceOf}
+pub use Rattle.u2f_up_stated.specs.Moments.{Told, newOf, touchOf, checkOf, askOf}
+pub use Rattle.signing_stated.specs.Orders.{kindNo, toSign, certificateLength}
+pub use Rattle.signing_stated.specs.Finishing.{finishOf, lengthOf, replyOf}
+pub use Rattle.ctap1_stated.specs.Words.{Inputs, Given, Body, Ordered, Result}
+pub use Rattle.ctap1_stated.specs.Decision.{decisionOf, replyLeft}

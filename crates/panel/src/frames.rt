@@ -11,8 +11,8 @@ use command::Ctap1Flags;
 use command::U2fCommand;
 ghost use mathlib.Core.Path.{_≡_};
 ghost use Rattle.outcome.specs.Outcome.{Gives};
-ghost use Rattle.apdu.specs.Answers.{saysOf, readingOf, writtenOf};
-ghost use Rattle.command.specs.Command.{commandSaid, flagsNo, Register, Authenticate};
+ghost use Rattle.apdu_stated.specs.Answers.{saysOf, readingOf, writtenOf};
+ghost use Rattle.command_stated.specs.Command.{commandSaid, flagsNo, Register, Authenticate};
 ghost use Rattle.panel.specs.Numbers.{shapeOf};
 ghost use Rattle.panel.specs.Exports.{frameNumbers, bareCommand, commandNumbers, lengthNumbers, Writes};
 

@@ -12,9 +12,9 @@ mod orders;
 mod presence;
 
 ghost use mathlib.Core.Path.{_≡_};
-ghost use Rattle.apdu.specs.Reading.{readOf, strictOf};
-ghost use Rattle.command.specs.Command.{commandOf};
-ghost use Rattle.u2f_up.specs.Moments.{newOf, touchOf, checkOf, askOf};
+ghost use Rattle.apdu_stated.specs.Reading.{readOf, strictOf};
+ghost use Rattle.command_stated.specs.Command.{commandOf};
+ghost use Rattle.u2f_up_stated.specs.Moments.{newOf, touchOf, checkOf, askOf};
 ghost use Rattle.panel.specs.Numbers.{presenceOf};
 ghost use Rattle.panel.specs.Exports.{frameNumbers, commandNumbers, madeNumbers, stepNumbers, askedNumbers, Writes, Decides, Finishes};
 

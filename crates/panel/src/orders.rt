@@ -14,8 +14,8 @@ use signing::Finished;
 use signing::Kind;
 use signing::Order;
 ghost use mathlib.Core.Path.{_≡_};
-ghost use Rattle.signing.specs.Finishing.{finishedOf};
-ghost use Rattle.ctap1.specs.Words.{decidedOf, decisionSaid};
+ghost use Rattle.signing_stated.specs.Finishing.{finishedOf};
+ghost use Rattle.ctap1_stated.specs.Words.{decidedOf, decisionSaid};
 ghost use Rattle.panel.specs.Numbers.{allowedOf, attestationOf, counterOf, hardwareOf, kindOf, noOrder, decidedNo};
 ghost use Rattle.panel.specs.Exports.{bodyLength, orderAfter, blockAfter, decisionNumbers, lengthNumbers};
 

@@ -9,7 +9,7 @@ use u2f_up::Ready;
 use u2f_up::Step;
 use u2f_up::Window;
 ghost use mathlib.Core.Path.{_≡_};
-ghost use Rattle.u2f_up.specs.Answers.{readyOf, outcomeOf, toldOf};
+ghost use Rattle.u2f_up_stated.specs.Answers.{readyOf, outcomeOf, toldOf};
 ghost use Rattle.panel.specs.Numbers.{windowOf, windowNo, presenceOf, presenceNumbers};
 ghost use Rattle.panel.specs.Exports.{madeNumbers, stepNumbers, askedNumbers};
 

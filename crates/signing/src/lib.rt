@@ -8,6 +8,9 @@
 // The decision makes an order; the signer signs its bytes; finishing turns order and signature into the reply.
 use outcome::ApduStatusCode;
 use outcome::Refusal;
+pub use signing_stated::Finished;
+pub use signing_stated::Kind;
+pub use signing_stated::Order;
 
 mod fields;
 
@@ -17,9 +20,9 @@ ghost use mathlib.Core.Bool.{true};
 ghost use lib.Dec.{leb};
 ghost use lib.ListN.{length};
 ghost use Rattle.octets.specs.Bytes.{byte, laid, bytes4};
-ghost use Rattle.signing.specs.Layouts.{presenceByte, registerBody, authenticateBody};
-ghost use Rattle.signing.specs.Orders.{kindNo, certificateLength, blankOrder, registerOrder, authenticateOrder, isRegisterLayout, isAuthenticateLayout, isOfLayout, registerFieldsOf, authenticateFieldsOf};
-ghost use Rattle.signing.specs.Finishing.{registerRoom, authenticateRoom, roomAsked, bodyOf, Finishes};
+ghost use Rattle.signing_stated.specs.Layouts.{presenceByte, registerBody, authenticateBody};
+ghost use Rattle.signing_stated.specs.Orders.{kindNo, certificateLength, blankOrder, registerOrder, authenticateOrder, isRegisterLayout, isAuthenticateLayout, isOfLayout, registerFieldsOf, authenticateFieldsOf};
+ghost use Rattle.signing_stated.specs.Finishing.{registerRoom, authenticateRoom, roomAsked, bodyOf, Finishes};
 
 // 05, public key, h and the longest signature: what a Register reply takes beside handle and certificate.
 const REGISTER_FIXED: usize = 139;
@@ -27,27 +30,6 @@ const REGISTER_FIXED: usize = 139;
 const AUTHENTICATE_ROOM: usize = 77;
 // An ECDSA P-256 signature in DER takes no more.
 const LONGEST_SIGNATURE: usize = 72;
-
-// The command that an order answers.
-pub enum Kind {
-    Register,
-    Authenticate,
-}
-
-// What is to be signed, and what finishing has to know of the decision that made it.
-pub struct Order {
-    pub kind: Kind,
-    pub to_sign: usize,
-    pub certificate_length: usize,
-    pub bytes: [u8; 385],
-}
-
-// What finishing comes to: a body of so many bytes at the front of the reply buffer, or why there is none.
-pub enum Finished {
-    Refused(Refusal),
-    Status(ApduStatusCode),
-    Body(usize),
-}
 
 // The kind as the INS of its command.
 pub fn kind_number(kind: Kind) -> u8

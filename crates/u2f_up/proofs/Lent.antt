@@ -39,15 +39,15 @@ use denote.Triple.Spec.{Meets, tripleOf}
 use denote.Triple.Walked.{says, Stays, stay-ref, stay-none, walkOf, AllGo, goes-none, goes-ref, ends-at, walked, walk-meets}
 use denote.Triple.Clauses.{Clauses, closing, ensured, lasts}
 use denote.Exit.{yes}
-use Rattle.u2f_up.specs.declared.Presence.{Presence}
-use Rattle.u2f_up.specs.declared.Step.{Step}
-use Rattle.u2f_up.specs.declared.Answer.{Answer}
-use Rattle.u2f_up.proofs.Presence as P
-use Rattle.u2f_up.proofs.Presence.Laws as P′
-use Rattle.u2f_up.proofs.Step as S
-use Rattle.u2f_up.proofs.Step.Laws as S′
-use Rattle.u2f_up.proofs.Answer as N
-use Rattle.u2f_up.proofs.Answer.Laws as N′
+use Rattle.u2f_up_stated.specs.declared.Presence.{Presence}
+use Rattle.u2f_up_stated.specs.declared.Step.{Step}
+use Rattle.u2f_up_stated.specs.declared.Answer.{Answer}
+use Rattle.u2f_up_stated.proofs.Presence as P
+use Rattle.u2f_up_stated.proofs.Presence.Laws as P′
+use Rattle.u2f_up_stated.proofs.Step as S
+use Rattle.u2f_up_stated.proofs.Step.Laws as S′
+use Rattle.u2f_up_stated.proofs.Answer as N
+use Rattle.u2f_up_stated.proofs.Answer.Laws as N′
 use Rattle.u2f_up.proofs.grant_up as steps
 use Rattle.u2f_up.proofs.is_up_needed as asks
 use Rattle.u2f_up.proofs.grant_up_lent as lent

@@ -1,11 +1,1 @@
-pub mod Callers
-pub mod Cases
 pub mod Lent
-pub mod Lists
-pub mod Runs
-pub mod Touches
-pub mod Prompts
-pub mod Accounts
-pub mod Exactly
-pub mod Demand
-pub mod Theorems

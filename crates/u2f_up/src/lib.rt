@@ -2,55 +2,22 @@
 // in by value and comes back; the last three functions are the same calls on a record lent for writing.
 // Any values may stand in a record: no sum of moments is ever made, so none can wrap.
 use outcome::Refusal;
+pub use u2f_up_stated::Answer;
+pub use u2f_up_stated::Found;
+pub use u2f_up_stated::Presence;
+pub use u2f_up_stated::Ready;
+pub use u2f_up_stated::Step;
+pub use u2f_up_stated::Window;
 ghost use mathlib.Core.Path.{_≡_};
 ghost use Rattle.outcome.specs.Outcome.{Gives, refusalNo};
-ghost use Rattle.u2f_up.specs.Moments.{isLive, isR6, isR1, grantedOf, gave, refused};
-ghost use Rattle.u2f_up.specs.Answers.{outcomeOf, toldOf, New, Settle, GrantUp, TouchCheck, ConsumeUp, IsUpNeeded, IsUpNeededLent};
+ghost use Rattle.u2f_up_stated.specs.Moments.{isLive, isR6, isR1, grantedOf, gave, refused};
+ghost use Rattle.u2f_up_stated.specs.Answers.{outcomeOf, toldOf, New, Settle, GrantUp, TouchCheck, ConsumeUp, IsUpNeeded, IsUpNeededLent};
 
 const U2F_UP_PROMPT_TIMEOUT_MS: u64 = 10000;
 
 const W_MOST: u64 = 60000;
 
 const MOMENTS: u64 = 1 << 48;
-
-// A window opened at a moment is live for a stretch that its reader knows; once that has passed it stays as it is.
-pub enum Window {
-    Closed,
-    Opened(u64),
-}
-
-// The presence record: W, the prompt window (the Rust's `needs_up`), the touch window (`has_up`), and the last moment.
-pub struct Presence {
-    pub w: u64,
-    pub prompt: Window,
-    pub touch: Window,
-    pub last: u64,
-}
-
-// A record to go on with, or why there is none.
-pub enum Ready {
-    Refused(Refusal),
-    Record(Presence),
-}
-
-// What touch, check and ask answer.
-pub enum Answer {
-    Refused(Refusal),
-    Yes,
-    No,
-}
-
-// An answer and the record after the call; a refusal hands back the record that came in.
-pub struct Step {
-    pub answer: Answer,
-    pub presence: Presence,
-}
-
-// What a call finds on a record whose moment is settled, where nothing is refused any more.
-pub struct Found {
-    pub yes: bool,
-    pub presence: Presence,
-}
 
 // R6: W is 0 or above 60,000.
 fn is_r6(w: u64) -> bool

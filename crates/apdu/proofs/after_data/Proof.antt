@@ -1,6 +1,6 @@
 -- `after_data` meets its contract: each way through the tests is a case of `afterData`.
 use borrow.Author.Needs.{needs}
-use Rattle.apdu.proofs.Cases
+use Rattle.apdu_stated.proofs.Cases
 use Rattle.apdu.proofs.after_data.Statement.{statement}
 use Rattle.apdu.proofs.after_data.Tie as tie
 

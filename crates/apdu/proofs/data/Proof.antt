@@ -1,6 +1,6 @@
 -- `data` meets its contract: the part at the data's place.
 use borrow.Author.Needs.{needs}
-use Rattle.apdu.proofs.Cases
+use Rattle.apdu_stated.proofs.Cases
 use Rattle.apdu.proofs.data.Statement.{statement}
 use Rattle.apdu.proofs.data.Tie as tie
 

@@ -1,6 +1,6 @@
 -- `data_place` meets its contract: the Lc field's length says where the data starts.
 use borrow.Author.Needs.{needs}
-use Rattle.apdu.proofs.Cases
+use Rattle.apdu_stated.proofs.Cases
 use Rattle.apdu.proofs.data_place.Statement.{statement}
 use Rattle.apdu.proofs.data_place.Tie as tie
 

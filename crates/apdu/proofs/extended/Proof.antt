@@ -1,6 +1,6 @@
 -- `extended` meets its contract: each way through the tests is a case of `extendedOf`.
 use borrow.Author.Needs.{needs}
-use Rattle.apdu.proofs.Cases
+use Rattle.apdu_stated.proofs.Cases
 use Rattle.apdu.proofs.extended.Statement.{statement}
 use Rattle.apdu.proofs.extended.Tie as tie
 

@@ -1,6 +1,6 @@
 -- `lc_fits` meets its contract: a test that fails decides, or two that pass.
 use borrow.Author.Needs.{needs}
-use Rattle.apdu.proofs.Carries
+use Rattle.apdu_stated.proofs.Carries
 use Rattle.apdu.proofs.lc_fits.Statement.{statement}
 use Rattle.apdu.proofs.lc_fits.Tie as tie
 

@@ -1,5 +1,5 @@
 -- `lc_most` meets its contract: by the field's length.
-use Rattle.apdu.proofs.Cases
+use Rattle.apdu_stated.proofs.Cases
 use borrow.Author.Needs.{needs}
 use Rattle.apdu.proofs.lc_most.Statement.{statement}
 use Rattle.apdu.proofs.lc_most.Tie as tie

@@ -1,5 +1,5 @@
 -- `le_least` meets its contract: by whether there is a field.
-use Rattle.apdu.proofs.Cases
+use Rattle.apdu_stated.proofs.Cases
 use borrow.Author.Needs.{needs}
 use Rattle.apdu.proofs.le_least.Statement.{statement}
 use Rattle.apdu.proofs.le_least.Tie as tie

@@ -1,5 +1,5 @@
 -- `le_most` meets its contract: by the field's length.
-use Rattle.apdu.proofs.Cases
+use Rattle.apdu_stated.proofs.Cases
 use borrow.Author.Needs.{needs}
 use Rattle.apdu.proofs.le_most.Statement.{statement}
 use Rattle.apdu.proofs.le_most.Tie as tie

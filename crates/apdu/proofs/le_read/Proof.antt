@@ -1,6 +1,6 @@
 -- `le_read` meets its contract: the rule's two cases.
 use borrow.Author.Needs.{needs}
-use Rattle.apdu.proofs.Cases
+use Rattle.apdu_stated.proofs.Cases
 use Rattle.apdu.proofs.le_read.Statement.{statement}
 use Rattle.apdu.proofs.le_read.Tie as tie
 

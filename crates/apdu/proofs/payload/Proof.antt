@@ -1,6 +1,6 @@
 -- `payload` meets its contract: each way through the tests is a case of `lengthsOf`.
 use borrow.Author.Needs.{needs}
-use Rattle.apdu.proofs.Cases
+use Rattle.apdu_stated.proofs.Cases
 use Rattle.apdu.proofs.payload.Statement.{statement}
 use Rattle.apdu.proofs.payload.Tie as tie
 

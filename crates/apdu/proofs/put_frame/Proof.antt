@@ -1,6 +1,6 @@
 -- `put_frame` meets its contract: the header, and the payload in the rest.
 use borrow.Author.Needs.{needs}
-use Rattle.apdu.proofs.Fields
+use Rattle.apdu_stated.proofs.Fields
 use Rattle.apdu.proofs.put_frame.Statement.{statement}
 use Rattle.apdu.proofs.put_frame.Tie as tie
 

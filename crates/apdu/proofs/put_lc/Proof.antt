@@ -1,6 +1,6 @@
 -- `put_lc` meets its contract: by the field's length.
 use borrow.Author.Needs.{needs}
-use Rattle.apdu.proofs.Fields
+use Rattle.apdu_stated.proofs.Fields
 use Rattle.apdu.proofs.put_lc.Statement.{statement}
 use Rattle.apdu.proofs.put_lc.Tie as tie
 

@@ -1,6 +1,6 @@
 -- `put_le` meets its contract: by the field's length.
 use borrow.Author.Needs.{needs}
-use Rattle.apdu.proofs.Fields
+use Rattle.apdu_stated.proofs.Fields
 use Rattle.apdu.proofs.put_le.Statement.{statement}
 use Rattle.apdu.proofs.put_le.Tie as tie
 

@@ -1,6 +1,6 @@
 -- `put_payload` meets its contract: Lc, and data and Le in the rest.
 use borrow.Author.Needs.{needs}
-use Rattle.apdu.proofs.Fields
+use Rattle.apdu_stated.proofs.Fields
 use Rattle.apdu.proofs.put_payload.Statement.{statement}
 use Rattle.apdu.proofs.put_payload.Tie as tie
 

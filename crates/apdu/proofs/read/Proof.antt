@@ -1,6 +1,6 @@
 -- `read` meets its contract: each way through the tests is a case of `readOf`.
 use borrow.Author.Needs.{needs}
-use Rattle.apdu.proofs.Cases
+use Rattle.apdu_stated.proofs.Cases
 use Rattle.apdu.proofs.read.Statement.{statement}
 use Rattle.apdu.proofs.read.Tie as tie
 

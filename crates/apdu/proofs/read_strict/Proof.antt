@@ -1,6 +1,6 @@
 -- `read_strict` meets its contract: the reading, filtered.
 use borrow.Author.Needs.{needs}
-use Rattle.apdu.proofs.Cases
+use Rattle.apdu_stated.proofs.Cases
 use Rattle.apdu.proofs.read_strict.Statement.{statement}
 use Rattle.apdu.proofs.read_strict.Tie as tie
 

@@ -1,6 +1,6 @@
 -- `short` meets its contract: each way through the tests is a case of `shortOf`.
 use borrow.Author.Needs.{needs}
-use Rattle.apdu.proofs.Cases
+use Rattle.apdu_stated.proofs.Cases
 use Rattle.apdu.proofs.short.Statement.{statement}
 use Rattle.apdu.proofs.short.Tie as tie
 

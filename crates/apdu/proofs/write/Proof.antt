@@ -1,6 +1,6 @@
 -- `write` meets its contract: each way through the tests is a case of `writeOf`.
 use borrow.Author.Needs.{needs}
-use Rattle.apdu.proofs.Fields
+use Rattle.apdu_stated.proofs.Fields
 use Rattle.apdu.proofs.write.Statement.{statement}
 use Rattle.apdu.proofs.write.Tie as tie
 

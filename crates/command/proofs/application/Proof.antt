@@ -1,6 +1,6 @@
 -- `application` meets its contract: the second part of the data.
 use borrow.Author.Needs.{needs}
-use Rattle.command.proofs.Cases
+use Rattle.command_stated.proofs.Cases
 use Rattle.command.proofs.application.Statement.{statement}
 use Rattle.command.proofs.application.Tie as tie
 

@@ -1,6 +1,6 @@
 -- `authenticate` meets its contract: each way through the tests is a case of `authenticateOf`.
 use borrow.Author.Needs.{needs}
-use Rattle.command.proofs.Cases
+use Rattle.command_stated.proofs.Cases
 use Rattle.command.proofs.authenticate.Statement.{statement}
 use Rattle.command.proofs.authenticate.Tie as tie
 

@@ -1,6 +1,6 @@
 -- `by_instruction` meets its contract: each way through the tests is a case of `byInstruction`.
 use borrow.Author.Needs.{needs}
-use Rattle.command.proofs.Cases
+use Rattle.command_stated.proofs.Cases
 use Rattle.command.proofs.by_instruction.Statement.{statement}
 use Rattle.command.proofs.by_instruction.Tie as tie
 

@@ -1,6 +1,6 @@
 -- `challenge` meets its contract: the first part of the data.
 use borrow.Author.Needs.{needs}
-use Rattle.command.proofs.Cases
+use Rattle.command_stated.proofs.Cases
 use Rattle.command.proofs.challenge.Statement.{statement}
 use Rattle.command.proofs.challenge.Tie as tie
 

@@ -1,6 +1,6 @@
 -- `handle_place` meets its contract: the rest of the data, behind the length byte.
 use borrow.Author.Needs.{needs}
-use Rattle.command.proofs.Cases
+use Rattle.command_stated.proofs.Cases
 use Rattle.command.proofs.handle_place.Statement.{statement}
 use Rattle.command.proofs.handle_place.Tie as tie
 

@@ -1,6 +1,6 @@
 -- `key_handle` meets its contract: the part at the handle's place.
 use borrow.Author.Needs.{needs}
-use Rattle.command.proofs.Cases
+use Rattle.command_stated.proofs.Cases
 use Rattle.command.proofs.key_handle.Statement.{statement}
 use Rattle.command.proofs.key_handle.Tie as tie
 

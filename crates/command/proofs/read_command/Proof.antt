@@ -1,6 +1,6 @@
 -- `read_command` meets its contract: the reading's status, or the command that its frame says.
 use borrow.Author.Needs.{needs}
-use Rattle.command.proofs.Cases
+use Rattle.command_stated.proofs.Cases
 use Rattle.command.proofs.read_command.Statement.{statement}
 use Rattle.command.proofs.read_command.Tie as tie
 

@@ -1,5 +1,5 @@
 use mathlib.Core.Path.{refl}
-use Rattle.signing.specs.Orders.{blankOrder, block}
+use Rattle.signing_stated.specs.Orders.{blankOrder, block}
 use Rattle.signing.proofs.blank.Statement.{statement}
 use Rattle.signing.proofs.blank.Tie as tie
 

@@ -1,5 +1,5 @@
 -- `u2f_up::is_live` meets its contract: each return is a law of proofs/Cases.antt.
-use Rattle.u2f_up.proofs.Cases
+use Rattle.u2f_up_stated.proofs.Cases
 use borrow.Author.Needs.{needs}
 use Rattle.u2f_up.proofs.is_live.Statement.{statement}
 use Rattle.u2f_up.proofs.is_live.Tie as tie

@@ -1,6 +1,6 @@
 -- `u2f_up::is_up_needed` meets its contract: each return is a law of proofs/Cases.antt.
 use borrow.Author.Needs.{needs}
-use Rattle.u2f_up.proofs.Cases
+use Rattle.u2f_up_stated.proofs.Cases
 use Rattle.u2f_up.proofs.is_up_needed.Statement.{statement}
 use Rattle.u2f_up.proofs.is_up_needed.Tie as tie
 

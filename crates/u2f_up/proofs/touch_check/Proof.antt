@@ -1,5 +1,5 @@
 -- `u2f_up::touch_check` meets its contract: each return is a law of proofs/Cases.antt.
-use Rattle.u2f_up.proofs.Cases
+use Rattle.u2f_up_stated.proofs.Cases
 use borrow.Author.Needs.{needs}
 use Rattle.u2f_up.proofs.touch_check.Statement.{statement}
 use Rattle.u2f_up.proofs.touch_check.Tie as tie

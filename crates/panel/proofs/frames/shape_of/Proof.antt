@@ -1,5 +1,5 @@
 -- `shape_of` meets its contract: by the number.
-use Rattle.apdu.specs.declared.Case.the-variants.{Instruction, Le1, Lc1Data, Lc1DataLe1, Lc3Data, Lc3DataLe1, Lc3DataLe2, Le3}
+use Rattle.apdu_stated.specs.declared.Case.the-variants.{Instruction, Le1, Lc1Data, Lc1DataLe1, Lc3Data, Lc3DataLe1, Lc3DataLe2, Le3}
 use Rattle.panel.proofs.FrameCases
 use Rattle.panel.proofs.frames.shape_of.Statement.{statement}
 use Rattle.panel.proofs.frames.shape_of.Tie as tie

@@ -1,7 +1,7 @@
 -- `kind_of` meets its contract.
 use Rattle.panel.proofs.orders.kind_of.Statement.{statement}
 use Rattle.panel.proofs.orders.kind_of.Tie as tie
-use Rattle.signing.specs.declared.Kind.the-variants as Kind′
+use Rattle.signing_stated.specs.declared.Kind.the-variants as Kind′
 use Rattle.panel.proofs.OrderCases
 
 returns : tie.Need-returns

@@ -1,0 +1,11 @@
+pub mod Cases
+pub mod Carries
+pub mod Fields
+pub mod LaidOut
+pub mod Ways
+pub mod Sound
+pub mod Frames
+pub mod IsoCases
+pub mod Numbers
+pub mod Theorems
+pub mod Refuted

@@ -1,0 +1,37 @@
+-- ISO/IEC 7816-3:2006, section 12.1.3: the seven cases of a command, by its body b of L bytes B1 .. BL; and the forms beyond
+-- them that document 01 tolerates. Written from the public table, apart from document 01's.
+use Prim.Native.Nat.{ℕ, _+_}
+use mathlib.Core.Bool.{Bool, not, _&&_, _||_}
+use mathlib.Core.List.{List}
+use lib.ListN.{length}
+use lib.Dec.{leb, eqb}
+use Rattle.octets.specs.Bytes.{byte, pairAt}
+use Rattle.apdu_stated.specs.Words.{Case, Instruction, Le1, Lc1Data, Lc1DataLe1, Lc3Data, Lc3DataLe2, Le3}
+
+pub data IsoCase : Type 0 where
+  Case1 Case2S Case3S Case4S Case2E Case3E Case4E : IsoCase
+
+-- the column "the body". A length test stands before each byte that is looked at
+abbrev pub isCase : IsoCase → List ℕ → Bool
+isCase Case1 b = eqb (length b) 0  -- 1 | L = 0
+isCase Case2S b = eqb (length b) 1  -- 2S | L = 1
+isCase Case3S b = leb 1 (length b) && not (eqb (byte b 0) 0) && eqb (length b) (1 + byte b 0)  -- 3S | B1 not 0, L = 1 + B1
+isCase Case4S b = leb 1 (length b) && not (eqb (byte b 0) 0) && eqb (length b) (2 + byte b 0)  -- 4S | B1 not 0, L = 2 + B1
+isCase Case2E b = leb 1 (length b) && eqb (byte b 0) 0 && eqb (length b) 3  -- 2E | B1 = 00, L = 3
+isCase Case3E b = leb 3 (length b) && eqb (byte b 0) 0 && not (eqb (pairAt b 1) 0) && eqb (length b) (3 + pairAt b 1)  -- 3E | B1 = 00, B2B3 not 0, L = 3 + B2B3
+isCase Case4E b = leb 3 (length b) && eqb (byte b 0) 0 && not (eqb (pairAt b 1) 0) && eqb (length b) (5 + pairAt b 1)  -- 4E | B1 = 00, B2B3 not 0, L = 5 + B2B3
+
+-- which of document 01's shapes each case is
+abbrev pub shapeFor : IsoCase → Case
+shapeFor Case1 = Instruction
+shapeFor Case2S = Le1
+shapeFor Case3S = Lc1Data
+shapeFor Case4S = Lc1DataLe1
+shapeFor Case2E = Le3
+shapeFor Case3E = Lc3Data
+shapeFor Case4E = Lc3DataLe2
+
+-- "Tolerated beyond the table by the Rust, and so by document 01's ordinary reading: extended Lc with a one-byte Le (shape 6),
+-- and an extended Lc of 0 before an Le (shapes 6 and 7)"
+abbrev pub isTolerated : ℕ → ℕ → Bool
+isTolerated shape lc = eqb shape 6 || (eqb shape 7 && eqb lc 0)

@@ -1,0 +1,80 @@
+-- Document 01, 'Eight frame shapes': reading. "A frame under 4 bytes gives 6a80. A frame of 4 or more in no shape gives
+-- 6700"; the payload from byte 4 on; where the data stands; "The strict reading is a second entry".
+-- That this is the table, and nothing else, is claimed in Claims.antt.
+use Prim.Native.Nat.{ℕ, _+_}
+use mathlib.Core.List.{List}
+use lib.ListN.{length, drop}
+use lib.Dec.{ltb, eqb}
+use Rattle.outcome.specs.Notation.{if_then_else_}
+use Rattle.outcome.specs.Outcome.{Outcome, R, SW, Gives}
+use Rattle.octets.specs.Bytes.{byte, pairAt, partOf}
+use Rattle.apdu_stated.specs.Words.{Case, Instruction, Le1, Lc1Data, Lc1DataLe1, Lc3Data, Lc3DataLe1, Lc3DataLe2, Le3, shapeNo, ApduHeader}
+use Rattle.apdu_stated.specs.Answers.{Says, Place}
+use Rattle.apdu_stated.specs.Table.{lcField, leRead}
+use Rattle.apdu_stated.specs.declared.Lengths.{Lengths}
+use Rattle.apdu_stated.specs.declared.Lengths.the-variants.{Found, Missing, Surplus}
+
+-- rows 3 and 4, of a payload p whose first byte is not 0: Lc, data, and perhaps one byte of Le
+unfoldable pub shortOf : List ℕ → Lengths
+shortOf p =
+    if ltb (length p) (1 + byte p 0) then Missing
+    else if eqb (length p) (1 + byte p 0) then Found Lc1Data (byte p 0) 0
+    else if eqb (length p) (2 + byte p 0) then Found Lc1DataLe1 (byte p 0) (leRead 1 (byte p (1 + byte p 0)))
+    else Surplus
+
+-- rows 5, 6 and 7, of a payload p of more than three bytes that begins with 00 and Lc: data, and perhaps Le
+unfoldable pub afterData : List ℕ → ℕ → Lengths
+afterData p lc =
+    if ltb (length p) (3 + lc) then Missing
+    else if eqb (length p) (3 + lc) then Found Lc3Data lc 0
+    else if eqb (length p) (4 + lc) then Found Lc3DataLe1 lc (leRead 1 (byte p (3 + lc)))
+    else if eqb (length p) (5 + lc) then Found Lc3DataLe2 lc (leRead 2 (pairAt p (3 + lc)))
+    else Surplus
+
+-- row 8, and rows 5 to 7, of a payload p of two bytes or more whose first byte is 00
+unfoldable pub extendedOf : List ℕ → Lengths
+extendedOf p =
+    if ltb (length p) 3 then Missing
+    else if eqb (length p) 3 then Found Le3 0 (leRead 3 (pairAt p 1))
+    else afterData p (pairAt p 1)
+
+-- the payload: the bytes after the header
+unfoldable pub lengthsOf : List ℕ → Lengths
+lengthsOf p =
+    if eqb (length p) 0 then Found Instruction 0 0
+    else if eqb (length p) 1 then Found Le1 0 (leRead 1 (byte p 0))
+    else if eqb (byte p 0) 0x00 then extendedOf p
+    else shortOf p
+
+-- "A frame is CLA INS P1 P2 and a payload"
+abbrev pub headerOf : List ℕ → ApduHeader
+headerOf frame = record { cla = byte frame 0; ins = byte frame 1; p1 = byte frame 2; p2 = byte frame 3 }
+
+-- what a frame of 4 bytes or more says, by what its payload says: 6700 where the payload is in no shape
+unfoldable pub sayOf : List ℕ → Lengths → Outcome Says
+sayOf frame (Found s lc le) = Gives (record { header = headerOf frame; shape = shapeNo s; dataAt = 4 + lcField s; lc = lc; le = le })
+sayOf frame Missing = SW 0x6700
+sayOf frame Surplus = SW 0x6700
+
+-- "The payload is handed on as the part of the frame from byte 4"
+unfoldable pub readOf : List ℕ → Outcome Says
+readOf frame =
+    if ltb (length frame) 4 then SW 0x6a80
+    else sayOf frame (lengthsOf (drop 4 frame))
+
+-- "It accepts the ISO cases, that is the shapes above without shape 6, and gives 6700 for shape 6; otherwise it equals the first"
+unfoldable pub strictly : Outcome Says → Outcome Says
+strictly (Gives says) = if eqb (says .shape) 6 then SW 0x6700 else Gives says
+strictly (SW n) = SW n
+strictly (R n) = R n
+
+unfoldable pub strictOf : List ℕ → Outcome Says
+strictOf frame = strictly (readOf frame)
+
+-- "data comes back as a part of the caller's frame": Lc bytes from where the frame says that its data starts
+abbrev pub placeOf : Says → Place
+placeOf said = record { start = said .dataAt; end = said .dataAt + said .lc }
+
+-- the data of a frame that says this; none where the place passes the frame's end
+unfoldable pub dataOf : List ℕ → Says → List ℕ
+dataOf frame said = partOf frame (placeOf said .start) (placeOf said .end)

@@ -1,0 +1,49 @@
+-- Document 01, 'Eight frame shapes': the writer. "It refuses (R5) exactly when data length or Le is not one that the shape
+-- can carry, else R2 exactly when the buffer is shorter than the frame; else it writes the frame at the front and leaves the rest."
+use Prim.Native.Nat.{ℕ}
+use mathlib.Core.Bool.{not}
+use mathlib.Core.List.{List, [], _∷_, _++_}
+use lib.ListN.{length}
+use lib.Dec.{ltb}
+use Rattle.outcome.specs.Notation.{if_then_else_}
+use Rattle.outcome.specs.Outcome.{Outcome, R, SW, Gives}
+use Rattle.octets.specs.Bytes.{laid}
+use Rattle.apdu_stated.specs.Words.{Case, ApduHeader}
+use Rattle.apdu_stated.specs.Table.{canCarry, lcBytes, leBytes}
+
+-- the four parts of a frame
+pub record Parts : Type 0 where
+  pub header : ApduHeader
+  pub shape : Case
+  pub content : List ℕ  -- the data
+  pub le : ℕ
+
+abbrev pub partsOf : ApduHeader → Case → List ℕ → ℕ → Parts
+partsOf header shape content le = record { header = header; shape = shape; content = content; le = le }
+
+abbrev pub headerBytes : ApduHeader → List ℕ
+headerBytes h = h .cla ∷ h .ins ∷ h .p1 ∷ h .p2 ∷ []
+
+-- the payload's fields in the table's order. "Data is exactly Lc bytes"
+unfoldable pub payloadOf : Case → List ℕ → ℕ → List ℕ
+payloadOf shape content le = lcBytes shape (length content) ++ (content ++ leBytes shape le)
+
+-- "A frame is CLA INS P1 P2 and a payload"
+unfoldable pub frameOf : Parts → List ℕ
+frameOf w = headerBytes (w .header) ++ payloadOf (w .shape) (w .content) (w .le)
+
+-- what the writer answers: the frame's length, for a buffer of so many bytes (room)
+unfoldable pub writeOf : Parts → ℕ → Outcome ℕ
+writeOf w room =
+    if not (canCarry (w .shape) (length (w .content)) (w .le)) then R 5
+    else if ltb room (length (frameOf w)) then R 2
+    else Gives (length (frameOf w))
+
+-- what the buffer holds afterwards: the frame at its front; after a refusal, what it held before
+abbrev pub leftBy : Outcome ℕ → List ℕ → List ℕ → List ℕ
+leftBy (R n) frame old = old
+leftBy (SW n) frame old = old
+leftBy (Gives n) frame old = laid frame old
+
+unfoldable pub bufferOf : Parts → List ℕ → List ℕ
+bufferOf w old = leftBy (writeOf w (length old)) (frameOf w) old

@@ -1,0 +1,54 @@
+// Command frames of ISO 7816-3: what a frame says. No function: apdu has them.
+use outcome::ApduStatusCode;
+use outcome::Refusal;
+
+pub struct ApduHeader {
+    pub cla: u8,
+    pub ins: u8,
+    pub p1: u8,
+    pub p2: u8,
+}
+
+// The eight shapes. The names say the fields after the header: Lc3DataLe2 has three bytes of Lc, data and two of Le.
+pub enum Case {
+    Instruction,
+    Le1,
+    Lc1Data,
+    Lc1DataLe1,
+    Lc3Data,
+    // No case of ISO 7816-3: some clients put a short Le behind an extended Lc.
+    Lc3DataLe1,
+    Lc3DataLe2,
+    Le3,
+}
+
+// What a frame says. Its data stays in the frame: `data` hands out that part.
+pub struct Apdu {
+    pub header: ApduHeader,
+    pub shape: Case,
+    pub lc: u16,
+    pub le: u32,
+}
+
+pub enum Reading {
+    Frame(Apdu),
+    Status(ApduStatusCode),
+}
+
+// What the bytes after the header say. Too few bytes and too many are told apart here, though both are 6700.
+pub enum Lengths {
+    Found(Case, u16, u32),
+    Missing,
+    Surplus,
+}
+
+// Where data stands in its frame: from start, up to and without end.
+pub struct Place {
+    pub start: usize,
+    pub end: usize,
+}
+
+pub enum Written {
+    Refused(Refusal),
+    Frame(usize),
+}

@@ -1,0 +1,124 @@
+-- The definitions of command reading, case by case, as the code meets them. It mentions no function.
+use Prim.Native.Nat.{ℕ, _+_, _<_, _≤_}
+use mathlib.Core.Path.{_≡_, refl, ap, sym, _∙_}
+use mathlib.Core.Bool.{true, false, not, _||_}
+use mathlib.Core.List.{List}
+use native.Mathlib.Omega.{arith}
+use borrow.Author.Tests.{lt-ltb, le-ltb, eq-eqb, ne-eqb}
+use lib.ListN.{length}
+use Rattle.outcome.specs.Notation.{if_then_else_}
+use Rattle.outcome.specs.Outcome.{Outcome, SW, Gives, statusNo}
+use Rattle.outcome.specs.declared.ApduStatusCode.{ApduStatusCode}
+use Rattle.octets.specs.Bytes.{byte, partOf}
+use Rattle.apdu_stated.specs.Answers.{Says, saysOf, readingOf}
+use Rattle.apdu_stated.specs.declared.Apdu.{Apdu}
+use Rattle.apdu_stated.specs.declared.Place.{Place}
+use Rattle.apdu_stated.specs.declared.Reading.{Reading}
+use Rattle.apdu_stated.specs.declared.Reading.the-variants as Reading′
+use Rattle.apdu_stated.specs.Reading.{readOf, dataOf, placeOf}
+use Rattle.apdu_stated.proofs.Frames.{data-long}
+use Rattle.command_stated.specs.Command.{Command, Register, Authenticate, Version, isControl, registerOf, authenticateOf, versionOf, byInstruction, onReading, commandOf, challengeOf, applicationOf, handlePlaceOf, handleOf}
+
+-- ---- Authenticate
+module _ (frame : List ℕ) (said : Says) where
+  pub auth-short : said .lc < 65 → SW 0x6700 ≡ authenticateOf frame said
+  unfolding authenticateOf
+  auth-short h = rw (lt-ltb (said .lc) 65 h)
+
+  -- data[64] stands in the data of a frame that was read
+  pub auth-byte : (content : List ℕ) → readOf frame ≡ Gives said → content ≡ dataOf frame said → 65 ≤ said .lc → 64 < length content
+  auth-byte content e d h = let long = ap length d ∙ data-long frame said e in omega arith
+
+  module _ (content : List ℕ) (b h : ℕ) (is-content : content ≡ dataOf frame said) (is-h : h ≡ byte content 64) (long : 65 ≤ said .lc) where
+    same-h : h ≡ byte (dataOf frame said) 64
+    same-h = is-h ∙ ap (λ (l : List ℕ). byte l 64) is-content
+
+    pub auth-other : (said .lc ≡ 65 + h → ⊥) → SW 0x6700 ≡ authenticateOf frame said
+    unfolding authenticateOf
+    auth-other n = rw (le-ltb (said .lc) 65 long, ← same-h, ne-eqb (said .lc) (65 + h) n)
+
+    module _ (fits : said .lc ≡ 65 + h) where
+      by-control : {o : Outcome Command} → (if not (isControl (said .header .p1)) then SW 0x6a80 else Gives (Authenticate (said .header .p1) said)) ≡ o → o ≡ authenticateOf frame said
+      unfolding authenticateOf
+      by-control e = rw (le-ltb (said .lc) 65 long, ← same-h, eq-eqb (said .lc) (65 + h) fits) (sym e)
+
+      pub auth-control : (k : ℕ) → isControl k ≡ true → said .header .p1 ≡ k → Gives (Authenticate k said) ≡ authenticateOf frame said
+      auth-control k c e = by-control (rw (e, c))
+
+      pub auth-03 : said .header .p1 ≡ 0x03 → Gives (Authenticate 0x03 said) ≡ authenticateOf frame said
+      auth-03 = auth-control 0x03 refl
+
+      pub auth-07 : said .header .p1 ≡ 0x07 → Gives (Authenticate 0x07 said) ≡ authenticateOf frame said
+      auth-07 = auth-control 0x07 refl
+
+      pub auth-08 : said .header .p1 ≡ 0x08 → Gives (Authenticate 0x08 said) ≡ authenticateOf frame said
+      auth-08 = auth-control 0x08 refl
+
+      pub auth-wrong : (said .header .p1 ≡ 0x03 → ⊥) → (said .header .p1 ≡ 0x07 → ⊥) → (said .header .p1 ≡ 0x08 → ⊥) → SW 0x6a80 ≡ authenticateOf frame said
+      auth-wrong n3 n7 n8 = by-control (rw (ne-eqb (said .header .p1) 0x03 n3, ne-eqb (said .header .p1) 0x07 n7, ne-eqb (said .header .p1) 0x08 n8))
+
+  -- ---- by INS
+  pub wrong-cla : (said .header .cla ≡ 0x00 → ⊥) → SW 0x6e00 ≡ byInstruction frame said
+  unfolding byInstruction
+  wrong-cla n = rw (ne-eqb (said .header .cla) 0x00 n)
+
+  module _ (cla : said .header .cla ≡ 0x00) where
+    module _ (ins : said .header .ins ≡ 0x01) where
+      pub register-other : (said .lc ≡ 64 → ⊥) → SW 0x6700 ≡ byInstruction frame said
+      unfolding byInstruction registerOf
+      register-other n = rw (cla, ins, ne-eqb (said .lc) 64 n)
+
+      pub register-64 : said .lc ≡ 64 → Gives (Register said) ≡ byInstruction frame said
+      unfolding byInstruction registerOf
+      register-64 e = rw (cla, ins, eq-eqb (said .lc) 64 e)
+
+    pub authenticates : (o : Outcome Command) → said .header .ins ≡ 0x02 → o ≡ authenticateOf frame said → o ≡ byInstruction frame said
+    unfolding byInstruction
+    authenticates o ins e = e ∙ rw (cla, ins)
+
+    module _ (ins : said .header .ins ≡ 0x03) where
+      pub version-other : (said .lc ≡ 0 → ⊥) → SW 0x6700 ≡ byInstruction frame said
+      unfolding byInstruction versionOf
+      version-other n = rw (cla, ins, ne-eqb (said .lc) 0 n)
+
+      pub version-0 : said .lc ≡ 0 → Gives Version ≡ byInstruction frame said
+      unfolding byInstruction versionOf
+      version-0 e = rw (cla, ins, eq-eqb (said .lc) 0 e)
+
+    pub unknown : (said .header .ins ≡ 0x01 → ⊥) → (said .header .ins ≡ 0x02 → ⊥) → (said .header .ins ≡ 0x03 → ⊥) → SW 0x6d00 ≡ byInstruction frame said
+    unfolding byInstruction
+    unknown n1 n2 n3 = rw (cla, ne-eqb (said .header .ins) 0x01 n1, ne-eqb (said .header .ins) 0x02 n2, ne-eqb (said .header .ins) 0x03 n3)
+
+-- ---- on the reading
+module _ (frame : List ℕ) (r : Reading) (is-r : readingOf r ≡ readOf frame) where
+  pub reading-is : (says : Apdu) → r ≡ Reading′.Frame says → readOf frame ≡ Gives (saysOf says)
+  reading-is says e = sym is-r ∙ ap readingOf e
+
+  pub on-frame : (says : Apdu) (o : Outcome Command) → r ≡ Reading′.Frame says → o ≡ byInstruction frame (saysOf says) → o ≡ commandOf frame
+  unfolding commandOf onReading
+  on-frame says o e b = b ∙ ap (onReading frame) (sym (reading-is says e))
+
+  pub on-status : (s : ApduStatusCode) → r ≡ Reading′.Status s → SW (statusNo s) ≡ commandOf frame
+  unfolding commandOf onReading
+  on-status s e = ap (onReading frame) (ap readingOf (sym e) ∙ is-r)
+
+-- ---- the parts
+module _ (frame : List ℕ) (said : Says) (at : Place) (is-at : at ≡ placeOf said) (part : List ℕ) where
+  pub challenge-is : part ≡ partOf frame (at .start) (at .start + 32) → part ≡ challengeOf frame said
+  unfolding challengeOf
+  challenge-is e = e ∙ rw is-at
+
+  pub application-is : part ≡ partOf frame (at .start + 32) (at .start + 64) → part ≡ applicationOf frame said
+  unfolding applicationOf
+  application-is e = e ∙ rw is-at
+
+pub handle-place-is : (said : Says) (at : Place) → at ≡ placeOf said → record { start = at .start + 65; end = at .end } ≡ handlePlaceOf said
+handle-place-is said at e = rw e
+
+pub handle-is : (frame : List ℕ) (said : Says) (at : Place) (part : List ℕ) → at ≡ handlePlaceOf said → part ≡ partOf frame (at .start) (at .end) → part ≡ handleOf frame said
+unfolding handleOf
+handle-is frame said at part e f = f ∙ rw e
+
+pub by-reading : (frame : List ℕ) (said : Says) → readOf frame ≡ Gives said → commandOf frame ≡ byInstruction frame said
+unfolding commandOf onReading
+by-reading frame said e = ap (onReading frame) e

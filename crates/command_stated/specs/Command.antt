@@ -1,0 +1,84 @@
+-- Document 01, 'From frame to command': "In this order: shape (6a80, 6700); CLA not 0 gives 6e00; then by INS".
+-- Covered: every status of command reading, in its order; the parts of the data.
+use Rattle.command_stated.specs.Words.{ℕ, _+_, Bool, not, _||_, List, ltb, eqb, if_then_else_, Outcome, R, SW, Gives, statusNo, byte, partOf, Place}
+use Rattle.apdu_stated.specs.Answers.{Says, saysOf}
+use Rattle.apdu_stated.specs.Reading.{readOf, dataOf}
+pub use Rattle.command_stated.specs.declared.Ctap1Flags.{Ctap1Flags}
+pub use Rattle.command_stated.specs.declared.Ctap1Flags.the-variants.{CheckOnly, EnforceUpAndSign, DontEnforceUpAndSign}
+pub use Rattle.command_stated.specs.declared.U2fCommand.{U2fCommand}
+use Rattle.command_stated.specs.declared.U2fCommand.the-variants as U2fCommand′
+
+-- a command, with what its frame says; an Authenticate with its P1
+pub data Command : Type 0 where
+  Register : Says → Command
+  Authenticate : ℕ → Says → Command
+  Version : Command
+
+-- FIDO: control byte in P1: 07 check only, 03 enforce user presence and sign, 08 don't enforce user presence and sign
+abbrev pub flagsNo : Ctap1Flags → ℕ
+flagsNo CheckOnly = 0x07
+flagsNo EnforceUpAndSign = 0x03
+flagsNo DontEnforceUpAndSign = 0x08
+
+-- what a command reading answers
+abbrev pub commandSaid : U2fCommand → Outcome Command
+commandSaid (U2fCommand′.Register says) = Gives (Register (saysOf says))
+commandSaid (U2fCommand′.Authenticate flags says) = Gives (Authenticate (flagsNo flags) (saysOf says))
+commandSaid U2fCommand′.Version = Gives Version
+commandSaid (U2fCommand′.Status s) = SW (statusNo s)
+
+-- "01 Register: Lc not 64 gives 6700. P1 is not looked at."
+unfoldable pub registerOf : Says → Outcome Command
+registerOf said =
+    if not (eqb (said .lc) 64) then SW 0x6700
+    else Gives (Register said)
+
+-- "P1 not 03, 07 or 08 gives 6a80"
+abbrev pub isControl : ℕ → Bool
+isControl p1 = eqb p1 0x03 || eqb p1 0x07 || eqb p1 0x08
+
+-- "02 Authenticate: Lc under 65 gives 6700; Lc not 65 + data[64] gives 6700; P1 not 03, 07 or 08 gives 6a80."
+unfoldable pub authenticateOf : List ℕ → Says → Outcome Command
+authenticateOf frame said =
+    if ltb (said .lc) 65 then SW 0x6700
+    else if not (eqb (said .lc) (65 + byte (dataOf frame said) 64)) then SW 0x6700
+    else if not (isControl (said .header .p1)) then SW 0x6a80
+    else Gives (Authenticate (said .header .p1) said)
+
+-- "03 Version: Lc not 0 gives 6700."
+unfoldable pub versionOf : Says → Outcome Command
+versionOf said =
+    if not (eqb (said .lc) 0) then SW 0x6700
+    else Gives Version
+
+-- "CLA not 0 gives 6e00; then by INS"; "40..BF vendor and all others: 6d00, at any Lc."
+unfoldable pub byInstruction : List ℕ → Says → Outcome Command
+byInstruction frame said =
+    if not (eqb (said .header .cla) 0x00) then SW 0x6e00
+    else if eqb (said .header .ins) 0x01 then registerOf said
+    else if eqb (said .header .ins) 0x02 then authenticateOf frame said
+    else if eqb (said .header .ins) 0x03 then versionOf said
+    else SW 0x6d00
+
+-- "shape (6a80, 6700)" first
+unfoldable pub onReading : List ℕ → Outcome Says → Outcome Command
+onReading frame (R n) = R n
+onReading frame (SW n) = SW n
+onReading frame (Gives said) = byInstruction frame said
+
+unfoldable pub commandOf : List ℕ → Outcome Command
+commandOf frame = onReading frame (readOf frame)
+
+-- "Data: challenge 32, application 32."
+unfoldable pub challengeOf : List ℕ → Says → List ℕ
+challengeOf frame said = partOf frame (said .dataAt) (said .dataAt + 32)
+
+unfoldable pub applicationOf : List ℕ → Says → List ℕ
+applicationOf frame said = partOf frame (said .dataAt + 32) (said .dataAt + 64)
+
+-- "The key handle is handed back as the part of the frame after data[64], up to the data's end and without the Le."
+abbrev pub handlePlaceOf : Says → Place
+handlePlaceOf said = record { start = said .dataAt + 65; end = said .dataAt + said .lc }
+
+unfoldable pub handleOf : List ℕ → Says → List ℕ
+handleOf frame said = partOf frame (handlePlaceOf said .start) (handlePlaceOf said .end)

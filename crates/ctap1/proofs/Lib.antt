@@ -1,5 +1,0 @@
-pub mod Cases
-pub mod Tops
-pub mod Ways
-pub mod Told
-pub mod Theorems

@@ -1,4 +1,0 @@
-pub mod Words
-pub mod Decision
-pub mod Calls
-pub mod Claims

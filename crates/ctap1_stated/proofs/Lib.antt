@@ -1,0 +1,14 @@
+pub mod Cases
+pub mod Tops
+pub mod Ways
+pub mod Told
+pub mod Theorems
+pub mod Determined
+pub mod Kept
+pub mod Same
+pub mod Headline
+pub mod Refuted
+pub mod Tabled
+pub mod PathCases
+pub mod PathTops
+pub mod Dues

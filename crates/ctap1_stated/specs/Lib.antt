@@ -1,0 +1,9 @@
+pub mod Words
+pub mod Decision
+pub mod Path
+pub mod Rows
+pub mod Table
+pub mod Due
+pub mod Calls
+pub mod PathCalls
+pub mod Claims

@@ -1,0 +1,80 @@
+-- What the decision is lent and what it answers, in document 01's words; the names that the other files here are written with.
+pub use Prim.Native.Nat.{ℕ, _+_, _<_, _≤_}
+pub use mathlib.Core.Path.{_≡_}
+pub use mathlib.Core.Bool.{Bool, true, false, not}
+pub use mathlib.Core.List.{List, [], _∷_, _++_}
+pub use lib.Dec.{ltb, eqb}
+pub use lib.ListN.{length, drop}
+pub use Rattle.outcome.specs.Notation.{if_then_else_, AtMostOne}
+pub use Rattle.outcome.specs.Outcome.{Outcome, R, SW, Gives, statusNo, refusalNo}
+pub use Rattle.u2f_up_stated.specs.declared.Presence.{Presence}
+pub use Rattle.signing_stated.specs.declared.Order.{Order}
+pub use Rattle.ctap1_stated.specs.declared.Allowed.{Allowed}
+pub use Rattle.ctap1_stated.specs.declared.Attestation.{Attestation}
+use Rattle.ctap1_stated.specs.declared.Attestation.the-variants as Attestation′
+pub use Rattle.ctap1_stated.specs.declared.Counter.{Counter}
+pub use Rattle.ctap1_stated.specs.declared.Hardware.{Hardware}
+pub use Rattle.ctap1_stated.specs.declared.Decided.{Decided}
+use Rattle.ctap1_stated.specs.declared.Decided.the-variants as Decided′
+pub use Rattle.ctap1_stated.specs.declared.Decision.{Decision}
+
+-- 01, The decision: "Lent in: frame, moment, whether CTAP1 is allowed .., reply buffer, and the hardware's answers"
+pub record Inputs : Type 0 where
+  pub frame : List ℕ
+  pub moment : ℕ
+  pub presence : Presence
+  pub hardware : Hardware  -- allowed; new handle stored; attestation; given handle good; counter
+  pub newHandle : List ℕ
+  pub certificate : List ℕ
+  pub x : List ℕ
+  pub y : List ℕ
+  pub room : ℕ  -- the reply buffer's length
+
+-- what of this goes into the order of a Register
+pub record Enrolment : Type 0 where
+  pub newHandle : List ℕ
+  pub certificate : List ℕ
+  pub x : List ℕ
+  pub y : List ℕ
+
+abbrev pub enrolmentOf : Inputs → Enrolment
+enrolmentOf i = record { newHandle = i .newHandle; certificate = i .certificate; x = i .x; y = i .y }
+
+-- what of this an Authenticate looks at
+pub record Login : Type 0 where
+  pub frame : List ℕ
+  pub moment : ℕ
+  pub presence : Presence
+  pub hardware : Hardware
+  pub room : ℕ
+
+abbrev pub loginOf : Inputs → Login
+loginOf i = record { frame = i .frame; moment = i .moment; presence = i .presence; hardware = i .hardware; room = i .room }
+
+-- 01, The decision, 5: "the attestation is missing or failed"
+abbrev pub isPresent : Attestation → Bool
+isPresent Attestation′.Present = true
+isPresent Attestation′.Missing = false
+isPresent Attestation′.Failed = false
+
+-- what a decision without a refusal or a status other than 9000 comes to: a body of n bytes, status 9000, or an order
+pub data Given : Type 0 where
+  Body : ℕ → Given
+  Ordered : Given
+
+-- 01: the answer's numbers, one line a case
+abbrev pub decidedOf : Decided → Outcome Given
+decidedOf (Decided′.Refused why) = R (refusalNo why)
+decidedOf (Decided′.Status s) = SW (statusNo s)
+decidedOf (Decided′.Body n) = Gives (Body n)
+decidedOf Decided′.Order = Gives Ordered
+
+-- the answer, the record afterwards, the order, whether the counter was taken
+pub record Result : Type 0 where
+  pub answer : Outcome Given
+  pub presence : Presence
+  pub order : Order
+  pub taken : Bool
+
+abbrev pub decisionSaid : Decision → Result
+decisionSaid d = record { answer = decidedOf (d .answer); presence = d .presence; order = d .order; taken = d .taken }

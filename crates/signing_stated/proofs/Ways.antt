@@ -1,0 +1,99 @@
+-- The ways through finishing's checks, and what each answer tells.
+use Prim.Native.Nat.{ℕ, _-_, _≤_, _<_}
+use mathlib.Core.Bool.{Bool, true, false}
+use mathlib.Core.Path.{_≡_, refl, sym, _∙_}
+use mathlib.Core.List.{List}
+use native.Mathlib.Omega.{arith}
+use borrow.Author.Tests.{eqb-true, eqb-false, ltb-true, ltb-false}
+use lib.Dec.{eqb, ltb}
+use lib.ListN.{length, drop, length-append}
+use Rattle.outcome.specs.Outcome.{Outcome, R, SW, Gives}
+use Rattle.octets.proofs.Parts.{length-take-most}
+use Rattle.signing_stated.specs.Orders.{Order, Kind, Register, Authenticate, toSign, certificateLength, isOfLayout}
+use Rattle.signing_stated.specs.Finishing.{Finishing, finishOf, roomOf, roomAsked, bodyOf}
+use Rattle.signing_stated.proofs.Checks.{comes-to-r7, comes-to-r4, comes-to-r2, comes-to-6f00, comes-to-r3, comes-to-body}
+
+-- every check passed
+pub record Passed (i : Finishing) : Type 0 where
+  pub layout : isOfLayout (i .order) ≡ true
+  pub certificate : length (i .certificate) ≡ certificateLength (i .order)
+  pub room : roomAsked (i .order) ≤ length (i .reply)
+  pub signer : i .signed ≡ true
+  pub signature : length (i .signature) ≤ 72
+
+pub data Way (i : Finishing) : Outcome (List ℕ) → Type 0 where
+  no-layout : isOfLayout (i .order) ≡ false → Way i (R 7)
+  no-certificate : (length (i .certificate) ≡ certificateLength (i .order) → ⊥) → Way i (R 4)
+  no-room : length (i .reply) < roomAsked (i .order) → Way i (R 2)
+  no-signature : Way i (SW 0x6f00)
+  long-signature : Way i (R 3)
+  passed : Passed i → Way i (Gives (bodyOf (i .order .kind) (i .order) (i .certificate) (i .signature)))
+
+pub way : (i : Finishing) → Way i (finishOf i)
+way i = by-layout (isOfLayout (i .order)) refl
+  where
+    by-signature : (ok : isOfLayout (i .order) ≡ true) (its : length (i .certificate) ≡ certificateLength (i .order))
+        (room : roomAsked (i .order) ≤ length (i .reply)) (done : i .signed ≡ true)
+        (t : Bool) → ltb 72 (length (i .signature)) ≡ t → Way i (finishOf i)
+    by-signature ok its room done true e = rw (comes-to-r3 i ok its room done (ltb-true 72 (length (i .signature)) e)) long-signature
+    by-signature ok its room done false e =
+        rw (comes-to-body i ok its room done (ltb-false 72 (length (i .signature)) e))
+        (passed (record { layout = ok; certificate = its; room = room; signer = done; signature = ltb-false 72 (length (i .signature)) e }))
+
+    by-signer : (ok : isOfLayout (i .order) ≡ true) (its : length (i .certificate) ≡ certificateLength (i .order))
+        (room : roomAsked (i .order) ≤ length (i .reply)) (t : Bool) → i .signed ≡ t → Way i (finishOf i)
+    by-signer ok its room true e = by-signature ok its room e (ltb 72 (length (i .signature))) refl
+    by-signer ok its room false e = rw (comes-to-6f00 i ok its room e) no-signature
+
+    by-room : (ok : isOfLayout (i .order) ≡ true) (its : length (i .certificate) ≡ certificateLength (i .order))
+        (t : Bool) → ltb (length (i .reply)) (roomAsked (i .order)) ≡ t → Way i (finishOf i)
+    by-room ok its true e = rw (comes-to-r2 i ok its (ltb-true _ _ e)) (no-room (ltb-true _ _ e))
+    by-room ok its false e = by-signer ok its (ltb-false _ _ e) (i .signed) refl
+
+    by-certificate : (ok : isOfLayout (i .order) ≡ true) (t : Bool)
+        → eqb (length (i .certificate)) (certificateLength (i .order)) ≡ t → Way i (finishOf i)
+    by-certificate ok true e = by-room ok (eqb-true _ _ e) (ltb (length (i .reply)) (roomAsked (i .order))) refl
+    by-certificate ok false e = rw (comes-to-r4 i ok (eqb-false _ _ e)) (no-certificate (eqb-false _ _ e))
+
+    by-layout : (t : Bool) → isOfLayout (i .order) ≡ t → Way i (finishOf i)
+    by-layout true e = by-certificate e (eqb (length (i .certificate)) (certificateLength (i .order))) refl
+    by-layout false e = rw (comes-to-r7 i e) (no-layout e)
+
+module _ {i : Finishing} where
+  pub told-r7 : {x : Outcome (List ℕ)} → Way i x → x ≡ R 7 → isOfLayout (i .order) ≡ false
+  told-r7 (no-layout bad) e = bad
+  told-r7 (no-certificate other) e = let z : _≡_ {A = ℕ} 4 7 = cc in absurd (omega arith)
+  told-r7 (no-room short) e = let z : _≡_ {A = ℕ} 2 7 = cc in absurd (omega arith)
+  told-r7 no-signature e = let z : _≡_ {A = ℕ} 0 1 = cc in absurd (omega arith)
+  told-r7 long-signature e = let z : _≡_ {A = ℕ} 3 7 = cc in absurd (omega arith)
+  told-r7 (passed p) e = let z : _≡_ {A = ℕ} 0 1 = cc in absurd (omega arith)
+
+  pub told-body : {x : Outcome (List ℕ)} (body : List ℕ) → Way i x → x ≡ Gives body
+      → Passed i × (body ≡ bodyOf (i .order .kind) (i .order) (i .certificate) (i .signature))
+  told-body body (no-layout bad) e = let z : _≡_ {A = ℕ} 0 1 = cc in absurd (omega arith)
+  told-body body (no-certificate other) e = let z : _≡_ {A = ℕ} 0 1 = cc in absurd (omega arith)
+  told-body body (no-room short) e = let z : _≡_ {A = ℕ} 0 1 = cc in absurd (omega arith)
+  told-body body no-signature e = let z : _≡_ {A = ℕ} 0 1 = cc in absurd (omega arith)
+  told-body body long-signature e = let z : _≡_ {A = ℕ} 0 1 = cc in absurd (omega arith)
+  told-body body (passed p) e = (p, cc)
+
+  -- past layout, certificate and room, the one refusal left is R3
+  pub told-r3 : {x : Outcome (List ℕ)} (n : ℕ) → Way i x → x ≡ R n → isOfLayout (i .order) ≡ true
+      → length (i .certificate) ≡ certificateLength (i .order) → roomAsked (i .order) ≤ length (i .reply) → n ≡ 3
+  told-r3 n (no-layout bad) e ok its room =
+      let z : _≡_ {A = Bool} true false = sym ok ∙ bad in let y : _≡_ {A = ℕ} 0 1 = cc in absurd (omega arith)
+  told-r3 n (no-certificate other) e ok its room = absurd (other its)
+  told-r3 n (no-room short) e ok its room = absurd (omega arith)
+  told-r3 n no-signature e ok its room = let z : _≡_ {A = ℕ} 0 1 = cc in absurd (omega arith)
+  told-r3 n long-signature e ok its room = cc
+  told-r3 n (passed p) e ok its room = let z : _≡_ {A = ℕ} 0 1 = cc in absurd (omega arith)
+
+-- a body is within the room asked for, whatever the order holds
+pub body-within : (k : Kind) (o : Order) (certificate signature : List ℕ) → length certificate ≡ certificateLength o
+    → length signature ≤ 72 → length (bodyOf k o certificate signature) ≤ roomOf k o
+body-within Register o certificate signature its short =
+    let n : ℕ = toSign o in
+    simp length-append
+    (omega (arith, length-take-most 32 (drop (toSign o - 64) (o .bytes)), length-take-most 32 (drop (toSign o - 32) (o .bytes)), length-take-most (toSign o - 130) (drop 65 (o .bytes))))
+body-within Authenticate o certificate signature its short =
+    simp length-append (omega (arith, length-take-most 4 (drop 33 (o .bytes))))

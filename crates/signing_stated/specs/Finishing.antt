@@ -1,0 +1,76 @@
+-- Document 01, 'The decision', from "Finishing takes order, certificate, signer's answer and reply buffer", and
+-- 'Refusal numbers': "A 9000 body fills the front of the buffer; the rest stays".
+use Prim.Native.Nat.{ℕ, _+_, _-_}
+use mathlib.Core.Bool.{Bool, not}
+use mathlib.Core.Path.{_≡_}
+use mathlib.Core.List.{List}
+use lib.Dec.{eqb, ltb}
+use lib.ListN.{length}
+use Rattle.outcome.specs.Notation.{if_then_else_}
+use Rattle.outcome.specs.Outcome.{Outcome, R, SW, Gives, statusNo, refusalNo}
+use Rattle.octets.specs.Bytes.{laid}
+use Rattle.signing_stated.specs.Orders.{Kind, Register, Authenticate, Order, toSign, certificateLength, isOfLayout, registerFieldsOf, authenticateFieldsOf}
+use Rattle.signing_stated.specs.Layouts.{registerBody, authenticateBody}
+pub use Rattle.signing_stated.specs.Words.{Finished, Refused, Status, Body}
+
+-- what finishing is lent
+pub record Finishing : Type 0 where
+  pub order : Order
+  pub certificate : List ℕ
+  pub signed : Bool  -- the signer did not fail
+  pub signature : List ℕ
+  pub reply : List ℕ  -- the reply buffer before the call
+
+-- 01: "R2 (139 + h + c, or 77)"
+abbrev pub registerRoom : (h c : ℕ) → ℕ
+registerRoom h c = 139 + h + c
+
+abbrev pub authenticateRoom : ℕ
+authenticateRoom = 77
+
+-- the room that an order of its layout asks for. A Register order has 130 + h to sign, so h is what it has over 130
+abbrev pub roomOf : Kind → Order → ℕ
+roomOf Register o = registerRoom (toSign o - 130) (certificateLength o)
+roomOf Authenticate o = authenticateRoom
+
+abbrev pub roomAsked : Order → ℕ
+roomAsked o = roomOf (o .kind) o
+
+-- the body that an order of its layout comes to
+abbrev pub bodyOf : Kind → Order → (certificate signature : List ℕ) → List ℕ
+bodyOf Register o certificate signature = registerBody (registerFieldsOf (toSign o) (o .bytes)) certificate signature
+bodyOf Authenticate o certificate signature = authenticateBody (authenticateFieldsOf (o .bytes)) signature
+
+-- 01: "Checks: R7, R4, R2 (139 + h + c, or 77), signer failed 6f00, R3"
+unfoldable pub finishOf : Finishing → Outcome (List ℕ)
+finishOf i =
+    let o = i .order in
+    if not (isOfLayout o) then R 7
+    else if not (eqb (length (i .certificate)) (certificateLength o)) then R 4
+    else if ltb (length (i .reply)) (roomAsked o) then R 2
+    else if not (i .signed) then SW 0x6f00
+    else if ltb 72 (length (i .signature)) then R 3
+    else Gives (bodyOf (o .kind) o (i .certificate) (i .signature))
+
+-- 01: "R refusal, status, 9000 with a body of n bytes"
+abbrev pub finishedOf : Finished → Outcome ℕ
+finishedOf (Refused r) = R (refusalNo r)
+finishedOf (Status s) = SW (statusNo s)
+finishedOf (Body n) = Gives n
+
+-- the answer says the body's length
+abbrev pub lengthOf : Outcome (List ℕ) → Outcome ℕ
+lengthOf (R n) = R n
+lengthOf (SW n) = SW n
+lengthOf (Gives body) = Gives (length body)
+
+-- 01: "A 9000 body fills the front of the buffer; the rest stays"; every other answer leaves the buffer as it was
+abbrev pub replyOf : Outcome (List ℕ) → List ℕ → List ℕ
+replyOf (R n) old = old
+replyOf (SW n) old = old
+replyOf (Gives body) old = laid body old
+
+-- what is promised of `finish`: its answer, and the reply buffer after the call
+pub record Finishes (i : Finishing) (answer : Finished) (after : List ℕ) : Type 0 where
+  pub says : finishedOf answer ≡ lengthOf (finishOf i)
+  pub leaves : after ≡ replyOf (finishOf i) (i .reply)

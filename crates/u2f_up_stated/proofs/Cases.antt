@@ -1,0 +1,122 @@
+-- What each return of the functions gives, as a law in the form of its need: the premises are the facts as the code has
+-- them. The only file, beside the theorems on runs, that opens the definitions of specs/Moments.antt.
+use Prim.Native.Nat.{ℕ, _+_, _-_, _^_, _<_, _≤_}
+use mathlib.Core.Path.{_≡_, refl, sym, _∙_}
+use mathlib.Core.Bool.{Bool, true, false}
+use native.Mathlib.Omega.{arith}
+use lib.Dec.{ltb}
+use borrow.Author.Tests.{lt-ltb, le-ltb, le-leb, lt-leb, eq-eqb, ne-eqb, ltb-true, ltb-false}
+use Rattle.outcome.specs.declared.Refusal.{Refusal}
+use Rattle.u2f_up_stated.specs.Words.{Outcome, R, Gives, refusalNo, Presence, Window, Opened, Found}
+use Rattle.u2f_up_stated.specs.Moments.{isLive, isR6, isR1, fresh, newOf, movedTo, touched, spent, prompted, settleOf, grantedOf, checkedOf}
+use Rattle.u2f_up_stated.specs.Moments.{Told, gave, refused, onSettled, touchOf, checkOf, askOf}
+use Rattle.u2f_up_stated.specs.Answers.{readyOf}
+use Rattle.u2f_up_stated.specs.declared.Ready.{Ready}
+use Rattle.u2f_up_stated.specs.declared.Ready.the-variants as Ready′
+
+-- R6 and R1, from the comparisons that the code makes
+pub r6-zero : (w : ℕ) → w ≡ 0 → true ≡ isR6 w
+r6-zero w h = rw (eq-eqb w 0 h)
+
+pub r6-above : (w : ℕ) → (w ≡ 0 → ⊥) → ltb 60000 w ≡ isR6 w
+r6-above w h = rw (ne-eqb w 0 h)
+
+pub r1-beyond : (last t : ℕ) → 2 ^ 48 ≤ t → true ≡ isR1 last t
+r1-beyond last t h = rw (le-leb (2 ^ 48) t h)
+
+pub r1-before : (last t : ℕ) → t < 2 ^ 48 → ltb t last ≡ isR1 last t
+r1-before last t h = rw (lt-leb (2 ^ 48) t h)
+
+-- making a record
+module _ (w : ℕ) (bad : Bool) where
+  pub new-r6 : bad ≡ isR6 w → bad ≡ true → R 6 ≡ newOf w
+  unfolding newOf
+  new-r6 e h = rw (sym e ∙ h)
+
+  pub new-made : bad ≡ isR6 w → bad ≡ false → Gives (fresh w) ≡ newOf w
+  unfolding newOf
+  new-made e h = rw (sym e ∙ h)
+
+-- settling the moment
+module _ (p : Presence) (t : ℕ) (bad : Bool) where
+  pub settle-r6 : bad ≡ isR6 (p .w) → bad ≡ true → R 6 ≡ settleOf p t
+  unfolding settleOf
+  settle-r6 e h = rw (sym e ∙ h)
+
+  module _ (late : Bool) where
+    pub settle-r1 : bad ≡ isR6 (p .w) → bad ≡ false → late ≡ isR1 (p .last) t → late ≡ true → R 1 ≡ settleOf p t
+    unfolding settleOf
+    settle-r1 e h f k = rw (sym e ∙ h, sym f ∙ k)
+
+    pub settled : bad ≡ isR6 (p .w) → bad ≡ false → late ≡ isR1 (p .last) t → late ≡ false → Gives (movedTo p t) ≡ settleOf p t
+    unfolding settleOf
+    settled e h f k = rw (sym e ∙ h, sym f ∙ k)
+
+-- windows
+pub live-ahead : (window : Window) (m d t : ℕ) → window ≡ Opened m → t < m → true ≡ isLive window d t
+live-ahead window m d t e h = rw e (sym (lt-ltb t (m + d) (omega arith)))
+
+pub live-since : (window : Window) (m d t : ℕ) → window ≡ Opened m → m ≤ t → ltb (t - m) d ≡ isLive window d t
+live-since window m d t e h = rw e (same (ltb (t - m) d) refl)
+  where
+    same : (b : Bool) → ltb (t - m) d ≡ b → ltb (t - m) d ≡ ltb t (m + d)
+    same true q = q ∙ sym (lt-ltb t (m + d) (omega (arith, ltb-true (t - m) d q)))
+    same false q = q ∙ sym (le-ltb t (m + d) (omega (arith, ltb-false (t - m) d q)))
+
+-- touch and touch check on a settled record
+module _ (p : Presence) (t : ℕ) (live : Bool) where
+  pub granted-yes : live ≡ isLive (p .prompt) 10000 t → live ≡ true → record { yes = true; presence = touched p t } ≡ grantedOf p t
+  unfolding grantedOf
+  granted-yes e h = rw (sym e ∙ h)
+
+  pub granted-no : live ≡ isLive (p .prompt) 10000 t → live ≡ false → record { yes = false; presence = p } ≡ grantedOf p t
+  unfolding grantedOf
+  granted-no e h = rw (sym e ∙ h)
+
+  pub checked-yes : live ≡ isLive (p .touch) (p .w) t → live ≡ true → record { yes = true; presence = spent p } ≡ checkedOf p t
+  unfolding checkedOf
+  checked-yes e h = rw (sym e ∙ h)
+
+  pub checked-no : live ≡ isLive (p .touch) (p .w) t → live ≡ false → record { yes = false; presence = prompted p t } ≡ checkedOf p t
+  unfolding checkedOf
+  checked-no e h = rw (sym e ∙ h)
+
+-- an answer and a record, told
+pub told-as : (found : Found) (o : Outcome Bool) → o ≡ Gives (found .yes) → record { outcome = o; presence = found .presence } ≡ gave found
+told-as found o e = rw e
+
+-- the calls: a refusal keeps the record that came in, and what is found on the settled record is what is told
+module _ (p : Presence) (t : ℕ) (ready : Ready) (settles : readyOf ready ≡ settleOf p t) (s : Told) where
+  module _ (why : Refusal) (is : ready ≡ Ready′.Refused why) (tells : s ≡ refused (refusalNo why) p) where
+    told-refused : (goOn : Presence → Told) → s ≡ onSettled p (settleOf p t) goOn
+    told-refused goOn = tells ∙ rw (← settles, is)
+
+    pub touch-refused : s ≡ touchOf p t
+    unfolding touchOf
+    touch-refused = told-refused (λ q. gave (grantedOf q t))
+
+    pub check-refused : s ≡ checkOf p t
+    unfolding checkOf
+    check-refused = told-refused (λ q. gave (checkedOf q t))
+
+  module _ (q : Presence) (is : ready ≡ Ready′.Record q) (found : Found) (tells : s ≡ gave found) where
+    told-found : (f : Presence → Found) → found ≡ f q → s ≡ onSettled p (settleOf p t) (λ x. gave (f x))
+    told-found f e = tells ∙ rw (← settles, is, ← e)
+
+    pub touch-found : found ≡ grantedOf q t → s ≡ touchOf p t
+    unfolding touchOf
+    touch-found = told-found (λ x. grantedOf x t)
+
+    pub check-found : found ≡ checkedOf q t → s ≡ checkOf p t
+    unfolding checkOf
+    check-found = told-found (λ x. checkedOf x t)
+
+-- asking gives no record back
+module _ (p : Presence) (t : ℕ) (ready : Ready) (settles : readyOf ready ≡ settleOf p t) where
+  pub ask-refused : (why : Refusal) → ready ≡ Ready′.Refused why → R (refusalNo why) ≡ askOf p t .outcome
+  unfolding askOf
+  ask-refused why is = rw (← settles, is)
+
+  pub ask-found : (q : Presence) → ready ≡ Ready′.Record q → (live : Bool) (o : Outcome Bool) → live ≡ isLive (p .prompt) 10000 t → o ≡ Gives live → o ≡ askOf p t .outcome
+  unfolding askOf
+  ask-found q is live o e h = rw (← settles, is, h, e)

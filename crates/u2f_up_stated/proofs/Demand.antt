@@ -1,0 +1,157 @@
+-- Demand 3 for the runs of any way of calling that keeps to the five kinds: the record is read off the history, and so is
+-- every outcome.
+use Prim.Native.Nat.{ℕ, suc, _<_, _≤_}
+use mathlib.Core.Path.{_≡_, refl, sym, ap, _∙_}
+use mathlib.Core.Bool.{Bool, true, false}
+use mathlib.Core.List.{List, [], _∷_, _++_}
+use native.Mathlib.Omega.{arith}
+use lib.ListN.{length, length-append}
+use Rattle.outcome.specs.Notation.{if_then_else_}
+use Rattle.outcome.specs.Outcome.{Outcome, R, Gives}
+use Rattle.u2f_up_stated.specs.Words.{Presence, Opened}
+use Rattle.u2f_up_stated.specs.Moments.{Told, isLive, isR6, isR1, movedTo, settleOf, grantedOf, checkedOf}
+use Rattle.u2f_up_stated.specs.History.{Kind, Touching, Checking, Asking, Settling, Short, Event, Place, placed, those, isYoung, isOld, live, lastMoment, unspent, isPrompted, unrefused, foretold}
+use Rattle.u2f_up_stated.specs.Runs.{Caller, Keeps, after, next, history, doneBy}
+use Rattle.u2f_up_stated.proofs.Callers.{done-refused, done-touching, done-checking, done-asking, done-settling, done-short}
+use Rattle.u2f_up_stated.proofs.Lists.{stay-old, left-old}
+use Rattle.u2f_up_stated.proofs.Runs.{promptOf, heldOf, recordOf, not-before, Sorted, Effect, still, moved, touched, spent, prompted, Follows, follows, settles-r1, settles}
+use Rattle.u2f_up_stated.proofs.Touches.{Inv, inv-at-first, keeps, held-now, prompt-old, last-next, unspent-next, live-any, at-most-one, window-of}
+use Rattle.u2f_up_stated.proofs.Prompts.{Agrees, agrees-at-first, agrees-next}
+use Rattle.u2f_up_stated.proofs.Ledger.{Balanced, balanced-at-first, balanced-next, OneEach, one-at-first, one-next}
+
+abbrev outcome : Told → Outcome Bool
+outcome s = s .outcome
+
+-- what a call gives on the record that a history has made, in the history's words
+module _ (w : ℕ) (h : List Event) (t : ℕ) (within : isR6 w ≡ false) where
+  abbrev p : Presence
+  p = recordOf w h
+
+  abbrev gives : Kind → Outcome Bool
+  gives Touching = Gives (isLive (promptOf h) 10000 t)
+  gives Checking = Gives (isLive (heldOf h) w t)
+  gives Asking = Gives (isLive (promptOf h) 10000 t)
+  gives Settling = Gives true
+  gives Short = R 2
+
+  yes-granted : (b : Bool) → isLive (promptOf h) 10000 t ≡ b → grantedOf (movedTo p t) t .yes ≡ isLive (promptOf h) 10000 t
+  unfolding grantedOf
+  yes-granted true e = rw e
+  yes-granted false e = rw e
+
+  yes-checked : (b : Bool) → isLive (heldOf h) w t ≡ b → checkedOf (movedTo p t) t .yes ≡ isLive (heldOf h) w t
+  unfolding checkedOf
+  yes-checked true e = rw e
+  yes-checked false e = rw e
+
+  outcome-given : settleOf p t ≡ Gives (movedTo p t) → (k : Kind) → doneBy k p t .outcome ≡ gives k
+  outcome-given e Touching = ap outcome (done-touching p t (movedTo p t) e) ∙ ap {B = Outcome Bool} Gives (yes-granted (isLive (promptOf h) 10000 t) refl)
+  outcome-given e Checking = ap outcome (done-checking p t (movedTo p t) e) ∙ ap {B = Outcome Bool} Gives (yes-checked (isLive (heldOf h) w t) refl)
+  outcome-given e Asking = ap outcome (done-asking p t (movedTo p t) e)
+  outcome-given e Settling = ap outcome (done-settling p t (movedTo p t) e)
+  outcome-given e Short = ap outcome (done-short p t (movedTo p t) e)
+
+  module _ (i : Inv w h) (g : Agrees h) where
+    gives-foretold : lastMoment h ≤ t → (k : Kind) → gives k ≡ unrefused w h k t
+    unfolding isPrompted
+    gives-foretold late Touching = ap {B = Outcome Bool} Gives (g .agrees t)
+    gives-foretold late Checking = ap {B = Outcome Bool} Gives (live-any w t (unspent w h) (heldOf h) (held-now w h t late i))
+    gives-foretold late Asking = ap {B = Outcome Bool} Gives (g .agrees t)
+    gives-foretold late Settling = refl
+    gives-foretold late Short = refl
+
+    pub outcome-foretold : (k : Kind) → doneBy k p t .outcome ≡ foretold w h (record { kind = k; moment = t })
+    unfolding foretold
+    outcome-foretold k = go (isR1 (lastMoment h) t) refl
+      where
+        go : (b : Bool) → isR1 (lastMoment h) t ≡ b → doneBy k p t .outcome ≡ (if b then R 1 else unrefused w h k t)
+        go true e = ap outcome (done-refused p t 1 (settles-r1 w h t within e) k)
+        go false e = outcome-given (settles w h t within e) k ∙ gives-foretold (not-before (lastMoment h) t e) k
+
+-- a touch that is live after an event, and is not that event, was live before it
+module _ (w : ℕ) (h : List Event) (e : Event) (k : Place) (t : ℕ) where
+  abbrev Before : Type 0
+  Before = (lastMoment h ≤ t) × (live w h t ≡ k ∷ [])
+
+  passes : {m p : Bool} → Sorted e m false false p → lastMoment h ≤ t → live w (e ∷ h) t ≡ k ∷ [] → Before
+  passes x late l = (late, sym (ap (those (isYoung w t)) (unspent-next h w x)) ∙ l)
+
+  not-empty : those (isYoung w t) (unspent w (e ∷ h)) ≡ [] → live w (e ∷ h) t ≡ k ∷ [] → ⊥
+  not-empty n l = let z : _≡_ {A = ℕ} 0 1 = cc in omega arith
+
+  module _ (i : Inv w h) (late : lastMoment (e ∷ h) ≤ t) (l : live w (e ∷ h) t ≡ k ∷ []) (n : k .number < length h) where
+    accepted-now : (x : Sorted e true true false false) → lastMoment h ≤ e .call .moment → isLive (promptOf h) 10000 (e .call .moment) ≡ true → Before
+    accepted-now x b is-live = absurd (go (isYoung w t (placed e h)) (sym (ap (those (isYoung w t)) (unspent-next h w x)) ∙ l))
+      where
+        old : those (isYoung w t) (unspent w h) ≡ []
+        old = stay-old w (lastMoment h) t (omega (arith, last-next h w x)) (unspent w h) (prompt-old w (lastMoment h) (e .call .moment) (unspent w h) (promptOf h) is-live (i .prompting))
+
+        go : (y : Bool) → (if y then placed e h ∷ those (isYoung w t) (unspent w h) else those (isYoung w t) (unspent w h)) ≡ k ∷ [] → ⊥
+        go true q = let z : length h ≡ k .number = cc in omega arith
+        go false q = let z : _≡_ {A = ℕ} 0 1 = cc old in omega arith
+
+    back : Effect w h e → Before
+    back (still x) = passes x (omega (arith, last-next h w x)) l
+    back (moved x b) = passes x (omega (arith, last-next h w x)) l
+    back (touched x b is-live) = accepted-now x b is-live
+    back (spent x b is-live) =
+        absurd (not-empty (rw (unspent-next h w x) (stay-old w (e .call .moment) t (omega (arith, last-next h w x)) (those (isOld w (e .call .moment)) (unspent w h)) (left-old w (e .call .moment) (unspent w h)))) l)
+    back (prompted x b not-live) = passes x (omega (arith, last-next h w x)) l
+
+-- runs
+module _ {D : Type 0} (𝒞 : Caller D) (keeping : Keeps 𝒞) (w : ℕ) (within : isR6 w ≡ false) where
+  abbrev past : List D → List Event
+  past ds = history 𝒞 w ds
+
+  step : (ds : List D) (d : D) → after 𝒞 w ds ≡ recordOf w (past ds) → 𝒞 .does (after 𝒞 w ds) d ≡ doneBy (𝒞 .asCall d .kind) (recordOf w (past ds)) (𝒞 .asCall d .moment)
+  step ds d e = keeping (after 𝒞 w ds) d ∙ ap (λ q. doneBy (𝒞 .asCall d .kind) q (𝒞 .asCall d .moment)) e
+
+  step-follows : (ds : List D) (d : D) → after 𝒞 w ds ≡ recordOf w (past ds) → Follows w (past ds) (𝒞 .asCall d .moment) (𝒞 .asCall d .kind) (𝒞 .does (after 𝒞 w ds) d)
+  step-follows ds d e = rw (step ds d e) (follows w (past ds) (𝒞 .asCall d .moment) within (𝒞 .asCall d .kind))
+
+  pub exact : (ds : List D) → after 𝒞 w ds ≡ recordOf w (past ds)
+  unfolding after history promptOf heldOf lastMoment
+  exact [] = refl
+  exact (d ∷ ds) = step-follows ds d (exact ds) .exact
+
+  effect : (ds : List D) (d : D) → Effect w (past ds) (record { call = 𝒞 .asCall d; outcome = next 𝒞 w ds d })
+  effect ds d = step-follows ds d (exact ds) .effect
+
+  -- what holds at first and is kept by every event holds of every run
+  pub along : (P : List Event → Type 0) → P [] → ((h : List Event) (e : Event) → Effect w h e → P h → P (e ∷ h)) → (ds : List D) → P (past ds)
+  unfolding history
+  along P first more [] = first
+  along P first more (d ∷ ds) = more (past ds) _ (effect ds d) (along P first more ds)
+
+  pub invariant : (ds : List D) → Inv w (past ds)
+  invariant = along (Inv w) inv-at-first (λ h e x i. keeps w h e x i)
+
+  agreeing : (ds : List D) → Agrees (past ds)
+  agreeing = along Agrees agrees-at-first (λ h e x g. agrees-next w h e g x)
+
+  pub balanced : (picks : Place → Bool) (ds : List D) → Balanced w picks (past ds)
+  balanced picks = along (Balanced w picks) (balanced-at-first w picks) (λ h e x b. balanced-next w picks h e b x)
+
+  pub one-each : (ds : List D) → OneEach w (past ds)
+  one-each ds = along (λ h. Inv w h × OneEach w h) (inv-at-first, one-at-first w) (λ h e x b. (keeps w h e x (b .0), one-next w h e (b .0) (b .1) x)) ds .1
+
+  pub foretells : (ds : List D) (d : D) → next 𝒞 w ds d ≡ foretold w (past ds) (𝒞 .asCall d)
+  foretells ds d = ap outcome (step ds d (exact ds)) ∙ outcome-foretold w (past ds) (𝒞 .asCall d .moment) within (invariant ds) (agreeing ds) (𝒞 .asCall d .kind)
+
+  pub one-live-at : (ds : List D) (t : ℕ) → lastMoment (past ds) ≤ t → length (live w (past ds) t) ≤ 1
+  one-live-at ds t late = at-most-one w t (unspent w (past ds)) (heldOf (past ds)) (held-now w (past ds) t late (invariant ds))
+
+  history-length : (ds : List D) → length (past ds) ≡ length ds
+  unfolding history
+  history-length [] = refl
+  history-length (d ∷ ds) = ap suc (history-length ds)
+
+  pub holds : (later earlier : List D) (k : Place) (t : ℕ) → lastMoment (past (later ++ earlier)) ≤ t → live w (past (later ++ earlier)) t ≡ k ∷ [] → k .number < length earlier
+      → after 𝒞 w earlier .touch ≡ Opened (k .moment)
+  unfolding history
+  holds [] earlier k t late l n =
+      ap (λ (q : Presence). q .touch) (exact earlier) ∙ window-of w t (unspent w (past earlier)) (heldOf (past earlier)) k (held-now w (past earlier) t late (invariant earlier)) l
+  holds (d ∷ later) earlier k t late l n =
+      let ds = later ++ earlier in
+      let b = back w (past ds) _ k t (invariant ds) late l (omega (arith, history-length ds, length-append later earlier)) (effect ds d) in
+      holds later earlier k t (b .0) (b .1) n

@@ -1,0 +1,128 @@
+-- 'Exactly when': what a foretold outcome says of the history, both ways.
+use Prim.Native.Nat.{ℕ, _+_, _^_, _<_, _≤_}
+use mathlib.Core.Path.{_≡_, refl, sym, ap, _∙_}
+use mathlib.Core.Bool.{Bool, true, false, _&&_, _||_, or-true, true≢false, false≢true}
+use mathlib.Core.List.{List, [], _∷_}
+use mathlib.Core.Logic.{_↔_, inl, inr, ⊎-elim}
+use mathlib.Core.Option.{Option, none, some}
+use native.Mathlib.Omega.{arith}
+use lib.Dec.{ltb, leb}
+use lib.ListN.{length}
+use borrow.Author.Tests.{ltb-true, leb-true, lt-ltb}
+use Rattle.outcome.specs.Outcome.{Outcome, R, Gives}
+use Rattle.u2f_up_stated.specs.Moments.{isR1}
+use Rattle.u2f_up_stated.specs.History.{Kind, Touching, Checking, Asking, Settling, Short, Event, Place, isAny, live, lastMoment, isPrompted, latest, isAccepted, isPromptingRefusal, isAfter, isPromptedBy, unrefused, foretold}
+use Rattle.u2f_up_stated.specs.Claims.{RefusedAt}
+use Rattle.u2f_up_stated.proofs.Cases.{r1-beyond}
+
+both : (a b : Bool) → a && b ≡ true → (a ≡ true) × (b ≡ true)
+both true b e = (refl, e)
+both false b e = absurd (false≢true e)
+
+is-given : (a b : Bool) → _≡_ {A = Outcome Bool} (Gives a) (Gives b) → a ≡ b
+is-given a b e = cc
+
+no-refusal : (n : ℕ) (b : Bool) → _≡_ {A = Outcome Bool} (R n) (Gives b) → ⊥
+no-refusal n b e = let z : _≡_ {A = ℕ} 0 1 = cc in omega arith
+
+r1-back : (last t : ℕ) → t < last → isR1 last t ≡ true
+r1-back last t h = rw (lt-ltb t last h) (or-true (leb (2 ^ 48) t))
+
+module _ (h : List Event) (t : ℕ) where
+  r1-refused : isR1 (lastMoment h) t ≡ true → RefusedAt h t
+  r1-refused = go (leb (2 ^ 48) t) (ltb t (lastMoment h)) refl refl
+    where
+      go : (a b : Bool) → leb (2 ^ 48) t ≡ a → ltb t (lastMoment h) ≡ b → a || b ≡ true → RefusedAt h t
+      go true b p q e = inl (leb-true (2 ^ 48) t p)
+      go false true p q e = inr (ltb-true t (lastMoment h) q)
+      go false false p q e = absurd (false≢true e)
+
+  refused-r1 : RefusedAt h t → isR1 (lastMoment h) t ≡ true
+  refused-r1 r = ⊎-elim (λ b. sym (r1-beyond (lastMoment h) t b)) (r1-back (lastMoment h) t) r
+
+  passed : isR1 (lastMoment h) t ≡ false → RefusedAt h t → ⊥
+  passed e r = true≢false (sym (refused-r1 r) ∙ e)
+
+module _ (w : ℕ) (h : List Event) (t : ℕ) (o : Outcome Bool) where
+  -- a foretold outcome, by whether the moment passes
+  foretold-r1 : (k : Kind) → o ≡ foretold w h (record { kind = k; moment = t }) → isR1 (lastMoment h) t ≡ true → o ≡ R 1
+  unfolding foretold
+  foretold-r1 k f e = f ∙ rw e
+
+  foretold-given : (k : Kind) → o ≡ foretold w h (record { kind = k; moment = t }) → isR1 (lastMoment h) t ≡ false → o ≡ unrefused w h k t
+  unfolding foretold
+  foretold-given k f e = f ∙ rw e
+
+  -- R1, and never R6
+  unrefused-no-r : (n : ℕ) → (2 ≡ n → ⊥) → (k : Kind) → unrefused w h k t ≡ R n → ⊥
+  unrefused-no-r n d Touching e = no-refusal n _ (sym e)
+  unrefused-no-r n d Checking e = no-refusal n _ (sym e)
+  unrefused-no-r n d Asking e = no-refusal n _ (sym e)
+  unrefused-no-r n d Settling e = no-refusal n _ (sym e)
+  unrefused-no-r n d Short e = d (cc)
+
+  pub refuses : (k : Kind) → o ≡ foretold w h (record { kind = k; moment = t }) → (o ≡ R 1) ↔ RefusedAt h t
+  refuses k f = (go (isR1 (lastMoment h) t) refl, λ r. foretold-r1 k f (refused-r1 h t r))
+    where
+      go : (b : Bool) → isR1 (lastMoment h) t ≡ b → o ≡ R 1 → RefusedAt h t
+      go true e q = r1-refused h t e
+      go false e q = absurd (unrefused-no-r 1 (omega arith) k (sym (foretold-given k f e) ∙ q))
+
+  pub refuses-no-window : (k : Kind) → o ≡ foretold w h (record { kind = k; moment = t }) → o ≡ R 6 → ⊥
+  refuses-no-window k f = go (isR1 (lastMoment h) t) refl
+    where
+      go : (b : Bool) → isR1 (lastMoment h) t ≡ b → o ≡ R 6 → ⊥
+      go true e q = let r = foretold-r1 k f e in let z : _≡_ {A = ℕ} 1 6 = cc in omega arith
+      go false e q = unrefused-no-r 6 (omega arith) k (sym (foretold-given k f e) ∙ q)
+
+  -- yes: the moment passes, and what was asked is so
+  yes : (k : Kind) (b : Bool) → unrefused w h k t ≡ Gives b → o ≡ foretold w h (record { kind = k; moment = t }) → (o ≡ Gives true) ↔ ((RefusedAt h t → ⊥) × (b ≡ true))
+  yes k b u f = (go (isR1 (lastMoment h) t) refl, back (isR1 (lastMoment h) t) refl)
+    where
+      go : (c : Bool) → isR1 (lastMoment h) t ≡ c → o ≡ Gives true → (RefusedAt h t → ⊥) × (b ≡ true)
+      go true e q = absurd (no-refusal 1 true (sym (foretold-r1 k f e) ∙ q))
+      go false e q = (passed h t e, is-given b true (sym u ∙ sym (foretold-given k f e) ∙ q))
+
+      back : (c : Bool) → isR1 (lastMoment h) t ≡ c → (RefusedAt h t → ⊥) × (b ≡ true) → o ≡ Gives true
+      back true e q = absurd (q .0 (r1-refused h t e))
+      back false e q = foretold-given k f e ∙ u ∙ ap {B = Outcome Bool} Gives (q .1)
+
+-- a standing prompt, in the document's words
+abbrev Standing : List Event → ℕ → Type 0
+Standing h t = (s : Place) × (latest isPromptingRefusal h ≡ some s) × (isAfter s (latest isAccepted h) ≡ true) × (t < s .moment + 10000)
+
+standing : (h : List Event) (t : ℕ) → (isPrompted h t ≡ true) ↔ Standing h t
+unfolding isPrompted
+standing h t = (go (latest isPromptingRefusal h) refl, back)
+  where
+    go : (o : Option Place) → latest isPromptingRefusal h ≡ o → isPromptedBy o (latest isAccepted h) t ≡ true → Standing h t
+    go none e q = absurd (false≢true q)
+    go (some s) e q = let z = both (isAfter s (latest isAccepted h)) (ltb t (s .moment + 10000)) q in (s, e, z .0, ltb-true t (s .moment + 10000) (z .1))
+
+    back : Standing h t → isPromptedBy (latest isPromptingRefusal h) (latest isAccepted h) t ≡ true
+    back s = rw (s .1, s .2) (lt-ltb t (s .0 .moment + 10000) (s .3))
+
+-- one touch held
+only : (ks : List Place) → length ks ≤ 1 → (isAny ks ≡ true) ↔ ((k : Place) × (ks ≡ k ∷ []))
+only [] b = (λ e. absurd (false≢true e), λ s. let z : _≡_ {A = ℕ} 0 1 = omega (arith, ap length (s .1)) in absurd (omega arith))
+only (k ∷ []) b = (λ e. (k, refl), λ s. refl)
+only (k ∷ (j ∷ ks)) b = (λ e. absurd (omega arith), λ s. refl)
+
+module _ (w : ℕ) (h : List Event) (t : ℕ) (o : Outcome Bool) where
+  pub accepts : o ≡ foretold w h (record { kind = Touching; moment = t }) → (o ≡ Gives true) ↔ ((RefusedAt h t → ⊥) × Standing h t)
+  accepts f = let y = yes w h t o Touching (isPrompted h t) refl f in
+      (λ q. (y .0 q .0, standing h t .0 (y .0 q .1)), λ s. y .1 (s .0, standing h t .1 (s .1)))
+
+  pub finds : (lastMoment h ≤ t → length (live w h t) ≤ 1) → o ≡ foretold w h (record { kind = Checking; moment = t })
+      → (o ≡ Gives true) ↔ ((RefusedAt h t → ⊥) × ((k : Place) × (live w h t ≡ k ∷ [])))
+  finds one f = let y = yes w h t o Checking (isAny (live w h t)) refl f in (
+    λ q. (y .0 q .0, only (live w h t) (one (late (y .0 q .0))) .0 (y .0 q .1)),
+    λ s. y .1 (s .0, only (live w h t) (one (late (s .0))) .1 (s .1)),
+  )
+    where
+      late : (RefusedAt h t → ⊥) → lastMoment h ≤ t
+      late n = go (ltb t (lastMoment h)) refl
+        where
+          go : (b : Bool) → ltb t (lastMoment h) ≡ b → lastMoment h ≤ t
+          go true e = absurd (n (inr (ltb-true t (lastMoment h) e)))
+          go false e = borrow.Author.Tests.ltb-false t (lastMoment h) e

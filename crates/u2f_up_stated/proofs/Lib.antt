@@ -1,0 +1,14 @@
+pub mod Refuted
+pub mod Callers
+pub mod Cases
+pub mod Lists
+pub mod Runs
+pub mod Touches
+pub mod Prompts
+pub mod Ledger
+pub mod Exactly
+pub mod Demand
+pub mod Theorems
+pub mod Tautologies
+pub mod Bites
+pub mod Asked

@@ -1,0 +1,43 @@
+-- Runs: calls on a presence record, each taking the record that the one before gave back, and the history that this makes.
+use mathlib.Core.List.{List, [], _∷_}
+use Rattle.u2f_up_stated.specs.Words.{ℕ, Bool, true, Outcome, Gives, _≡_, Presence}
+use Rattle.u2f_up_stated.specs.Moments.{Told, fresh, settleOf, refused, onSettled, touchOf, checkOf, askOf}
+use Rattle.u2f_up_stated.specs.History.{Kind, Touching, Checking, Asking, Settling, Short, Call, Event}
+
+-- What a call of each kind does to the record.
+unfoldable pub doneBy : Kind → Presence → ℕ → Told
+doneBy Touching p t = touchOf p t
+doneBy Checking p t = checkOf p t
+doneBy Asking p t = askOf p t
+-- 01, Refusal numbers: "Without an R refusal, each .. decision sets the last moment to t"
+doneBy Settling p t = onSettled p (settleOf p t) (λ q. record { outcome = Gives true; presence = q })
+-- 01, Refusal numbers: "An R refusal changes no buffer and no record."
+doneBy Short p t = onSettled p (settleOf p t) (λ q. refused 2 p)
+
+-- A way of calling, with calls of any type D: what each call is in history terms, and what it does to the record.
+pub record Caller (D : Type 0) : Type 0 where
+  pub asCall : D → Call
+  pub does : Presence → D → Told
+
+-- It does nothing to the record but what its kind says.
+abbrev pub Keeps : {D : Type 0} → Caller D → Type 0
+Keeps {D} 𝒞 = (p : Presence) (d : D) → 𝒞 .does p d ≡ doneBy (𝒞 .asCall d .kind) p (𝒞 .asCall d .moment)
+
+-- The calls of this crate.
+abbrev pub own : Caller Call
+own = record { asCall = λ c. c; does = λ p c. doneBy (c .kind) p (c .moment) }
+
+module _ {D : Type 0} (𝒞 : Caller D) (w : ℕ) where
+  -- The record after the calls, newest first. 01, Moments and touches: "A new fresh record begins a new history."
+  unfoldable pub after : List D → Presence
+  after [] = fresh w
+  after (d ∷ ds) = 𝒞 .does (after ds) d .presence
+
+  -- The outcome of one more call.
+  abbrev pub next : List D → D → Outcome Bool
+  next ds d = 𝒞 .does (after ds) d .outcome
+
+  -- The history of the calls, newest first.
+  unfoldable pub history : List D → List Event
+  history [] = []
+  history (d ∷ ds) = record { call = 𝒞 .asCall d; outcome = next ds d } ∷ history ds
