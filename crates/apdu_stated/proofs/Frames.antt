@@ -11,7 +11,7 @@ use lib.Seq.{drop-drop, drop-at, take-at, getD-drop}
 use Rattle.outcome.specs.Outcome.{Outcome, SW, Gives}
 use Rattle.outcome.proofs.Laws.{gives-same, sw-gives}
 use Rattle.octets.specs.Bytes.{byte, pairAt, AreBytes, partOf}
-use Rattle.octets.proofs.Between.{part-within, part-length}
+use Rattle.octets.proofs.Laws.{part-within, part-length}
 use Rattle.apdu_stated.specs.Words.{Case, Instruction, Le1, Lc1Data, Lc1DataLe1, Lc3Data, Lc3DataLe1, Lc3DataLe2, Le3, shapeNo}
 use Rattle.apdu_stated.specs.Answers.{Says}
 use Rattle.apdu_stated.specs.Table.{lcField, leField, canCarry, lcBytes, leBytes}
@@ -83,13 +83,13 @@ unfolding dataOf frameOf payloadOf
 table-cut frame w t =
     let n = length (w .content) in
     let a = lcField (w .shape) in
-    let rest = w .content ++ leBytes (w .shape) (w .le) in
+    let rest = w .content ++ leBytes (leField (w .shape)) (w .le) in
     let long = frame-long (w .header) (w .shape) (w .content) (w .le) in
     let whole : length frame ≡ length (frameOf w) = ap length (t .layout) in
     let width : 4 + a + n - (4 + a) ≡ n = omega arith in
-    let from : drop (4 + a) frame ≡ rest = ap (drop (4 + a)) (t .layout) ∙ sym (drop-drop a 4 (frameOf w)) ∙ drop-at (lcBytes (w .shape) n) rest a (lc-long (w .shape) n) in
+    let from : drop (4 + a) frame ≡ rest = ap (drop (4 + a)) (t .layout) ∙ sym (drop-drop a 4 (frameOf w)) ∙ drop-at (lcBytes (lcField (w .shape)) n) rest a (lc-long (w .shape) n) in
     sym (part-within frame (4 + a) (4 + a + n) (omega arith) (omega arith))
-    ∙ ap₂ (λ (k : ℕ) (l : List ℕ). take k l) width from ∙ take-at (w .content) (leBytes (w .shape) (w .le)) n refl
+    ∙ ap₂ (λ (k : ℕ) (l : List ℕ). take k l) width from ∙ take-at (w .content) (leBytes (leField (w .shape)) (w .le)) n refl
 
 -- ---- for callers: the data of a frame that is read has Lc bytes
 way-within : (p : List ℕ) {l : Lengths} → Way p l → (s : Case) (lc le : ℕ) → Found s lc le ≡ l → lcField s + lc ≤ length p

@@ -12,7 +12,7 @@ use Rattle.outcome.specs.Notation.{if_then_else_}
 use Rattle.outcome.specs.Outcome.{Outcome, R, SW, Gives}
 use Rattle.outcome.proofs.Laws.{sw-same, gives-same, sw-gives, r-gives, both-are}
 use Rattle.octets.specs.Bytes.{laid, AreBytes}
-use Rattle.octets.proofs.Laid.{laid-fits}
+use Rattle.octets.proofs.Laws.{laid-fits}
 use Rattle.apdu_stated.specs.Words.{Case, shapeNo}
 use Rattle.apdu_stated.specs.Answers.{Apdu, Reading, Written, Says, saysOf, readingOf, writtenOf}
 use Rattle.apdu_stated.specs.Table.{canCarry}

@@ -5,4 +5,5 @@ pub mod Reading
 pub mod Writing
 pub mod Iso
 pub mod Examples
+pub mod Contracts
 pub mod Claims

@@ -12,7 +12,7 @@ use Rattle.outcome.specs.declared.ApduStatusCode.the-variants.{Success}
 use Rattle.outcome.proofs.Laws.{gives-same, sw-gives, both-are, one-to-one}
 use Rattle.outcome.proofs.Theorems.{statusOf, status-back}
 use Rattle.octets.specs.Bytes.{byte, partOf}
-use Rattle.octets.proofs.Between.{part-split, part-length, part-byte, part-one}
+use Rattle.octets.proofs.Laws.{part-split, part-length, part-byte, part-one}
 use Rattle.apdu_stated.specs.Answers.{Says, saysOf}
 use Rattle.apdu_stated.specs.Reading.{readOf, dataOf}
 use Rattle.apdu_stated.proofs.Frames.{data-within, data-long}

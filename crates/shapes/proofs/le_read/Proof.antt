@@ -1,8 +1,8 @@
 -- `le_read` meets its contract: the rule's two cases.
 use borrow.Author.Needs.{needs}
 use Rattle.apdu_stated.proofs.Cases
-use Rattle.apdu.proofs.le_read.Statement.{statement}
-use Rattle.apdu.proofs.le_read.Tie as tie
+use Rattle.shapes.proofs.le_read.Statement.{statement}
+use Rattle.shapes.proofs.le_read.Tie as tie
 
 le-most-requires : tie.Need-le-most-requires
 le-most-requires c κs = search needs

@@ -1,8 +1,8 @@
 -- `after_data` meets its contract: each way through the tests is a case of `afterData`.
 use borrow.Author.Needs.{needs}
 use Rattle.apdu_stated.proofs.Cases
-use Rattle.apdu.proofs.after_data.Statement.{statement}
-use Rattle.apdu.proofs.after_data.Tie as tie
+use Rattle.shapes.proofs.after_data.Statement.{statement}
+use Rattle.shapes.proofs.after_data.Tie as tie
 
 add-if1 : tie.Need-add-if1
 add-if1 c = search needs

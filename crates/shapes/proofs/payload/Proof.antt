@@ -1,8 +1,8 @@
 -- `payload` meets its contract: each way through the tests is a case of `lengthsOf`.
 use borrow.Author.Needs.{needs}
 use Rattle.apdu_stated.proofs.Cases
-use Rattle.apdu.proofs.payload.Statement.{statement}
-use Rattle.apdu.proofs.payload.Tie as tie
+use Rattle.shapes.proofs.payload.Statement.{statement}
+use Rattle.shapes.proofs.payload.Tie as tie
 
 returns : tie.Need-returns
 returns c = search (needs, Cases.lengths-none)

@@ -1,8 +1,8 @@
 -- `le_least` meets its contract: by whether there is a field.
 use Rattle.apdu_stated.proofs.Cases
 use borrow.Author.Needs.{needs}
-use Rattle.apdu.proofs.le_least.Statement.{statement}
-use Rattle.apdu.proofs.le_least.Tie as tie
+use Rattle.shapes.proofs.le_least.Statement.{statement}
+use Rattle.shapes.proofs.le_least.Tie as tie
 
 returns : tie.Need-returns
 returns c = search (needs, Cases.least-none)

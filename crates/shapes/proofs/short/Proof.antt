@@ -1,8 +1,8 @@
 -- `short` meets its contract: each way through the tests is a case of `shortOf`.
 use borrow.Author.Needs.{needs}
 use Rattle.apdu_stated.proofs.Cases
-use Rattle.apdu.proofs.short.Statement.{statement}
-use Rattle.apdu.proofs.short.Tie as tie
+use Rattle.shapes.proofs.short.Statement.{statement}
+use Rattle.shapes.proofs.short.Tie as tie
 
 wide-requires : tie.Need-wide-requires
 wide-requires c κs = search needs

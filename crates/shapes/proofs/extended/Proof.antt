@@ -1,8 +1,8 @@
 -- `extended` meets its contract: each way through the tests is a case of `extendedOf`.
 use borrow.Author.Needs.{needs}
 use Rattle.apdu_stated.proofs.Cases
-use Rattle.apdu.proofs.extended.Statement.{statement}
-use Rattle.apdu.proofs.extended.Tie as tie
+use Rattle.shapes.proofs.extended.Statement.{statement}
+use Rattle.shapes.proofs.extended.Tie as tie
 
 returns : tie.Need-returns
 returns c = search (needs, Cases.extended-missing)
