@@ -30,7 +30,7 @@ Laid p (Found s lc le) = LaidAs p s lc le
 Laid p Missing = Unit {0}
 Laid p Surplus = Unit {0}
 
-carry : (s : Case) (n le : ℕ) → Carried s n le → canCarry s n le ≡ true
+pub carry : (s : Case) (n le : ℕ) → Carried s n le → canCarry s n le ≡ true
 unfolding lcFits leFits
 carry s n le k =
     rw (le-leb (lcLeast s) n (k .lc-low), le-leb n (lcMost (lcField s)) (k .lc-high), le-leb (leLeast (leField s)) le (k .le-low), le-leb le (leMost (leField s)) (k .le-high))

@@ -6,4 +6,6 @@ pub mod Writing
 pub mod Iso
 pub mod Examples
 pub mod Contracts
+pub mod Terms
 pub mod Claims
+pub mod Wrong

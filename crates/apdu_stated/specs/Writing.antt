@@ -47,3 +47,7 @@ leftBy (Gives n) frame old = laid frame old
 
 unfoldable pub bufferOf : Parts → List ℕ → List ℕ
 bufferOf w old = leftBy (writeOf w (length old)) (frameOf w) old
+
+-- both: the answer, and what the buffer holds afterwards
+abbrev pub writingOf : Parts → List ℕ → Outcome ℕ × List ℕ
+writingOf w old = (writeOf w (length old), bufferOf w old)
