@@ -8,8 +8,8 @@ use native.Mathlib.Nat.{not-suc-le-zero, le-of-suc-le-suc}
 use native.Mathlib.Decide.{decLt}
 use lib.ListN.{length, take, drop, length-drop}
 use lib.Seq.{drop-drop, drop-at, take-at, getD-drop}
-use Rattle.outcome.specs.Outcome.{Outcome, SW, Gives}
-use Rattle.outcome.proofs.Laws.{gives-same, sw-gives}
+use Rattle.outcome.specs.Outcome.{Outcome, R, SW, Gives}
+use Rattle.outcome.proofs.Laws.{gives-same, sw-same, sw-gives, r-sw, r-gives}
 use Rattle.octets.specs.Bytes.{byte, pairAt, AreBytes, partOf}
 use Rattle.octets.proofs.Laws.{part-within, part-length}
 use Rattle.apdu_stated.specs.Words.{Case, Instruction, Le1, Lc1Data, Lc1DataLe1, Lc3Data, Lc3DataLe1, Lc3DataLe2, Le3, shapeNo}
@@ -115,6 +115,31 @@ unfolding dataOf
 data-long frame said e =
     let fits = data-within frame said e in
     part-length frame (said .dataAt) (said .dataAt + said .lc) (omega arith) fits ∙ omega arith
+
+pub data-from : (frame : List ℕ) (said : Says) → readOf frame ≡ Gives said → 4 ≤ said .dataAt
+data-from frame said e = go (readOf frame) (frame-way frame) e
+  where
+    go : (o : Outcome Says) → FrameWay frame o → o ≡ Gives said → 4 ≤ said .dataAt
+    go _ (under h) x = absurd (sw-gives _ _ x)
+    go _ (no-shape h) x = absurd (sw-gives _ _ x)
+    go _ (found long s lc le f) x = rw (← gives-same _ _ x) (omega arith)
+
+-- a reading refuses nothing, and has two statuses
+pub read-status : (frame : List ℕ) (n : ℕ) → (n ≡ 0x6a80 → ⊥) → (n ≡ 0x6700 → ⊥) → readOf frame ≡ SW n → ⊥
+read-status frame n not-short not-none e = go (readOf frame) (frame-way frame) e
+  where
+    go : (o : Outcome Says) → FrameWay frame o → o ≡ SW n → ⊥
+    go _ (under h) x = not-short (sym (sw-same _ _ x))
+    go _ (no-shape h) x = not-none (sym (sw-same _ _ x))
+    go _ (found long s lc le f) x = sw-gives _ _ (sym x)
+
+pub read-refuses-not : (frame : List ℕ) (n : ℕ) → readOf frame ≡ R n → ⊥
+read-refuses-not frame n e = go (readOf frame) (frame-way frame) e
+  where
+    go : (o : Outcome Says) → FrameWay frame o → o ≡ R n → ⊥
+    go _ (under h) x = r-sw _ _ (sym x)
+    go _ (no-shape h) x = r-sw _ _ (sym x)
+    go _ (found long s lc le f) x = r-gives _ _ (sym x)
 
 -- the names by which crates above still import the ways through reading; Laws has them under their own
 abbrev pub Answer : List ℕ → Outcome Says → Type 0
