@@ -43,15 +43,15 @@ four (a ∷ b ∷ []) h = absurd (not-suc-le-zero (le-of-suc-le-suc (le-of-suc-l
 four (a ∷ b ∷ c ∷ []) h = absurd (not-suc-le-zero (le-of-suc-le-suc (le-of-suc-le-suc (le-of-suc-le-suc h))))
 four (a ∷ b ∷ c ∷ d ∷ frame) h = refl
 
-payload-bytes : (frame : List ℕ) → AreBytes frame → AreBytes (drop 4 frame)
+pub payload-bytes : (frame : List ℕ) → AreBytes frame → AreBytes (drop 4 frame)
 payload-bytes frame bytes i = rw getD-drop (bytes (4 + i))
 
 -- ---- read, so in the table
-pub in-table : (frame : List ℕ) → AreBytes frame → 4 ≤ length frame → (s : Case) (lc le : ℕ) → Found s lc le ≡ lengthsOf (drop 4 frame)
+pub in-table : (frame : List ℕ) → AreBytes (drop 4 frame) → 4 ≤ length frame → (s : Case) (lc le : ℕ) → Found s lc le ≡ lengthsOf (drop 4 frame)
     → (w : Parts) × Built frame w × (saidBy frame s lc le ≡ said w)
 unfolding frameOf Laid
 in-table frame bytes long s lc le e =
-    let laid : LaidAs (drop 4 frame) s lc le = sound (drop 4 frame) (payload-bytes frame bytes) (subst (Way (drop 4 frame)) (sym e) (way (drop 4 frame))) in (
+    let laid : LaidAs (drop 4 frame) s lc le = sound (drop 4 frame) bytes (subst (Way (drop 4 frame)) (sym e) (way (drop 4 frame))) in (
       partsOf (headerOf frame) s (laid .content) le,
       record { layout = four frame long ∙ ap (λ (p : List ℕ). headerBytes (headerOf frame) ++ p) (laid .is); carried = rw (laid .long) (laid .carried) },
       ap (λ (n : ℕ). saidBy frame s n le) (sym (laid .long)),
@@ -97,7 +97,7 @@ way-within p w s lc le e = go w s lc le e
     go (wide z n h) s lc le e = use-it s Lc3Data lc (pairAt p 1) le _ e (omega arith)
     go (wide-le1 z h) s lc le e = use-it s Lc3DataLe1 lc (pairAt p 1) le _ e (omega arith)
     go (wide-le2 z h) s lc le e = use-it s Lc3DataLe2 lc (pairAt p 1) le _ e (omega arith)
-    go missing s lc le e = absurd (let z : _≡_ {A = ℕ} 0 1 = cc in omega arith)
+    go (missing early) s lc le e = absurd (let z : _≡_ {A = ℕ} 0 1 = cc in omega arith)
     go surplus s lc le e = absurd (let z : _≡_ {A = ℕ} 0 1 = cc in omega arith)
 
 pub data-within : (frame : List ℕ) (said : Says) → readOf frame ≡ Gives said → said .dataAt + said .lc ≤ length frame

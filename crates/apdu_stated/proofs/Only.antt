@@ -15,7 +15,9 @@ use Rattle.octets.specs.Terms.{DeterminesOn}
 use Rattle.apdu_stated.specs.Words.{ApduHeader, Case, Instruction, Le1, Lc1Data, Lc1DataLe1, Lc3Data, Lc3DataLe1, Lc3DataLe2, Le3}
 use Rattle.apdu_stated.specs.Answers.{Says}
 use Rattle.apdu_stated.specs.Table.{canCarry}
-use Rattle.apdu_stated.specs.Reading.{readOf, strictOf}
+use Rattle.apdu_stated.specs.Reading.{lengthsOf, readOf, strictOf}
+use Rattle.apdu_stated.specs.declared.Lengths.{Lengths}
+use Rattle.apdu_stated.specs.declared.Lengths.the-variants.{Found, Missing, Surplus}
 use Rattle.apdu_stated.specs.Writing.{Parts, frameOf}
 use Rattle.apdu_stated.specs.Terms.{apduOf, Carries}
 use Rattle.apdu_stated.specs.Claims
@@ -35,6 +37,21 @@ only-reading read exact frame bytes = by (readOf frame) (frame-way frame) refl
 pub ReadingExactly : DeterminesOn AreBytes Claims.ReadingExactly
 ReadingExactly f g p q frame bytes = only-reading f p frame bytes ∙ sym (only-reading g q frame bytes)
 
+-- ---- the payload by itself
+only-payload : (payload : List ℕ → Lengths) → Claims.PayloadExactly payload → (p : List ℕ) → AreBytes p → payload p ≡ lengthsOf p
+only-payload payload exact p bytes = go (lengthsOf p) refl
+  where
+    h0 : ApduHeader
+    h0 = record { cla = 0; ins = 0; p1 = 0; p2 = 0 }
+
+    go : (l : Lengths) → lengthsOf p ≡ l → payload p ≡ l
+    go (Found s lc le) e = exact .in-shape p bytes h0 s lc le .1 (Theorems.PayloadExactly .in-shape p bytes h0 s lc le .0 e)
+    go Missing e = exact .too-few p .1 (Theorems.PayloadExactly .too-few p .0 e)
+    go Surplus e = exact .too-many p bytes .1 (Theorems.PayloadExactly .too-many p bytes .0 e)
+
+pub PayloadExactly : DeterminesOn AreBytes Claims.PayloadExactly
+PayloadExactly f g p q l bytes = only-payload f p l bytes ∙ sym (only-payload g q l bytes)
+
 -- ---- strict reading
 only-strict : (strict : List ℕ → Outcome Says) → Claims.StrictExactly strict → (frame : List ℕ) → AreBytes frame → strict frame ≡ strictOf frame
 only-strict strict exact frame bytes = by (strictOf frame) (strict-way frame) refl
@@ -42,8 +59,8 @@ only-strict strict exact frame bytes = by (strictOf frame) (strict-way frame) re
     by : (o : Outcome Says) → Strict frame o → strictOf frame ≡ o → strict frame ≡ o
     by o (Strict.reads s r n d) e = exact .reads frame bytes s .1 (Theorems.StrictExactly .reads frame bytes s .0 (e ∙ sym d)) ∙ d
     by o (Strict.six s r y d) e = exact .no-shape frame bytes .1 (Theorems.StrictExactly .no-shape frame bytes .0 (e ∙ sym d)) ∙ d
-    by o (Strict.short h d) e = exact .short frame .1 h ∙ d
-    by o (Strict.none h r d) e = exact .no-shape frame bytes .1 (Theorems.StrictExactly .no-shape frame bytes .0 (e ∙ sym d)) ∙ d
+    by o (Strict.too-short h d) e = exact .short frame .1 h ∙ d
+    by o (Strict.no-row h r d) e = exact .no-shape frame bytes .1 (Theorems.StrictExactly .no-shape frame bytes .0 (e ∙ sym d)) ∙ d
 
 pub StrictExactly : DeterminesOn AreBytes Claims.StrictExactly
 StrictExactly f g p q frame bytes = only-strict f p frame bytes ∙ sym (only-strict g q frame bytes)

@@ -17,7 +17,8 @@ use Rattle.apdu_stated.specs.Table.{TableRow, lcFits, leFits}
 use Rattle.apdu_stated.specs.Reading.{readOf, sayOf, lengthsOf, shortOf, extendedOf, afterData, strictOf, strictly}
 use Rattle.apdu_stated.specs.Writing.{Parts, partsOf, frameOf, payloadOf, writeOf, bufferOf}
 use Rattle.apdu_stated.specs.Iso.{IsoCase, Case1, Case2S, Case3S, Case4S, Case2E, Case3E, Case4E, isCase}
-use Rattle.apdu_stated.specs.Terms.{full, plain, whole, pair, frameWith, saying, InTable, row1, row2, row4, row5, row6, row8, IsFrameOf, Carries, shape2, shape3}
+use Rattle.apdu_stated.specs.Terms.{full, plain, whole, pair, frameWith, saying, InTable, EndsEarly, in-lc, in-short-data, in-extended-data, row1, row2, row4, row5, row6, row8, IsFrameOf, Carries, shape2, shape3}
+use Rattle.apdu_stated.specs.declared.Lengths.the-variants.{Found, Missing, Surplus}
 use Rattle.apdu_stated.specs.Claims
 use Rattle.apdu_stated.specs.Wrong
 use Rattle.apdu_stated.proofs.Theorems.{reads-entry}
@@ -90,6 +91,23 @@ of-none Case4E = refl
 
 pub ninthShape : Claims.ToleratedExactly Wrong.ninthShape → ⊥
 ninthShape exact = true≢false (sym (exact (try (0 ∷ 1 ∷ [])) (saying h0 9 4 0 0) refl .1 of-none))
+
+-- ---- the payload, at 02 AA and at 01 AA 00 00
+missing-surplus : Missing ≡ Surplus → ⊥
+missing-surplus e = let z : _≡_ {A = ℕ} 0 1 = cc in omega arith
+
+pub missingAsSurplus : Claims.PayloadExactly Wrong.missingAsSurplus → ⊥
+unfolding lengthsOf shortOf
+missingAsSurplus exact = missing-surplus (sym (exact .too-few (2 ∷ 0xAA ∷ []) .1 (in-short-data (omega arith) (λ e. omega arith) (omega arith))))
+
+not-early : EndsEarly (1 ∷ 0xAA ∷ 0 ∷ 0 ∷ []) → ⊥
+not-early (in-lc a b c) = omega arith
+not-early (in-short-data a b c) = omega arith
+not-early (in-extended-data a b c) = omega arith
+
+pub surplusAsMissing : Claims.PayloadExactly Wrong.surplusAsMissing → ⊥
+unfolding lengthsOf shortOf
+surplusAsMissing exact = not-early (exact .too-few (1 ∷ 0xAA ∷ 0 ∷ 0 ∷ []) .0 refl)
 
 -- ---- the strict entry, at 00 00 00 05: shape 6
 pub strictTakesShape6 : Claims.StrictExactly Wrong.strictTakesShape6 → ⊥

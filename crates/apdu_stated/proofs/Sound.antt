@@ -176,5 +176,5 @@ module _ (p : List ℕ) (bytes : AreBytes p) where
   sound (wide z nz e) = is-wide z nz e
   sound (wide-le1 z e) = is-wide-le1 z e
   sound (wide-le2 z e) = is-wide-le2 z e
-  sound missing = tt
+  sound (missing early) = tt
   sound surplus = tt

@@ -13,22 +13,23 @@ use lib.Seq.{take-at}
 use Rattle.outcome.specs.Notation.{if_then_else_}
 use Rattle.outcome.specs.Outcome.{Outcome, R, SW, Gives}
 use Rattle.outcome.proofs.Laws.{sw-same, gives-same, sw-gives, r-gives, both-are}
-use Rattle.octets.specs.Bytes.{AreBytes, byte, partOf}
+use Rattle.octets.specs.Bytes.{AreBytes, byte, pairAt, partOf}
 use Rattle.octets.proofs.Laws.{part-length, part-byte, part-past}
 use Rattle.apdu_stated.specs.Words.{ApduHeader, Case, shapeNo}
 use Rattle.apdu_stated.specs.Answers.{Apdu, Reading, Written, Says, saysOf, readingOf, writtenOf}
-use Rattle.apdu_stated.specs.Table.{TableRow, rowOf, canCarry}
+use Rattle.apdu_stated.specs.Table.{TableRow, rowOf, lcField, canCarry}
 use Rattle.apdu_stated.specs.Reading.{readOf, lengthsOf, shortOf, extendedOf, afterData, sayOf, strictOf, strictly, placeOf, dataOf}
 use Rattle.apdu_stated.specs.Iso.{IsoCase, isCase, shapeFor, isTolerated}
-use Rattle.apdu_stated.specs.declared.Lengths.the-variants.{Found}
+use Rattle.apdu_stated.specs.declared.Lengths.{Lengths}
+use Rattle.apdu_stated.specs.declared.Lengths.the-variants.{Found, Missing, Surplus}
 use Rattle.apdu_stated.specs.Writing.{Parts, partsOf, frameOf, writingOf}
-use Rattle.apdu_stated.specs.Terms.{InTable, IsFrameOf, Carries, apduOf}
+use Rattle.apdu_stated.specs.Terms.{frameWith, saying, InTable, EndsEarly, in-lc, in-short-data, in-extended-data, IsFrameOf, Carries, apduOf}
 use Rattle.apdu_stated.specs.Claims
 use Rattle.apdu_stated.proofs.Cases
-use Rattle.apdu_stated.proofs.Ways.{Way, way, saidBy, FrameWay, under, found, no-shape, frame-way, WriteWay, unfit, no-room, written, write-way}
+use Rattle.apdu_stated.proofs.Ways.{Way, way, none, le1, short, short-le, le3, wide, wide-le1, wide-le2, missing, surplus, saidBy, FrameWay, under, found, no-shape, frame-way, WriteWay, unfit, no-room, written, write-way}
 use Rattle.apdu_stated.proofs.LaidOut.{carried}
 use Rattle.apdu_stated.proofs.IsoCases.{iso-read, iso-back, case-for}
-use Rattle.apdu_stated.proofs.Frames.{Built, said, in-table, table-read, table-cut}
+use Rattle.apdu_stated.proofs.Frames.{Built, said, payload-bytes, in-table, table-read, table-cut}
 use Rattle.apdu_stated.proofs.Entries.{built-entry, entry-built, can, carried-carries}
 use Rattle.apdu_stated.proofs.Numbers.{shape-same, says-same, reading-same, written-same, row-same}
 
@@ -38,7 +39,7 @@ reads-entry frame content says i =
     let f = entry-built i in
     table-read frame (f .parts) (f .built) ∙ ap Gives (f .same)
 
-entry-read : (frame : List ℕ) → AreBytes frame → 4 ≤ length frame → (s : Case) (lc le : ℕ) → Found s lc le ≡ lengthsOf (drop 4 frame)
+entry-read : (frame : List ℕ) → AreBytes (drop 4 frame) → 4 ≤ length frame → (s : Case) (lc le : ℕ) → Found s lc le ≡ lengthsOf (drop 4 frame)
     → (content : List ℕ) × InTable frame (saidBy frame s lc le) content
 entry-read frame bytes long s lc le f =
     let t = in-table frame bytes long s lc le f in
@@ -51,7 +52,7 @@ ReadExactly frame bytes says = (λ e. go (readOf frame) (frame-way frame) e, λ 
     go _ (under h) e = absurd (sw-gives _ _ e)
     go _ (no-shape h) e = absurd (sw-gives _ _ e)
     go _ (found long s lc le f) e =
-        let t = entry-read frame bytes long s lc le f in
+        let t = entry-read frame (payload-bytes frame bytes) long s lc le f in
         (t .0, subst (λ (x : Says). InTable frame x (t .0)) (gives-same _ _ e) (t .1))
 
 pub ShortExactly : Claims.ShortExactly readOf
@@ -74,10 +75,89 @@ NoShapeExactly frame bytes =
     back : (o : Outcome Says) → FrameWay frame o → (4 ≤ length frame) × ((says : Says) (content : List ℕ) → InTable frame says content → ⊥) → o ≡ SW 0x6700
     back _ (under h) g = absurd (omega arith)
     back _ (no-shape h) g = refl
-    back _ (found long s lc le f) g = let t = entry-read frame bytes long s lc le f in absurd (g .1 _ (t .0) (t .1))
+    back _ (found long s lc le f) g = let t = entry-read frame (payload-bytes frame bytes) long s lc le f in absurd (g .1 _ (t .0) (t .1))
 
 pub ReadingExactly : Claims.ReadingExactly readOf
 ReadingExactly = record { reads = ReadExactly; short = ShortExactly; no-shape = NoShapeExactly }
+
+-- ---- the payload by itself
+module _ (p : List ℕ) (bytes : AreBytes p) (h : ApduHeader) where
+  shape-forth : (s : Case) (lc le : ℕ) → lengthsOf p ≡ Found s lc le → (dataAt : ℕ) × (content : List ℕ) × InTable (frameWith h p) (saying h (shapeNo s) dataAt lc le) content
+  shape-forth s lc le e =
+      let t = entry-read (frameWith h p) bytes (omega arith) s lc le (sym e) in
+      (4 + lcField s, t .0, t .1)
+
+found-same : (s t : Case) (a b c d : ℕ) → s ≡ t → a ≡ b → c ≡ d → Found s a c ≡ Found t b d
+found-same s t a b c d p q r = cc
+
+module _ (p : List ℕ) (h : ApduHeader) where
+  of-frame : (says : Says) (content : List ℕ) → InTable (frameWith h p) says content → sayOf (frameWith h p) (lengthsOf p) ≡ Gives says
+  of-frame says content i = sym (Cases.read-by (frameWith h p) (omega arith)) ∙ reads-entry (frameWith h p) content says i
+
+  shape-back : (s : Case) (lc le dataAt : ℕ) (content : List ℕ) → InTable (frameWith h p) (saying h (shapeNo s) dataAt lc le) content → lengthsOf p ≡ Found s lc le
+  shape-back s lc le dataAt content i = go (lengthsOf p) (of-frame _ content i)
+    where
+      go : (l : Lengths) → sayOf (frameWith h p) l ≡ Gives (saying h (shapeNo s) dataAt lc le) → l ≡ Found s lc le
+      go (Found t a b) e =
+          let same = gives-same _ _ (sym (Cases.say-found (frameWith h p) t a b) ∙ e) in
+          found-same t s a lc b le (shape-same t s (ap (λ (x : Says). x .shape) same)) (ap (λ (x : Says). x .lc) same) (ap (λ (x : Says). x .le) same)
+      go Missing e = absurd (sw-gives _ _ (sym (Cases.say-missing (frameWith h p)) ∙ e))
+      go Surplus e = absurd (sw-gives _ _ (sym (Cases.say-surplus (frameWith h p)) ∙ e))
+
+missing-surplus : Missing ≡ Surplus → ⊥
+missing-surplus e = let z : _≡_ {A = ℕ} 0 1 = cc in omega arith
+
+early-missing : (p : List ℕ) → EndsEarly p → lengthsOf p ≡ Missing
+early-missing p (in-lc two z h) = sym (Cases.lengths-extended p Missing (omega arith) (omega arith) z (Cases.extended-missing p h))
+early-missing p (in-short-data two nz h) = sym (Cases.lengths-short p Missing (omega arith) (omega arith) nz (Cases.short-missing p (byte p 0) (byte p 0) refl refl h))
+early-missing p (in-extended-data z more h) =
+    sym (Cases.lengths-extended p Missing (omega arith) (omega arith) z
+    (Cases.extended-after p (pairAt p 1) refl Missing (omega arith) (omega arith) (Cases.after-missing p (pairAt p 1) h)))
+
+missing-early : (p : List ℕ) → lengthsOf p ≡ Missing → EndsEarly p
+missing-early p e = go (lengthsOf p) (way p) e
+  where
+    not-found : (s : Case) (lc le : ℕ) → Found s lc le ≡ Missing → EndsEarly p
+    not-found s lc le e = absurd (let z : _≡_ {A = ℕ} 0 1 = cc in omega arith)
+
+    go : (l : Lengths) → Way p l → l ≡ Missing → EndsEarly p
+    go _ (none h) e = not-found _ _ _ e
+    go _ (le1 h) e = not-found _ _ _ e
+    go _ (short nz h) e = not-found _ _ _ e
+    go _ (short-le nz h) e = not-found _ _ _ e
+    go _ (le3 z h) e = not-found _ _ _ e
+    go _ (wide z nz h) e = not-found _ _ _ e
+    go _ (wide-le1 z h) e = not-found _ _ _ e
+    go _ (wide-le2 z h) e = not-found _ _ _ e
+    go _ (missing early) e = early
+    go _ surplus e = absurd (missing-surplus (sym e))
+
+too-long : (p : List ℕ) → AreBytes p
+    → (lengthsOf p ≡ Surplus) ↔ ((EndsEarly p → ⊥) × ((h : ApduHeader) (says : Says) (content : List ℕ) → InTable (frameWith h p) says content → ⊥))
+too-long p bytes = (
+  λ e. (
+    λ early. missing-surplus (sym (early-missing p early) ∙ e),
+    λ h says content i.
+        sw-gives _ _ (sym (Cases.say-surplus (frameWith h p)) ∙ ap (sayOf (frameWith h p)) (sym e) ∙ of-frame p h says content i),
+  ),
+  λ t. go (lengthsOf p) refl (t .0) (t .1),
+)
+  where
+    h0 : ApduHeader
+    h0 = record { cla = 0; ins = 0; p1 = 0; p2 = 0 }
+
+    go : (l : Lengths) → lengthsOf p ≡ l → (EndsEarly p → ⊥) → ((h : ApduHeader) (says : Says) (content : List ℕ) → InTable (frameWith h p) says content → ⊥) → l ≡ Surplus
+    go (Found s lc le) e early never = let t = shape-forth p bytes h0 s lc le e in absurd (never h0 _ (t .1) (t .2))
+    go Missing e early never = absurd (early (missing-early p e))
+    go Surplus e early never = refl
+
+pub PayloadExactly : Claims.PayloadExactly lengthsOf
+PayloadExactly =
+    record {
+      in-shape = λ p bytes h s lc le. (shape-forth p bytes h s lc le, λ t. shape-back p h s lc le (t .0) (t .1) (t .2));
+      too-few = λ p. (missing-early p, early-missing p);
+      too-many = too-long;
+    }
 
 pub ExamplesRead : Claims.ExamplesRead readOf
 unfolding readOf sayOf lengthsOf shortOf extendedOf afterData
@@ -169,8 +249,8 @@ module _ (frame : List ℕ) where
   pub data Strict (o : Outcome Says) : Type 0 where
     reads : (says : Says) → readOf frame ≡ Gives says → (says .shape ≡ 6 → ⊥) → Gives says ≡ o → Strict o
     six : (says : Says) → readOf frame ≡ Gives says → says .shape ≡ 6 → SW 0x6700 ≡ o → Strict o
-    short : length frame < 4 → SW 0x6a80 ≡ o → Strict o
-    none : 4 ≤ length frame → readOf frame ≡ SW 0x6700 → SW 0x6700 ≡ o → Strict o
+    too-short : length frame < 4 → SW 0x6a80 ≡ o → Strict o
+    no-row : 4 ≤ length frame → readOf frame ≡ SW 0x6700 → SW 0x6700 ≡ o → Strict o
 
   pub strict-way : Strict (strictOf frame)
   strict-way = go (readOf frame) (frame-way frame) refl
@@ -180,8 +260,8 @@ module _ (frame : List ℕ) where
       of-says says e (no n) = reads says e n (sym (strict-gives says e n))
 
       go : (o : Outcome Says) → FrameWay frame o → readOf frame ≡ o → Strict (strictOf frame)
-      go _ (under h) e = short h (sym (strict-status _ e))
-      go _ (no-shape h) e = none h e (sym (strict-status _ e))
+      go _ (under h) e = too-short h (sym (strict-status _ e))
+      go _ (no-shape h) e = no-row h e (sym (strict-status _ e))
       go _ (found long s lc le f) e = of-says _ e (ℕ-discrete _ 6)
 
 strict-reads : (frame : List ℕ) → AreBytes frame → (says : Says)
@@ -194,8 +274,8 @@ strict-reads frame bytes says = (λ e. go (strictOf frame) (strict-way frame) e,
         let t = ReadExactly frame bytes says .0 (r ∙ ap Gives same) in
         (t .0, t .1, λ x. n (ap (λ (y : Says). y .shape) same ∙ x))
     go o (six s r n d) e = absurd (sw-gives _ _ (d ∙ e))
-    go o (short h d) e = absurd (sw-gives _ _ (d ∙ e))
-    go o (none h r d) e = absurd (sw-gives _ _ (d ∙ e))
+    go o (too-short h d) e = absurd (sw-gives _ _ (d ∙ e))
+    go o (no-row h r d) e = absurd (sw-gives _ _ (d ∙ e))
 
 strict-short : (frame : List ℕ) → (strictOf frame ≡ SW 0x6a80) ↔ (length frame < 4)
 strict-short frame = (λ e. go (strictOf frame) (strict-way frame) e, λ h. strict-status frame 0x6a80 (ShortExactly frame .1 h))
@@ -203,8 +283,8 @@ strict-short frame = (λ e. go (strictOf frame) (strict-way frame) e, λ h. stri
     go : (o : Outcome Says) → Strict frame o → o ≡ SW 0x6a80 → length frame < 4
     go o (reads s r n d) e = absurd (sw-gives _ _ (sym (d ∙ e)))
     go o (six s r n d) e = absurd (omega (arith, sw-same _ _ (d ∙ e)))
-    go o (short h d) e = h
-    go o (none h r d) e = absurd (omega (arith, sw-same _ _ (d ∙ e)))
+    go o (too-short h d) e = h
+    go o (no-row h r d) e = absurd (omega (arith, sw-same _ _ (d ∙ e)))
 
 strict-none : (frame : List ℕ) → AreBytes frame
     → (strictOf frame ≡ SW 0x6700) ↔ ((4 ≤ length frame) × ((says : Says) (content : List ℕ) → InTable frame says content → says .shape ≡ 6))
@@ -221,14 +301,14 @@ strict-none frame bytes = (λ e. go (strictOf frame) (strict-way frame) e, λ t.
     go : (o : Outcome Says) → Strict frame o → o ≡ SW 0x6700 → (4 ≤ length frame) × ((says : Says) (content : List ℕ) → InTable frame says content → says .shape ≡ 6)
     go o (reads s r n d) e = absurd (sw-gives _ _ (sym (d ∙ e)))
     go o (six s r y d) e = (long s r, λ says content i. ap (λ (x : Says). x .shape) (gives-same _ _ (sym (reads-entry frame content says i) ∙ r)) ∙ y)
-    go o (short h d) e = absurd (omega (arith, sw-same _ _ (d ∙ e)))
-    go o (none h r d) e = (h, λ says content i. absurd (sw-gives _ _ (sym r ∙ reads-entry frame content says i)))
+    go o (too-short h d) e = absurd (omega (arith, sw-same _ _ (d ∙ e)))
+    go o (no-row h r d) e = (h, λ says content i. absurd (sw-gives _ _ (sym r ∙ reads-entry frame content says i)))
 
     back : (o : Outcome Says) → Strict frame o → 4 ≤ length frame → ((says : Says) (content : List ℕ) → InTable frame says content → says .shape ≡ 6) → o ≡ SW 0x6700
     back o (reads s r n d) h all = let t = ReadExactly frame bytes s .0 r in absurd (n (all s (t .0) (t .1)))
     back o (six s r y d) h all = sym d
-    back o (short l d) h all = absurd (omega arith)
-    back o (none l r d) h all = sym d
+    back o (too-short l d) h all = absurd (omega arith)
+    back o (no-row l r d) h all = sym d
 
 pub StrictExactly : Claims.StrictExactly strictOf
 StrictExactly = record { reads = strict-reads; short = strict-short; no-shape = strict-none }

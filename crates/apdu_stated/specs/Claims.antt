@@ -12,7 +12,9 @@ use Rattle.apdu_stated.specs.Writing.{Parts, partsOf}
 use Rattle.apdu_stated.specs.Iso.{IsoCase, isCase, shapeFor, isTolerated}
 use Rattle.apdu_stated.specs.Examples.{Example, examples}
 use Rattle.apdu_stated.specs.Contracts.{Row, Fits, Payload, ShapeNumber, Read, ReadStrict, DataPlace, Data, Write}
-use Rattle.apdu_stated.specs.Terms.{saying, InTable, IsFrameOf, Carries, apduOf, span}
+use Rattle.apdu_stated.specs.declared.Lengths.{Lengths}
+use Rattle.apdu_stated.specs.declared.Lengths.the-variants.{Found, Missing, Surplus}
+use Rattle.apdu_stated.specs.Terms.{frameWith, saying, InTable, EndsEarly, IsFrameOf, Carries, apduOf, span}
 
 -- ---- reading is the table
 
@@ -40,6 +42,15 @@ pub record ReadingExactly (read : List ℕ → Outcome Says) : Type 0 where
   pub reads : ReadExactly read
   pub short : ShortExactly read
   pub no-shape : NoShapeExactly read
+
+-- The payload by itself, behind any header: its shape, Lc and Le; and of a payload in no shape, whether it ends early or goes on too
+-- long (ours). Rejects a reader that takes too few bytes for too many. Bites at 02 AA.
+pub record PayloadExactly (payload : List ℕ → Lengths) : Type 0 where
+  pub in-shape : (p : List ℕ) → AreBytes p → (h : ApduHeader) (s : Case) (lc le : ℕ)
+      → (payload p ≡ Found s lc le) ↔ ((dataAt : ℕ) × (content : List ℕ) × InTable (frameWith h p) (saying h (shapeNo s) dataAt lc le) content)
+  pub too-few : (p : List ℕ) → (payload p ≡ Missing) ↔ EndsEarly p
+  pub too-many : (p : List ℕ) → AreBytes p
+      → (payload p ≡ Surplus) ↔ ((EndsEarly p → ⊥) × ((h : ApduHeader) (says : Says) (content : List ℕ) → InTable (frameWith h p) says content → ⊥))
 
 -- 01: "Each frame has at most one shape", and says one thing and holds one data. Bites at 00 03 00 00 | 00 00 01 AA 00 00.
 abbrev pub AtMostOneShape : Type 0

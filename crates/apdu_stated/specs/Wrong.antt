@@ -6,8 +6,10 @@ use Rattle.octets.specs.Bytes.{byte, pairAt, partOf, laid}
 use Rattle.apdu_stated.specs.Words.{Bool, not, _&&_, List, [], _∷_, _++_, length, drop, leb, ltb, eqb, Case, Instruction, Le1, Lc1Data, Lc1DataLe1, Lc3Data, Lc3DataLe1, Lc3DataLe2, Le3, shapeNo}
 use Rattle.apdu_stated.specs.Answers.{Apdu, Place, Says, saysOf}
 use Rattle.apdu_stated.specs.Table.{TableRow, columns, rowOf, lcFits, canCarry}
-use Rattle.apdu_stated.specs.Reading.{readOf, strictOf, headerOf, placeOf}
+use Rattle.apdu_stated.specs.Reading.{lengthsOf, readOf, strictOf, headerOf, placeOf}
 use Rattle.apdu_stated.specs.Writing.{Parts, frameOf, writeOf, bufferOf, writingOf}
+use Rattle.apdu_stated.specs.declared.Lengths.{Lengths}
+use Rattle.apdu_stated.specs.declared.Lengths.the-variants.{Found, Missing, Surplus}
 use Rattle.apdu_stated.specs.Terms.{saying}
 
 -- ---- reading
@@ -52,6 +54,23 @@ withoutCase3E frame = without3E (readOf frame)
 -- a row that ISO lacks: `00 01` is a ninth shape
 abbrev pub ninthShape : List ℕ → Outcome Says
 ninthShape frame = if eqb (length frame) 6 && eqb (byte frame 4) 0 then Gives (saying (headerOf frame) 9 4 0 0) else readOf frame
+
+-- too few bytes are taken for too many, and the other way round
+abbrev pub shortAsLong : Lengths → Lengths
+shortAsLong (Found s lc le) = Found s lc le
+shortAsLong Missing = Surplus
+shortAsLong Surplus = Surplus
+
+abbrev pub missingAsSurplus : List ℕ → Lengths
+missingAsSurplus p = shortAsLong (lengthsOf p)
+
+abbrev pub longAsShort : Lengths → Lengths
+longAsShort (Found s lc le) = Found s lc le
+longAsShort Missing = Missing
+longAsShort Surplus = Missing
+
+abbrev pub surplusAsMissing : List ℕ → Lengths
+surplusAsMissing p = longAsShort (lengthsOf p)
 
 -- ---- the strict entry
 
