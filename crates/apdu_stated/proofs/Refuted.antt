@@ -14,10 +14,10 @@ use Rattle.octets.proofs.Laws.{both}
 use Rattle.apdu_stated.specs.Words.{ApduHeader, Case, Instruction, Le1, Lc3Data, Lc1DataLe1, Lc1Data}
 use Rattle.apdu_stated.specs.Answers.{Apdu, Place, Says}
 use Rattle.apdu_stated.specs.Table.{TableRow, lcFits, leFits}
-use Rattle.apdu_stated.specs.Reading.{readOf, sayOf, lengthsOf, shortOf, extendedOf, afterData, strictOf, strictly}
+use Rattle.apdu_stated.specs.Reading.{readOf, sayOf, lengthsOf, shortOf, extendedOf, afterData, strictOf, strictly, dataOf}
 use Rattle.apdu_stated.specs.Writing.{Parts, partsOf, frameOf, payloadOf, writeOf, bufferOf}
 use Rattle.apdu_stated.specs.Iso.{IsoCase, Case1, Case2S, Case3S, Case4S, Case2E, Case3E, Case4E, isCase}
-use Rattle.apdu_stated.specs.Terms.{full, plain, whole, pair, frameWith, saying, InTable, EndsEarly, in-lc, in-short-data, in-extended-data, row1, row2, row4, row5, row6, row8, IsFrameOf, Carries, shape2, shape3}
+use Rattle.apdu_stated.specs.Terms.{full, plain, whole, pair, frameWith, saying, InTable, EndsEarly, in-lc, in-short-data, in-extended-data, row1, row2, row4, row5, row6, row8, IsFrameOf, Carries, shape2, shape3, apduOf}
 use Rattle.apdu_stated.specs.declared.Lengths.the-variants.{Found, Missing, Surplus}
 use Rattle.apdu_stated.specs.Claims
 use Rattle.apdu_stated.specs.Wrong
@@ -203,9 +203,9 @@ pub r2BeforeR5 : Claims.WriteExactly Wrong.r2BeforeR5 → ⊥
 unfolding frameOf payloadOf
 r2BeforeR5 exact = omega (arith, r-is _ _ (exact .r5 (le-of 257) [] .1 no-257))
 
-pub cutsTheRest : Claims.WriteExactly Wrong.cutsTheRest → ⊥
+pub clearsTheRest : Claims.WriteExactly Wrong.clearsTheRest → ⊥
 unfolding frameOf payloadOf
-cutsTheRest exact = omega (arith, ap (λ (o : Outcome ℕ × List ℕ). length (o .1)) (exact .writes (le-of 1) (9 ∷ five) (try (1 ∷ [])) frame-1 (omega arith)))
+clearsTheRest exact = omega (arith, ap (λ (o : Outcome ℕ × List ℕ). byte (o .1) 5) (exact .writes (le-of 1) (9 ∷ five) (try (1 ∷ [])) frame-1 (omega arith)))
 
 pub refusalWrites : Claims.WriteExactly Wrong.refusalWrites → ⊥
 unfolding writeOf frameOf payloadOf lcFits leFits
@@ -214,3 +214,13 @@ refusalWrites exact = omega (arith, ap (λ (l : List ℕ). byte l 0) (exact .ref
 pub lengthInvented : Claims.WriteExactly Wrong.lengthInvented → ⊥
 unfolding frameOf payloadOf
 lengthInvented exact = omega (arith, gives-same _ _ (ap (λ (o : Outcome ℕ × List ℕ). o .0) (exact .writes (le-of 1) (9 ∷ five) (try (1 ∷ [])) frame-1 (omega arith))))
+
+-- ---- there and back
+pub le256As01 : Claims.ReadThenWritten readOf dataOf Wrong.le256As01 → ⊥
+unfolding small readOf sayOf lengthsOf dataOf partOf frameOf payloadOf
+le256As01 back =
+    omega (arith, ap (λ (o : Outcome ℕ × List ℕ). byte (o .1) 4) (back (try (0 ∷ [])) five (apduOf h0 Le1 0 256) (bytes-of (try (0 ∷ [])) refl) refl (omega arith)))
+
+pub le257Taken : Claims.WrittenThenRead readOf dataOf Wrong.le257Taken → ⊥
+unfolding readOf sayOf lengthsOf frameOf payloadOf
+le257Taken back = omega (arith, le-is _ _ (back (le-of 257) five 5 refl .0))

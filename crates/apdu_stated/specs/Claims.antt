@@ -162,7 +162,7 @@ pub record StrictOtherwise (read strict : List ℕ → Outcome Says) : Type 0 wh
 -- 01: "It refuses (R5) exactly when data length or Le is not one that the shape can carry .., else R2 exactly when the buffer is
 -- shorter than the frame; else it writes the frame at the front and leaves the rest." Of a writer's answer (.0) and of what the
 -- buffer holds afterwards (.1), for any parts and any buffer.
--- Rejects Le 257 in one byte, R2 one byte early or late, R2 before R5, a rest that is cleared, a refusal that writes.
+-- Rejects Le 257 in one byte, R2 one byte early or late, R2 before R5, a rest that is cleared, a refusal that writes, an invented length.
 -- Bites at shape 2 with Le 257, in a buffer of none.
 pub record WriteExactly (write : Parts → List ℕ → Outcome ℕ × List ℕ) : Type 0 where
   pub r5 : (w : Parts) (old : List ℕ) → (write w old .0 ≡ R 5) ↔ (Carries (w .shape) (length (w .content)) (w .le) → ⊥)
@@ -174,7 +174,7 @@ pub record WriteExactly (write : Parts → List ℕ → Outcome ℕ × List ℕ)
 -- ---- there and back
 
 -- A frame that is read and, given room, written again is the same frame, and the buffer's rest is kept.
--- Rejects a writer that clears the rest, or writes Le 256 as 01. Bites at 00 03 00 00 | 00 in a buffer of 6.
+-- Rejects a writer that writes Le 256 as 01. Bites at 00 03 00 00 | 00 in a buffer of 6.
 abbrev pub ReadThenWritten : (List ℕ → Outcome Says) → (List ℕ → Says → List ℕ) → (Parts → List ℕ → Outcome ℕ × List ℕ) → Type 0
 ReadThenWritten read cut write =
     (frame old : List ℕ) (a : Apdu) → AreBytes frame → read frame ≡ Gives (saysOf a) → length frame ≤ length old

@@ -1,5 +1,6 @@
 -- Wrong programs, one fault each. proofs/Refuted.antt shows the claim that is false of each.
 use Prim.Native.Nat.{ℕ, _+_, _-_, _%_}
+use lib.ListN.{replicate}
 use Rattle.outcome.specs.Notation.{if_then_else_}
 use Rattle.outcome.specs.Outcome.{Outcome, R, SW, Gives}
 use Rattle.octets.specs.Bytes.{byte, pairAt, partOf, laid}
@@ -7,7 +8,7 @@ use Rattle.apdu_stated.specs.Words.{Bool, not, _&&_, List, [], _∷_, _+
 use Rattle.apdu_stated.specs.Answers.{Apdu, Place, Says, saysOf}
 use Rattle.apdu_stated.specs.Table.{TableRow, columns, rowOf, lcFits, canCarry}
 use Rattle.apdu_stated.specs.Reading.{lengthsOf, readOf, strictOf, headerOf, placeOf}
-use Rattle.apdu_stated.specs.Writing.{Parts, frameOf, writeOf, bufferOf, writingOf}
+use Rattle.apdu_stated.specs.Writing.{Parts, partsOf, frameOf, writeOf, bufferOf, writingOf}
 use Rattle.apdu_stated.specs.declared.Lengths.{Lengths}
 use Rattle.apdu_stated.specs.declared.Lengths.the-variants.{Found, Missing, Surplus}
 use Rattle.apdu_stated.specs.Terms.{saying}
@@ -22,7 +23,7 @@ abbrev pub alwaysInstruction : List ℕ → Outcome Says
 alwaysInstruction frame = Gives (saying (headerOf frame) 1 4 0 0)
 
 -- "A written Le of 0 means 256 in one byte": here it expects nothing back
-abbrev pub leZero : Outcome Says → Outcome Says
+abbrev leZero : Outcome Says → Outcome Says
 leZero (Gives s) = Gives (saying (s .header) (s .shape) (s .dataAt) (s .lc) (if eqb (s .le) 256 then 0 else s .le))
 leZero (SW n) = SW n
 leZero (R n) = R n
@@ -43,7 +44,7 @@ abbrev pub shortLcZero : List ℕ → Outcome Says
 shortLcZero frame = if eqb (length frame) 6 && eqb (byte frame 4) 0 then Gives (saying (headerOf frame) 4 5 0 (byte frame 5)) else readOf frame
 
 -- ISO's case 3E left out of the table
-abbrev pub without3E : Outcome Says → Outcome Says
+abbrev without3E : Outcome Says → Outcome Says
 without3E (Gives s) = if eqb (s .shape) 5 then SW 0x6700 else Gives s
 without3E (SW n) = SW n
 without3E (R n) = R n
@@ -56,7 +57,7 @@ abbrev pub ninthShape : List ℕ → Outcome Says
 ninthShape frame = if eqb (length frame) 6 && eqb (byte frame 4) 0 then Gives (saying (headerOf frame) 9 4 0 0) else readOf frame
 
 -- too few bytes are taken for too many, and the other way round
-abbrev pub shortAsLong : Lengths → Lengths
+abbrev shortAsLong : Lengths → Lengths
 shortAsLong (Found s lc le) = Found s lc le
 shortAsLong Missing = Surplus
 shortAsLong Surplus = Surplus
@@ -64,7 +65,7 @@ shortAsLong Surplus = Surplus
 abbrev pub missingAsSurplus : List ℕ → Lengths
 missingAsSurplus p = shortAsLong (lengthsOf p)
 
-abbrev pub longAsShort : Lengths → Lengths
+abbrev longAsShort : Lengths → Lengths
 longAsShort (Found s lc le) = Found s lc le
 longAsShort Missing = Missing
 longAsShort Surplus = Missing
@@ -143,9 +144,11 @@ r2OneByteLate w old = if eqb (length old + 1) (length (frameOf w)) then (Gives (
 abbrev pub r2BeforeR5 : Parts → List ℕ → Outcome ℕ × List ℕ
 r2BeforeR5 w old = if ltb (length old) (length (frameOf w)) then (R 2, old) else writingOf w old
 
--- "leaves the rest": here it is cut off
-abbrev pub cutsTheRest : Parts → List ℕ → Outcome ℕ × List ℕ
-cutsTheRest w old = (writeOf w (length old), frameOf w)
+-- "leaves the rest": here it becomes 0. Behind the test, the frame is no longer than the buffer
+abbrev pub clearsTheRest : Parts → List ℕ → Outcome ℕ × List ℕ
+clearsTheRest w old =
+    if ltb (length old) (length (frameOf w)) then writingOf w old
+    else (writeOf w (length old), frameOf w ++ replicate (length old - length (frameOf w)) 0)
 
 -- "An R refusal changes no buffer"
 abbrev pub refusalWrites : Parts → List ℕ → Outcome ℕ × List ℕ
@@ -154,3 +157,11 @@ refusalWrites w old = (writeOf w (length old), laid (frameOf w) old)
 -- writes the frame, and says a length of its own
 abbrev pub lengthInvented : Parts → List ℕ → Outcome ℕ × List ℕ
 lengthInvented w old = (if ltb (length old) (length (frameOf w)) then writeOf w (length old) else Gives (length old), bufferOf w old)
+
+-- "A written Le of 0 means 256 in one byte": here 256 is written 01
+abbrev pub le256As01 : Parts → List ℕ → Outcome ℕ × List ℕ
+le256As01 w old = if eqb (w .le) 256 then (writeOf w (length old), laid (frameOf (partsOf (w .header) (w .shape) (w .content) 1)) old) else writingOf w old
+
+-- "Le .. 1..256": here 257 is taken in any shape, and reads back as 1
+abbrev pub le257Taken : Parts → List ℕ → Outcome ℕ × List ℕ
+le257Taken w old = if eqb (w .le) 257 then (Gives (length (frameOf w)), laid (frameOf w) old) else writingOf w old

@@ -14,7 +14,7 @@ use Rattle.apdu_stated.specs.Reading.{readOf, sayOf, lengthsOf, shortOf, dataOf
 use Rattle.apdu_stated.specs.Terms.{saying, frameWith}
 use Rattle.apdu_stated.specs.declared.ApduHeader.{ApduHeader}
 use Rattle.apdu_stated.specs.declared.Place.{Place}
-use Rattle.command_stated.specs.Command.{Command, Register, Authenticate, Version, registerOf, authenticateOf, versionOf, byInstruction, onReading, commandOf, challengeOf, applicationOf, handleOf}
+use Rattle.command_stated.specs.Command.{Command, Register, Authenticate, Version, registerOf, authenticateOf, versionOf, byInstruction, onReading, commandOf, challengePlaceOf, applicationPlaceOf, challengeOf, applicationOf, handleOf}
 use Rattle.command_stated.specs.Terms.{WrongLength, too-short, other-handle, UnknownInstruction}
 use Rattle.command_stated.specs.Claims
 use Rattle.command_stated.specs.Wrong
@@ -123,6 +123,14 @@ vendorAsVersion exact =
     let h = head 0x00 0x40 0x00 in
     sw-gives _ _ (sym (exact (try h (zeros 1)) .1 (said h (zeros 1), refl, refl, record { not-01 = λ e. omega arith; not-02 = λ e. omega arith; not-03 = λ e. omega arith })))
 
+pub versionWithData : Claims.VersionExactly Wrong.versionWithData → ⊥
+unfolding readOf sayOf lengthsOf shortOf
+versionWithData exact =
+    let h = head 0x00 0x03 0x00 in
+    let t = exact (try h (zeros 1)) .0 refl in
+    let same : said h (zeros 1) ≡ t .0 = gives-same _ _ (t .1) in
+    omega (arith, ap (λ (s : Says). s .lc) same, t .4)
+
 pub unknownByLength : Claims.InstructionExactly Wrong.unknownByLength → ⊥
 unfolding readOf sayOf lengthsOf shortOf versionOf
 unknownByLength exact =
@@ -138,6 +146,14 @@ unfolding readOf sayOf lengthsOf shortOf registerOf byInstruction onReading comm
 applicationIsTheChallenge parts =
     let h = head 0x00 0x01 0x00 in
     omega (arith, ap (λ (l : List ℕ). byte l 32) (parts (try h enrols) (said h enrols) refl .0))
+
+pub applicationOf33 : Claims.ApplicationExactly Wrong.applicationOf33 → ⊥
+unfolding partOf
+applicationOf33 exact = let h = head 0x00 0x02 0x03 in omega (arith, ap length (exact (try h (handled 1 (7 ∷ []))) (said h (handled 1 (7 ∷ [])))))
+
+pub challengeLate : Claims.ChallengeExactly Wrong.challengeLate → ⊥
+unfolding partOf
+challengeLate exact = let h = head 0x00 0x01 0x00 in omega (arith, ap (λ (l : List ℕ). byte l 31) (exact (try h enrols) (said h enrols)))
 
 pub challengeOf31 : Claims.ChallengeExactly Wrong.challengeOf31 → ⊥
 unfolding partOf
@@ -186,6 +202,15 @@ handlePlaceLate exact = omega (arith, start-is _ _ (exact one))
 
 pub handlePlaceWithTheLe : Claims.HandlePlaceExactly Wrong.handlePlaceWithTheLe → ⊥
 handlePlaceWithTheLe exact = omega (arith, end-is _ _ (exact one))
+
+-- the numbers and the parts apart, and numbers past the end, at an Authenticate of shape 3 with a handle of one byte
+pub handleNumbersEarly : Claims.CutAtPlaces challengeOf applicationOf handleOf challengePlaceOf applicationPlaceOf Wrong.handleNumbersEarly → ⊥
+unfolding handleOf partOf
+handleNumbersEarly cut = omega (arith, ap length (cut .handle-cut (try (head 0x00 0x02 0x03) (handled 1 (7 ∷ []))) one))
+
+pub handlePastTheEnd : Claims.CutAtPlaces challengeOf applicationOf handleOf challengePlaceOf applicationPlaceOf Wrong.handlePastTheEnd → ⊥
+unfolding readOf sayOf lengthsOf shortOf authenticateOf byInstruction onReading commandOf dataOf partOf
+handlePastTheEnd cut = omega (arith, cut .authenticate-within (try (head 0x00 0x02 0x03) (handled 1 (7 ∷ []))) 0x03 one refl .4)
 
 -- ---- the control byte
 pub enforceNumbered07 : Claims.FlagsNumberExactly Wrong.enforceNumbered07 → ⊥

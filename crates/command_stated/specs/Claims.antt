@@ -28,7 +28,7 @@ AuthenticateExactly command =
     ↔ ((readOf frame ≡ Gives said) × (said .header .cla ≡ 0x00) × (said .header .ins ≡ 0x02)
     × (65 ≤ said .lc) × (said .lc ≡ 65 + byte (dataOf frame said) 64) × (eqb p1 0x03 || eqb p1 0x07 || eqb p1 0x08 ≡ true) × (said .header .p1 ≡ p1))
 
--- "03 Version: Lc not 0 gives 6700." Rejects a reader that takes a vendor's INS for Version. Bites at INS 03.
+-- "03 Version: Lc not 0 gives 6700." Rejects a reader that takes a Version with data. Bites at INS 03 with Lc 1.
 abbrev pub VersionExactly : (List ℕ → Outcome Command) → Type 0
 VersionExactly command =
     (frame : List ℕ) → (command frame ≡ Gives Version)
@@ -42,7 +42,8 @@ abbrev pub ClassExactly : (List ℕ → Outcome Command) → Type 0
 ClassExactly command =
     (frame : List ℕ) → (command frame ≡ SW 0x6e00) ↔ ((said : Says) × (readOf frame ≡ Gives said) × (said .header .cla ≡ 0x00 → ⊥))
 
--- 6d00: "40..BF vendor and all others: 6d00, at any Lc." Rejects a vendor's INS taken for Version. Bites at INS 40.
+-- 6d00: "40..BF vendor and all others: 6d00, at any Lc." Rejects a vendor's INS taken for Version, and
+-- 6700 for an unknown INS with data. Bites at INS 40.
 abbrev pub InstructionExactly : (List ℕ → Outcome Command) → Type 0
 InstructionExactly command =
     (frame : List ℕ) → (command frame ≡ SW 0x6d00)
@@ -56,7 +57,8 @@ LengthExactly command =
     ↔ ((readOf frame ≡ SW 0x6700) ⊎ ((said : Says) × (readOf frame ≡ Gives said) × (said .header .cla ≡ 0x00) × WrongLength frame said))
 
 -- 6a80: the frame has under 4 bytes; or it is an Authenticate whose lengths fit, and "P1 not 03, 07 or 08". Rejects a reader that
--- takes any P1, and leaves it to the decision. Bites at an Authenticate with P1 00.
+-- takes any P1, so that it is looked at only after an order is made, and one that gives 6700 to three bytes. Bites at an Authenticate
+-- with P1 00.
 abbrev pub ControlExactly : (List ℕ → Outcome Command) → Type 0
 ControlExactly command =
     (frame : List ℕ) → (command frame ≡ SW 0x6a80)
@@ -84,7 +86,7 @@ RegisterParts command challenge application =
 
 -- "The key handle is handed back as the part of the frame after data[64], up to the data's end and without the Le.": the parts of an
 -- Authenticate's data are the whole of it, in this order, the handle's length in one byte before it.
--- Rejects a handle that takes the Le along, or starts a byte late. Bites at a frame of shape 4.
+-- Rejects a handle that takes the Le along. Bites at a frame of shape 4.
 abbrev pub AuthenticateParts : (List ℕ → Outcome Command) → (List ℕ → Says → List ℕ) → (List ℕ → Says → List ℕ) → (List ℕ → Says → List ℕ) → Type 0
 AuthenticateParts command challenge application handle =
     (frame : List ℕ) (p1 : ℕ) (said : Says) → command frame ≡ Gives (Authenticate p1 said)
@@ -92,7 +94,7 @@ AuthenticateParts command challenge application handle =
     × (length (challenge frame said) ≡ 32) × (length (application frame said) ≡ 32)
 
 -- On any frame, whatever it is said to say: the parts at these numbers (none where they pass the frame's end: ours).
--- Rejects what the two claims above reject. Bites at every frame.
+-- Rejects a challenge of 31 bytes, or a byte late; an application of 33; a handle a byte late, or empty. Bites at every command.
 abbrev pub ChallengeExactly : (List ℕ → Says → List ℕ) → Type 0
 ChallengeExactly cut = (frame : List ℕ) (said : Says) → cut frame said ≡ partOf frame (said .dataAt) (said .dataAt + 32)
 
@@ -102,7 +104,8 @@ ApplicationExactly cut = (frame : List ℕ) (said : Says) → cut frame said ≡
 abbrev pub HandleExactly : (List ℕ → Says → List ℕ) → Type 0
 HandleExactly cut = (frame : List ℕ) (said : Says) → cut frame said ≡ partOf frame (said .dataAt + 65) (said .dataAt + said .lc)
 
--- The numbers themselves: 32 bytes, 32 bytes, one byte of length, and the rest of the data.
+-- The numbers themselves: 32 bytes, 32 bytes, one byte of length, and the rest of the data. Rejects a challenge at the header's end
+-- in every shape, or of 31 bytes; an application that is the first part, or goes to the data's end.
 abbrev pub ChallengePlaceExactly : (Says → Place) → Type 0
 ChallengePlaceExactly place = (said : Says) → place said ≡ span (said .dataAt) (said .dataAt + 32)
 

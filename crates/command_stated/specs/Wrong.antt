@@ -6,7 +6,7 @@ use Rattle.apdu_stated.specs.Terms.{span}
 use Rattle.command_stated.specs.Command.{Ctap1Flags, CheckOnly, EnforceUpAndSign, DontEnforceUpAndSign, Command, Register, Authenticate, Version, isControl, registerOf, authenticateOf, versionOf, byInstruction, commandOf, challengeOf, handlePlaceOf}
 
 -- a frame that is read, and then something else than the definition's tests
-abbrev pub onRead : (Says → Outcome Command) → Outcome Says → Outcome Command
+abbrev onRead : (Says → Outcome Command) → Outcome Says → Outcome Command
 onRead by (Gives said) = by said
 onRead by (SW n) = SW n
 onRead by (R n) = R n
@@ -84,6 +84,10 @@ enforceSaidAsCheckOnly frame = onRead (λ said. Gives (Authenticate 0x07 said)) 
 abbrev pub vendorAsVersion : List ℕ → Outcome Command
 vendorAsVersion frame = onRead (λ said. if eqb (said .header .ins) 0x40 then Gives Version else byInstruction frame said) (readOf frame)
 
+-- "03 Version: Lc not 0 gives 6700": here Lc is not looked at
+abbrev pub versionWithData : List ℕ → Outcome Command
+versionWithData frame = onRead (λ said. if eqb (said .header .ins) 0x03 then Gives Version else byInstruction frame said) (readOf frame)
+
 -- "6d00, at any Lc": here an unknown INS with data gets 6700
 abbrev pub unknownByLength : List ℕ → Outcome Command
 unknownByLength frame = onRead (λ said. if ltb 0x03 (said .header .ins) then versionOf said else byInstruction frame said) (readOf frame)
@@ -91,6 +95,12 @@ unknownByLength frame = onRead (λ said. if ltb 0x03 (said .header .ins) then ve
 -- ---- the parts: "challenge 32, application 32", "after data[64], up to the data's end and without the Le"
 abbrev pub applicationIsTheChallenge : List ℕ → Says → List ℕ
 applicationIsTheChallenge frame said = challengeOf frame said
+
+abbrev pub applicationOf33 : List ℕ → Says → List ℕ
+applicationOf33 frame said = partOf frame (said .dataAt + 32) (said .dataAt + 65)
+
+abbrev pub challengeLate : List ℕ → Says → List ℕ
+challengeLate frame said = partOf frame (said .dataAt + 1) (said .dataAt + 33)
 
 abbrev pub challengeOf31 : List ℕ → Says → List ℕ
 challengeOf31 frame said = partOf frame (said .dataAt) (said .dataAt + 31)
@@ -122,6 +132,13 @@ handlePlaceLate said = span (said .dataAt + 66) (said .dataAt + said .lc)
 
 abbrev pub handlePlaceWithTheLe : Says → Place
 handlePlaceWithTheLe said = span (said .dataAt + 65) (said .dataAt + said .lc + 1)
+
+-- the length byte among the handle's numbers; numbers past the frame's end
+abbrev pub handleNumbersEarly : Says → Place
+handleNumbersEarly said = span (said .dataAt + 64) (said .dataAt + said .lc)
+
+abbrev pub handlePastTheEnd : Says → Place
+handlePastTheEnd said = span (said .dataAt + 65) (said .dataAt + said .lc + 3)
 
 -- ---- the control byte
 abbrev pub enforceNumbered07 : Ctap1Flags → ℕ
