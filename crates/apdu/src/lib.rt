@@ -1,19 +1,17 @@
-// Command frames of ISO 7816-3, read and written by one table of eight shapes (specs/Table.antt).
+// Command frames of ISO 7816-3, read and written by one table of eight shapes (apdu_stated's specs/Table.antt).
 //
 //    +-----+-----+----+----+----------+----------------+----------+
 //    | CLA | INS | P1 | P2 | Lc field | data, Lc bytes | Le field |
 //    +-----+-----+----+----+----------+----------------+----------+
 //                            0, 1, 3                     0, 1, 2, 3 bytes
-ghost use Prim.Native.Nat.{_+_, _<_, _≤_};
+ghost use Prim.Native.Nat.{_+_, _≤_};
 ghost use mathlib.Core.Path.{_≡_};
 ghost use mathlib.Core.List.{_++_};
 ghost use lib.ListN.{length};
-ghost use Rattle.octets.specs.Bytes.{laid, byte, bytes2};
-ghost use Rattle.apdu_stated.specs.Words.{shapeNo};
-ghost use Rattle.apdu_stated.specs.Answers.{saysOf, readingOf, writtenOf};
-ghost use Rattle.apdu_stated.specs.Table.{lcField, leField, lcLeast, lcMost, leLeast, leMost, lcFits, leFits, lcBytes, leBytes, leRead};
-ghost use Rattle.apdu_stated.specs.Reading.{lengthsOf, shortOf, extendedOf, afterData, readOf, strictOf, placeOf, dataOf};
-ghost use Rattle.apdu_stated.specs.Writing.{partsOf, payloadOf, frameOf, writeOf, bufferOf};
+ghost use Rattle.octets.specs.Bytes.{laid};
+ghost use Rattle.apdu_stated.specs.Table.{lcField, lcMost, lcBytes, leBytes};
+ghost use Rattle.apdu_stated.specs.Writing.{partsOf, payloadOf, frameOf};
+ghost use Rattle.apdu_stated.specs.Contracts.{ShapeNumber, Read, ReadStrict, DataPlace, Data, Write};
 pub use apdu_stated::Apdu;
 pub use apdu_stated::ApduHeader;
 pub use apdu_stated::Case;
@@ -28,7 +26,7 @@ const APDU_HEADER_LEN: usize = 4;
 
 // The shape's number.
 pub fn shape_number(shape: Case) -> u8
-    ensures { λ r. ⌜ r ≡ shapeNo shape ⌝ }
+    ensures { λ r. ⌜ ShapeNumber shape r ⌝ }
 {
     match shape {
         Case::Instruction => 1,
@@ -42,139 +40,9 @@ pub fn shape_number(shape: Case) -> u8
     }
 }
 
-// How many bytes the shape's Lc field has.
-fn lc_field(shape: Case) -> usize
-    ensures { λ r. ⌜ (r ≡ lcField shape) × (r ≤ 3) ⌝ }
-{
-    match shape {
-        Case::Instruction => 0,
-        Case::Le1 => 0,
-        Case::Lc1Data => 1,
-        Case::Lc1DataLe1 => 1,
-        Case::Lc3Data => 3,
-        Case::Lc3DataLe1 => 3,
-        Case::Lc3DataLe2 => 3,
-        Case::Le3 => 0,
-    }
-}
-
-// How many bytes the shape's Le field has.
-fn le_field(shape: Case) -> usize
-    ensures { λ r. ⌜ (r ≡ leField shape) × (r ≤ 3) ⌝ }
-{
-    match shape {
-        Case::Instruction => 0,
-        Case::Le1 => 1,
-        Case::Lc1Data => 0,
-        Case::Lc1DataLe1 => 1,
-        Case::Lc3Data => 0,
-        Case::Lc3DataLe1 => 1,
-        Case::Lc3DataLe2 => 2,
-        Case::Le3 => 3,
-    }
-}
-
-// The most that an Le field of so many bytes can say.
-fn le_most(long: usize) -> u32
-    ensures { λ r. ⌜ r ≡ leMost long ⌝ }
-{
-    if long == 0 {
-        return 0;
-    }
-    if long == 1 { 256 } else { 65536 }
-}
-
-// A written Le of 0 stands for the most that its field can say. The rule stands here alone.
-fn le_read(long: usize, written: u16) -> u32
-    ensures { λ r. ⌜ r ≡ leRead long written ⌝ }
-{
-    if written == 0 {
-        return le_most(long);
-    }
-    written as u32
-}
-
-fn le1(b: u8) -> u32
-    ensures { λ r. ⌜ r ≡ leRead 1 b ⌝ }
-{
-    le_read(1, b as u16)
-}
-
-// Lc in one byte, data, and perhaps one byte of Le.
-fn short(p: &[u8], lc: u8) -> Lengths
-    requires { ⌜ (1 < length (now p)) × (lc ≡ byte (now p) 0) ⌝ }
-    ensures { λ r. ⌜ r ≡ shortOf (now (p .entry)) ⌝ }
-{
-    let n = octets::wide(lc);
-    if p.len() < 1 + n {
-        return Lengths::Missing;
-    }
-    if p.len() == 1 + n {
-        return Lengths::Found(Case::Lc1Data, lc as u16, 0);
-    }
-    if p.len() == 2 + n {
-        return Lengths::Found(Case::Lc1DataLe1, lc as u16, le1(p[1 + n]));
-    }
-    Lengths::Surplus
-}
-
-// Data of lc bytes after an extended Lc, and perhaps Le.
-fn after_data(p: &[u8], lc: u16) -> Lengths
-    requires { ⌜ 3 < length (now p) ⌝ }
-    ensures { λ r. ⌜ r ≡ afterData (now (p .entry)) lc ⌝ }
-{
-    let n = lc as usize;
-    if p.len() < 3 + n {
-        return Lengths::Missing;
-    }
-    if p.len() == 3 + n {
-        return Lengths::Found(Case::Lc3Data, lc, 0);
-    }
-    if p.len() == 4 + n {
-        return Lengths::Found(Case::Lc3DataLe1, lc, le1(p[3 + n]));
-    }
-    if p.len() == 5 + n {
-        let le = octets::pair(p[3 + n], p[4 + n]);
-        return Lengths::Found(Case::Lc3DataLe2, lc, le_read(2, le));
-    }
-    Lengths::Surplus
-}
-
-// A payload that begins with 00: an extended Le alone, or an extended Lc.
-fn extended(p: &[u8]) -> Lengths
-    requires { ⌜ 1 < length (now p) ⌝ }
-    ensures { λ r. ⌜ r ≡ extendedOf (now (p .entry)) ⌝ }
-{
-    if p.len() < 3 {
-        return Lengths::Missing;
-    }
-    let field = octets::pair(p[1], p[2]);
-    if p.len() == 3 {
-        return Lengths::Found(Case::Le3, 0, le_read(3, field));
-    }
-    after_data(p, field)
-}
-
-// The bytes after the header.
-fn payload(p: &[u8]) -> Lengths
-    ensures { λ r. ⌜ r ≡ lengthsOf (now (p .entry)) ⌝ }
-{
-    if p.len() == 0 {
-        return Lengths::Found(Case::Instruction, 0, 0);
-    }
-    let first = p[0];
-    if p.len() == 1 {
-        return Lengths::Found(Case::Le1, 0, le1(first));
-    }
-    if first == 0 {
-        return extended(p);
-    }
-    short(p, first)
-}
-
 // Reads any bytes as a frame: what it says, or 6a80 under four bytes, or 6700 where it is in no shape.
 pub fn read(frame: &[u8]) -> Reading
-    ensures { λ r. ⌜ readingOf r ≡ readOf (now (frame .entry)) ⌝ }
+    ensures { λ r. ⌜ Read (now (frame .entry)) r ⌝ }
 {
     if frame.len() < APDU_HEADER_LEN {
         return Reading::Status(ApduStatusCode::WrongData);
@@ -185,7 +53,7 @@ pub fn read(frame: &[u8]) -> Reading
         p1: frame[2],
         p2: frame[3],
     };
-    let found = payload(&frame[APDU_HEADER_LEN..]);
+    let found = shapes::payload(&frame[APDU_HEADER_LEN..]);
     match found {
         Lengths::Found(shape, lc, le) => Reading::Frame(Apdu {
             header,
@@ -200,7 +68,7 @@ pub fn read(frame: &[u8]) -> Reading
 
 // The strict entry: as `read`, but shape 6, which is no case of ISO 7816-3, gets 6700.
 pub fn read_strict(frame: &[u8]) -> Reading
-    ensures { λ r. ⌜ readingOf r ≡ strictOf (now (frame .entry)) ⌝ }
+    ensures { λ r. ⌜ ReadStrict (now (frame .entry)) r ⌝ }
 {
     let answer = read(frame);
     match answer {
@@ -217,11 +85,11 @@ pub fn read_strict(frame: &[u8]) -> Reading
 
 // Where the data of a frame that says this stands. Past a frame's end where it is not this frame that says so.
 pub fn data_place(says: Apdu) -> Place
-    ensures { λ r. ⌜ r ≡ placeOf (saysOf says) ⌝ }
-    ensures early { λ r. ⌜ r .start ≤ 7 ⌝ }
+    ensures { λ r. ⌜ DataPlace says r ⌝ }
 {
     let shape = says.shape;
-    let start = APDU_HEADER_LEN + lc_field(shape);
+    let row = shapes::row(shape);
+    let start = APDU_HEADER_LEN + row.lc_field;
     Place {
         start,
         end: start + (says.lc as usize),
@@ -230,75 +98,16 @@ pub fn data_place(says: Apdu) -> Place
 
 // The data of a frame that says this, as a part of the frame; empty where there is none.
 pub fn data(frame: &[u8], says: Apdu) -> &[u8]
-    ensures { λ r. ⌜ now r ≡ dataOf (now (frame .entry)) (saysOf says) ⌝ }
+    ensures { λ r. ⌜ Data (now (frame .entry)) says (now r) ⌝ }
 {
     let at = data_place(says);
     octets::part(frame, at.start, at.end)
 }
 
-// The least Lc, and the most, that the shape can say.
-fn lc_least(shape: Case) -> usize
-    ensures { λ r. ⌜ r ≡ lcLeast shape ⌝ }
-{
-    match shape {
-        Case::Instruction => 0,
-        Case::Le1 => 0,
-        Case::Lc1Data => 1,
-        Case::Lc1DataLe1 => 1,
-        Case::Lc3Data => 1,
-        Case::Lc3DataLe1 => 0,
-        Case::Lc3DataLe2 => 0,
-        Case::Le3 => 0,
-    }
-}
-
-fn lc_most(long: usize) -> usize
-    ensures { λ r. ⌜ r ≡ lcMost long ⌝ }
-{
-    if long == 0 {
-        return 0;
-    }
-    if long == 1 { 255 } else { 65535 }
-}
-
-fn le_least(long: usize) -> u32
-    ensures { λ r. ⌜ r ≡ leLeast long ⌝ }
-{
-    if long == 0 { 0 } else { 1 }
-}
-
-// Whether a frame of the shape can hold so many bytes of data.
-fn lc_fits(shape: Case, count: usize) -> bool
-    ensures { λ r. ⌜ r ≡ lcFits shape count ⌝ }
-{
-    if count < lc_least(shape) {
-        return false;
-    }
-    if lc_most(lc_field(shape)) < count {
-        return false;
-    }
-    true
-}
-
-// Whether a frame of the shape can say this Le.
-fn le_fits(shape: Case, le: u32) -> bool
-    ensures { λ r. ⌜ r ≡ leFits shape le ⌝ }
-{
-    let long = le_field(shape);
-    if le < le_least(long) {
-        return false;
-    }
-    if le_most(long) < le {
-        return false;
-    }
-    true
-}
-
 // Each of the next writes its field at the front of what is left of the buffer, and lends the rest to the next field's.
-fn put_le(out: &mut [u8], shape: Case, le: u32)
-    ensures { λ _. ⌜ now (out .exit) ≡ laid (leBytes shape le) (now (out .entry)) ⌝ }
+fn put_le(out: &mut [u8], long: usize, le: u32)
+    ensures { λ _. ⌜ now (out .exit) ≡ laid (leBytes long le) (now (out .entry)) ⌝ }
 {
-    let long = le_field(shape);
     if long == 0 {
         return;
     }
@@ -314,20 +123,19 @@ fn put_le(out: &mut [u8], shape: Case, le: u32)
     octets::put(out, &[0, (low / 256) as u8, (low % 256) as u8]);
 }
 
-fn put_content(out: &mut [u8], shape: Case, content: &[u8], le: u32)
+fn put_content(out: &mut [u8], content: &[u8], long: usize, le: u32)
     requires { ⌜ length (now content) ≤ length (now out) ⌝ }
-    ensures { λ _. ⌜ now (out .exit) ≡ laid (now (content .entry) ++ leBytes shape le) (now (out .entry)) ⌝ }
+    ensures { λ _. ⌜ now (out .exit) ≡ laid (now (content .entry) ++ leBytes long le) (now (out .entry)) ⌝ }
 {
     octets::put(out, content);
     let n = content.len();
-    put_le(&mut out[n..], shape, le);
+    put_le(&mut out[n..], long, le);
 }
 
-fn put_lc(out: &mut [u8], shape: Case, count: usize)
-    requires { ⌜ count ≤ lcMost (lcField shape) ⌝ }
-    ensures { λ _. ⌜ now (out .exit) ≡ laid (lcBytes shape count) (now (out .entry)) ⌝ }
+fn put_lc(out: &mut [u8], long: usize, count: usize)
+    requires { ⌜ count ≤ lcMost long ⌝ }
+    ensures { λ _. ⌜ now (out .exit) ≡ laid (lcBytes long count) (now (out .entry)) ⌝ }
 {
-    let long = lc_field(shape);
     if long == 0 {
         return;
     }
@@ -342,9 +150,10 @@ fn put_payload(out: &mut [u8], shape: Case, content: &[u8], le: u32)
     requires { ⌜ (lcField shape + length (now content) ≤ length (now out)) × (length (now content) ≤ lcMost (lcField shape)) ⌝ }
     ensures { λ _. ⌜ now (out .exit) ≡ laid (payloadOf shape (now (content .entry)) le) (now (out .entry)) ⌝ }
 {
-    put_lc(out, shape, content.len());
-    let long = lc_field(shape);
-    put_content(&mut out[long..], shape, content, le);
+    let row = shapes::row(shape);
+    let long = row.lc_field;
+    put_lc(out, long, content.len());
+    put_content(&mut out[long..], content, row.le_field, le);
 }
 
 fn put_frame(out: &mut [u8], header: ApduHeader, shape: Case, content: &[u8], le: u32)
@@ -358,16 +167,13 @@ fn put_frame(out: &mut [u8], header: ApduHeader, shape: Case, content: &[u8], le
 // Writes a frame at the front of out and says its length: R5 where the shape cannot carry the data or Le, then R2 where
 // out is shorter than the frame. A refusal leaves out as it was.
 pub fn write(header: ApduHeader, shape: Case, content: &[u8], le: u32, out: &mut [u8]) -> Written
-    ensures { λ r. ⌜ writtenOf r ≡ writeOf (partsOf header shape (now (content .entry)) le) (length (now (out .entry))) ⌝ }
-    ensures { λ r. ⌜ now (out .exit) ≡ bufferOf (partsOf header shape (now (content .entry)) le) (now (out .entry)) ⌝ }
+    ensures { λ r. ⌜ Write (partsOf header shape (now (content .entry)) le) (now (out .entry)) r (now (out .exit)) ⌝ }
 {
-    if !lc_fits(shape, content.len()) {
+    if !shapes::fits(shape, content.len(), le) {
         return Written::Refused(Refusal::R5);
     }
-    if !le_fits(shape, le) {
-        return Written::Refused(Refusal::R5);
-    }
-    let n = APDU_HEADER_LEN + lc_field(shape) + content.len() + le_field(shape);
+    let row = shapes::row(shape);
+    let n = APDU_HEADER_LEN + row.lc_field + content.len() + row.le_field;
     if out.len() < n {
         return Written::Refused(Refusal::R2);
     }

@@ -1,47 +1,42 @@
--- What a shape can carry, test by test.
+-- What a shape can carry, test by test, as the code meets it.
 use Prim.Native.Nat.{ℕ, _<_, _≤_}
 use mathlib.Core.Path.{_≡_}
 use mathlib.Core.Bool.{true, false, and-false}
 use native.Mathlib.Omega.{arith}
 use borrow.Author.Tests.{le-leb, lt-leb}
 use Rattle.apdu_stated.specs.Words.{Case}
-use Rattle.apdu_stated.specs.Table.{lcField, leField, lcLeast, lcMost, leLeast, leMost, lcFits, leFits}
+use Rattle.apdu_stated.specs.Table.{lcField, leField, lcLeast, lcMost, leLeast, leMost, lcFits, leFits, canCarry}
 
-module _ (s : Case) (count : ℕ) where
-  pub too-few : (least : ℕ) → least ≡ lcLeast s → count < least → false ≡ lcFits s count
+module _ (s : Case) (count le : ℕ) where
+  pub too-few : (least : ℕ) → least ≡ lcLeast s → count < least → false ≡ canCarry s count le
   unfolding lcFits
   too-few least e h = rw (lt-leb (lcLeast s) count (omega arith))
 
-  module _ (long most : ℕ) (is-long : long ≡ lcField s) (is-most : most ≡ lcMost long) where
-    pub too-many : most < count → false ≡ lcFits s count
+  module _ (lcLong lcUp : ℕ) (is-lc : lcLong ≡ lcField s) (is-up : lcUp ≡ lcMost lcLong) where
+    pub too-many : lcUp < count → false ≡ canCarry s count le
     unfolding lcFits
     too-many h =
-        let over : lcMost (lcField s) < count = rw (← is-long, ← is-most) h in
+        let over : lcMost (lcField s) < count = rw (← is-lc, ← is-up) h in
         rw (lt-leb count (lcMost (lcField s)) over, and-false)
 
-    pub fits : (least : ℕ) → least ≡ lcLeast s → least ≤ count → count ≤ most → true ≡ lcFits s count
-    unfolding lcFits
-    fits least e h g =
-        let within : count ≤ lcMost (lcField s) = rw (← is-long, ← is-most) g in
-        rw (le-leb (lcLeast s) count (omega arith), le-leb count (lcMost (lcField s)) within)
+    module _ (leLong leLow : ℕ) (is-le : leLong ≡ leField s) (is-low : leLow ≡ leLeast leLong) where
+      pub le-under : le < leLow → false ≡ canCarry s count le
+      unfolding leFits
+      le-under h =
+          let under : le < leLeast (leField s) = rw (← is-le, ← is-low) h in
+          rw (lt-leb (leLeast (leField s)) le under, and-false)
 
-module _ (s : Case) (le long : ℕ) (is-long : long ≡ leField s) where
-  pub le-under : (least : ℕ) → least ≡ leLeast long → le < least → false ≡ leFits s le
-  unfolding leFits
-  le-under least e h =
-      let under : le < leLeast (leField s) = rw (← is-long, ← e) h in
-      rw (lt-leb (leLeast (leField s)) le under)
+      module _ (leUp : ℕ) (is-most : leUp ≡ leMost leLong) where
+        pub le-over : leUp < le → false ≡ canCarry s count le
+        unfolding leFits
+        le-over h =
+            let over : leMost (leField s) < le = rw (← is-le, ← is-most) h in
+            rw (lt-leb le (leMost (leField s)) over, and-false, and-false)
 
-  module _ (most : ℕ) (is-most : most ≡ leMost long) where
-    pub le-over : most < le → false ≡ leFits s le
-    unfolding leFits
-    le-over h =
-        let over : leMost (leField s) < le = rw (← is-long, ← is-most) h in
-        rw (lt-leb le (leMost (leField s)) over, and-false)
-
-    pub le-says : (least : ℕ) → least ≡ leLeast long → least ≤ le → le ≤ most → true ≡ leFits s le
-    unfolding leFits
-    le-says least e h g =
-        let low : leLeast (leField s) ≤ le = rw (← is-long, ← e) h in
-        let high : le ≤ leMost (leField s) = rw (← is-long, ← is-most) g in
-        rw (le-leb (leLeast (leField s)) le low, le-leb le (leMost (leField s)) high)
+        pub carries : (least : ℕ) → least ≡ lcLeast s → least ≤ count → count ≤ lcUp → leLow ≤ le → le ≤ leUp → true ≡ canCarry s count le
+        unfolding lcFits leFits
+        carries least is-least a b c d =
+            let lcHigh : count ≤ lcMost (lcField s) = rw (← is-lc, ← is-up) b in
+            let low : leLeast (leField s) ≤ le = rw (← is-le, ← is-low) c in
+            let high : le ≤ leMost (leField s) = rw (← is-le, ← is-most) d in
+            rw (le-leb (lcLeast s) count (omega arith), le-leb count (lcMost (lcField s)) lcHigh, le-leb (leLeast (leField s)) le low, le-leb le (leMost (leField s)) high)

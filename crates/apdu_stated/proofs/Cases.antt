@@ -8,7 +8,7 @@ use borrow.Author.Tests.{lt-ltb, le-ltb, eq-eqb, ne-eqb}
 use lib.ListN.{length, take, drop}
 use Rattle.outcome.specs.declared.ApduStatusCode.{ApduStatusCode}
 use Rattle.outcome.specs.Outcome.{SW, Gives, statusNo}
-use Rattle.octets.proofs.Tails.{tail-is}
+use Rattle.octets.proofs.Laws.{tail-is}
 use Rattle.octets.specs.Bytes.{byte, pairAt, partOf}
 use Rattle.apdu_stated.specs.Words.{Case, Instruction, Le1, Lc1Data, Lc1DataLe1, Lc3Data, Lc3DataLe1, Lc3DataLe2, Le3, shapeNo}
 use Rattle.apdu_stated.specs.Answers.{Apdu, Place, Says, saysOf, readingOf}

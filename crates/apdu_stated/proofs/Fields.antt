@@ -1,53 +1,53 @@
 -- The fields of a frame as they are written one after the other, and the writer's answers.
 use Prim.Native.Nat.{ℕ, _+_, _-_, _*_, _/_, _%_, _<_, _≤_}
 use mathlib.Core.Path.{_≡_, refl, ap, sym, _∙_}
-use mathlib.Core.Bool.{Bool, true, false, not, and-eq-true-iff}
+use mathlib.Core.Bool.{Bool, true, false, not}
 use mathlib.Core.List.{List, [], _∷_, _++_}
 use native.Mathlib.Omega.{arith}
-use borrow.Author.Tests.{lt-ltb, le-ltb, eq-eqb, ne-eqb, not-true, not-false, leb-true}
-use lib.Dec.{leb}
+use borrow.Author.Tests.{lt-ltb, le-ltb, eq-eqb, ne-eqb, not-true, not-false}
 use lib.ListN.{length, take, drop, length-append}
 use Rattle.outcome.specs.Outcome.{R, Gives}
 use Rattle.octets.specs.Bytes.{laid, bytes2}
-use Rattle.octets.proofs.Tails.{laid-then}
+use Rattle.octets.proofs.Laws.{laid-then}
 use Rattle.apdu_stated.specs.Words.{Case, ApduHeader, Instruction, Le1, Lc1Data, Lc1DataLe1, Lc3Data, Lc3DataLe1, Lc3DataLe2, Le3}
-use Rattle.apdu_stated.specs.Table.{lcField, leField, lcLeast, lcMost, lcFits, leFits, lcBytes, leBytes}
+use Rattle.apdu_stated.specs.Table.{lcField, leField, lcMost, canCarry, lcBytes, leBytes}
 use Rattle.apdu_stated.specs.Writing.{partsOf, headerBytes, payloadOf, frameOf, writeOf, bufferOf}
+use Rattle.apdu_stated.proofs.LaidOut.{carried}
 
 -- ---- the Le field
-module _ (s : Case) (le long : ℕ) (old : List ℕ) (is-long : long ≡ leField s) where
-  pub le-none : long ≡ 0 → old ≡ laid (leBytes s le) old
-  le-none z = rw (← is-long, z)
+module _ (le long : ℕ) (old : List ℕ) where
+  pub le-none : long ≡ 0 → old ≡ laid (leBytes long le) old
+  le-none z = rw z
 
   module _ (new : List ℕ) where
-    pub le-one : long ≡ 1 → new ≡ laid (le % 256 ∷ []) old → new ≡ laid (leBytes s le) old
-    le-one z e = e ∙ rw (← is-long, z)
+    pub le-one : long ≡ 1 → new ≡ laid (le % 256 ∷ []) old → new ≡ laid (leBytes long le) old
+    le-one z e = e ∙ rw z
 
-    pub le-two : long ≡ 2 → new ≡ laid (bytes2 (le % 65536)) old → new ≡ laid (leBytes s le) old
-    le-two z e = e ∙ rw (← is-long, z)
+    pub le-two : long ≡ 2 → new ≡ laid (bytes2 (le % 65536)) old → new ≡ laid (leBytes long le) old
+    le-two z e = e ∙ rw z
 
-    pub le-three : (long ≡ 0 → ⊥) → (long ≡ 1 → ⊥) → (long ≡ 2 → ⊥) → new ≡ laid (0 ∷ bytes2 (le % 65536)) old → new ≡ laid (leBytes s le) old
-    le-three n0 n1 n2 e = e ∙ rw (← is-long, ne-eqb long 0 n0, ne-eqb long 1 n1, ne-eqb long 2 n2)
+    pub le-three : (long ≡ 0 → ⊥) → (long ≡ 1 → ⊥) → (long ≡ 2 → ⊥) → new ≡ laid (0 ∷ bytes2 (le % 65536)) old → new ≡ laid (leBytes long le) old
+    le-three n0 n1 n2 e = e ∙ rw (ne-eqb long 0 n0, ne-eqb long 1 n1, ne-eqb long 2 n2)
 
 -- ---- the Lc field
-module _ (s : Case) (count long : ℕ) (old : List ℕ) (is-long : long ≡ lcField s) (within : count ≤ lcMost (lcField s)) where
-  pub lc-none : long ≡ 0 → old ≡ laid (lcBytes s count) old
-  lc-none z = rw (← is-long, z)
+module _ (count long : ℕ) (old : List ℕ) (within : count ≤ lcMost long) where
+  pub lc-none : long ≡ 0 → old ≡ laid (lcBytes long count) old
+  lc-none z = rw z
 
   module _ (new : List ℕ) where
-    pub lc-one : long ≡ 1 → new ≡ laid (count % 256 ∷ []) old → new ≡ laid (lcBytes s count) old
+    pub lc-one : long ≡ 1 → new ≡ laid (count % 256 ∷ []) old → new ≡ laid (lcBytes long count) old
     lc-one z e =
-        let small : count ≤ 255 = rw (← is-long, z) at within in
+        let small : count ≤ 255 = rw z at within in
         let same : count % 256 ≡ count = omega arith in
-        e ∙ rw (← is-long, z, same)
+        e ∙ rw (z, same)
 
-    pub lc-three : (long ≡ 0 → ⊥) → (long ≡ 1 → ⊥) → new ≡ laid (0 ∷ count / 256 % 256 ∷ count % 256 ∷ []) old → new ≡ laid (lcBytes s count) old
+    pub lc-three : (long ≡ 0 → ⊥) → (long ≡ 1 → ⊥) → new ≡ laid (0 ∷ count / 256 % 256 ∷ count % 256 ∷ []) old → new ≡ laid (lcBytes long count) old
     lc-three n0 n1 e =
-        let small : count ≤ 65535 = rw (← is-long, ne-eqb long 0 n0, ne-eqb long 1 n1) at within in
+        let small : count ≤ 65535 = rw (ne-eqb long 0 n0, ne-eqb long 1 n1) at within in
         let same : count / 256 % 256 ≡ count / 256 = omega arith in
-        e ∙ rw (← is-long, ne-eqb long 0 n0, ne-eqb long 1 n1, same)
+        e ∙ rw (ne-eqb long 0 n0, ne-eqb long 1 n1, same)
 
-pub lc-long : (s : Case) (count : ℕ) → length (lcBytes s count) ≡ lcField s
+pub lc-long : (s : Case) (count : ℕ) → length (lcBytes (lcField s) count) ≡ lcField s
 lc-long Instruction count = refl
 lc-long Le1 count = refl
 lc-long Lc1Data count = refl
@@ -57,7 +57,7 @@ lc-long Lc3DataLe1 count = refl
 lc-long Lc3DataLe2 count = refl
 lc-long Le3 count = refl
 
-pub le-long : (s : Case) (le : ℕ) → length (leBytes s le) ≡ leField s
+pub le-long : (s : Case) (le : ℕ) → length (leBytes (leField s) le) ≡ leField s
 le-long Instruction le = refl
 le-long Le1 le = refl
 le-long Lc1Data le = refl
@@ -69,10 +69,13 @@ le-long Le3 le = refl
 
 -- ---- the payload, and the frame
 module _ (s : Case) (content : List ℕ) (le : ℕ) (old xs ys : List ℕ) where
-  pub payload-then : (long : ℕ) → long ≡ lcField s → xs ≡ laid (lcBytes s (length content)) old → ys ≡ laid (content ++ leBytes s le) (take (length xs - long) (drop long xs))
-      → take long xs ++ (ys ++ drop (length xs - long) (drop long xs)) ≡ laid (payloadOf s content le) old
+  pub payload-then : (lcLong leLong : ℕ) → lcLong ≡ lcField s → leLong ≡ leField s → xs ≡ laid (lcBytes lcLong (length content)) old
+      → ys ≡ laid (content ++ leBytes leLong le) (take (length xs - lcLong) (drop lcLong xs))
+      → take lcLong xs ++ (ys ++ drop (length xs - lcLong) (drop lcLong xs)) ≡ laid (payloadOf s content le) old
   unfolding payloadOf
-  payload-then long is-long first rest = laid-then (lcBytes s (length content)) (content ++ leBytes s le) old xs ys long (lc-long s (length content) ∙ sym is-long) first rest
+  payload-then lcLong leLong is-lc is-le first rest =
+      laid-then (lcBytes lcLong (length content)) (content ++ leBytes leLong le) old xs ys lcLong (rw is-lc (lc-long s (length content))) first rest
+      ∙ rw (is-lc, is-le)
 
   pub frame-then : (h : ApduHeader) → xs ≡ laid (headerBytes h) old → ys ≡ laid (payloadOf s content le) (take (length xs - 4) (drop 4 xs))
       → take 4 xs ++ (ys ++ drop (length xs - 4) (drop 4 xs)) ≡ laid (frameOf (partsOf h s content le)) old
@@ -98,35 +101,31 @@ pub wrote : (h : ApduHeader) (s : Case) (content : List ℕ) (le : ℕ) (old new
 unfolding bufferOf
 wrote h s content le old new n is-new e = (e, is-new ∙ rw (← e))
 
-module _ (h : ApduHeader) (s : Case) (content : List ℕ) (le room : ℕ) (a : Bool) (is-a : a ≡ lcFits s (length content)) where
-  pub no-lc : not a ≡ true → R 5 ≡ writeOf (partsOf h s content le) room
+module _ (h : ApduHeader) (s : Case) (content : List ℕ) (le room : ℕ) (a : Bool) (is-a : a ≡ canCarry s (length content) le) where
+  pub no-fit : not a ≡ true → R 5 ≡ writeOf (partsOf h s content le) room
   unfolding writeOf
-  no-lc n = rw (← is-a, not-true a n)
+  no-fit n = rw (← is-a, not-true a n)
 
-  module _ (b : Bool) (is-b : b ≡ leFits s le) (yes-lc : not a ≡ false) where
-    pub no-le : not b ≡ true → R 5 ≡ writeOf (partsOf h s content le) room
+  module _ (fits : not a ≡ false) (lcLong leLong : ℕ) (is-lc : lcLong ≡ lcField s) (is-le : leLong ≡ leField s) where
+    pub no-room : room < 4 + lcLong + length content + leLong → R 2 ≡ writeOf (partsOf h s content le) room
     unfolding writeOf
-    no-le n = rw (← is-a, not-false a yes-lc, ← is-b, not-true b n)
+    no-room r =
+        let long = frame-long h s content le in
+        rw (← is-a, not-false a fits, lt-ltb room (length (frameOf (partsOf h s content le))) (omega arith))
 
-    module _ (yes-le : not b ≡ false) (lcLong leLong : ℕ) (is-lc : lcLong ≡ lcField s) (is-le : leLong ≡ leField s) where
-      pub no-room : room < 4 + lcLong + length content + leLong → R 2 ≡ writeOf (partsOf h s content le) room
-      unfolding writeOf
-      no-room r =
-          let long = frame-long h s content le in
-          rw (← is-a, not-false a yes-lc, ← is-b, not-false b yes-le, lt-ltb room (length (frameOf (partsOf h s content le))) (omega arith))
-
-      pub has-room : 4 + lcLong + length content + leLong ≤ room → Gives (4 + lcLong + length content + leLong) ≡ writeOf (partsOf h s content le) room
-      unfolding writeOf
-      has-room r =
-          let long = frame-long h s content le in
-          let same : 4 + lcLong + length content + leLong ≡ length (frameOf (partsOf h s content le)) = omega arith in
-          rw (← is-a, not-false a yes-lc, ← is-b, not-false b yes-le, le-ltb room (length (frameOf (partsOf h s content le))) (omega arith), same)
+    pub has-room : 4 + lcLong + length content + leLong ≤ room → Gives (4 + lcLong + length content + leLong) ≡ writeOf (partsOf h s content le) room
+    unfolding writeOf
+    has-room r =
+        let long = frame-long h s content le in
+        let same : 4 + lcLong + length content + leLong ≡ length (frameOf (partsOf h s content le)) = omega arith in
+        rw (← is-a, not-false a fits, le-ltb room (length (frameOf (partsOf h s content le))) (omega arith), same)
 
 -- what the fields' writers ask
 pub asks-room : (s : Case) (n long leLong room : ℕ) → long ≡ lcField s → 4 + long + n + leLong ≤ room → 4 + (lcField s + n) ≤ room
 asks-room s n long leLong room is-long fits = omega arith
 
-pub asks-lc : (s : Case) (n : ℕ) (a : Bool) → a ≡ lcFits s n → not a ≡ false → n ≤ lcMost (lcField s)
-unfolding lcFits
-asks-lc s n a is-a passed =
-    leb-true n (lcMost (lcField s)) (and-eq-true-iff (leb (lcLeast s) n) (leb n (lcMost (lcField s))) .0 (sym is-a ∙ not-false a passed) .1)
+pub asks-lc : (s : Case) (n le : ℕ) (a : Bool) → a ≡ canCarry s n le → not a ≡ false → n ≤ lcMost (lcField s)
+asks-lc s n le a is-a passed = carried s n le (sym is-a ∙ not-false a passed) .lc-high
+
+pub asks-within : (s : Case) (n long : ℕ) → long ≡ lcField s → n ≤ lcMost (lcField s) → n ≤ lcMost long
+asks-within s n long e h = rw e h

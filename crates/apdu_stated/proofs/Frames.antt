@@ -8,45 +8,32 @@ use native.Mathlib.Nat.{not-suc-le-zero, le-of-suc-le-suc}
 use native.Mathlib.Decide.{decLt}
 use lib.ListN.{length, take, drop, length-drop}
 use lib.Seq.{drop-drop, drop-at, take-at, getD-drop}
-use Rattle.outcome.specs.Outcome.{Outcome, SW, Gives}
-use Rattle.outcome.proofs.Laws.{gives-same, sw-gives}
+use Rattle.outcome.specs.Outcome.{Outcome, R, SW, Gives}
+use Rattle.outcome.proofs.Laws.{gives-same, sw-same, sw-gives, r-sw, r-gives}
 use Rattle.octets.specs.Bytes.{byte, pairAt, AreBytes, partOf}
-use Rattle.octets.proofs.Between.{part-within, part-length}
+use Rattle.octets.proofs.Laws.{part-within, part-length}
 use Rattle.apdu_stated.specs.Words.{Case, Instruction, Le1, Lc1Data, Lc1DataLe1, Lc3Data, Lc3DataLe1, Lc3DataLe2, Le3, shapeNo}
-use Rattle.apdu_stated.specs.Answers.{Says}
+use Rattle.apdu_stated.specs.Answers.{Says, saysOf}
 use Rattle.apdu_stated.specs.Table.{lcField, leField, canCarry, lcBytes, leBytes}
 use Rattle.apdu_stated.specs.Reading.{readOf, lengthsOf, headerOf, sayOf, dataOf}
 use Rattle.apdu_stated.specs.Writing.{Parts, partsOf, headerBytes, payloadOf, frameOf}
-use Rattle.apdu_stated.specs.Claims.{InTable, said}
 use Rattle.apdu_stated.specs.declared.Lengths.{Lengths}
 use Rattle.apdu_stated.specs.declared.Lengths.the-variants.{Found, Missing, Surplus}
 use Rattle.apdu_stated.proofs.Cases
 use Rattle.apdu_stated.proofs.Fields.{lc-long, frame-long}
 use Rattle.apdu_stated.proofs.LaidOut.{carried, row-read}
-use Rattle.apdu_stated.proofs.Ways.{Way, way, none, le1, short, short-le, le3, wide, wide-le1, wide-le2, missing, surplus}
+use Rattle.apdu_stated.proofs.Ways.{Way, way, none, le1, short, short-le, le3, wide, wide-le1, wide-le2, missing, surplus, saidBy, FrameWay, frame-way}
+pub use Rattle.apdu_stated.proofs.Ways.{under, found, no-shape}
 use Rattle.apdu_stated.proofs.Sound.{Laid, LaidAs, sound}
 
--- what a frame says, as its payload's row says it
-abbrev pub saidBy : List ℕ → Case → ℕ → ℕ → Says
-saidBy frame s lc le = record { header = headerOf frame; shape = shapeNo s; dataAt = 4 + lcField s; lc = lc; le = le }
+-- a frame that is laid out as the definitions' table lays these parts out, and the table's row can carry them
+pub record Built (frame : List ℕ) (w : Parts) : Type 0 where
+  pub layout : frame ≡ frameOf w
+  pub carried : canCarry (w .shape) (length (w .content)) (w .le) ≡ true
 
--- the three answers, each with what it shows
-pub data Answer (frame : List ℕ) : Outcome Says → Type 0 where
-  under : length frame < 4 → Answer frame (SW 0x6a80)
-  found : 4 ≤ length frame → (s : Case) (lc le : ℕ) → Found s lc le ≡ lengthsOf (drop 4 frame) → Answer frame (Gives (saidBy frame s lc le))
-  no-shape : 4 ≤ length frame → Answer frame (SW 0x6700)
-
-by-lengths : (frame : List ℕ) → 4 ≤ length frame → (l : Lengths) → l ≡ lengthsOf (drop 4 frame) → Answer frame (sayOf frame l)
-by-lengths frame long (Found s lc le) e = subst (Answer frame) (sym (Cases.say-found frame s lc le)) (found long s lc le e)
-by-lengths frame long Missing e = subst (Answer frame) (sym (Cases.say-missing frame)) (no-shape long)
-by-lengths frame long Surplus e = subst (Answer frame) (sym (Cases.say-surplus frame)) (no-shape long)
-
-pub answer : (frame : List ℕ) → Answer frame (readOf frame)
-answer frame = go (decLt (length frame) 4)
-  where
-    go : Dec (length frame < 4) → Answer frame (readOf frame)
-    go (yes h) = subst (Answer frame) (Cases.read-under frame h) (under h)
-    go (no h) = subst (Answer frame) (sym (Cases.read-by frame (omega arith))) (by-lengths frame (omega arith) (lengthsOf (drop 4 frame)) refl)
+-- what a frame of these parts says: Lc is the data's length
+abbrev pub said : Parts → Says
+said w = saysOf (record { header = w .header; shape = w .shape; lc = length (w .content); le = w .le })
 
 -- ---- a frame is its header and its payload
 four : (frame : List ℕ) → 4 ≤ length frame → frame ≡ headerBytes (headerOf frame) ++ drop 4 frame
@@ -56,40 +43,40 @@ four (a ∷ b ∷ []) h = absurd (not-suc-le-zero (le-of-suc-le-suc (le-of-suc-l
 four (a ∷ b ∷ c ∷ []) h = absurd (not-suc-le-zero (le-of-suc-le-suc (le-of-suc-le-suc (le-of-suc-le-suc h))))
 four (a ∷ b ∷ c ∷ d ∷ frame) h = refl
 
-payload-bytes : (frame : List ℕ) → AreBytes frame → AreBytes (drop 4 frame)
+pub payload-bytes : (frame : List ℕ) → AreBytes frame → AreBytes (drop 4 frame)
 payload-bytes frame bytes i = rw getD-drop (bytes (4 + i))
 
 -- ---- read, so in the table
-pub in-table : (frame : List ℕ) → AreBytes frame → 4 ≤ length frame → (s : Case) (lc le : ℕ) → Found s lc le ≡ lengthsOf (drop 4 frame)
-    → (w : Parts) × InTable frame w × (saidBy frame s lc le ≡ said w)
+pub in-table : (frame : List ℕ) → AreBytes (drop 4 frame) → 4 ≤ length frame → (s : Case) (lc le : ℕ) → Found s lc le ≡ lengthsOf (drop 4 frame)
+    → (w : Parts) × Built frame w × (saidBy frame s lc le ≡ said w)
 unfolding frameOf Laid
 in-table frame bytes long s lc le e =
-    let laid : LaidAs (drop 4 frame) s lc le = sound (drop 4 frame) (payload-bytes frame bytes) (subst (Way (drop 4 frame)) (sym e) (way (drop 4 frame))) in (
+    let laid : LaidAs (drop 4 frame) s lc le = sound (drop 4 frame) bytes (subst (Way (drop 4 frame)) (sym e) (way (drop 4 frame))) in (
       partsOf (headerOf frame) s (laid .content) le,
       record { layout = four frame long ∙ ap (λ (p : List ℕ). headerBytes (headerOf frame) ++ p) (laid .is); carried = rw (laid .long) (laid .carried) },
       ap (λ (n : ℕ). saidBy frame s n le) (sym (laid .long)),
     )
 
 -- ---- in the table, so read, and cut as the table says
-pub table-read : (frame : List ℕ) (w : Parts) → InTable frame w → readOf frame ≡ Gives (said w)
+pub table-read : (frame : List ℕ) (w : Parts) → Built frame w → readOf frame ≡ Gives (said w)
 unfolding frameOf
 table-read frame w t =
     let row = row-read (w .shape) (w .content) (w .le) (carried (w .shape) (length (w .content)) (w .le) (t .carried)) in
     ap readOf (t .layout) ∙ Cases.read-by (frameOf w) (omega (arith, frame-long (w .header) (w .shape) (w .content) (w .le)))
     ∙ ap (sayOf (frameOf w)) (sym row) ∙ Cases.say-found (frameOf w) (w .shape) (length (w .content)) (w .le)
 
-pub table-cut : (frame : List ℕ) (w : Parts) → InTable frame w → dataOf frame (said w) ≡ w .content
+pub table-cut : (frame : List ℕ) (w : Parts) → Built frame w → dataOf frame (said w) ≡ w .content
 unfolding dataOf frameOf payloadOf
 table-cut frame w t =
     let n = length (w .content) in
     let a = lcField (w .shape) in
-    let rest = w .content ++ leBytes (w .shape) (w .le) in
+    let rest = w .content ++ leBytes (leField (w .shape)) (w .le) in
     let long = frame-long (w .header) (w .shape) (w .content) (w .le) in
     let whole : length frame ≡ length (frameOf w) = ap length (t .layout) in
     let width : 4 + a + n - (4 + a) ≡ n = omega arith in
-    let from : drop (4 + a) frame ≡ rest = ap (drop (4 + a)) (t .layout) ∙ sym (drop-drop a 4 (frameOf w)) ∙ drop-at (lcBytes (w .shape) n) rest a (lc-long (w .shape) n) in
+    let from : drop (4 + a) frame ≡ rest = ap (drop (4 + a)) (t .layout) ∙ sym (drop-drop a 4 (frameOf w)) ∙ drop-at (lcBytes (lcField (w .shape)) n) rest a (lc-long (w .shape) n) in
     sym (part-within frame (4 + a) (4 + a + n) (omega arith) (omega arith))
-    ∙ ap₂ (λ (k : ℕ) (l : List ℕ). take k l) width from ∙ take-at (w .content) (leBytes (w .shape) (w .le)) n refl
+    ∙ ap₂ (λ (k : ℕ) (l : List ℕ). take k l) width from ∙ take-at (w .content) (leBytes (leField (w .shape)) (w .le)) n refl
 
 -- ---- for callers: the data of a frame that is read has Lc bytes
 way-within : (p : List ℕ) {l : Lengths} → Way p l → (s : Case) (lc le : ℕ) → Found s lc le ≡ l → lcField s + lc ≤ length p
@@ -110,13 +97,13 @@ way-within p w s lc le e = go w s lc le e
     go (wide z n h) s lc le e = use-it s Lc3Data lc (pairAt p 1) le _ e (omega arith)
     go (wide-le1 z h) s lc le e = use-it s Lc3DataLe1 lc (pairAt p 1) le _ e (omega arith)
     go (wide-le2 z h) s lc le e = use-it s Lc3DataLe2 lc (pairAt p 1) le _ e (omega arith)
-    go missing s lc le e = absurd (let z : _≡_ {A = ℕ} 0 1 = cc in omega arith)
+    go (missing early) s lc le e = absurd (let z : _≡_ {A = ℕ} 0 1 = cc in omega arith)
     go surplus s lc le e = absurd (let z : _≡_ {A = ℕ} 0 1 = cc in omega arith)
 
 pub data-within : (frame : List ℕ) (said : Says) → readOf frame ≡ Gives said → said .dataAt + said .lc ≤ length frame
-data-within frame said e = go (readOf frame) (answer frame) e
+data-within frame said e = go (readOf frame) (frame-way frame) e
   where
-    go : (o : Outcome Says) → Answer frame o → o ≡ Gives said → said .dataAt + said .lc ≤ length frame
+    go : (o : Outcome Says) → FrameWay frame o → o ≡ Gives said → said .dataAt + said .lc ≤ length frame
     go _ (under h) x = absurd (sw-gives _ _ x)
     go _ (no-shape h) x = absurd (sw-gives _ _ x)
     go _ (found long s lc le f) x =
@@ -128,3 +115,35 @@ unfolding dataOf
 data-long frame said e =
     let fits = data-within frame said e in
     part-length frame (said .dataAt) (said .dataAt + said .lc) (omega arith) fits ∙ omega arith
+
+pub data-from : (frame : List ℕ) (said : Says) → readOf frame ≡ Gives said → 4 ≤ said .dataAt
+data-from frame said e = go (readOf frame) (frame-way frame) e
+  where
+    go : (o : Outcome Says) → FrameWay frame o → o ≡ Gives said → 4 ≤ said .dataAt
+    go _ (under h) x = absurd (sw-gives _ _ x)
+    go _ (no-shape h) x = absurd (sw-gives _ _ x)
+    go _ (found long s lc le f) x = rw (← gives-same _ _ x) (omega arith)
+
+-- a reading refuses nothing, and has two statuses
+pub read-status : (frame : List ℕ) (n : ℕ) → (n ≡ 0x6a80 → ⊥) → (n ≡ 0x6700 → ⊥) → readOf frame ≡ SW n → ⊥
+read-status frame n not-short not-none e = go (readOf frame) (frame-way frame) e
+  where
+    go : (o : Outcome Says) → FrameWay frame o → o ≡ SW n → ⊥
+    go _ (under h) x = not-short (sym (sw-same _ _ x))
+    go _ (no-shape h) x = not-none (sym (sw-same _ _ x))
+    go _ (found long s lc le f) x = sw-gives _ _ (sym x)
+
+pub read-refuses-not : (frame : List ℕ) (n : ℕ) → readOf frame ≡ R n → ⊥
+read-refuses-not frame n e = go (readOf frame) (frame-way frame) e
+  where
+    go : (o : Outcome Says) → FrameWay frame o → o ≡ R n → ⊥
+    go _ (under h) x = r-sw _ _ (sym x)
+    go _ (no-shape h) x = r-sw _ _ (sym x)
+    go _ (found long s lc le f) x = r-gives _ _ (sym x)
+
+-- the names by which crates above still import the ways through reading; Laws has them under their own
+abbrev pub Answer : List ℕ → Outcome Says → Type 0
+Answer = FrameWay
+
+pub answer : (frame : List ℕ) → FrameWay frame (readOf frame)
+answer = frame-way

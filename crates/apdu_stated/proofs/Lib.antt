@@ -1,11 +1,14 @@
 pub mod Cases
 pub mod Carries
-pub mod Fields
 pub mod LaidOut
+pub mod Fields
 pub mod Ways
 pub mod Sound
 pub mod Frames
+pub mod Entries
 pub mod IsoCases
 pub mod Numbers
 pub mod Theorems
+pub mod Only
 pub mod Refuted
+pub mod Laws

@@ -1,6 +1,6 @@
 -- The shapes' numbers, and the answers' words, tell the cases apart: each table has a way back.
 use Prim.Native.Nat.{ℕ}
-use mathlib.Core.Path.{_≡_, refl, ap}
+use mathlib.Core.Path.{_≡_, refl, ap, ap₂, _∙_}
 use lib.Dec.{eqb}
 use Rattle.outcome.specs.Notation.{if_then_else_}
 use Rattle.outcome.specs.Outcome.{Outcome, R, SW, Gives}
@@ -8,6 +8,7 @@ use Rattle.outcome.specs.declared.ApduStatusCode.the-variants.{Success}
 use Rattle.outcome.proofs.Laws.{one-to-one}
 use Rattle.outcome.proofs.Theorems.{statusOf, status-back, refusalOf, refusal-back}
 use Rattle.apdu_stated.specs.Words.{Case, Instruction, Le1, Lc1Data, Lc1DataLe1, Lc3Data, Lc3DataLe1, Lc3DataLe2, Le3, shapeNo}
+use Rattle.apdu_stated.specs.Table.{TableRow, columns}
 use Rattle.apdu_stated.specs.Answers.{Apdu, Says, Reading, Written, saysOf, readingOf, writtenOf}
 use Rattle.apdu_stated.specs.declared.Reading.the-variants.{Frame, Status}
 use Rattle.apdu_stated.specs.declared.Written.the-variants
@@ -72,3 +73,7 @@ written-back (the-variants.Frame n) = refl
 
 pub written-same : (a b : Written) → writtenOf a ≡ writtenOf b → a ≡ b
 written-same = one-to-one writtenOf writtenBack written-back
+
+-- a row is its three columns
+pub row-same : (a b : TableRow) → a .«lc_field» ≡ b .«lc_field» → a .«lc_least» ≡ b .«lc_least» → a .«le_field» ≡ b .«le_field» → a ≡ b
+row-same a b p q r = ap₂ (λ (x y : ℕ). columns x y (a .«le_field»)) p q ∙ ap (columns (b .«lc_field») (b .«lc_least»)) r

@@ -1,82 +1,226 @@
--- Wrong readers, and a frame at which the claim on reading is false of each; and: only the definition meets the claims.
-use Prim.Native.Nat.{ℕ, suc, zero, _<_}
+-- The claim that is false of each wrong program, at an input where it bites.
+use Prim.Native.Nat.{ℕ, suc, zero, _+_, _<_, _≤_}
 use mathlib.Core.Path.{_≡_, refl, sym, ap, _∙_}
 use mathlib.Core.Bool.{Bool, true, false, _&&_, true≢false}
 use mathlib.Core.List.{List, [], _∷_}
 use native.Mathlib.Omega.{arith}
-use lib.Dec.{ltb, eqb}
-use lib.ListN.{length}
 use borrow.Author.Tests.{ltb-true}
+use lib.Dec.{ltb}
+use lib.ListN.{length}
 use Rattle.outcome.specs.Outcome.{Outcome, R, SW, Gives}
-use Rattle.outcome.specs.Notation.{if_then_else_}
-use Rattle.outcome.proofs.Laws.{gives-same, sw-gives}
-use Rattle.octets.specs.Bytes.{byte, AreBytes}
-use Rattle.apdu_stated.specs.Words.{Case, Instruction, Le1, Le3}
-use Rattle.apdu_stated.specs.Answers.{Says}
-use Rattle.apdu_stated.specs.Table.{canCarry, lcFits, leFits}
-use Rattle.apdu_stated.specs.Reading.{readOf, sayOf, lengthsOf, headerOf}
-use Rattle.apdu_stated.specs.Writing.{Parts, frameOf, payloadOf}
+use Rattle.outcome.proofs.Laws.{gives-same, sw-same, sw-gives, r-gives}
+use Rattle.octets.specs.Bytes.{byte, AreBytes, partOf}
+use Rattle.octets.proofs.Laws.{both}
+use Rattle.apdu_stated.specs.Words.{ApduHeader, Case, Instruction, Le1, Lc3Data, Lc1DataLe1, Lc1Data}
+use Rattle.apdu_stated.specs.Answers.{Apdu, Place, Says}
+use Rattle.apdu_stated.specs.Table.{TableRow, lcFits, leFits}
+use Rattle.apdu_stated.specs.Reading.{readOf, sayOf, lengthsOf, shortOf, extendedOf, afterData, strictOf, strictly, dataOf}
+use Rattle.apdu_stated.specs.Writing.{Parts, partsOf, frameOf, payloadOf, writeOf, bufferOf}
+use Rattle.apdu_stated.specs.Iso.{IsoCase, Case1, Case2S, Case3S, Case4S, Case2E, Case3E, Case4E, isCase}
+use Rattle.apdu_stated.specs.Terms.{full, plain, whole, pair, frameWith, saying, InTable, EndsEarly, in-lc, in-short-data, in-extended-data, row1, row2, row4, row5, row6, row8, IsFrameOf, Carries, shape2, shape3, apduOf}
+use Rattle.apdu_stated.specs.declared.Lengths.the-variants.{Found, Missing, Surplus}
 use Rattle.apdu_stated.specs.Claims
-use Rattle.apdu_stated.specs.Claims.{InTable, said}
-use Rattle.apdu_stated.proofs.Theorems as Theorems
-use Rattle.apdu_stated.proofs.Frames.{Answer, under, found, no-shape, answer}
+use Rattle.apdu_stated.specs.Wrong
+use Rattle.apdu_stated.proofs.Theorems.{reads-entry}
 
-abbrev small : List ℕ → Bool
+-- ---- frames to try: header 00 03 00 00, and a payload
+small : List ℕ → Bool
 small [] = true
 small (x ∷ s) = ltb x 256 && small s
 
-both : (a b : Bool) → a && b ≡ true → (a ≡ true) × (b ≡ true)
-both true b e = (refl, e)
-both false b e = absurd (true≢false (sym e))
-
 bytes-of : (s : List ℕ) → small s ≡ true → AreBytes s
+unfolding small
 bytes-of [] e i = omega arith
 bytes-of (x ∷ s) e zero = ltb-true x 256 (both (ltb x 256) (small s) e .0)
 bytes-of (x ∷ s) e (suc i) = bytes-of s (both (ltb x 256) (small s) e .1) i
 
-module _ (read : List ℕ → Outcome Says) (exact : Claims.ReadExactly read) where
-  -- whatever reads exactly reads each entry of the table
-  pub bites : (w : Parts) → small (frameOf w) ≡ true → canCarry (w .shape) (length (w .content)) (w .le) ≡ true → read (frameOf w) ≡ Gives (said w)
-  bites w b c = exact (frameOf w) (bytes-of (frameOf w) b) (said w) .1 (w, record { layout = refl; carried = c }, refl)
+abbrev h0 : ApduHeader
+h0 = record { cla = 0x00; ins = 0x03; p1 = 0x00; p2 = 0x00 }
 
--- 00 03 00 00 | 05 and 00 03 00 00 | 00
-abbrev plain : Case → ℕ → Parts
-plain s le = record { header = record { cla = 0; ins = 3; p1 = 0; p2 = 0 }; shape = s; content = []; le = le }
+abbrev try : List ℕ → List ℕ
+try payload = frameWith h0 payload
 
-abbrev refusesEverything : List ℕ → Outcome Says
-refusesEverything frame = SW 0x6700
+shape-is : (a b : Says) → Gives a ≡ Gives b → a .shape ≡ b .shape
+shape-is a b e = ap (λ (s : Says). s .shape) (gives-same a b e)
 
-pub refuses-everything : Claims.ReadExactly refusesEverything → ⊥
-unfolding frameOf payloadOf lcFits leFits
-refuses-everything exact = sw-gives _ _ (bites refusesEverything exact (plain Instruction 0) refl refl)
+le-is : (a b : Says) → Gives a ≡ Gives b → a .le ≡ b .le
+le-is a b e = ap (λ (s : Says). s .le) (gives-same a b e)
 
-abbrev alwaysInstruction : List ℕ → Outcome Says
-alwaysInstruction frame = Gives (record { header = headerOf frame; shape = 1; dataAt = 4; lc = 0; le = 0 })
+-- ---- reading
+pub refusesEverything : Claims.ReadExactly Wrong.refusesEverything → ⊥
+unfolding small
+refusesEverything exact = sw-gives _ _ (exact (try []) (bytes-of (try []) refl) (saying h0 1 4 0 0) .1 ([], row1))
 
-pub always-instruction : Claims.ReadExactly alwaysInstruction → ⊥
-unfolding frameOf payloadOf lcFits leFits
-always-instruction exact =
-    let one-two : _≡_ {A = ℕ} 1 2 = ap (λ (s : Says). s .shape) (gives-same _ _ (bites alwaysInstruction exact (plain Le1 5) refl refl)) in
-    omega arith
+pub alwaysInstruction : Claims.ReadExactly Wrong.alwaysInstruction → ⊥
+unfolding small
+alwaysInstruction exact = omega (arith, shape-is _ _ (exact (try (5 ∷ [])) (bytes-of (try (5 ∷ [])) refl) (saying h0 2 4 0 5) .1 ([], row2 (plain (omega arith) (omega arith)))))
 
--- the definition, but that a written Le of 0 expects nothing back
-abbrev leZero : Outcome Says → Outcome Says
-leZero (Gives s) = Gives (record { header = s .header; shape = s .shape; dataAt = s .dataAt; lc = s .lc; le = if eqb (s .le) 256 then 0 else s .le })
-leZero (SW n) = SW n
-leZero (R n) = R n
+pub leZeroAsZero : Claims.ReadExactly Wrong.leZeroAsZero → ⊥
+unfolding small readOf sayOf lengthsOf
+leZeroAsZero exact = omega (arith, le-is _ _ (exact (try (0 ∷ [])) (bytes-of (try (0 ∷ [])) refl) (saying h0 2 4 0 256) .1 ([], row2 full)))
 
-pub le-zero : Claims.ReadExactly (λ frame. leZero (readOf frame)) → ⊥
-unfolding frameOf payloadOf lcFits leFits readOf sayOf lengthsOf
-le-zero exact =
-    let e : _≡_ {A = ℕ} 0 256 = ap (λ (s : Says). s .le) (gives-same _ _ (bites (λ frame. leZero (readOf frame)) exact (plain Le1 256) refl refl)) in
-    omega arith
+pub le3AsLcZero : Claims.ReadExactly Wrong.le3AsLcZero → ⊥
+unfolding small
+le3AsLcZero exact = omega (arith, shape-is _ _ (exact (try (0 ∷ 0 ∷ 0 ∷ [])) (bytes-of (try (0 ∷ 0 ∷ 0 ∷ [])) refl) (saying h0 8 4 0 65536) .1 ([], row8 whole)))
 
--- only the definition meets the three claims
-pub reading-determined : (read : List ℕ → Outcome Says) → Claims.ReadExactly read → Claims.ShortExactly read → Claims.NoShapeExactly read
-    → (frame : List ℕ) → AreBytes frame → read frame ≡ readOf frame
-reading-determined read exact short no-shapes frame bytes = by (readOf frame) (answer frame) refl
-  where
-    by : (o : Outcome Says) → Answer frame o → readOf frame ≡ o → read frame ≡ o
-    by _ (under h) e = short frame .1 h
-    by _ (no-shape h) e = no-shapes frame bytes .1 (Theorems.NoShapeExactly frame bytes .0 e)
-    by _ (found long s lc le f) e = exact frame bytes _ .1 (Theorems.ReadExactly frame bytes _ .0 e)
+pub shortGets6700 : Claims.ShortExactly Wrong.shortGets6700 → ⊥
+shortGets6700 exact = omega (arith, sw-same _ _ (exact (0x00 ∷ 0x03 ∷ 0x00 ∷ []) .1 (omega arith)))
+
+-- `00 01` is in no shape
+no-row : (says : Says) (content : List ℕ) → InTable (try (0 ∷ 1 ∷ [])) says content → ⊥
+unfolding readOf sayOf lengthsOf extendedOf
+no-row says content i = sw-gives _ _ (reads-entry (try (0 ∷ 1 ∷ [])) content says i)
+
+pub shortLcZero : Claims.NoShapeExactly Wrong.shortLcZero → ⊥
+unfolding small
+shortLcZero exact = sw-gives _ _ (sym (exact (try (0 ∷ 1 ∷ [])) (bytes-of (try (0 ∷ 1 ∷ [])) refl) .1 (omega arith, no-row)))
+
+pub withoutCase3E : Claims.IsoExactly Wrong.withoutCase3E → ⊥
+unfolding readOf sayOf lengthsOf extendedOf afterData
+withoutCase3E exact = let t = exact (try (0 ∷ 0 ∷ 1 ∷ 0xAA ∷ [])) Case3E (omega arith) .0 refl in sw-gives _ _ (t .1)
+
+-- of no ISO case, and no tolerated form
+of-none : (c : IsoCase) → isCase c (0 ∷ 1 ∷ []) ≡ false
+of-none Case1 = refl
+of-none Case2S = refl
+of-none Case3S = refl
+of-none Case4S = refl
+of-none Case2E = refl
+of-none Case3E = refl
+of-none Case4E = refl
+
+pub ninthShape : Claims.ToleratedExactly Wrong.ninthShape → ⊥
+ninthShape exact = true≢false (sym (exact (try (0 ∷ 1 ∷ [])) (saying h0 9 4 0 0) refl .1 of-none))
+
+-- ---- the payload, at 02 AA and at 01 AA 00 00
+missing-surplus : Missing ≡ Surplus → ⊥
+missing-surplus e = let z : _≡_ {A = ℕ} 0 1 = cc in omega arith
+
+pub missingAsSurplus : Claims.PayloadExactly Wrong.missingAsSurplus → ⊥
+unfolding lengthsOf shortOf
+missingAsSurplus exact = missing-surplus (sym (exact .too-few (2 ∷ 0xAA ∷ []) .1 (in-short-data (omega arith) (λ e. omega arith) (omega arith))))
+
+not-early : EndsEarly (1 ∷ 0xAA ∷ 0 ∷ 0 ∷ []) → ⊥
+not-early (in-lc a b c) = omega arith
+not-early (in-short-data a b c) = omega arith
+not-early (in-extended-data a b c) = omega arith
+
+pub surplusAsMissing : Claims.PayloadExactly Wrong.surplusAsMissing → ⊥
+unfolding lengthsOf shortOf
+surplusAsMissing exact = not-early (exact .too-few (1 ∷ 0xAA ∷ 0 ∷ 0 ∷ []) .0 refl)
+
+-- ---- the strict entry, at 00 00 00 05: shape 6
+pub strictTakesShape6 : Claims.StrictExactly Wrong.strictTakesShape6 → ⊥
+unfolding small readOf sayOf lengthsOf extendedOf afterData
+strictTakesShape6 exact = exact .reads (try (0 ∷ 0 ∷ 0 ∷ 5 ∷ [])) (bytes-of (try (0 ∷ 0 ∷ 0 ∷ 5 ∷ [])) refl) (saying h0 6 7 0 5) .0 refl .2 refl
+
+pub strictRefusesEverything : Claims.StrictExactly Wrong.strictRefusesEverything → ⊥
+unfolding small
+strictRefusesEverything exact = sw-gives _ _ (exact .reads (try []) (bytes-of (try []) refl) (saying h0 1 4 0 0) .1 ([], row1, λ e. omega arith))
+
+pub strictShortGets6700 : Claims.StrictOtherwise readOf Wrong.strictShortGets6700 → ⊥
+unfolding readOf
+strictShortGets6700 exact = omega (arith, sw-same _ _ (exact .other (0x00 ∷ 0x03 ∷ 0x00 ∷ []) (λ says e y. sw-gives _ _ e)))
+
+-- ---- data, at 01 AA 00
+abbrev said4 : Says
+said4 = saying h0 4 5 1 256
+
+pub dataOneByteOff : Claims.DataExactly Wrong.dataOneByteOff → ⊥
+unfolding partOf
+dataOneByteOff exact = omega (arith, ap (λ (l : List ℕ). byte l 0) (exact .of-table (try (1 ∷ 0xAA ∷ 0 ∷ [])) (0xAA ∷ []) said4 (row4 (omega arith) (omega arith) full)))
+
+pub dataEmpty : Claims.DataExactly Wrong.dataEmpty → ⊥
+dataEmpty exact = omega (arith, ap length (exact .of-table (try (1 ∷ 0xAA ∷ 0 ∷ [])) (0xAA ∷ []) said4 (row4 (omega arith) (omega arith) full)))
+
+start-is : (a b : Place) → a ≡ b → a .start ≡ b .start
+start-is a b e = ap (λ (p : Place). p .start) e
+
+end-is : (a b : Place) → a ≡ b → a .end ≡ b .end
+end-is a b e = ap (λ (p : Place). p .end) e
+
+pub placeOneByteLate : Claims.PlaceExactly Wrong.placeOneByteLate → ⊥
+placeOneByteLate exact = omega (arith, start-is _ _ (exact .lc1-data h0 1 0))
+
+pub placeWithLe : Claims.PlaceExactly Wrong.placeWithLe → ⊥
+placeWithLe exact = omega (arith, end-is _ _ (exact .lc1-data-le1 h0 1 256))
+
+-- ---- numbers
+pub shape8Numbered7 : Claims.ShapeNumberExactly Wrong.shape8Numbered7 → ⊥
+shape8Numbered7 exact = omega (arith, exact .le3)
+
+pub numberedFrom0 : Claims.ShapeNumberExactly Wrong.numberedFrom0 → ⊥
+numberedFrom0 exact = omega (arith, exact .instruction)
+
+pub shape6FromLc1 : Claims.RowExactly Wrong.shape6FromLc1 → ⊥
+shape6FromLc1 exact = omega (arith, ap (λ (r : TableRow). r .«lc_least») (exact .lc3-data-le1))
+
+pub shape8OfTwoBytes : Claims.RowExactly Wrong.shape8OfTwoBytes → ⊥
+shape8OfTwoBytes exact = omega (arith, ap (λ (r : TableRow). r .«le_field») (exact .le3))
+
+no-257 : Carries Le1 0 257 → ⊥
+no-257 (shape2 a b) = omega arith
+
+no-0-in-3 : Carries Lc1Data 0 0 → ⊥
+no-0-in-3 (shape3 a b) = omega arith
+
+pub carriesAnyLe : Claims.FitsExactly Wrong.carriesAnyLe → ⊥
+unfolding lcFits
+carriesAnyLe exact = no-257 (exact Le1 0 257 .0 refl)
+
+pub carriesNoData : Claims.FitsExactly Wrong.carriesNoData → ⊥
+carriesNoData exact = no-0-in-3 (exact Lc1Data 0 0 .0 refl)
+
+pub extendedLcOfTwo : Claims.SaysExactly Wrong.extendedLcOfTwo → ⊥
+extendedLcOfTwo exact = omega (arith, ap (λ (s : Says). s .dataAt) (exact .lc3-data h0 1 0))
+
+-- ---- writing: shape 2, with Le 257 and with Le 1
+abbrev le-of : ℕ → Parts
+le-of le = partsOf h0 Le1 [] le
+
+frame-1 : IsFrameOf (le-of 1) (try (1 ∷ []))
+frame-1 = record { says = saying h0 2 4 0 1; table = row2 (plain {b = 1} (omega arith) (omega arith)); header = refl; shape = refl; le = refl }
+
+abbrev five : List ℕ
+five = 9 ∷ 9 ∷ 9 ∷ 9 ∷ 9 ∷ []
+
+pub le257InOneByte : Claims.WriteExactly Wrong.le257InOneByte → ⊥
+unfolding frameOf payloadOf
+le257InOneByte exact = r-gives _ _ (sym (exact .r5 (le-of 257) five .1 no-257))
+
+pub r2OneByteEarly : Claims.WriteExactly Wrong.r2OneByteEarly → ⊥
+unfolding frameOf payloadOf
+r2OneByteEarly exact = r-gives _ _ (ap (λ (o : Outcome ℕ × List ℕ). o .0) (exact .writes (le-of 1) five (try (1 ∷ [])) frame-1 (omega arith)))
+
+pub r2OneByteLate : Claims.WriteExactly Wrong.r2OneByteLate → ⊥
+unfolding frameOf payloadOf
+r2OneByteLate exact = r-gives _ _ (sym (exact .r2 (le-of 1) (9 ∷ 9 ∷ 9 ∷ 9 ∷ []) .1 (try (1 ∷ []), frame-1, omega arith)))
+
+r-is : (m n : ℕ) → _≡_ {A = Outcome ℕ} (R m) (R n) → m ≡ n
+r-is m n e = cc
+
+pub r2BeforeR5 : Claims.WriteExactly Wrong.r2BeforeR5 → ⊥
+unfolding frameOf payloadOf
+r2BeforeR5 exact = omega (arith, r-is _ _ (exact .r5 (le-of 257) [] .1 no-257))
+
+pub clearsTheRest : Claims.WriteExactly Wrong.clearsTheRest → ⊥
+unfolding frameOf payloadOf
+clearsTheRest exact = omega (arith, ap (λ (o : Outcome ℕ × List ℕ). byte (o .1) 5) (exact .writes (le-of 1) (9 ∷ five) (try (1 ∷ [])) frame-1 (omega arith)))
+
+pub refusalWrites : Claims.WriteExactly Wrong.refusalWrites → ⊥
+unfolding writeOf frameOf payloadOf lcFits leFits
+refusalWrites exact = omega (arith, ap (λ (l : List ℕ). byte l 0) (exact .refused (le-of 257) five 5 refl))
+
+pub lengthInvented : Claims.WriteExactly Wrong.lengthInvented → ⊥
+unfolding frameOf payloadOf
+lengthInvented exact = omega (arith, gives-same _ _ (ap (λ (o : Outcome ℕ × List ℕ). o .0) (exact .writes (le-of 1) (9 ∷ five) (try (1 ∷ [])) frame-1 (omega arith))))
+
+-- ---- there and back
+pub le256As01 : Claims.ReadThenWritten readOf dataOf Wrong.le256As01 → ⊥
+unfolding small readOf sayOf lengthsOf dataOf partOf frameOf payloadOf
+le256As01 back =
+    omega (arith, ap (λ (o : Outcome ℕ × List ℕ). byte (o .1) 4) (back (try (0 ∷ [])) five (apduOf h0 Le1 0 256) (bytes-of (try (0 ∷ [])) refl) refl (omega arith)))
+
+pub le257Taken : Claims.WrittenThenRead readOf dataOf Wrong.le257Taken → ⊥
+unfolding readOf sayOf lengthsOf frameOf payloadOf
+le257Taken back = omega (arith, le-is _ _ (back (le-of 257) five 5 refl .0))

@@ -30,7 +30,7 @@ Laid p (Found s lc le) = LaidAs p s lc le
 Laid p Missing = Unit {0}
 Laid p Surplus = Unit {0}
 
-carry : (s : Case) (n le : ℕ) → Carried s n le → canCarry s n le ≡ true
+pub carry : (s : Case) (n le : ℕ) → Carried s n le → canCarry s n le ≡ true
 unfolding lcFits leFits
 carry s n le k =
     rw (le-leb (lcLeast s) n (k .lc-low), le-leb n (lcMost (lcField s)) (k .lc-high), le-leb (leLeast (leField s)) le (k .le-low), le-leb le (leMost (leField s)) (k .le-high))
@@ -60,7 +60,7 @@ module _ (p : List ℕ) (a n : ℕ) where
       (ap (λ (k : ℕ). drop k p) (sym (add-one (a + n))) ∙ drop-cons p (a + n + 1) 0 (omega arith)
       ∙ ap (λ (l : List ℕ). byte p (a + n + 1) ∷ l) (drop-of-length-le p {i = suc (a + n + 1)} (omega arith)))
 
-laid-as : (p : List ℕ) (s : Case) (lc le : ℕ) → lcField s + lc ≤ length p → take (lcField s) p ≡ lcBytes s lc → drop lc (drop (lcField s) p) ≡ leBytes s le
+laid-as : (p : List ℕ) (s : Case) (lc le : ℕ) → lcField s + lc ≤ length p → take (lcField s) p ≡ lcBytes (lcField s) lc → drop lc (drop (lcField s) p) ≡ leBytes (leField s) le
     → Carried s lc le → LaidAs p s lc le
 unfolding payloadOf
 laid-as p s lc le fits front back k =
@@ -70,7 +70,7 @@ laid-as p s lc le fits front back k =
     sym (take-append-drop (lcField s) p) ∙ ap (λ (l : List ℕ). take (lcField s) p ++ l) (sym (take-append-drop lc (drop (lcField s) p))) in
     record {
       content = content;
-      is = cut ∙ ap₂ (λ (f b : List ℕ). f ++ (content ++ b)) (front ∙ ap (lcBytes s) (sym long)) back;
+      is = cut ∙ ap₂ (λ (f b : List ℕ). f ++ (content ++ b)) (front ∙ ap (lcBytes (lcField s)) (sym long)) back;
       long = long;
       carried = carry s lc le k;
     }
@@ -176,5 +176,5 @@ module _ (p : List ℕ) (bytes : AreBytes p) where
   sound (wide z nz e) = is-wide z nz e
   sound (wide-le1 z e) = is-wide-le1 z e
   sound (wide-le2 z e) = is-wide-le2 z e
-  sound missing = tt
+  sound (missing early) = tt
   sound surplus = tt

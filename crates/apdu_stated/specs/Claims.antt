@@ -1,122 +1,216 @@
--- What is promised of frames: open this file first. Each claim is inhabited in proofs/Theorems.antt under the same name.
--- The words: `readOf`, `strictOf`, `dataOf` (Reading.antt), `writeOf`, `bufferOf`, `frameOf` (Writing.antt), `canCarry` (Table.antt).
+-- What is promised of frames: open this file first. Each claim takes the program as its argument; the definitions (`readOf`,
+-- `strictOf`, `dataOf` of Reading.antt, `writingOf` of Writing.antt) meet it by proofs/Theorems.antt, nothing else does by
+-- proofs/Only.antt, and the programs of Wrong.antt do not by proofs/Refuted.antt. The words `InTable`, `Carries`: Terms.antt.
 use mathlib.Core.Logic.{_↔_}
 use Rattle.outcome.specs.Notation.{AtMostOne}
-use Rattle.outcome.specs.Outcome.{Outcome, SW, Gives}
-use Rattle.octets.specs.Bytes.{AreBytes}
-use Rattle.apdu_stated.specs.Words.{ℕ, _≤_, _<_, _≡_, true, false, List, _++_, length, take, drop, Case, shapeNo}
+use Rattle.outcome.specs.Outcome.{Outcome, R, SW, Gives}
+use Rattle.octets.specs.Bytes.{AreBytes, byte}
+use Rattle.apdu_stated.specs.Words.{ℕ, _+_, _≤_, _<_, _≡_, Bool, true, false, List, [], _++_, map, length, take, drop, ApduHeader, Case, Instruction, Le1, Lc1Data, Lc1DataLe1, Lc3Data, Lc3DataLe1, Lc3DataLe2, Le3, shapeNo}
 use Rattle.apdu_stated.specs.Answers.{Apdu, Place, Reading, Written, Says, saysOf, readingOf, writtenOf}
-use Rattle.apdu_stated.specs.Table.{canCarry}
-use Rattle.apdu_stated.specs.Reading.{readOf, strictOf, placeOf, dataOf}
-use Rattle.apdu_stated.specs.Writing.{Parts, partsOf, frameOf, writeOf, bufferOf}
+use Rattle.apdu_stated.specs.Table.{TableRow, columns}
+use Rattle.apdu_stated.specs.Writing.{Parts, partsOf}
 use Rattle.apdu_stated.specs.Iso.{IsoCase, isCase, shapeFor, isTolerated}
-
--- A frame is in the table, with these parts: it is laid out as its row says, and the row can carry them.
-pub record InTable (frame : List ℕ) (w : Parts) : Type 0 where
-  pub layout : frame ≡ frameOf w
-  pub carried : canCarry (w .shape) (length (w .content)) (w .le) ≡ true
-
--- what a frame of these parts says: Lc is the data's length
-abbrev pub said : Parts → Says
-said w = saysOf (record { header = w .header; shape = w .shape; lc = length (w .content); le = w .le })
+use Rattle.apdu_stated.specs.Examples.{Example, examples}
+use Rattle.apdu_stated.specs.Contracts.{Row, Fits, Payload, ShapeNumber, Read, ReadStrict, DataPlace, Data, Write}
+use Rattle.apdu_stated.specs.declared.Lengths.{Lengths}
+use Rattle.apdu_stated.specs.declared.Lengths.the-variants.{Found, Missing, Surplus}
+use Rattle.apdu_stated.specs.Terms.{frameWith, saying, InTable, EndsEarly, IsFrameOf, Carries, apduOf, span}
 
 -- ---- reading is the table
 
--- A frame is read exactly when it is in the table, and then as its entry says.
+-- A frame is read exactly when it is in the table, and then as its row says.
 -- 01: the table, "Data is exactly Lc bytes", the rule of Le. Rejects a reader that refuses everything, one that always says
 -- Instruction, one that reads `00 00 00` as Lc 0, or Le 0 as 0. Bites at 00 03 00 00 | 00 00 00.
 abbrev pub ReadExactly : (List ℕ → Outcome Says) → Type 0
 ReadExactly read =
     (frame : List ℕ) → AreBytes frame → (says : Says)
-    → (read frame ≡ Gives says) ↔ ((w : Parts) × InTable frame w × (says ≡ said w))
+    → (read frame ≡ Gives says) ↔ ((content : List ℕ) × InTable frame says content)
 
--- The data handed out is the entry's data. Rejects a reader that is one byte off. Bites at 00 03 00 00 | 01 AA 00.
-abbrev pub DataExactly : Type 0
-DataExactly = (frame : List ℕ) (w : Parts) → InTable frame w → dataOf frame (said w) ≡ w .content
-
--- 01: "A frame under 4 bytes gives 6a80", and no other does. Rejects 6a80 for a bad length. Bites at 00 03 00.
+-- 01: "A frame under 4 bytes gives 6a80", and no other does. Rejects 6700 for a short frame. Bites at 00 03 00.
 abbrev pub ShortExactly : (List ℕ → Outcome Says) → Type 0
 ShortExactly read = (frame : List ℕ) → (read frame ≡ SW 0x6a80) ↔ (length frame < 4)
 
--- 01: "A frame of 4 or more in no shape gives 6700", and no other does. Bites at 00 03 00 00 | 00 01.
+-- 01: "A frame of 4 or more in no shape gives 6700", and no other does. Rejects a reader that takes `00 01` for a short Lc of 0.
+-- Bites at 00 03 00 00 | 00 01.
 abbrev pub NoShapeExactly : (List ℕ → Outcome Says) → Type 0
 NoShapeExactly read =
     (frame : List ℕ) → AreBytes frame
-    → (read frame ≡ SW 0x6700) ↔ ((4 ≤ length frame) × ((w : Parts) → InTable frame w → ⊥))
+    → (read frame ≡ SW 0x6700) ↔ ((4 ≤ length frame) × ((says : Says) (content : List ℕ) → InTable frame says content → ⊥))
 
--- 01: "Each frame has at most one shape", and at most one way to be cut. Bites at 00 03 00 00 | 00 00 01 AA 00 00.
+-- The three together: every answer of a reading, each exactly when. They determine it on every frame of bytes.
+pub record ReadingExactly (read : List ℕ → Outcome Says) : Type 0 where
+  pub reads : ReadExactly read
+  pub short : ShortExactly read
+  pub no-shape : NoShapeExactly read
+
+-- The payload by itself, behind any header: its shape, Lc and Le; and of a payload in no shape, whether it ends early or goes on too
+-- long (ours). Rejects a reader that takes too few bytes for too many. Bites at 02 AA.
+pub record PayloadExactly (payload : List ℕ → Lengths) : Type 0 where
+  pub in-shape : (p : List ℕ) → AreBytes p → (h : ApduHeader) (s : Case) (lc le : ℕ)
+      → (payload p ≡ Found s lc le) ↔ ((dataAt : ℕ) × (content : List ℕ) × InTable (frameWith h p) (saying h (shapeNo s) dataAt lc le) content)
+  pub too-few : (p : List ℕ) → (payload p ≡ Missing) ↔ EndsEarly p
+  pub too-many : (p : List ℕ) → AreBytes p
+      → (payload p ≡ Surplus) ↔ ((EndsEarly p → ⊥) × ((h : ApduHeader) (says : Says) (content : List ℕ) → InTable (frameWith h p) says content → ⊥))
+
+-- 01: "Each frame has at most one shape", and says one thing and holds one data. Bites at 00 03 00 00 | 00 00 01 AA 00 00.
 abbrev pub AtMostOneShape : Type 0
-AtMostOneShape = (frame : List ℕ) → AtMostOne (InTable frame)
+AtMostOneShape = (frame : List ℕ) → AtMostOne (λ (e : Says × List ℕ). InTable frame (e .0) (e .1))
+
+-- Document 01's frames marked P, "proved together, as a single statement over a list": each is read as the list says.
+abbrev pub ExamplesRead : (List ℕ → Outcome Says) → Type 0
+ExamplesRead read = map (λ (e : Example). read (e .frame)) examples ≡ map (λ (e : Example). e .answer) examples
+
+-- ---- the data and its place
+
+-- 01: "data comes back as a part of the caller's frame, not a copy": it is the row's data; on any frame, Lc bytes from where the
+-- data is said to start, byte by byte, and none where they pass the frame's end (ours).
+-- Rejects data that is one byte off, or always empty. Bites at 00 03 00 00 | 01 AA 00.
+pub record DataExactly (cut : List ℕ → Says → List ℕ) : Type 0 where
+  pub of-table : (frame content : List ℕ) (says : Says) → InTable frame says content → cut frame says ≡ content
+  pub as-long : (frame : List ℕ) (says : Says) → says .dataAt + says .lc ≤ length frame → length (cut frame says) ≡ says .lc
+  pub each : (frame : List ℕ) (says : Says) (i : ℕ) → says .dataAt + says .lc ≤ length frame → i < says .lc
+      → byte (cut frame says) i ≡ byte frame (says .dataAt + i)
+  pub past : (frame : List ℕ) (says : Says) → length frame < says .dataAt + says .lc → cut frame says ≡ []
+
+-- Where the data stands, shape by shape: after the header alone, after one byte of Lc, after three. Rejects a place that begins one
+-- byte late, and one that takes the Le along. Bites at every shape.
+pub record PlaceExactly (place : Apdu → Place) : Type 0 where
+  pub instruction : (h : ApduHeader) (lc le : ℕ) → place (apduOf h Instruction lc le) ≡ span 4 (4 + lc)
+  pub le1 : (h : ApduHeader) (lc le : ℕ) → place (apduOf h Le1 lc le) ≡ span 4 (4 + lc)
+  pub lc1-data : (h : ApduHeader) (lc le : ℕ) → place (apduOf h Lc1Data lc le) ≡ span 5 (5 + lc)
+  pub lc1-data-le1 : (h : ApduHeader) (lc le : ℕ) → place (apduOf h Lc1DataLe1 lc le) ≡ span 5 (5 + lc)
+  pub lc3-data : (h : ApduHeader) (lc le : ℕ) → place (apduOf h Lc3Data lc le) ≡ span 7 (7 + lc)
+  pub lc3-data-le1 : (h : ApduHeader) (lc le : ℕ) → place (apduOf h Lc3DataLe1 lc le) ≡ span 7 (7 + lc)
+  pub lc3-data-le2 : (h : ApduHeader) (lc le : ℕ) → place (apduOf h Lc3DataLe2 lc le) ≡ span 7 (7 + lc)
+  pub le3 : (h : ApduHeader) (lc le : ℕ) → place (apduOf h Le3 lc le) ≡ span 4 (4 + lc)
+
+-- 01, the table's column "no". Rejects two shapes with one number, and numbers from 0. Bites at every shape.
+pub record ShapeNumberExactly (number : Case → ℕ) : Type 0 where
+  pub instruction : number Instruction ≡ 1
+  pub le1 : number Le1 ≡ 2
+  pub lc1-data : number Lc1Data ≡ 3
+  pub lc1-data-le1 : number Lc1DataLe1 ≡ 4
+  pub lc3-data : number Lc3Data ≡ 5
+  pub lc3-data-le1 : number Lc3DataLe1 ≡ 6
+  pub lc3-data-le2 : number Lc3DataLe2 ≡ 7
+  pub le3 : number Le3 ≡ 8
+
+-- 01, the table, as the lengths of its fields: how many bytes the Lc field has, the least Lc, how many bytes the Le field has. Rejects
+-- shape 6 from Lc 1 on, and shape 8 with an Le field of two bytes. Bites at every shape.
+pub record RowExactly (row : Case → TableRow) : Type 0 where
+  pub instruction : row Instruction ≡ columns 0 0 0
+  pub le1 : row Le1 ≡ columns 0 0 1
+  pub lc1-data : row Lc1Data ≡ columns 1 1 0
+  pub lc1-data-le1 : row Lc1DataLe1 ≡ columns 1 1 1
+  pub lc3-data : row Lc3Data ≡ columns 3 1 0
+  pub lc3-data-le1 : row Lc3DataLe1 ≡ columns 3 0 1
+  pub lc3-data-le2 : row Lc3DataLe2 ≡ columns 3 0 2
+  pub le3 : row Le3 ≡ columns 0 0 3
+
+-- 01: "data length or Le is not one that the shape can carry". Rejects Le 257 in one byte, and Lc 0 in shape 3. Bites at Le 257.
+abbrev pub FitsExactly : (Case → ℕ → ℕ → Bool) → Type 0
+FitsExactly fits = (s : Case) (count le : ℕ) → (fits s count le ≡ true) ↔ Carries s count le
+
+-- What the code holds of a frame, in these numbers: shape by shape its number and where its data starts; header, Lc and Le as they
+-- are. Rejects an extended Lc of two bytes. Bites at shape 5.
+pub record SaysExactly (view : Apdu → Says) : Type 0 where
+  pub instruction : (h : ApduHeader) (lc le : ℕ) → view (apduOf h Instruction lc le) ≡ saying h 1 4 lc le
+  pub le1 : (h : ApduHeader) (lc le : ℕ) → view (apduOf h Le1 lc le) ≡ saying h 2 4 lc le
+  pub lc1-data : (h : ApduHeader) (lc le : ℕ) → view (apduOf h Lc1Data lc le) ≡ saying h 3 5 lc le
+  pub lc1-data-le1 : (h : ApduHeader) (lc le : ℕ) → view (apduOf h Lc1DataLe1 lc le) ≡ saying h 4 5 lc le
+  pub lc3-data : (h : ApduHeader) (lc le : ℕ) → view (apduOf h Lc3Data lc le) ≡ saying h 5 7 lc le
+  pub lc3-data-le1 : (h : ApduHeader) (lc le : ℕ) → view (apduOf h Lc3DataLe1 lc le) ≡ saying h 6 7 lc le
+  pub lc3-data-le2 : (h : ApduHeader) (lc le : ℕ) → view (apduOf h Lc3DataLe2 lc le) ≡ saying h 7 7 lc le
+  pub le3 : (h : ApduHeader) (lc le : ℕ) → view (apduOf h Le3 lc le) ≡ saying h 8 4 lc le
 
 -- ---- the table is ISO's seven cases and the tolerated forms
 
 -- A body is of an ISO case exactly when its frame is read in that case's shape and is no tolerated form.
--- Rejects a table with a row that ISO lacks, or without one of its rows. Bites at 00 03 00 00 | 00 00 00 05.
-abbrev pub IsoExactly : Type 0
-IsoExactly =
+-- ISO 7816-3, 12.1.3. Rejects a table without one of ISO's rows. Bites at 00 03 00 00 | 00 00 01 AA.
+abbrev pub IsoExactly : (List ℕ → Outcome Says) → Type 0
+IsoExactly read =
     (frame : List ℕ) (c : IsoCase) → 4 ≤ length frame
     → (isCase c (drop 4 frame) ≡ true)
-    ↔ ((says : Says) × (readOf frame ≡ Gives says) × (says .shape ≡ shapeNo (shapeFor c)) × (isTolerated (says .shape) (says .lc) ≡ false))
+    ↔ ((says : Says) × (read frame ≡ Gives says) × (says .shape ≡ shapeNo (shapeFor c)) × (isTolerated (says .shape) (says .lc) ≡ false))
 
 -- What is read and is of no ISO case is one of the two tolerated forms, and they are of none.
-abbrev pub ToleratedExactly : Type 0
-ToleratedExactly =
-    (frame : List ℕ) (says : Says) → readOf frame ≡ Gives says
+-- Rejects a table with a row that ISO lacks, a ninth shape. Bites at 00 03 00 00 | 00 00 00 05, and at 00 03 00 00 | 00 01.
+abbrev pub ToleratedExactly : (List ℕ → Outcome Says) → Type 0
+ToleratedExactly read =
+    (frame : List ℕ) (says : Says) → read frame ≡ Gives says
     → (isTolerated (says .shape) (says .lc) ≡ true) ↔ ((c : IsoCase) → isCase c (drop 4 frame) ≡ false)
 
 -- ---- the strict entry
 
--- 01: "It accepts the ISO cases, that is the shapes above without shape 6". Rejects a strict entry that takes shape 6, and one
--- that refuses everything. Bites at 00 03 00 00 | 00 00 00 05.
-abbrev pub StrictExactly : Type 0
-StrictExactly = (frame : List ℕ) (says : Says) → (strictOf frame ≡ Gives says) ↔ ((readOf frame ≡ Gives says) × (says .shape ≡ 6 → ⊥))
+-- 01: "It accepts the ISO cases, that is the shapes above without shape 6, and gives 6700 for shape 6": every answer, each exactly
+-- when. Rejects a strict entry that takes shape 6, and one that refuses everything. Bites at 00 03 00 00 | 00 00 00 05.
+pub record StrictExactly (strict : List ℕ → Outcome Says) : Type 0 where
+  pub reads : (frame : List ℕ) → AreBytes frame → (says : Says)
+      → (strict frame ≡ Gives says) ↔ ((content : List ℕ) × InTable frame says content × (says .shape ≡ 6 → ⊥))
+  pub short : (frame : List ℕ) → (strict frame ≡ SW 0x6a80) ↔ (length frame < 4)
+  pub no-shape : (frame : List ℕ) → AreBytes frame
+      → (strict frame ≡ SW 0x6700) ↔ ((4 ≤ length frame) × ((says : Says) (content : List ℕ) → InTable frame says content → says .shape ≡ 6))
 
--- "and gives 6700 for shape 6; otherwise it equals the first": every status of the first is the strict entry's.
-abbrev pub StrictOtherwise : Type 0
-StrictOtherwise =
-    (frame : List ℕ)
-    → ((n : ℕ) → readOf frame ≡ SW n → strictOf frame ≡ SW n)
-    × ((says : Says) → readOf frame ≡ Gives says → says .shape ≡ 6 → strictOf frame ≡ SW 0x6700)
+-- 01: "otherwise it equals the first", on any frame, beside any first reading. Rejects a strict entry with a status of its own.
+-- Bites at 00 03 00.
+pub record StrictOtherwise (read strict : List ℕ → Outcome Says) : Type 0 where
+  pub six : (frame : List ℕ) (says : Says) → read frame ≡ Gives says → says .shape ≡ 6 → strict frame ≡ SW 0x6700
+  pub other : (frame : List ℕ) → ((says : Says) → read frame ≡ Gives says → says .shape ≡ 6 → ⊥) → strict frame ≡ read frame
+
+-- ---- writing
+
+-- 01: "It refuses (R5) exactly when data length or Le is not one that the shape can carry .., else R2 exactly when the buffer is
+-- shorter than the frame; else it writes the frame at the front and leaves the rest." Of a writer's answer (.0) and of what the
+-- buffer holds afterwards (.1), for any parts and any buffer.
+-- Rejects Le 257 in one byte, R2 one byte early or late, R2 before R5, a rest that is cleared, a refusal that writes, an invented length.
+-- Bites at shape 2 with Le 257, in a buffer of none.
+pub record WriteExactly (write : Parts → List ℕ → Outcome ℕ × List ℕ) : Type 0 where
+  pub r5 : (w : Parts) (old : List ℕ) → (write w old .0 ≡ R 5) ↔ (Carries (w .shape) (length (w .content)) (w .le) → ⊥)
+  pub r2 : (w : Parts) (old : List ℕ) → (write w old .0 ≡ R 2) ↔ ((frame : List ℕ) × IsFrameOf w frame × (length old < length frame))
+  pub writes : (w : Parts) (old frame : List ℕ) → IsFrameOf w frame → length frame ≤ length old
+      → write w old ≡ (Gives (length frame), frame ++ drop (length frame) old)
+  pub refused : (w : Parts) (old : List ℕ) (n : ℕ) → write w old .0 ≡ R n → write w old .1 ≡ old
 
 -- ---- there and back
 
 -- A frame that is read and, given room, written again is the same frame, and the buffer's rest is kept.
--- Rejects a writer that clears the rest, or writes Le 256 as 01 00. Bites at 00 03 00 00 | 00 in a buffer of 6.
-abbrev pub ReadThenWritten : Type 0
-ReadThenWritten =
-    (frame old : List ℕ) (a : Apdu) → AreBytes frame → readOf frame ≡ Gives (saysOf a) → length frame ≤ length old
-    → (writeOf (partsOf (a .header) (a .shape) (dataOf frame (saysOf a)) (a .le)) (length old) ≡ Gives (length frame))
-    × (bufferOf (partsOf (a .header) (a .shape) (dataOf frame (saysOf a)) (a .le)) old ≡ frame ++ drop (length frame) old)
+-- Rejects a writer that writes Le 256 as 01. Bites at 00 03 00 00 | 00 in a buffer of 6.
+abbrev pub ReadThenWritten : (List ℕ → Outcome Says) → (List ℕ → Says → List ℕ) → (Parts → List ℕ → Outcome ℕ × List ℕ) → Type 0
+ReadThenWritten read cut write =
+    (frame old : List ℕ) (a : Apdu) → AreBytes frame → read frame ≡ Gives (saysOf a) → length frame ≤ length old
+    → write (partsOf (a .header) (a .shape) (cut frame (saysOf a)) (a .le)) old ≡ (Gives (length frame), frame ++ drop (length frame) old)
 
 -- Fields that the writer accepts read back as themselves: header, shape, data and Le.
 -- Rejects a writer that accepts Le 257 for one byte. Bites at shape 2 with Le 257.
-abbrev pub WrittenThenRead : Type 0
-WrittenThenRead =
-    (w : Parts) (old : List ℕ) (n : ℕ) → writeOf w (length old) ≡ Gives n
-    → (readOf (take n (bufferOf w old)) ≡ Gives (said w)) × (dataOf (take n (bufferOf w old)) (said w) ≡ w .content)
+abbrev pub WrittenThenRead : (List ℕ → Outcome Says) → (List ℕ → Says → List ℕ) → (Parts → List ℕ → Outcome ℕ × List ℕ) → Type 0
+WrittenThenRead read cut write =
+    (w : Parts) (old : List ℕ) (n : ℕ) → write w old .0 ≡ Gives n
+    → let says = saysOf (apduOf (w .header) (w .shape) (length (w .content)) (w .le)) in
+    (read (take n (write w old .1)) ≡ Gives says) × (cut (take n (write w old .1)) says ≡ w .content)
 
--- ---- two results that satisfy a contract are equal, for each public function
+-- ---- the numbers tell the cases apart
 
 abbrev pub ShapeOneToOne : Type 0
 ShapeOneToOne = (a b : Case) → shapeNo a ≡ shapeNo b → a ≡ b
 
-abbrev pub ShapeNumberDetermined : Type 0
-ShapeNumberDetermined = (s : Case) → AtMostOne (λ (r : ℕ). r ≡ shapeNo s)
+abbrev pub SaysOneToOne : Type 0
+SaysOneToOne = (a b : Apdu) → saysOf a ≡ saysOf b → a ≡ b
 
-abbrev pub ReadDetermined : Type 0
-ReadDetermined = (frame : List ℕ) → AtMostOne (λ (r : Reading). readingOf r ≡ readOf frame)
+abbrev pub ReadingOneToOne : Type 0
+ReadingOneToOne = (a b : Reading) → readingOf a ≡ readingOf b → a ≡ b
 
-abbrev pub StrictDetermined : Type 0
-StrictDetermined = (frame : List ℕ) → AtMostOne (λ (r : Reading). readingOf r ≡ strictOf frame)
+abbrev pub WrittenOneToOne : Type 0
+WrittenOneToOne = (a b : Written) → writtenOf a ≡ writtenOf b → a ≡ b
 
-abbrev pub PlaceDetermined : Type 0
-PlaceDetermined = (a : Apdu) → AtMostOne (λ (r : Place). r ≡ placeOf (saysOf a))
+-- ---- two results that satisfy a contract are equal, for each public function; of the writer, the answer and the buffer
 
-abbrev pub DataDetermined : Type 0
-DataDetermined = (frame : List ℕ) (a : Apdu) → AtMostOne (λ (r : List ℕ). r ≡ dataOf frame (saysOf a))
-
--- the answer, and what the buffer holds afterwards
-abbrev pub WriteDetermined : Type 0
-WriteDetermined =
-    (w : Parts) (old : List ℕ)
-    → AtMostOne (λ (o : Written × List ℕ). (writtenOf (o .0) ≡ writeOf w (length old)) × (o .1 ≡ bufferOf w old))
+pub record ResultsDetermined : Type 0 where
+  pub row : (s : Case) → AtMostOne (Row s)
+  pub fits : (s : Case) (count le : ℕ) → AtMostOne (Fits s count le)
+  pub payload : (p : List ℕ) → AtMostOne (Payload p)
+  pub shape-number : (s : Case) → AtMostOne (ShapeNumber s)
+  pub read : (frame : List ℕ) → AtMostOne (Read frame)
+  pub read-strict : (frame : List ℕ) → AtMostOne (ReadStrict frame)
+  pub data-place : (a : Apdu) → AtMostOne (DataPlace a)
+  pub cut-data : (frame : List ℕ) (a : Apdu) → AtMostOne (Data frame a)
+  pub write : (w : Parts) (old : List ℕ) → AtMostOne (λ (o : Written × List ℕ). Write w old (o .0) (o .1))

@@ -1,11 +1,9 @@
 -- Document 01, 'Frames and moments to try': the frames marked P, "proved together, as a single statement over a list".
 use Prim.Native.Nat.{ℕ}
-use mathlib.Core.Path.{_≡_}
-use mathlib.Core.List.{List, [], _∷_, map}
+use mathlib.Core.List.{List, [], _∷_}
 use Rattle.outcome.specs.Outcome.{Outcome, SW, Gives}
 use Rattle.apdu_stated.specs.Words.{ApduHeader}
 use Rattle.apdu_stated.specs.Answers.{Says}
-use Rattle.apdu_stated.specs.Reading.{readOf}
 
 pub record Example : Type 0 where
   pub frame : List ℕ
@@ -38,7 +36,3 @@ examples =
     ∷ payload (0x00 ∷ 0x00 ∷ 0x01 ∷ 0xAA ∷ 0x00 ∷ 0x00 ∷ 0x00 ∷ []) (SW 0x6700)  -- P `00 00 01 AA 00 00 00`: 6700
     ∷ record { frame = 0x00 ∷ 0x03 ∷ 0x00 ∷ []; answer = SW 0x6a80 }  -- P three-byte frame: 6a80
     ∷ []
-
--- Each frame of the list is read as the list says.
-abbrev pub ExamplesRead : Type 0
-ExamplesRead = map (λ (e : Example). readOf (e .frame)) examples ≡ map (λ (e : Example). e .answer) examples

@@ -31,7 +31,7 @@ shapeFor Case2E = Le3
 shapeFor Case3E = Lc3Data
 shapeFor Case4E = Lc3DataLe2
 
--- "Tolerated beyond the table by the Rust, and so by document 01's ordinary reading: extended Lc with a one-byte Le (shape 6),
--- and an extended Lc of 0 before an Le (shapes 6 and 7)"
+-- ours: what the Rust, and so document 01's ordinary reading, takes beyond ISO's table: an extended Lc with a one-byte Le (shape 6),
+-- and an extended Lc of 0 before an Le (shapes 6 and 7)
 abbrev pub isTolerated : ℕ → ℕ → Bool
 isTolerated shape lc = eqb shape 6 || (eqb shape 7 && eqb lc 0)

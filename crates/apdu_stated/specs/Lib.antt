@@ -5,4 +5,7 @@ pub mod Reading
 pub mod Writing
 pub mod Iso
 pub mod Examples
+pub mod Contracts
+pub mod Terms
 pub mod Claims
+pub mod Wrong

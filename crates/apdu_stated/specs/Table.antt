@@ -7,35 +7,31 @@ use mathlib.Core.List.{List, [], _∷_}
 use lib.Dec.{leb, eqb}
 use Rattle.outcome.specs.Notation.{if_then_else_}
 use Rattle.octets.specs.Bytes.{bytes2}
+pub use Rattle.apdu_stated.specs.declared.TableRow.{TableRow}
 use Rattle.apdu_stated.specs.Words.{Case, Instruction, Le1, Lc1Data, Lc1DataLe1, Lc3Data, Lc3DataLe1, Lc3DataLe2, Le3}
 
 -- a row: the Lc field's bytes, the least Lc, the Le field's bytes
-pub record TableRow : Type 0 where
-  pub lcBytesLong : ℕ
-  pub leastLc : ℕ
-  pub leBytesLong : ℕ
-
 abbrev pub columns : ℕ → ℕ → ℕ → TableRow
-columns lcLong least leLong = record { lcBytesLong = lcLong; leastLc = least; leBytesLong = leLong }
+columns lcLong least leLong = record { «lc_field» = lcLong; «lc_least» = least; «le_field» = leLong }
 
-abbrev pub row : Case → TableRow
-row Instruction = columns 0 0 0  -- 1 | empty |
-row Le1 = columns 0 0 1  -- 2 | Le (1 byte) |
-row Lc1Data = columns 1 1 0  -- 3 | Lc, data | Lc 1..255
-row Lc1DataLe1 = columns 1 1 1  -- 4 | Lc, data, Le (1) | Lc 1..255
-row Lc3Data = columns 3 1 0  -- 5 | 00, Lc (2), data | Lc 1..65535
-row Lc3DataLe1 = columns 3 0 1  -- 6 | 00, Lc (2), data, Le (1) | Lc 0..65535
-row Lc3DataLe2 = columns 3 0 2  -- 7 | 00, Lc (2), data, Le (2) | Lc 0..65535
-row Le3 = columns 0 0 3  -- 8 | 00, Le (2) |
+abbrev pub rowOf : Case → TableRow
+rowOf Instruction = columns 0 0 0  -- 1 | empty |
+rowOf Le1 = columns 0 0 1  -- 2 | Le (1 byte) |
+rowOf Lc1Data = columns 1 1 0  -- 3 | Lc, data | Lc 1..255
+rowOf Lc1DataLe1 = columns 1 1 1  -- 4 | Lc, data, Le (1) | Lc 1..255
+rowOf Lc3Data = columns 3 1 0  -- 5 | 00, Lc (2), data | Lc 1..65535
+rowOf Lc3DataLe1 = columns 3 0 1  -- 6 | 00, Lc (2), data, Le (1) | Lc 0..65535
+rowOf Lc3DataLe2 = columns 3 0 2  -- 7 | 00, Lc (2), data, Le (2) | Lc 0..65535
+rowOf Le3 = columns 0 0 3  -- 8 | 00, Le (2) |
 
 abbrev pub lcField : Case → ℕ
-lcField s = row s .lcBytesLong
+lcField s = rowOf s .«lc_field»
 
 abbrev pub lcLeast : Case → ℕ
-lcLeast s = row s .leastLc
+lcLeast s = rowOf s .«lc_least»
 
 abbrev pub leField : Case → ℕ
-leField s = row s .leBytesLong
+leField s = rowOf s .«le_field»
 
 -- by a field's length: no field, one byte, or more (the extended form)
 abbrev pub byLength : {A : Type 0} → ℕ → A → A → A → A
@@ -69,11 +65,11 @@ canCarry s dataLength le = lcFits s dataLength && leFits s le
 abbrev pub leRead : ℕ → ℕ → ℕ
 leRead long written = if eqb written 0 then leMost long else written
 
--- the Lc field's bytes, and the Le field's: 256 is written 00, and 65536 is written 00 00
-abbrev pub lcBytes : Case → ℕ → List ℕ
-lcBytes s lc = byLength (lcField s) [] (lc ∷ []) (0x00 ∷ bytes2 lc)
+-- the bytes of an Lc field of so many bytes, and of an Le field: 256 is written 00, and 65536 is written 00 00
+abbrev pub lcBytes : ℕ → ℕ → List ℕ
+lcBytes long lc = byLength long [] (lc ∷ []) (0x00 ∷ bytes2 lc)
 
-abbrev pub leBytes : Case → ℕ → List ℕ
-leBytes s le =
-    byLength (leField s) [] (le % 256 ∷ [])
-    (if eqb (leField s) 2 then bytes2 (le % 65536) else 0x00 ∷ bytes2 (le % 65536))
+abbrev pub leBytes : ℕ → ℕ → List ℕ
+leBytes long le =
+    byLength long [] (le % 256 ∷ [])
+    (if eqb long 2 then bytes2 (le % 65536) else 0x00 ∷ bytes2 (le % 65536))

@@ -9,7 +9,7 @@ use Rattle.outcome.specs.Notation.{if_then_else_}
 use Rattle.outcome.specs.Outcome.{Outcome, R, SW, Gives}
 use Rattle.octets.specs.Bytes.{laid}
 use Rattle.apdu_stated.specs.Words.{Case, ApduHeader}
-use Rattle.apdu_stated.specs.Table.{canCarry, lcBytes, leBytes}
+use Rattle.apdu_stated.specs.Table.{lcField, leField, canCarry, lcBytes, leBytes}
 
 -- the four parts of a frame
 pub record Parts : Type 0 where
@@ -26,7 +26,7 @@ headerBytes h = h .cla ∷ h .ins ∷ h .p1 ∷ h .p2 ∷ []
 
 -- the payload's fields in the table's order. "Data is exactly Lc bytes"
 unfoldable pub payloadOf : Case → List ℕ → ℕ → List ℕ
-payloadOf shape content le = lcBytes shape (length content) ++ (content ++ leBytes shape le)
+payloadOf shape content le = lcBytes (lcField shape) (length content) ++ (content ++ leBytes (leField shape) le)
 
 -- "A frame is CLA INS P1 P2 and a payload"
 unfoldable pub frameOf : Parts → List ℕ
@@ -47,3 +47,7 @@ leftBy (Gives n) frame old = laid frame old
 
 unfoldable pub bufferOf : Parts → List ℕ → List ℕ
 bufferOf w old = leftBy (writeOf w (length old)) (frameOf w) old
+
+-- both: the answer, and what the buffer holds afterwards
+abbrev pub writingOf : Parts → List ℕ → Outcome ℕ × List ℕ
+writingOf w old = (writeOf w (length old), bufferOf w old)

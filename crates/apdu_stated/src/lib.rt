@@ -22,6 +22,13 @@ pub enum Case {
     Le3,
 }
 
+// A row of the table: how many bytes the Lc field has, the least Lc, and how many bytes the Le field has.
+pub struct TableRow {
+    pub lc_field: usize,
+    pub lc_least: usize,
+    pub le_field: usize,
+}
+
 // What a frame says. Its data stays in the frame: `data` hands out that part.
 pub struct Apdu {
     pub header: ApduHeader,

@@ -8,7 +8,8 @@ ghost use mathlib.Core.Path.{_≡_};
 ghost use Rattle.outcome.specs.Outcome.{Gives};
 ghost use Rattle.apdu_stated.specs.Answers.{saysOf};
 ghost use Rattle.apdu_stated.specs.Reading.{readOf};
-ghost use Rattle.command_stated.specs.Command.{flagsNo, commandSaid, authenticateOf, byInstruction, commandOf, challengeOf, applicationOf, handlePlaceOf, handleOf};
+ghost use Rattle.command_stated.specs.Command.{commandSaid, authenticateOf, byInstruction};
+ghost use Rattle.command_stated.specs.Contracts.{FlagsNumber, ReadCommand, ChallengePlace, ApplicationPlace, HandlePlace, Challenge, Application, KeyHandle};
 use apdu::Apdu;
 use apdu::Place;
 use apdu::Reading;
@@ -26,7 +27,7 @@ const U2F_VERSION: u8 = 0x03;
 
 // The control byte as its number.
 pub fn flags_number(flags: Ctap1Flags) -> u8
-    ensures { λ r. ⌜ r ≡ flagsNo flags ⌝ }
+    ensures { λ r. ⌜ FlagsNumber flags r ⌝ }
 {
     match flags {
         Ctap1Flags::CheckOnly => 0x07,
@@ -92,7 +93,7 @@ fn by_instruction(frame: &[u8], says: Apdu) -> U2fCommand
 
 // Reads any bytes as a command.
 pub fn read_command(frame: &[u8]) -> U2fCommand
-    ensures { λ r. ⌜ commandSaid r ≡ commandOf (now (frame .entry)) ⌝ }
+    ensures { λ r. ⌜ ReadCommand (now (frame .entry)) r ⌝ }
 {
     let reading = apdu::read(frame);
     match reading {
@@ -101,27 +102,33 @@ pub fn read_command(frame: &[u8]) -> U2fCommand
     }
 }
 
-// The first 32 bytes of a frame's data.
-pub fn challenge(frame: &[u8], says: Apdu) -> &[u8]
-    ensures { λ r. ⌜ now r ≡ challengeOf (now (frame .entry)) (saysOf says) ⌝ }
+// Where the challenge of a frame that says this stands: the first 32 bytes of its data.
+pub fn challenge_place(says: Apdu) -> Place
+    ensures { λ r. ⌜ ChallengePlace says r ⌝ }
 {
     let at = apdu::data_place(says);
     let start = at.start;
-    octets::part(frame, start, start + 32)
+    Place {
+        start,
+        end: start + 32,
+    }
 }
 
-// The 32 bytes after the challenge.
-pub fn application(frame: &[u8], says: Apdu) -> &[u8]
-    ensures { λ r. ⌜ now r ≡ applicationOf (now (frame .entry)) (saysOf says) ⌝ }
+// Where the application stands: the 32 bytes after the challenge.
+pub fn application_place(says: Apdu) -> Place
+    ensures { λ r. ⌜ ApplicationPlace says r ⌝ }
 {
     let at = apdu::data_place(says);
     let start = at.start;
-    octets::part(frame, start + 32, start + 64)
+    Place {
+        start: start + 32,
+        end: start + 64,
+    }
 }
 
-// Where the key handle of a frame that says this stands.
+// Where the key handle stands: after its length byte, up to the data's end and without the Le.
 pub fn handle_place(says: Apdu) -> Place
-    ensures { λ r. ⌜ r ≡ handlePlaceOf (saysOf says) ⌝ }
+    ensures { λ r. ⌜ HandlePlace says r ⌝ }
 {
     let at = apdu::data_place(says);
     Place {
@@ -130,9 +137,23 @@ pub fn handle_place(says: Apdu) -> Place
     }
 }
 
-// The key handle, as a part of the frame: after its length byte, up to the data's end and without the Le.
+// The three as parts of the frame; empty where they would pass its end.
+pub fn challenge(frame: &[u8], says: Apdu) -> &[u8]
+    ensures { λ r. ⌜ Challenge (now (frame .entry)) says (now r) ⌝ }
+{
+    let at = challenge_place(says);
+    octets::part(frame, at.start, at.end)
+}
+
+pub fn application(frame: &[u8], says: Apdu) -> &[u8]
+    ensures { λ r. ⌜ Application (now (frame .entry)) says (now r) ⌝ }
+{
+    let at = application_place(says);
+    octets::part(frame, at.start, at.end)
+}
+
 pub fn key_handle(frame: &[u8], says: Apdu) -> &[u8]
-    ensures { λ r. ⌜ now r ≡ handleOf (now (frame .entry)) (saysOf says) ⌝ }
+    ensures { λ r. ⌜ KeyHandle (now (frame .entry)) says (now r) ⌝ }
 {
     let at = handle_place(says);
     octets::part(frame, at.start, at.end)

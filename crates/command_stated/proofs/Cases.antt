@@ -16,8 +16,8 @@ use Rattle.apdu_stated.specs.declared.Place.{Place}
 use Rattle.apdu_stated.specs.declared.Reading.{Reading}
 use Rattle.apdu_stated.specs.declared.Reading.the-variants as Reading′
 use Rattle.apdu_stated.specs.Reading.{readOf, dataOf, placeOf}
-use Rattle.apdu_stated.proofs.Frames.{data-long}
-use Rattle.command_stated.specs.Command.{Command, Register, Authenticate, Version, isControl, registerOf, authenticateOf, versionOf, byInstruction, onReading, commandOf, challengeOf, applicationOf, handlePlaceOf, handleOf}
+use Rattle.apdu_stated.proofs.Laws.{data-long}
+use Rattle.command_stated.specs.Command.{Command, Register, Authenticate, Version, isControl, registerOf, authenticateOf, versionOf, byInstruction, onReading, commandOf, challengePlaceOf, applicationPlaceOf, challengeOf, applicationOf, handlePlaceOf, handleOf}
 
 -- ---- Authenticate
 module _ (frame : List ℕ) (said : Says) where
@@ -103,14 +103,20 @@ module _ (frame : List ℕ) (r : Reading) (is-r : readingOf r ≡ readOf frame) 
   on-status s e = ap (onReading frame) (ap readingOf (sym e) ∙ is-r)
 
 -- ---- the parts
-module _ (frame : List ℕ) (said : Says) (at : Place) (is-at : at ≡ placeOf said) (part : List ℕ) where
-  pub challenge-is : part ≡ partOf frame (at .start) (at .start + 32) → part ≡ challengeOf frame said
-  unfolding challengeOf
-  challenge-is e = e ∙ rw is-at
+pub challenge-place-is : (said : Says) (at : Place) → at ≡ placeOf said → record { start = at .start; end = at .start + 32 } ≡ challengePlaceOf said
+challenge-place-is said at e = rw e
 
-  pub application-is : part ≡ partOf frame (at .start + 32) (at .start + 64) → part ≡ applicationOf frame said
+pub application-place-is : (said : Says) (at : Place) → at ≡ placeOf said → record { start = at .start + 32; end = at .start + 64 } ≡ applicationPlaceOf said
+application-place-is said at e = rw e
+
+module _ (frame : List ℕ) (said : Says) (at : Place) (part : List ℕ) (is-part : part ≡ partOf frame (at .start) (at .end)) where
+  pub challenge-is : at ≡ challengePlaceOf said → part ≡ challengeOf frame said
+  unfolding challengeOf
+  challenge-is e = is-part ∙ rw e
+
+  pub application-is : at ≡ applicationPlaceOf said → part ≡ applicationOf frame said
   unfolding applicationOf
-  application-is e = e ∙ rw is-at
+  application-is e = is-part ∙ rw e
 
 pub handle-place-is : (said : Says) (at : Place) → at ≡ placeOf said → record { start = at .start + 65; end = at .end } ≡ handlePlaceOf said
 handle-place-is said at e = rw e
@@ -122,3 +128,7 @@ handle-is frame said at part e f = f ∙ rw e
 pub by-reading : (frame : List ℕ) (said : Says) → readOf frame ≡ Gives said → commandOf frame ≡ byInstruction frame said
 unfolding commandOf onReading
 by-reading frame said e = ap (onReading frame) e
+
+pub by-status : (frame : List ℕ) (n : ℕ) → readOf frame ≡ SW n → commandOf frame ≡ SW n
+unfolding commandOf onReading
+by-status frame n e = ap (onReading frame) e

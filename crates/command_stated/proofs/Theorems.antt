@@ -1,27 +1,24 @@
--- The claims of specs/Claims.antt, each under its own name.
+-- The definitions meet the claims of specs/Claims.antt, each under its claim's name.
 use Prim.Native.Nat.{ℕ, _+_, _-_, _<_, _≤_}
 use mathlib.Core.Path.{_≡_, refl, ap, ap₂, sym, subst, _∙_}
 use mathlib.Core.Bool.{true}
 use mathlib.Core.List.{List, [], _∷_, _++_, append-nil}
+use mathlib.Core.Logic.{_↔_, _⊎_, inl, inr}
 use native.Mathlib.Omega.{arith}
-use lib.Dec.{eqb}
 use lib.ListN.{length}
-use Rattle.outcome.specs.Notation.{if_then_else_}
 use Rattle.outcome.specs.Outcome.{Outcome, R, SW, Gives}
-use Rattle.outcome.specs.declared.ApduStatusCode.the-variants.{Success}
-use Rattle.outcome.proofs.Laws.{gives-same, sw-gives, both-are, one-to-one}
-use Rattle.outcome.proofs.Theorems.{statusOf, status-back}
+use Rattle.outcome.proofs.Laws.{gives-same, sw-same, sw-gives, both-are}
 use Rattle.octets.specs.Bytes.{byte, partOf}
-use Rattle.octets.proofs.Between.{part-split, part-length, part-byte, part-one}
-use Rattle.apdu_stated.specs.Answers.{Says, saysOf}
+use Rattle.octets.proofs.Laws.{part-split, part-length, part-byte, part-one}
+use Rattle.apdu_stated.specs.Answers.{Says}
 use Rattle.apdu_stated.specs.Reading.{readOf, dataOf}
-use Rattle.apdu_stated.proofs.Frames.{data-within, data-long}
-use Rattle.apdu_stated.proofs.Numbers.{apduBack, apdu-back}
-use Rattle.command_stated.specs.Command.{Ctap1Flags, CheckOnly, EnforceUpAndSign, DontEnforceUpAndSign, U2fCommand, Command, Register, Authenticate, Version, flagsNo, isControl, commandSaid, commandOf, challengeOf, applicationOf, handleOf}
-use Rattle.command_stated.specs.declared.U2fCommand.the-variants as U2fCommand′
+use Rattle.apdu_stated.proofs.Laws.{data-within, data-long, data-from, read-status, read-short}
+use Rattle.command_stated.specs.Command.{Command, Register, Authenticate, Version, flagsNo, isControl, byInstruction, commandOf, challengePlaceOf, applicationPlaceOf, handlePlaceOf, challengeOf, applicationOf, handleOf}
+use Rattle.command_stated.specs.Terms.{WrongLength, of-register, too-short, other-handle, of-version, WrongControl, UnknownInstruction}
 use Rattle.command_stated.specs.Claims
 use Rattle.command_stated.proofs.Cases
-use Rattle.command_stated.proofs.Ways.{Way, register, authenticate, version, status, Read, read, unread, reading}
+use Rattle.command_stated.proofs.Numbers.{flags-same, command-same}
+use Rattle.command_stated.proofs.Ways.{Why, class, instruction, lengths, control, Way, register, authenticate, version, status, Read, read, unread, reading}
 
 -- ---- three commands differ
 registered : Command → ℕ
@@ -32,7 +29,7 @@ registered Version = 3
 clash : {A : Type 0} (a b : Command) (m n : ℕ) → registered a ≡ m → registered b ≡ n → (m ≡ n → ⊥) → Gives a ≡ Gives b → A
 clash a b m n p q d e = absurd (d (sym p ∙ ap registered (gives-same a b e) ∙ q))
 
-pub RegisterExactly : Claims.RegisterExactly
+pub RegisterExactly : Claims.RegisterExactly commandOf
 unfolding registered
 RegisterExactly frame said = (λ e. go (commandOf frame) (reading frame) e, λ t. Cases.by-reading frame said (t .0) ∙ sym (Cases.register-64 frame said (t .1) (t .2) (t .3)))
   where
@@ -52,7 +49,7 @@ RegisterExactly frame said = (λ e. go (commandOf frame) (reading frame) e, λ t
     go o (read s r w) e = by s o r w e
     go _ (unread n r) e = absurd (sw-gives _ _ e)
 
-pub AuthenticateExactly : Claims.AuthenticateExactly
+pub AuthenticateExactly : Claims.AuthenticateExactly commandOf
 unfolding registered
 AuthenticateExactly frame p1 said = (
   λ e. go (commandOf frame) (reading frame) e,
@@ -80,7 +77,7 @@ AuthenticateExactly frame p1 said = (
     go o (read s r w) e = by s o r w e
     go _ (unread n r) e = absurd (sw-gives _ _ e)
 
-pub VersionExactly : Claims.VersionExactly
+pub VersionExactly : Claims.VersionExactly commandOf
 unfolding registered
 VersionExactly frame = (λ e. go (commandOf frame) (reading frame) e, λ t. Cases.by-reading frame (t .0) (t .1) ∙ sym (Cases.version-0 frame (t .0) (t .2) (t .3) (t .4)))
   where
@@ -96,6 +93,110 @@ VersionExactly frame = (λ e. go (commandOf frame) (reading frame) e, λ t. Case
     go : (o : Outcome Command) → Read frame o → o ≡ Gives Version → Facts
     go o (read s r w) e = by s o r w e
     go _ (unread n r) e = absurd (sw-gives _ _ e)
+
+-- ---- a status: the frame's own, or for a reason
+pub data Told (frame : List ℕ) (n : ℕ) : Type 0 where
+  own : readOf frame ≡ SW n → Told frame n
+  because : (said : Says) → readOf frame ≡ Gives said → Why frame said n → Told frame n
+
+pub told : (frame : List ℕ) (n : ℕ) → commandOf frame ≡ SW n → Told frame n
+told frame n e = go (commandOf frame) (reading frame) e
+  where
+    by : (s : Says) (o : Outcome Command) → readOf frame ≡ Gives s → Way frame s o → o ≡ SW n → Told frame n
+    by s _ r (register c i l) x = absurd (sw-gives _ _ (sym x))
+    by s _ r (authenticate c i l f k) x = absurd (sw-gives _ _ (sym x))
+    by s _ r (version c i l) x = absurd (sw-gives _ _ (sym x))
+    by s _ r (status why) x = because s r (subst (Why frame s) (sw-same _ _ x) why)
+
+    go : (o : Outcome Command) → Read frame o → o ≡ SW n → Told frame n
+    go o (read s r w) x = by s o r w x
+    go _ (unread m r) x = own (r ∙ ap SW (sw-same _ _ x))
+
+module _ (frame : List ℕ) (said : Says) where
+  of-class : {n : ℕ} → Why frame said n → n ≡ 0x6e00 → said .header .cla ≡ 0x00 → ⊥
+  of-class (class c) e = c
+  of-class (instruction c w) e = absurd (omega arith)
+  of-class (lengths c w) e = absurd (omega arith)
+  of-class (control c w) e = absurd (omega arith)
+
+  of-instruction : {n : ℕ} → Why frame said n → n ≡ 0x6d00 → (said .header .cla ≡ 0x00) × UnknownInstruction said
+  of-instruction (class c) e = absurd (omega arith)
+  of-instruction (instruction c w) e = (c, w)
+  of-instruction (lengths c w) e = absurd (omega arith)
+  of-instruction (control c w) e = absurd (omega arith)
+
+  of-lengths : {n : ℕ} → Why frame said n → n ≡ 0x6700 → (said .header .cla ≡ 0x00) × WrongLength frame said
+  of-lengths (class c) e = absurd (omega arith)
+  of-lengths (instruction c w) e = absurd (omega arith)
+  of-lengths (lengths c w) e = (c, w)
+  of-lengths (control c w) e = absurd (omega arith)
+
+  of-control : {n : ℕ} → Why frame said n → n ≡ 0x6a80 → (said .header .cla ≡ 0x00) × WrongControl frame said
+  of-control (class c) e = absurd (omega arith)
+  of-control (instruction c w) e = absurd (omega arith)
+  of-control (lengths c w) e = absurd (omega arith)
+  of-control (control c w) e = (c, w)
+
+pub ClassExactly : Claims.ClassExactly commandOf
+ClassExactly frame = (λ e. go (told frame 0x6e00 e), λ t. Cases.by-reading frame (t .0) (t .1) ∙ sym (Cases.wrong-cla frame (t .0) (t .2)))
+  where
+    go : Told frame 0x6e00 → (said : Says) × (readOf frame ≡ Gives said) × (said .header .cla ≡ 0x00 → ⊥)
+    go (own r) = absurd (read-status frame 0x6e00 (λ x. omega arith) (λ x. omega arith) r)
+    go (because s r w) = (s, r, of-class frame s w refl)
+
+pub InstructionExactly : Claims.InstructionExactly commandOf
+InstructionExactly frame =
+    (λ e. go (told frame 0x6d00 e), λ t. Cases.by-reading frame (t .0) (t .1) ∙ sym (Cases.unknown frame (t .0) (t .2) (t .3 .not-01) (t .3 .not-02) (t .3 .not-03)))
+  where
+    go : Told frame 0x6d00 → (said : Says) × (readOf frame ≡ Gives said) × (said .header .cla ≡ 0x00) × UnknownInstruction said
+    go (own r) = absurd (read-status frame 0x6d00 (λ x. omega arith) (λ x. omega arith) r)
+    go (because s r w) = let f = of-instruction frame s w refl in (s, r, f .0, f .1)
+
+wrong-length : (frame : List ℕ) (said : Says) → said .header .cla ≡ 0x00 → WrongLength frame said → SW 0x6700 ≡ byInstruction frame said
+wrong-length frame said c (of-register i n) = Cases.register-other frame said c i n
+wrong-length frame said c (too-short i h) = Cases.authenticates frame said c (SW 0x6700) i (Cases.auth-short frame said h)
+wrong-length frame said c (other-handle i h n) =
+    Cases.authenticates frame said c (SW 0x6700) i (Cases.auth-other frame said (dataOf frame said) 0 (byte (dataOf frame said) 64) refl refl h n)
+wrong-length frame said c (of-version i n) = Cases.version-other frame said c i n
+
+pub LengthExactly : Claims.LengthExactly commandOf
+LengthExactly frame = (λ e. go (told frame 0x6700 e), back)
+  where
+    go : Told frame 0x6700 → (readOf frame ≡ SW 0x6700) ⊎ ((said : Says) × (readOf frame ≡ Gives said) × (said .header .cla ≡ 0x00) × WrongLength frame said)
+    go (own r) = inl r
+    go (because s r w) = let f = of-lengths frame s w refl in inr (s, r, f .0, f .1)
+
+    back : (readOf frame ≡ SW 0x6700) ⊎ ((said : Says) × (readOf frame ≡ Gives said) × (said .header .cla ≡ 0x00) × WrongLength frame said) → commandOf frame ≡ SW 0x6700
+    back (inl r) = Cases.by-status frame 0x6700 r
+    back (inr t) = Cases.by-reading frame (t .0) (t .1) ∙ sym (wrong-length frame (t .0) (t .2) (t .3))
+
+wrong-control : (frame : List ℕ) (said : Says) → said .header .cla ≡ 0x00 → WrongControl frame said → SW 0x6a80 ≡ byInstruction frame said
+wrong-control frame said c w =
+    Cases.authenticates frame said c (SW 0x6a80) (w .ins)
+    (Cases.auth-wrong frame said (dataOf frame said) 0 (byte (dataOf frame said) 64) refl refl (w .long) (w .fits) (w .not-03) (w .not-07) (w .not-08))
+
+pub ControlExactly : Claims.ControlExactly commandOf
+ControlExactly frame = (λ e. go (told frame 0x6a80 e), back)
+  where
+    go : Told frame 0x6a80 → (length frame < 4) ⊎ ((said : Says) × (readOf frame ≡ Gives said) × (said .header .cla ≡ 0x00) × WrongControl frame said)
+    go (own r) = inl (read-short frame .0 r)
+    go (because s r w) = let f = of-control frame s w refl in inr (s, r, f .0, f .1)
+
+    back : (length frame < 4) ⊎ ((said : Says) × (readOf frame ≡ Gives said) × (said .header .cla ≡ 0x00) × WrongControl frame said) → commandOf frame ≡ SW 0x6a80
+    back (inl h) = Cases.by-status frame 0x6a80 (read-short frame .1 h)
+    back (inr t) = Cases.by-reading frame (t .0) (t .1) ∙ sym (wrong-control frame (t .0) (t .2) (t .3))
+
+pub CommandExactly : Claims.CommandExactly commandOf
+CommandExactly =
+    record {
+      register = RegisterExactly;
+      authenticate = AuthenticateExactly;
+      version = VersionExactly;
+      class = ClassExactly;
+      instruction = InstructionExactly;
+      lengths = LengthExactly;
+      control = ControlExactly;
+    }
 
 -- ---- the parts of the data
 module _ (frame : List ℕ) (said : Says) (is-read : readOf frame ≡ Gives said) (long : 64 ≤ said .lc) where
@@ -119,7 +220,7 @@ no-bytes : (l : List ℕ) → length l ≡ 0 → l ≡ []
 no-bytes [] e = refl
 no-bytes (x ∷ l) e = absurd (omega arith)
 
-pub RegisterParts : Claims.RegisterParts
+pub RegisterParts : Claims.RegisterParts commandOf challengeOf applicationOf
 unfolding dataOf
 RegisterParts frame said e =
     let t = RegisterExactly frame said .0 e in
@@ -128,7 +229,7 @@ RegisterParts frame said e =
     let none : partOf frame (said .dataAt + 64) (said .dataAt + said .lc) ≡ [] = no-bytes _ (part-length frame (said .dataAt + 64) (said .dataAt + said .lc) (omega arith) within ∙ omega arith) in
     (two-parts frame said (t .0) (omega arith) ∙ ap (λ (l : List ℕ). challengeOf frame said ++ (applicationOf frame said ++ l)) none ∙ ap (λ (l : List ℕ). challengeOf frame said ++ l) (append-nil (applicationOf frame said)), n .0, n .1)
 
-pub AuthenticateParts : Claims.AuthenticateParts
+pub AuthenticateParts : Claims.AuthenticateParts commandOf challengeOf applicationOf handleOf
 unfolding dataOf handleOf
 AuthenticateParts frame p1 said e =
     let t = AuthenticateExactly frame p1 said .0 e in
@@ -143,43 +244,65 @@ AuthenticateParts frame p1 said e =
     part-split frame (said .dataAt + 64) (said .dataAt + 65) (said .dataAt + said .lc) (omega arith) (omega arith) within ∙ ap (λ (l : List ℕ). l ++ h) one in
     (two-parts frame said (t .0) (omega arith) ∙ ap (λ (l : List ℕ). challengeOf frame said ++ (applicationOf frame said ++ l)) rest, n .0, n .1)
 
--- ---- two results are equal
-flagsOf : ℕ → Ctap1Flags
-flagsOf n =
-    if eqb n 0x07 then CheckOnly
-    else if eqb n 0x03 then EnforceUpAndSign
-    else DontEnforceUpAndSign
+pub ChallengeExactly : Claims.ChallengeExactly challengeOf
+unfolding challengeOf
+ChallengeExactly frame said = refl
 
-flags-back : (f : Ctap1Flags) → flagsOf (flagsNo f) ≡ f
-unfolding flagsOf
-flags-back CheckOnly = refl
-flags-back EnforceUpAndSign = refl
-flags-back DontEnforceUpAndSign = refl
+pub ApplicationExactly : Claims.ApplicationExactly applicationOf
+unfolding applicationOf
+ApplicationExactly frame said = refl
+
+pub HandleExactly : Claims.HandleExactly handleOf
+unfolding handleOf
+HandleExactly frame said = refl
+
+pub ChallengePlaceExactly : Claims.ChallengePlaceExactly challengePlaceOf
+ChallengePlaceExactly said = refl
+
+pub ApplicationPlaceExactly : Claims.ApplicationPlaceExactly applicationPlaceOf
+ApplicationPlaceExactly said = refl
+
+pub HandlePlaceExactly : Claims.HandlePlaceExactly handlePlaceOf
+HandlePlaceExactly said = refl
+
+pub CutAtPlaces : Claims.CutAtPlaces challengeOf applicationOf handleOf challengePlaceOf applicationPlaceOf handlePlaceOf
+CutAtPlaces =
+    record {
+      challenge-cut = ChallengeExactly;
+      application-cut = ApplicationExactly;
+      handle-cut = HandleExactly;
+      register-within = λ frame said e.
+          let t = RegisterExactly frame said .0 e in
+          let within = data-within frame said (t .0) in
+          let from = data-from frame said (t .0) in
+          (from, refl, omega arith);
+      authenticate-within = λ frame p1 said e.
+          let t = AuthenticateExactly frame p1 said .0 e in
+          let within = data-within frame said (t .0) in
+          let from = data-from frame said (t .0) in
+          (from, refl, omega arith, omega arith, within);
+    }
+
+-- ---- the numbers tell the cases apart
+pub FlagsNumberExactly : Claims.FlagsNumberExactly flagsNo
+FlagsNumberExactly = record { check-only = refl; enforce = refl; do-not-enforce = refl }
 
 pub FlagsOneToOne : Claims.FlagsOneToOne
-FlagsOneToOne = one-to-one flagsNo flagsOf flags-back
+FlagsOneToOne = flags-same
 
-commandBack : Outcome Command → U2fCommand
-commandBack (R n) = U2fCommand′.Version
-commandBack (SW n) = U2fCommand′.Status (statusOf n)
-commandBack (Gives (Register s)) = U2fCommand′.Register (apduBack s)
-commandBack (Gives (Authenticate p s)) = U2fCommand′.Authenticate (flagsOf p) (apduBack s)
-commandBack (Gives Version) = U2fCommand′.Version
+pub CommandOneToOne : Claims.CommandOneToOne
+CommandOneToOne = command-same
 
-command-back : (c : U2fCommand) → commandBack (commandSaid c) ≡ c
-unfolding commandBack
-command-back (U2fCommand′.Register a) = ap U2fCommand′.Register (apdu-back a)
-command-back (U2fCommand′.Authenticate f a) = ap₂ U2fCommand′.Authenticate (flags-back f) (apdu-back a)
-command-back U2fCommand′.Version = refl
-command-back (U2fCommand′.Status s) = ap U2fCommand′.Status (status-back s)
-
-pub Determined : Claims.Determined
-Determined =
+-- ---- two results are equal
+pub ResultsDetermined : Claims.ResultsDetermined
+ResultsDetermined =
     record {
       flags-number = λ f a b. both-are a b;
-      read-command = λ frame a b p q. one-to-one commandSaid commandBack command-back a b (both-are _ _ p q);
+      read-command = λ frame a b p q. command-same a b (both-are _ _ p q);
+      challenge-place = λ s a b. both-are a b;
+      application-place = λ s a b. both-are a b;
+      handle-place = λ s a b. both-are a b;
       challenge = λ frame s a b. both-are a b;
       application = λ frame s a b. both-are a b;
-      handle-place = λ s a b. both-are a b;
       key-handle = λ frame s a b. both-are a b;
     }

@@ -1,52 +1,154 @@
--- What is promised of command reading beyond its contracts. Inhabited in proofs/Theorems.antt under the same names.
-use mathlib.Core.Logic.{_↔_}
-use Rattle.command_stated.specs.Words.{ℕ, _+_, _≤_, _≡_, true, List, _∷_, _++_, length, AtMostOne, Gives, byte, Apdu, Place}
-use Rattle.apdu_stated.specs.Answers.{Says, saysOf}
+-- What is promised of command reading. Each claim takes the program as its argument; the definitions of Command.antt meet it by
+-- proofs/Theorems.antt, nothing else does by proofs/Only.antt, and the programs of Wrong.antt do not by proofs/Refuted.antt.
+-- What a frame says (`readOf`, `dataOf`) is apdu_stated's, and determined there.
+use mathlib.Core.Logic.{_↔_, _⊎_}
+use Rattle.command_stated.specs.Words.{ℕ, _+_, _≤_, _<_, _≡_, true, _||_, eqb, List, _∷_, _++_, length, AtMostOne, Outcome, SW, Gives, byte, partOf, Apdu, Place}
+use Rattle.apdu_stated.specs.Answers.{Says}
 use Rattle.apdu_stated.specs.Reading.{readOf, dataOf}
-use Rattle.command_stated.specs.Command.{Ctap1Flags, U2fCommand, Command, Register, Authenticate, Version, flagsNo, isControl, commandSaid, commandOf, challengeOf, applicationOf, handlePlaceOf, handleOf}
+use Rattle.apdu_stated.specs.Terms.{span}
+use Rattle.command_stated.specs.Command.{Ctap1Flags, CheckOnly, EnforceUpAndSign, DontEnforceUpAndSign, U2fCommand, Command, Register, Authenticate, Version, flagsNo, commandSaid, commandOf}
+use Rattle.command_stated.specs.Contracts.{FlagsNumber, ReadCommand, ChallengePlace, ApplicationPlace, HandlePlace, Challenge, Application, KeyHandle}
+use Rattle.command_stated.specs.Terms.{WrongLength, WrongControl, UnknownInstruction}
 
--- A command is given exactly for a frame that is read, of CLA 0, with its INS and a data length that fits it.
--- 01, 'From frame to command'. Rejects a reader that looks at Register's P1, or accepts Lc 65 with CLA 01. Bites at a
--- Register with P1 FF.
-abbrev pub RegisterExactly : Type 0
-RegisterExactly =
-    (frame : List ℕ) (said : Says) → (commandOf frame ≡ Gives (Register said))
+-- ---- a command, exactly when
+
+-- Of a frame that is read, of CLA 0 and INS 01: "Lc not 64 gives 6700. P1 is not looked at."
+-- Rejects a reader that looks at Register's P1, or accepts Lc 65. Bites at a Register with P1 FF.
+abbrev pub RegisterExactly : (List ℕ → Outcome Command) → Type 0
+RegisterExactly command =
+    (frame : List ℕ) (said : Says) → (command frame ≡ Gives (Register said))
     ↔ ((readOf frame ≡ Gives said) × (said .header .cla ≡ 0x00) × (said .header .ins ≡ 0x01) × (said .lc ≡ 64))
 
--- Rejects a reader that looks at P1 only after it has made an order. Bites at an Authenticate with P1 00.
-abbrev pub AuthenticateExactly : Type 0
-AuthenticateExactly =
-    (frame : List ℕ) (p1 : ℕ) (said : Says) → (commandOf frame ≡ Gives (Authenticate p1 said))
+-- "02 Authenticate: Lc under 65 gives 6700; Lc not 65 + data[64] gives 6700; P1 not 03, 07 or 08 gives 6a80."
+-- Rejects a reader that refuses an empty handle, that leaves the length byte itself uncounted, or that says P1 07 for 03. Bites at an
+-- Authenticate with Lc 65.
+abbrev pub AuthenticateExactly : (List ℕ → Outcome Command) → Type 0
+AuthenticateExactly command =
+    (frame : List ℕ) (p1 : ℕ) (said : Says) → (command frame ≡ Gives (Authenticate p1 said))
     ↔ ((readOf frame ≡ Gives said) × (said .header .cla ≡ 0x00) × (said .header .ins ≡ 0x02)
-    × (65 ≤ said .lc) × (said .lc ≡ 65 + byte (dataOf frame said) 64) × (isControl p1 ≡ true) × (said .header .p1 ≡ p1))
+    × (65 ≤ said .lc) × (said .lc ≡ 65 + byte (dataOf frame said) 64) × (eqb p1 0x03 || eqb p1 0x07 || eqb p1 0x08 ≡ true) × (said .header .p1 ≡ p1))
 
-abbrev pub VersionExactly : Type 0
-VersionExactly =
-    (frame : List ℕ) → (commandOf frame ≡ Gives Version)
+-- "03 Version: Lc not 0 gives 6700." Rejects a reader that takes a Version with data. Bites at INS 03 with Lc 1.
+abbrev pub VersionExactly : (List ℕ → Outcome Command) → Type 0
+VersionExactly command =
+    (frame : List ℕ) → (command frame ≡ Gives Version)
     ↔ ((said : Says) × (readOf frame ≡ Gives said) × (said .header .cla ≡ 0x00) × (said .header .ins ≡ 0x03) × (said .lc ≡ 0))
 
--- The parts of an Authenticate's data are the whole of it, in the stated order, the handle's length in one byte before it.
--- Rejects a handle that takes the Le along, or starts a byte late. Bites at a frame of shape 4.
-abbrev pub AuthenticateParts : Type 0
-AuthenticateParts =
-    (frame : List ℕ) (p1 : ℕ) (said : Says) → commandOf frame ≡ Gives (Authenticate p1 said)
-    → (dataOf frame said ≡ challengeOf frame said ++ (applicationOf frame said ++ (length (handleOf frame said) ∷ handleOf frame said)))
-    × (length (challengeOf frame said) ≡ 32) × (length (applicationOf frame said) ≡ 32)
+-- ---- a status, exactly when: "In this order: shape (6a80, 6700); CLA not 0 gives 6e00; then by INS"
 
-abbrev pub RegisterParts : Type 0
-RegisterParts =
-    (frame : List ℕ) (said : Says) → commandOf frame ≡ Gives (Register said)
-    → (dataOf frame said ≡ challengeOf frame said ++ applicationOf frame said)
-    × (length (challengeOf frame said) ≡ 32) × (length (applicationOf frame said) ≡ 32)
+-- 6e00: the frame has a shape, and CLA is not 0, whatever INS, Lc and P1. Rejects a reader that looks at a Register's, a Version's or
+-- an Authenticate's Lc before CLA, one that looks at INS before CLA, and one that does not look at CLA. Bites at CLA 01 with Lc 63.
+abbrev pub ClassExactly : (List ℕ → Outcome Command) → Type 0
+ClassExactly command =
+    (frame : List ℕ) → (command frame ≡ SW 0x6e00) ↔ ((said : Says) × (readOf frame ≡ Gives said) × (said .header .cla ≡ 0x00 → ⊥))
 
--- ---- two results that satisfy a contract are equal
+-- 6d00: "40..BF vendor and all others: 6d00, at any Lc." Rejects a vendor's INS taken for Version, and
+-- 6700 for an unknown INS with data. Bites at INS 40.
+abbrev pub InstructionExactly : (List ℕ → Outcome Command) → Type 0
+InstructionExactly command =
+    (frame : List ℕ) → (command frame ≡ SW 0x6d00)
+    ↔ ((said : Says) × (readOf frame ≡ Gives said) × (said .header .cla ≡ 0x00) × UnknownInstruction said)
+
+-- 6700: the frame is in no shape; or CLA is 0 and Lc does not fit INS. Rejects a reader that looks at P1 before the handle length,
+-- which gives 6a80 there. Bites at an Authenticate with P1 00 and a wrong handle length.
+abbrev pub LengthExactly : (List ℕ → Outcome Command) → Type 0
+LengthExactly command =
+    (frame : List ℕ) → (command frame ≡ SW 0x6700)
+    ↔ ((readOf frame ≡ SW 0x6700) ⊎ ((said : Says) × (readOf frame ≡ Gives said) × (said .header .cla ≡ 0x00) × WrongLength frame said))
+
+-- 6a80: the frame has under 4 bytes; or it is an Authenticate whose lengths fit, and "P1 not 03, 07 or 08". Rejects a reader that
+-- takes any P1, so that it is looked at only after an order is made, and one that gives 6700 to three bytes. Bites at an Authenticate
+-- with P1 00.
+abbrev pub ControlExactly : (List ℕ → Outcome Command) → Type 0
+ControlExactly command =
+    (frame : List ℕ) → (command frame ≡ SW 0x6a80)
+    ↔ ((length frame < 4) ⊎ ((said : Says) × (readOf frame ≡ Gives said) × (said .header .cla ≡ 0x00) × WrongControl frame said))
+
+-- The seven together: every answer of command reading, each exactly when. They determine it on every frame.
+pub record CommandExactly (command : List ℕ → Outcome Command) : Type 0 where
+  pub register : RegisterExactly command
+  pub authenticate : AuthenticateExactly command
+  pub version : VersionExactly command
+  pub class : ClassExactly command
+  pub instruction : InstructionExactly command
+  pub lengths : LengthExactly command
+  pub control : ControlExactly command
+
+-- ---- the parts of the data, and where they stand
+
+-- "Data: challenge 32, application 32." They are the whole of a Register's data, in this order.
+-- Rejects an application that is the challenge. Bites at every Register whose two differ.
+abbrev pub RegisterParts : (List ℕ → Outcome Command) → (List ℕ → Says → List ℕ) → (List ℕ → Says → List ℕ) → Type 0
+RegisterParts command challenge application =
+    (frame : List ℕ) (said : Says) → command frame ≡ Gives (Register said)
+    → (dataOf frame said ≡ challenge frame said ++ application frame said)
+    × (length (challenge frame said) ≡ 32) × (length (application frame said) ≡ 32)
+
+-- "The key handle is handed back as the part of the frame after data[64], up to the data's end and without the Le.": the parts of an
+-- Authenticate's data are the whole of it, in this order, the handle's length in one byte before it.
+-- Rejects a handle that takes the Le along. Bites at a frame of shape 4.
+abbrev pub AuthenticateParts : (List ℕ → Outcome Command) → (List ℕ → Says → List ℕ) → (List ℕ → Says → List ℕ) → (List ℕ → Says → List ℕ) → Type 0
+AuthenticateParts command challenge application handle =
+    (frame : List ℕ) (p1 : ℕ) (said : Says) → command frame ≡ Gives (Authenticate p1 said)
+    → (dataOf frame said ≡ challenge frame said ++ (application frame said ++ (length (handle frame said) ∷ handle frame said)))
+    × (length (challenge frame said) ≡ 32) × (length (application frame said) ≡ 32)
+
+-- On any frame, whatever it is said to say: the parts at these numbers (none where they pass the frame's end: ours).
+-- Rejects a challenge of 31 bytes, or a byte late; an application of 33; a handle a byte late, or empty. Bites at every command.
+abbrev pub ChallengeExactly : (List ℕ → Says → List ℕ) → Type 0
+ChallengeExactly cut = (frame : List ℕ) (said : Says) → cut frame said ≡ partOf frame (said .dataAt) (said .dataAt + 32)
+
+abbrev pub ApplicationExactly : (List ℕ → Says → List ℕ) → Type 0
+ApplicationExactly cut = (frame : List ℕ) (said : Says) → cut frame said ≡ partOf frame (said .dataAt + 32) (said .dataAt + 64)
+
+abbrev pub HandleExactly : (List ℕ → Says → List ℕ) → Type 0
+HandleExactly cut = (frame : List ℕ) (said : Says) → cut frame said ≡ partOf frame (said .dataAt + 65) (said .dataAt + said .lc)
+
+-- The numbers themselves: 32 bytes, 32 bytes, one byte of length, and the rest of the data. Rejects a challenge at the header's end
+-- in every shape, or of 31 bytes; an application that is the first part, or goes to the data's end.
+abbrev pub ChallengePlaceExactly : (Says → Place) → Type 0
+ChallengePlaceExactly place = (said : Says) → place said ≡ span (said .dataAt) (said .dataAt + 32)
+
+abbrev pub ApplicationPlaceExactly : (Says → Place) → Type 0
+ApplicationPlaceExactly place = (said : Says) → place said ≡ span (said .dataAt + 32) (said .dataAt + 64)
+
+-- Rejects a handle that starts a byte late, and one that takes the Le along.
+abbrev pub HandlePlaceExactly : (Says → Place) → Type 0
+HandlePlaceExactly place = (said : Says) → place said ≡ span (said .dataAt + 65) (said .dataAt + said .lc)
+
+-- The parts are cut at the numbers that are handed out; and of a command these numbers lie within the frame, one part behind the
+-- other. Rejects numbers and parts that differ, and numbers past the frame's end. Bites at every command.
+pub record CutAtPlaces (challenge application handle : List ℕ → Says → List ℕ) (challengeAt applicationAt handleAt : Says → Place) : Type 0 where
+  pub challenge-cut : (frame : List ℕ) (said : Says) → challenge frame said ≡ partOf frame (challengeAt said .start) (challengeAt said .end)
+  pub application-cut : (frame : List ℕ) (said : Says) → application frame said ≡ partOf frame (applicationAt said .start) (applicationAt said .end)
+  pub handle-cut : (frame : List ℕ) (said : Says) → handle frame said ≡ partOf frame (handleAt said .start) (handleAt said .end)
+  pub register-within : (frame : List ℕ) (said : Says) → commandOf frame ≡ Gives (Register said)
+      → (4 ≤ challengeAt said .start) × (challengeAt said .end ≡ applicationAt said .start) × (applicationAt said .end ≤ length frame)
+  pub authenticate-within : (frame : List ℕ) (p1 : ℕ) (said : Says) → commandOf frame ≡ Gives (Authenticate p1 said)
+      → (4 ≤ challengeAt said .start) × (challengeAt said .end ≡ applicationAt said .start) × (applicationAt said .end < handleAt said .start)
+      × (handleAt said .start ≤ handleAt said .end) × (handleAt said .end ≤ length frame)
+
+-- ---- the control byte's numbers
+
+-- FIDO: 07 check only, 03 enforce user presence and sign, 08 don't enforce user presence and sign. Rejects 03 said as 07. Bites at all three.
+pub record FlagsNumberExactly (number : Ctap1Flags → ℕ) : Type 0 where
+  pub check-only : number CheckOnly ≡ 0x07
+  pub enforce : number EnforceUpAndSign ≡ 0x03
+  pub do-not-enforce : number DontEnforceUpAndSign ≡ 0x08
+
 abbrev pub FlagsOneToOne : Type 0
 FlagsOneToOne = (a b : Ctap1Flags) → flagsNo a ≡ flagsNo b → a ≡ b
 
-pub record Determined : Type 0 where
-  pub flags-number : (f : Ctap1Flags) → AtMostOne (λ (r : ℕ). r ≡ flagsNo f)
-  pub read-command : (frame : List ℕ) → AtMostOne (λ (r : U2fCommand). commandSaid r ≡ commandOf frame)
-  pub challenge : (frame : List ℕ) (a : Apdu) → AtMostOne (λ (r : List ℕ). r ≡ challengeOf frame (saysOf a))
-  pub application : (frame : List ℕ) (a : Apdu) → AtMostOne (λ (r : List ℕ). r ≡ applicationOf frame (saysOf a))
-  pub handle-place : (a : Apdu) → AtMostOne (λ (r : Place). r ≡ handlePlaceOf (saysOf a))
-  pub key-handle : (frame : List ℕ) (a : Apdu) → AtMostOne (λ (r : List ℕ). r ≡ handleOf frame (saysOf a))
+abbrev pub CommandOneToOne : Type 0
+CommandOneToOne = (a b : U2fCommand) → commandSaid a ≡ commandSaid b → a ≡ b
+
+-- ---- two results that satisfy a contract are equal, for each public function
+pub record ResultsDetermined : Type 0 where
+  pub flags-number : (f : Ctap1Flags) → AtMostOne (FlagsNumber f)
+  pub read-command : (frame : List ℕ) → AtMostOne (ReadCommand frame)
+  pub challenge-place : (a : Apdu) → AtMostOne (ChallengePlace a)
+  pub application-place : (a : Apdu) → AtMostOne (ApplicationPlace a)
+  pub handle-place : (a : Apdu) → AtMostOne (HandlePlace a)
+  pub challenge : (frame : List ℕ) (a : Apdu) → AtMostOne (Challenge frame a)
+  pub application : (frame : List ℕ) (a : Apdu) → AtMostOne (Application frame a)
+  pub key-handle : (frame : List ℕ) (a : Apdu) → AtMostOne (KeyHandle frame a)

@@ -69,12 +69,18 @@ onReading frame (Gives said) = byInstruction frame said
 unfoldable pub commandOf : List ℕ → Outcome Command
 commandOf frame = onReading frame (readOf frame)
 
--- "Data: challenge 32, application 32."
+-- "Data: challenge 32, application 32.": where they stand in the frame, and their bytes
+abbrev pub challengePlaceOf : Says → Place
+challengePlaceOf said = record { start = said .dataAt; end = said .dataAt + 32 }
+
+abbrev pub applicationPlaceOf : Says → Place
+applicationPlaceOf said = record { start = said .dataAt + 32; end = said .dataAt + 64 }
+
 unfoldable pub challengeOf : List ℕ → Says → List ℕ
-challengeOf frame said = partOf frame (said .dataAt) (said .dataAt + 32)
+challengeOf frame said = partOf frame (challengePlaceOf said .start) (challengePlaceOf said .end)
 
 unfoldable pub applicationOf : List ℕ → Says → List ℕ
-applicationOf frame said = partOf frame (said .dataAt + 32) (said .dataAt + 64)
+applicationOf frame said = partOf frame (applicationPlaceOf said .start) (applicationPlaceOf said .end)
 
 -- "The key handle is handed back as the part of the frame after data[64], up to the data's end and without the Le."
 abbrev pub handlePlaceOf : Says → Place

@@ -1,3 +1,6 @@
 pub mod Words
 pub mod Command
+pub mod Contracts
+pub mod Terms
 pub mod Claims
+pub mod Wrong

@@ -1,8 +1,8 @@
 -- The notation and the names that the definitions here are written with, brought together.
-pub use Prim.Native.Nat.{ℕ, _+_, _≤_}
+pub use Prim.Native.Nat.{ℕ, _+_, _≤_, _<_}
 pub use mathlib.Core.Path.{_≡_}
 pub use mathlib.Core.Bool.{Bool, true, not, _||_}
-pub use mathlib.Core.List.{List, _∷_, _++_}
+pub use mathlib.Core.List.{List, [], _∷_, _++_}
 pub use lib.Dec.{ltb, eqb}
 pub use lib.ListN.{length}
 pub use Rattle.outcome.specs.Notation.{if_then_else_, AtMostOne}

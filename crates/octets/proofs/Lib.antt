@@ -4,3 +4,6 @@ pub mod Between
 pub mod Parts
 pub mod Tests
 pub mod Theorems
+pub mod Only
+pub mod Refuted
+pub mod Laws

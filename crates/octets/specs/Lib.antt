@@ -1,2 +1,5 @@
 pub mod Bytes
+pub mod Contracts
+pub mod Terms
 pub mod Claims
+pub mod Wrong

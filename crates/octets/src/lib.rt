@@ -1,27 +1,26 @@
 // Bytes into and out of lent slices: what frames, orders and replies are written and read with.
 // Nothing here asks anything of its caller: a write stops where the buffer ends.
-ghost use Prim.Native.Nat.{_+_, _*_, _<_, max};
+ghost use Prim.Native.Nat.{max};
 ghost use mathlib.Core.Path.{_≡_};
-ghost use mathlib.Core.List.{[], _∷_};
-ghost use Rattle.octets.specs.Bytes.{laid, bytes2, bytes4, allZero, partOf};
+ghost use Rattle.octets.specs.Contracts.{Wide, Pair, Put, PutByte, PutPair, PutWord, AllZero, Part};
 
 // A byte as a length.
 pub fn wide(b: u8) -> usize
-    ensures { λ r. ⌜ (r ≡ b) × (r < 256) ⌝ }
+    ensures { λ r. ⌜ Wide b r ⌝ }
 {
     b as usize
 }
 
 // Two bytes as a number, the high one first.
 pub fn pair(hi: u8, lo: u8) -> u16
-    ensures { λ r. ⌜ r ≡ hi * 256 + lo ⌝ }
+    ensures { λ r. ⌜ Pair hi lo r ⌝ }
 {
     (hi as u16) * 256 + (lo as u16)
 }
 
 // Writes src over the front of dst.
 pub fn put(dst: &mut [u8], src: &[u8])
-    ensures { λ _. ⌜ now (dst .exit) ≡ laid (now (src .entry)) (now (dst .entry)) ⌝ }
+    ensures { λ _. ⌜ Put (now (src .entry)) (now (dst .entry)) (now (dst .exit)) ⌝ }
 {
     let mut i = 0;
     while i < src.len() {
@@ -35,7 +34,7 @@ pub fn put(dst: &mut [u8], src: &[u8])
 
 // Writes one byte at the front of dst.
 pub fn put_byte(dst: &mut [u8], b: u8)
-    ensures { λ _. ⌜ now (dst .exit) ≡ laid (b ∷ []) (now (dst .entry)) ⌝ }
+    ensures { λ _. ⌜ PutByte b (now (dst .entry)) (now (dst .exit)) ⌝ }
 {
     if 0 < dst.len() {
         dst[0] = b;
@@ -44,14 +43,14 @@ pub fn put_byte(dst: &mut [u8], b: u8)
 
 // Writes a number of two bytes at the front of dst, the high byte first.
 pub fn put_pair(dst: &mut [u8], n: u16)
-    ensures { λ _. ⌜ now (dst .exit) ≡ laid (bytes2 n) (now (dst .entry)) ⌝ }
+    ensures { λ _. ⌜ PutPair n (now (dst .entry)) (now (dst .exit)) ⌝ }
 {
     put(dst, &[(n / 256) as u8, (n % 256) as u8]);
 }
 
 // Writes a number of four bytes at the front of dst, the high byte first.
 pub fn put_word(dst: &mut [u8], n: u32)
-    ensures { λ _. ⌜ now (dst .exit) ≡ laid (bytes4 n) (now (dst .entry)) ⌝ }
+    ensures { λ _. ⌜ PutWord n (now (dst .entry)) (now (dst .exit)) ⌝ }
 {
     put(
         dst,
@@ -73,7 +72,7 @@ fn larger(a: u8, b: u8) -> u8
 // Whether every byte is 0: whether the largest is. There is no way out of the loop before its end, so that the compiler can
 // take many bytes at a time.
 pub fn all_zero(s: &[u8]) -> bool
-    ensures { λ r. ⌜ r ≡ allZero (now (s .entry)) ⌝ }
+    ensures { λ r. ⌜ AllZero (now (s .entry)) r ⌝ }
 {
     let mut most = 0;
     let mut i = 0;
@@ -86,7 +85,7 @@ pub fn all_zero(s: &[u8]) -> bool
 
 // The bytes from start up to and without end, as a part of s; none where there are no such bytes.
 pub fn part(s: &[u8], start: usize, end: usize) -> &[u8]
-    ensures { λ r. ⌜ now r ≡ partOf (now (s .entry)) start end ⌝ }
+    ensures { λ r. ⌜ Part (now (s .entry)) start end (now r) ⌝ }
 {
     if end < start {
         return &s[..0];

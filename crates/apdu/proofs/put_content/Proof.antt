@@ -1,6 +1,6 @@
 -- `put_content` meets its contract: the data, and Le in the rest.
 use borrow.Author.Needs.{needs}
-use Rattle.octets.proofs.Tails.{laid-then}
+use Rattle.octets.proofs.Laws.{laid-then}
 use Rattle.apdu.proofs.put_content.Statement.{statement}
 use Rattle.apdu.proofs.put_content.Tie as tie
 

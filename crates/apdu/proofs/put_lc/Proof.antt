@@ -4,9 +4,6 @@ use Rattle.apdu_stated.proofs.Fields
 use Rattle.apdu.proofs.put_lc.Statement.{statement}
 use Rattle.apdu.proofs.put_lc.Tie as tie
 
-lc-field-requires : tie.Need-lc-field-requires
-lc-field-requires c κs = search needs
-
 returns : tie.Need-returns
 returns c = search (needs, Fields.lc-none)
 
@@ -22,11 +19,11 @@ same-length c = search needs
 returns-2 : tie.Need-returns-2
 returns-2 c = search (needs, Fields.lc-one)
 
-cast-t17 : tie.Need-cast-t17
-cast-t17 c = search needs
+cast-t16 : tie.Need-cast-t16
+cast-t16 c = search needs
 
-cast-t19 : tie.Need-cast-t19
-cast-t19 c = search needs
+cast-t18 : tie.Need-cast-t18
+cast-t18 c = search needs
 
 slice-aggregate-put : tie.Need-slice-aggregate-put
 slice-aggregate-put c = search needs
@@ -44,14 +41,13 @@ pub put-lc-spec : {M : Type 1} → statement M
 put-lc-spec =
     tie.close
     (tie.spec
-    lc-field-requires
     returns
     cast-put-byte
     put-byte-requires
     same-length
     returns-2
-    cast-t17
-    cast-t19
+    cast-t16
+    cast-t18
     slice-aggregate-put
     put-requires
     same-length-2

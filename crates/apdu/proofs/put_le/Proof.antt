@@ -4,9 +4,6 @@ use Rattle.apdu_stated.proofs.Fields
 use Rattle.apdu.proofs.put_le.Statement.{statement}
 use Rattle.apdu.proofs.put_le.Tie as tie
 
-le-field-requires : tie.Need-le-field-requires
-le-field-requires c κs = search needs
-
 returns : tie.Need-returns
 returns c = search (needs, Fields.le-none)
 
@@ -34,11 +31,11 @@ same-length-2 c = search needs
 returns-3 : tie.Need-returns-3
 returns-3 c = search (needs, Fields.le-two)
 
-cast-t21 : tie.Need-cast-t21
-cast-t21 c = search needs
+cast-t20 : tie.Need-cast-t20
+cast-t20 c = search needs
 
-cast-t23 : tie.Need-cast-t23
-cast-t23 c = search needs
+cast-t22 : tie.Need-cast-t22
+cast-t22 c = search needs
 
 slice-aggregate-put : tie.Need-slice-aggregate-put
 slice-aggregate-put c = search needs
@@ -56,7 +53,6 @@ pub put-le-spec : {M : Type 1} → statement M
 put-le-spec =
     tie.close
     (tie.spec
-    le-field-requires
     returns
     cast-put-byte
     put-byte-requires
@@ -66,8 +62,8 @@ put-le-spec =
     put-pair-requires
     same-length-2
     returns-3
-    cast-t21
-    cast-t23
+    cast-t20
+    cast-t22
     slice-aggregate-put
     put-requires
     same-length-3

@@ -4,11 +4,11 @@ use Rattle.apdu_stated.proofs.Fields
 use Rattle.apdu.proofs.put_payload.Statement.{statement}
 use Rattle.apdu.proofs.put_payload.Tie as tie
 
-put-lc-requires : tie.Need-put-lc-requires
-put-lc-requires c κs = search needs
+row-requires : tie.Need-row-requires
+row-requires c κs = search needs
 
-lc-field-requires : tie.Need-lc-field-requires
-lc-field-requires c κs = search needs
+put-lc-requires : tie.Need-put-lc-requires
+put-lc-requires c κs = search (needs, Fields.asks-within)
 
 sub-put-content : tie.Need-sub-put-content
 sub-put-content c = search needs
@@ -32,8 +32,8 @@ pub put-payload-spec : {M : Type 1} → statement M
 put-payload-spec =
     tie.close
     (tie.spec
+    row-requires
     put-lc-requires
-    lc-field-requires
     sub-put-content
     part-put-content-start
     part-put-content-end

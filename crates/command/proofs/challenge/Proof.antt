@@ -1,14 +1,11 @@
--- `challenge` meets its contract: the first part of the data.
+-- `challenge` meets its contract: the part at the challenge's place.
 use borrow.Author.Needs.{needs}
 use Rattle.command_stated.proofs.Cases
 use Rattle.command.proofs.challenge.Statement.{statement}
 use Rattle.command.proofs.challenge.Tie as tie
 
-data-place-requires : tie.Need-data-place-requires
-data-place-requires c κs = search needs
-
-add-part : tie.Need-add-part
-add-part c = search needs
+challenge-place-requires : tie.Need-challenge-place-requires
+challenge-place-requires c κs = search needs
 
 part-requires : tie.Need-part-requires
 part-requires c κs = search needs
@@ -17,4 +14,4 @@ returns : tie.Need-returns
 returns c = search (needs, Cases.challenge-is)
 
 pub challenge-spec : {M : Type 1} → statement M
-challenge-spec = tie.close (tie.spec data-place-requires add-part part-requires returns)
+challenge-spec = tie.close (tie.spec challenge-place-requires part-requires returns)

@@ -1,0 +1,165 @@
+-- Only the definitions meet the claims: two programs that meet one agree. Of a reading, on every frame of bytes.
+use Prim.Native.Nat.{ℕ, _+_, _<_, _≤_}
+use mathlib.Core.Path.{_≡_, refl, ap, ap₂, sym, _∙_}
+use mathlib.Core.Bool.{Bool, true, false, true≢false}
+use mathlib.Core.List.{List, []}
+use native.Mathlib.Omega.{arith}
+use native.Mathlib.Decide.{ℕ-discrete, decLt}
+use lib.ListN.{length}
+use lib.Seq.{ext-getD}
+use Rattle.outcome.specs.Notation.{Determines, Determines2, Determines3}
+use Rattle.outcome.specs.Outcome.{Outcome, R, SW, Gives}
+use Rattle.outcome.proofs.Laws.{gives-same, sw-gives}
+use Rattle.octets.specs.Bytes.{AreBytes}
+use Rattle.octets.specs.Terms.{DeterminesOn}
+use Rattle.apdu_stated.specs.Words.{ApduHeader, Case, Instruction, Le1, Lc1Data, Lc1DataLe1, Lc3Data, Lc3DataLe1, Lc3DataLe2, Le3}
+use Rattle.apdu_stated.specs.Answers.{Says}
+use Rattle.apdu_stated.specs.Table.{canCarry}
+use Rattle.apdu_stated.specs.Reading.{lengthsOf, readOf, strictOf}
+use Rattle.apdu_stated.specs.declared.Lengths.{Lengths}
+use Rattle.apdu_stated.specs.declared.Lengths.the-variants.{Found, Missing, Surplus}
+use Rattle.apdu_stated.specs.Writing.{Parts, frameOf}
+use Rattle.apdu_stated.specs.Terms.{apduOf, Carries}
+use Rattle.apdu_stated.specs.Claims
+use Rattle.apdu_stated.proofs.Ways.{FrameWay, under, found, no-shape, frame-way, WriteWay, unfit, no-room, written, write-way}
+use Rattle.apdu_stated.proofs.Theorems as Theorems
+use Rattle.apdu_stated.proofs.Theorems.{Strict, strict-way, frame-of}
+
+-- ---- reading
+only-reading : (read : List ℕ → Outcome Says) → Claims.ReadingExactly read → (frame : List ℕ) → AreBytes frame → read frame ≡ readOf frame
+only-reading read exact frame bytes = by (readOf frame) (frame-way frame) refl
+  where
+    by : (o : Outcome Says) → FrameWay frame o → readOf frame ≡ o → read frame ≡ o
+    by _ (under h) e = exact .short frame .1 h
+    by _ (no-shape h) e = exact .no-shape frame bytes .1 (Theorems.NoShapeExactly frame bytes .0 e)
+    by _ (found long s lc le f) e = exact .reads frame bytes _ .1 (Theorems.ReadExactly frame bytes _ .0 e)
+
+pub ReadingExactly : DeterminesOn AreBytes Claims.ReadingExactly
+ReadingExactly f g p q frame bytes = only-reading f p frame bytes ∙ sym (only-reading g q frame bytes)
+
+-- ---- the payload by itself
+only-payload : (payload : List ℕ → Lengths) → Claims.PayloadExactly payload → (p : List ℕ) → AreBytes p → payload p ≡ lengthsOf p
+only-payload payload exact p bytes = go (lengthsOf p) refl
+  where
+    h0 : ApduHeader
+    h0 = record { cla = 0; ins = 0; p1 = 0; p2 = 0 }
+
+    go : (l : Lengths) → lengthsOf p ≡ l → payload p ≡ l
+    go (Found s lc le) e = exact .in-shape p bytes h0 s lc le .1 (Theorems.PayloadExactly .in-shape p bytes h0 s lc le .0 e)
+    go Missing e = exact .too-few p .1 (Theorems.PayloadExactly .too-few p .0 e)
+    go Surplus e = exact .too-many p bytes .1 (Theorems.PayloadExactly .too-many p bytes .0 e)
+
+pub PayloadExactly : DeterminesOn AreBytes Claims.PayloadExactly
+PayloadExactly f g p q l bytes = only-payload f p l bytes ∙ sym (only-payload g q l bytes)
+
+-- ---- strict reading
+only-strict : (strict : List ℕ → Outcome Says) → Claims.StrictExactly strict → (frame : List ℕ) → AreBytes frame → strict frame ≡ strictOf frame
+only-strict strict exact frame bytes = by (strictOf frame) (strict-way frame) refl
+  where
+    by : (o : Outcome Says) → Strict frame o → strictOf frame ≡ o → strict frame ≡ o
+    by o (Strict.reads s r n d) e = exact .reads frame bytes s .1 (Theorems.StrictExactly .reads frame bytes s .0 (e ∙ sym d)) ∙ d
+    by o (Strict.six s r y d) e = exact .no-shape frame bytes .1 (Theorems.StrictExactly .no-shape frame bytes .0 (e ∙ sym d)) ∙ d
+    by o (Strict.too-short h d) e = exact .short frame .1 h ∙ d
+    by o (Strict.no-row h r d) e = exact .no-shape frame bytes .1 (Theorems.StrictExactly .no-shape frame bytes .0 (e ∙ sym d)) ∙ d
+
+pub StrictExactly : DeterminesOn AreBytes Claims.StrictExactly
+StrictExactly f g p q frame bytes = only-strict f p frame bytes ∙ sym (only-strict g q frame bytes)
+
+-- beside one first reading, on every frame
+pub StrictOtherwise : (read : List ℕ → Outcome Says) → Determines (Claims.StrictOtherwise read)
+StrictOtherwise read f g p q frame = go (read frame) refl
+  where
+    as-read : ((says : Says) → read frame ≡ Gives says → says .shape ≡ 6 → ⊥) → f frame ≡ g frame
+    as-read n = p .other frame n ∙ sym (q .other frame n)
+
+    by : (says : Says) → read frame ≡ Gives says → Dec (says .shape ≡ 6) → f frame ≡ g frame
+    by says e (yes y) = p .six frame says e y ∙ sym (q .six frame says e y)
+    by says e (no n) = as-read (λ s d y. n (ap (λ (x : Says). x .shape) (gives-same _ _ (sym e ∙ d)) ∙ y))
+
+    go : (o : Outcome Says) → read frame ≡ o → f frame ≡ g frame
+    go (Gives says) e = by says e (ℕ-discrete (says .shape) 6)
+    go (SW n) e = as-read (λ s d y. sw-gives _ _ (sym e ∙ d))
+    go (R n) e = as-read (λ s d y. let z : _≡_ {A = ℕ} 0 1 = cc in omega arith)
+
+-- ---- the data and its place
+pub DataExactly : Determines2 Claims.DataExactly
+DataExactly f g p q frame says = go (decLt (length frame) (says .dataAt + says .lc))
+  where
+    go : Dec (length frame < says .dataAt + says .lc) → f frame says ≡ g frame says
+    go (yes h) = p .past frame says h ∙ sym (q .past frame says h)
+    go (no n) =
+        let within : says .dataAt + says .lc ≤ length frame = omega arith in
+        let long = p .as-long frame says within in
+        ext-getD 0 (f frame says) (g frame says) (long ∙ sym (q .as-long frame says within))
+        (λ i h. p .each frame says i within (omega arith) ∙ sym (q .each frame says i within (omega arith)))
+
+pub PlaceExactly : Determines Claims.PlaceExactly
+PlaceExactly f g p q a = go (a .shape) (a .header) (a .lc) (a .le)
+  where
+    go : (s : Case) (h : ApduHeader) (lc le : ℕ) → f (apduOf h s lc le) ≡ g (apduOf h s lc le)
+    go Instruction h lc le = p .instruction h lc le ∙ sym (q .instruction h lc le)
+    go Le1 h lc le = p .le1 h lc le ∙ sym (q .le1 h lc le)
+    go Lc1Data h lc le = p .lc1-data h lc le ∙ sym (q .lc1-data h lc le)
+    go Lc1DataLe1 h lc le = p .lc1-data-le1 h lc le ∙ sym (q .lc1-data-le1 h lc le)
+    go Lc3Data h lc le = p .lc3-data h lc le ∙ sym (q .lc3-data h lc le)
+    go Lc3DataLe1 h lc le = p .lc3-data-le1 h lc le ∙ sym (q .lc3-data-le1 h lc le)
+    go Lc3DataLe2 h lc le = p .lc3-data-le2 h lc le ∙ sym (q .lc3-data-le2 h lc le)
+    go Le3 h lc le = p .le3 h lc le ∙ sym (q .le3 h lc le)
+
+pub SaysExactly : Determines Claims.SaysExactly
+SaysExactly f g p q a = go (a .shape) (a .header) (a .lc) (a .le)
+  where
+    go : (s : Case) (h : ApduHeader) (lc le : ℕ) → f (apduOf h s lc le) ≡ g (apduOf h s lc le)
+    go Instruction h lc le = p .instruction h lc le ∙ sym (q .instruction h lc le)
+    go Le1 h lc le = p .le1 h lc le ∙ sym (q .le1 h lc le)
+    go Lc1Data h lc le = p .lc1-data h lc le ∙ sym (q .lc1-data h lc le)
+    go Lc1DataLe1 h lc le = p .lc1-data-le1 h lc le ∙ sym (q .lc1-data-le1 h lc le)
+    go Lc3Data h lc le = p .lc3-data h lc le ∙ sym (q .lc3-data h lc le)
+    go Lc3DataLe1 h lc le = p .lc3-data-le1 h lc le ∙ sym (q .lc3-data-le1 h lc le)
+    go Lc3DataLe2 h lc le = p .lc3-data-le2 h lc le ∙ sym (q .lc3-data-le2 h lc le)
+    go Le3 h lc le = p .le3 h lc le ∙ sym (q .le3 h lc le)
+
+pub ShapeNumberExactly : Determines Claims.ShapeNumberExactly
+ShapeNumberExactly f g p q Instruction = p .instruction ∙ sym (q .instruction)
+ShapeNumberExactly f g p q Le1 = p .le1 ∙ sym (q .le1)
+ShapeNumberExactly f g p q Lc1Data = p .lc1-data ∙ sym (q .lc1-data)
+ShapeNumberExactly f g p q Lc1DataLe1 = p .lc1-data-le1 ∙ sym (q .lc1-data-le1)
+ShapeNumberExactly f g p q Lc3Data = p .lc3-data ∙ sym (q .lc3-data)
+ShapeNumberExactly f g p q Lc3DataLe1 = p .lc3-data-le1 ∙ sym (q .lc3-data-le1)
+ShapeNumberExactly f g p q Lc3DataLe2 = p .lc3-data-le2 ∙ sym (q .lc3-data-le2)
+ShapeNumberExactly f g p q Le3 = p .le3 ∙ sym (q .le3)
+
+pub RowExactly : Determines Claims.RowExactly
+RowExactly f g p q Instruction = p .instruction ∙ sym (q .instruction)
+RowExactly f g p q Le1 = p .le1 ∙ sym (q .le1)
+RowExactly f g p q Lc1Data = p .lc1-data ∙ sym (q .lc1-data)
+RowExactly f g p q Lc1DataLe1 = p .lc1-data-le1 ∙ sym (q .lc1-data-le1)
+RowExactly f g p q Lc3Data = p .lc3-data ∙ sym (q .lc3-data)
+RowExactly f g p q Lc3DataLe1 = p .lc3-data-le1 ∙ sym (q .lc3-data-le1)
+RowExactly f g p q Lc3DataLe2 = p .lc3-data-le2 ∙ sym (q .lc3-data-le2)
+RowExactly f g p q Le3 = p .le3 ∙ sym (q .le3)
+
+pub FitsExactly : Determines3 Claims.FitsExactly
+FitsExactly f g p q s n le = go (f s n le) (g s n le) refl refl
+  where
+    go : (a b : Bool) → f s n le ≡ a → g s n le ≡ b → f s n le ≡ g s n le
+    go true b e d = e ∙ sym (q s n le .1 (p s n le .0 e))
+    go false true e d = p s n le .1 (q s n le .0 d) ∙ sym d
+    go false false e d = e ∙ sym d
+
+-- ---- writing: the answer and the buffer, for any parts and any buffer
+pub WriteExactly : Determines2 Claims.WriteExactly
+WriteExactly f g p q w old = go (canCarry (w .shape) (length (w .content)) (w .le)) refl (decLt (length old) (length (frameOf w)))
+  where
+    both : f w old .0 ≡ g w old .0 → f w old .1 ≡ g w old .1 → f w old ≡ g w old
+    both a b = ap₂ (λ (x : Outcome ℕ) (y : List ℕ). (x, y)) a b
+
+    refusing : (n : ℕ) → f w old .0 ≡ R n → g w old .0 ≡ R n → f w old ≡ g w old
+    refusing n a b = both (a ∙ sym b) (p .refused w old n a ∙ sym (q .refused w old n b))
+
+    go : (b : Bool) → canCarry (w .shape) (length (w .content)) (w .le) ≡ b → Dec (length old < length (frameOf w)) → f w old ≡ g w old
+    go false c d =
+        let never : Carries (w .shape) (length (w .content)) (w .le) → ⊥ = λ k. true≢false (sym (Theorems.FitsExactly (w .shape) (length (w .content)) (w .le) .1 k) ∙ c) in
+        refusing 5 (p .r5 w old .1 never) (q .r5 w old .1 never)
+    go true c (yes h) = refusing 2 (p .r2 w old .1 (frameOf w, frame-of w c, h)) (q .r2 w old .1 (frameOf w, frame-of w c, h))
+    go true c (no n) = p .writes w old (frameOf w) (frame-of w c) (omega arith) ∙ sym (q .writes w old (frameOf w) (frame-of w c) (omega arith))

@@ -1,0 +1,42 @@
+-- What each public function of `shapes` and `apdu` promises of its result, and of what is lent to it for writing, on every input.
+use Rattle.outcome.specs.Outcome.{Outcome}
+use Rattle.apdu_stated.specs.Words.{ℕ, _≤_, _≡_, Bool, List, length, Case, shapeNo}
+use Rattle.apdu_stated.specs.Table.{TableRow, lcField, lcLeast, leField, canCarry}
+use Rattle.apdu_stated.specs.Answers.{Apdu, Place, Reading, Written, saysOf, readingOf, writtenOf}
+use Rattle.apdu_stated.specs.Reading.{lengthsOf, readOf, strictOf, placeOf, dataOf}
+use Rattle.apdu_stated.specs.Writing.{Parts, writeOf, bufferOf}
+use Rattle.apdu_stated.specs.declared.Lengths.{Lengths}
+
+-- a shape's three columns, each of them small
+pub record Row (shape : Case) (r : TableRow) : Type 0 where
+  pub lc : r .«lc_field» ≡ lcField shape
+  pub least : r .«lc_least» ≡ lcLeast shape
+  pub le : r .«le_field» ≡ leField shape
+  pub lc-small : r .«lc_field» ≤ 3
+  pub le-small : r .«le_field» ≤ 3
+
+abbrev pub Fits : Case → ℕ → ℕ → Bool → Type 0
+Fits shape count le r = r ≡ canCarry shape count le
+
+abbrev pub Payload : List ℕ → Lengths → Type 0
+Payload p r = r ≡ lengthsOf p
+
+abbrev pub ShapeNumber : Case → ℕ → Type 0
+ShapeNumber shape r = r ≡ shapeNo shape
+
+abbrev pub Read : List ℕ → Reading → Type 0
+Read frame r = readingOf r ≡ readOf frame
+
+abbrev pub ReadStrict : List ℕ → Reading → Type 0
+ReadStrict frame r = readingOf r ≡ strictOf frame
+
+-- the second part says nothing new, but that no sum from here on can wrap
+abbrev pub DataPlace : Apdu → Place → Type 0
+DataPlace says r = (r ≡ placeOf (saysOf says)) × (r .start ≤ 7)
+
+abbrev pub Data : List ℕ → Apdu → List ℕ → Type 0
+Data frame says r = r ≡ dataOf frame (saysOf says)
+
+-- the answer, and what the buffer holds afterwards
+abbrev pub Write : Parts → List ℕ → Written → List ℕ → Type 0
+Write w old r after = (writtenOf r ≡ writeOf w (length old)) × (after ≡ bufferOf w old)

@@ -1,0 +1,167 @@
+-- Wrong programs, one fault each. proofs/Refuted.antt shows the claim that is false of each.
+use Prim.Native.Nat.{ℕ, _+_, _-_, _%_}
+use lib.ListN.{replicate}
+use Rattle.outcome.specs.Notation.{if_then_else_}
+use Rattle.outcome.specs.Outcome.{Outcome, R, SW, Gives}
+use Rattle.octets.specs.Bytes.{byte, pairAt, partOf, laid}
+use Rattle.apdu_stated.specs.Words.{Bool, not, _&&_, List, [], _∷_, _++_, length, drop, leb, ltb, eqb, Case, Instruction, Le1, Lc1Data, Lc1DataLe1, Lc3Data, Lc3DataLe1, Lc3DataLe2, Le3, shapeNo}
+use Rattle.apdu_stated.specs.Answers.{Apdu, Place, Says, saysOf}
+use Rattle.apdu_stated.specs.Table.{TableRow, columns, rowOf, lcFits, canCarry}
+use Rattle.apdu_stated.specs.Reading.{lengthsOf, readOf, strictOf, headerOf, placeOf}
+use Rattle.apdu_stated.specs.Writing.{Parts, partsOf, frameOf, writeOf, bufferOf, writingOf}
+use Rattle.apdu_stated.specs.declared.Lengths.{Lengths}
+use Rattle.apdu_stated.specs.declared.Lengths.the-variants.{Found, Missing, Surplus}
+use Rattle.apdu_stated.specs.Terms.{saying}
+
+-- ---- reading
+
+-- 01: "Demand 2 shuts out a reader that refuses everything, one that always says Instruction"
+abbrev pub refusesEverything : List ℕ → Outcome Says
+refusesEverything frame = SW 0x6700
+
+abbrev pub alwaysInstruction : List ℕ → Outcome Says
+alwaysInstruction frame = Gives (saying (headerOf frame) 1 4 0 0)
+
+-- "A written Le of 0 means 256 in one byte": here it expects nothing back
+abbrev leZero : Outcome Says → Outcome Says
+leZero (Gives s) = Gives (saying (s .header) (s .shape) (s .dataAt) (s .lc) (if eqb (s .le) 256 then 0 else s .le))
+leZero (SW n) = SW n
+leZero (R n) = R n
+
+abbrev pub leZeroAsZero : List ℕ → Outcome Says
+leZeroAsZero frame = leZero (readOf frame)
+
+-- "`00 00 00` read as Lc 0", a mistake that a quick port makes
+abbrev pub le3AsLcZero : List ℕ → Outcome Says
+le3AsLcZero frame = if eqb (length frame) 7 && eqb (byte frame 4) 0 && eqb (pairAt frame 5) 0 then Gives (saying (headerOf frame) 5 7 0 0) else readOf frame
+
+-- "A frame under 4 bytes gives 6a80"
+abbrev pub shortGets6700 : List ℕ → Outcome Says
+shortGets6700 frame = if ltb (length frame) 4 then SW 0x6700 else readOf frame
+
+-- "Lc 1..255": here `00 01` is a short Lc of 0 and an Le of 1
+abbrev pub shortLcZero : List ℕ → Outcome Says
+shortLcZero frame = if eqb (length frame) 6 && eqb (byte frame 4) 0 then Gives (saying (headerOf frame) 4 5 0 (byte frame 5)) else readOf frame
+
+-- ISO's case 3E left out of the table
+abbrev without3E : Outcome Says → Outcome Says
+without3E (Gives s) = if eqb (s .shape) 5 then SW 0x6700 else Gives s
+without3E (SW n) = SW n
+without3E (R n) = R n
+
+abbrev pub withoutCase3E : List ℕ → Outcome Says
+withoutCase3E frame = without3E (readOf frame)
+
+-- a row that ISO lacks: `00 01` is a ninth shape
+abbrev pub ninthShape : List ℕ → Outcome Says
+ninthShape frame = if eqb (length frame) 6 && eqb (byte frame 4) 0 then Gives (saying (headerOf frame) 9 4 0 0) else readOf frame
+
+-- too few bytes are taken for too many, and the other way round
+abbrev shortAsLong : Lengths → Lengths
+shortAsLong (Found s lc le) = Found s lc le
+shortAsLong Missing = Surplus
+shortAsLong Surplus = Surplus
+
+abbrev pub missingAsSurplus : List ℕ → Lengths
+missingAsSurplus p = shortAsLong (lengthsOf p)
+
+abbrev longAsShort : Lengths → Lengths
+longAsShort (Found s lc le) = Found s lc le
+longAsShort Missing = Missing
+longAsShort Surplus = Missing
+
+abbrev pub surplusAsMissing : List ℕ → Lengths
+surplusAsMissing p = longAsShort (lengthsOf p)
+
+-- ---- the strict entry
+
+-- "the shapes above without shape 6"
+abbrev pub strictTakesShape6 : List ℕ → Outcome Says
+strictTakesShape6 frame = readOf frame
+
+abbrev pub strictRefusesEverything : List ℕ → Outcome Says
+strictRefusesEverything frame = SW 0x6700
+
+-- "otherwise it equals the first": here a short frame gets 6700 of the strict entry
+abbrev pub strictShortGets6700 : List ℕ → Outcome Says
+strictShortGets6700 frame = if ltb (length frame) 4 then SW 0x6700 else strictOf frame
+
+-- ---- data, places, numbers
+
+-- "Data is exactly Lc bytes": here it is one byte off, or always empty
+abbrev pub dataOneByteOff : List ℕ → Says → List ℕ
+dataOneByteOff frame says = partOf frame (says .dataAt + 1) (says .dataAt + says .lc + 1)
+
+abbrev pub dataEmpty : List ℕ → Says → List ℕ
+dataEmpty frame says = []
+
+abbrev pub placeOneByteLate : Apdu → Place
+placeOneByteLate a = record { start = 5 + rowOf (a .shape) .«lc_field»; end = 5 + rowOf (a .shape) .«lc_field» + a .lc }
+
+abbrev pub placeWithLe : Apdu → Place
+placeWithLe a = record { start = 4 + rowOf (a .shape) .«lc_field»; end = 4 + rowOf (a .shape) .«lc_field» + a .lc + 1 }
+
+-- two shapes with one number
+abbrev pub shape8Numbered7 : Case → ℕ
+shape8Numbered7 s = if eqb (shapeNo s) 8 then 7 else shapeNo s
+
+-- the numbers begin at 1
+abbrev pub numberedFrom0 : Case → ℕ
+numberedFrom0 s = shapeNo s - 1
+
+-- row 6: "Lc 0..65535"; row 8: "00, Le (2)"
+abbrev pub shape6FromLc1 : Case → TableRow
+shape6FromLc1 s = if eqb (shapeNo s) 6 then columns 3 1 1 else rowOf s
+
+abbrev pub shape8OfTwoBytes : Case → TableRow
+shape8OfTwoBytes s = if eqb (shapeNo s) 8 then columns 0 0 2 else rowOf s
+
+-- "Le 0 where absent, else 1..256 or 1..65536": here every shape carries any Le; "Lc 1..255": here shape 3 carries no data
+abbrev pub carriesAnyLe : Case → ℕ → ℕ → Bool
+carriesAnyLe s count le = lcFits s count
+
+abbrev pub carriesNoData : Case → ℕ → ℕ → Bool
+carriesNoData s count le = if eqb (shapeNo s) 3 && eqb count 0 then eqb le 0 else canCarry s count le
+
+-- "00, Lc (2), data": here the data of an extended frame starts one byte early
+abbrev pub extendedLcOfTwo : Apdu → Says
+extendedLcOfTwo a = if leb 5 (shapeNo (a .shape)) && ltb (shapeNo (a .shape)) 8 then saying (a .header) (shapeNo (a .shape)) 6 (a .lc) (a .le) else saysOf a
+
+-- ---- writing
+
+-- "Le .. 1..256": here every shape is let write any Le
+abbrev pub le257InOneByte : Parts → List ℕ → Outcome ℕ × List ℕ
+le257InOneByte w old = if ltb (length old) (length (frameOf w)) then (R 2, old) else (Gives (length (frameOf w)), laid (frameOf w) old)
+
+-- "R2 exactly when the buffer is shorter than the frame": here one byte early, and one byte late
+abbrev pub r2OneByteEarly : Parts → List ℕ → Outcome ℕ × List ℕ
+r2OneByteEarly w old = if eqb (length old) (length (frameOf w)) then (R 2, old) else writingOf w old
+
+abbrev pub r2OneByteLate : Parts → List ℕ → Outcome ℕ × List ℕ
+r2OneByteLate w old = if eqb (length old + 1) (length (frameOf w)) then (Gives (length (frameOf w)), laid (frameOf w) old) else writingOf w old
+
+-- "(R5) .. else R2": here R2 first
+abbrev pub r2BeforeR5 : Parts → List ℕ → Outcome ℕ × List ℕ
+r2BeforeR5 w old = if ltb (length old) (length (frameOf w)) then (R 2, old) else writingOf w old
+
+-- "leaves the rest": here it becomes 0. Behind the test, the frame is no longer than the buffer
+abbrev pub clearsTheRest : Parts → List ℕ → Outcome ℕ × List ℕ
+clearsTheRest w old =
+    if ltb (length old) (length (frameOf w)) then writingOf w old
+    else (writeOf w (length old), frameOf w ++ replicate (length old - length (frameOf w)) 0)
+
+-- "An R refusal changes no buffer"
+abbrev pub refusalWrites : Parts → List ℕ → Outcome ℕ × List ℕ
+refusalWrites w old = (writeOf w (length old), laid (frameOf w) old)
+
+-- writes the frame, and says a length of its own
+abbrev pub lengthInvented : Parts → List ℕ → Outcome ℕ × List ℕ
+lengthInvented w old = (if ltb (length old) (length (frameOf w)) then writeOf w (length old) else Gives (length old), bufferOf w old)
+
+-- "A written Le of 0 means 256 in one byte": here 256 is written 01
+abbrev pub le256As01 : Parts → List ℕ → Outcome ℕ × List ℕ
+le256As01 w old = if eqb (w .le) 256 then (writeOf w (length old), laid (frameOf (partsOf (w .header) (w .shape) (w .content) 1)) old) else writingOf w old
+
+-- "Le .. 1..256": here 257 is taken in any shape, and reads back as 1
+abbrev pub le257Taken : Parts → List ℕ → Outcome ℕ × List ℕ
+le257Taken w old = if eqb (w .le) 257 then (Gives (length (frameOf w)), laid (frameOf w) old) else writingOf w old

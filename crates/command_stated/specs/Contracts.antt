@@ -1,0 +1,28 @@
+-- What each public function of `command` promises of its result, on every input.
+use Rattle.command_stated.specs.Words.{ℕ, _≤_, _≡_, List, Apdu, Place}
+use Rattle.apdu_stated.specs.Answers.{saysOf}
+use Rattle.command_stated.specs.Command.{Ctap1Flags, U2fCommand, flagsNo, commandSaid, commandOf, challengePlaceOf, applicationPlaceOf, handlePlaceOf, challengeOf, applicationOf, handleOf}
+
+abbrev pub FlagsNumber : Ctap1Flags → ℕ → Type 0
+FlagsNumber flags r = r ≡ flagsNo flags
+
+abbrev pub ReadCommand : List ℕ → U2fCommand → Type 0
+ReadCommand frame r = commandSaid r ≡ commandOf frame
+
+abbrev pub ChallengePlace : Apdu → Place → Type 0
+ChallengePlace says r = r ≡ challengePlaceOf (saysOf says)
+
+abbrev pub ApplicationPlace : Apdu → Place → Type 0
+ApplicationPlace says r = r ≡ applicationPlaceOf (saysOf says)
+
+abbrev pub HandlePlace : Apdu → Place → Type 0
+HandlePlace says r = r ≡ handlePlaceOf (saysOf says)
+
+abbrev pub Challenge : List ℕ → Apdu → List ℕ → Type 0
+Challenge frame says r = r ≡ challengeOf frame (saysOf says)
+
+abbrev pub Application : List ℕ → Apdu → List ℕ → Type 0
+Application frame says r = r ≡ applicationOf frame (saysOf says)
+
+abbrev pub KeyHandle : List ℕ → Apdu → List ℕ → Type 0
+KeyHandle frame says r = r ≡ handleOf frame (saysOf says)

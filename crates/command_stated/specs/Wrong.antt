@@ -1,0 +1,152 @@
+-- Wrong programs, one fault each. proofs/Refuted.antt shows the claim that is false of each.
+use Rattle.command_stated.specs.Words.{ℕ, _+_, Bool, not, _||_, List, [], length, ltb, eqb, if_then_else_, Outcome, R, SW, Gives, byte, partOf, Place}
+use Rattle.apdu_stated.specs.Answers.{Says}
+use Rattle.apdu_stated.specs.Reading.{readOf, dataOf}
+use Rattle.apdu_stated.specs.Terms.{span}
+use Rattle.command_stated.specs.Command.{Ctap1Flags, CheckOnly, EnforceUpAndSign, DontEnforceUpAndSign, Command, Register, Authenticate, Version, isControl, registerOf, authenticateOf, versionOf, byInstruction, commandOf, challengeOf, handlePlaceOf}
+
+-- a frame that is read, and then something else than the definition's tests
+abbrev onRead : (Says → Outcome Command) → Outcome Says → Outcome Command
+onRead by (Gives said) = by said
+onRead by (SW n) = SW n
+onRead by (R n) = R n
+
+-- ---- the order: "CLA not 0 gives 6e00; then by INS"
+
+-- a Register's Lc is looked at before CLA
+abbrev pub registerBeforeClass : List ℕ → Outcome Command
+registerBeforeClass frame = onRead (λ said. if eqb (said .header .ins) 0x01 then registerOf said else byInstruction frame said) (readOf frame)
+
+-- an Authenticate's
+abbrev pub authenticateBeforeClass : List ℕ → Outcome Command
+authenticateBeforeClass frame = onRead (λ said. if eqb (said .header .ins) 0x02 then authenticateOf frame said else byInstruction frame said) (readOf frame)
+
+-- a Version's
+abbrev pub versionBeforeClass : List ℕ → Outcome Command
+versionBeforeClass frame = onRead (λ said. if eqb (said .header .ins) 0x03 then versionOf said else byInstruction frame said) (readOf frame)
+
+-- an unknown INS is refused before CLA is looked at
+abbrev pub instructionBeforeClass : List ℕ → Outcome Command
+instructionBeforeClass frame = onRead (λ said. if ltb 0x03 (said .header .ins) then SW 0x6d00 else byInstruction frame said) (readOf frame)
+
+-- CLA is not looked at
+abbrev pub classNotLookedAt : List ℕ → Outcome Command
+classNotLookedAt frame =
+    onRead (λ said.
+    if eqb (said .header .ins) 0x01 then registerOf said
+    else if eqb (said .header .ins) 0x02 then authenticateOf frame said
+    else if eqb (said .header .ins) 0x03 then versionOf said
+    else SW 0x6d00)
+    (readOf frame)
+
+-- "shape (6a80, 6700)": here a frame under 4 bytes gets 6700
+abbrev pub shortFrameGets6700 : List ℕ → Outcome Command
+shortFrameGets6700 frame = if ltb (length frame) 4 then SW 0x6700 else commandOf frame
+
+-- ---- Register
+
+-- "P1 is not looked at"
+abbrev pub registerLooksAtP1 : List ℕ → Outcome Command
+registerLooksAtP1 frame =
+    onRead (λ said. if eqb (said .header .ins) 0x01 then (if not (eqb (said .header .p1) 0x03) then SW 0x6700 else byInstruction frame said) else byInstruction frame said) (readOf frame)
+
+-- "Lc not 64 gives 6700": here Lc 65 is taken
+abbrev pub registerOf65 : List ℕ → Outcome Command
+registerOf65 frame = onRead (λ said. if eqb (said .header .ins) 0x01 then (if eqb (said .lc) 65 then Gives (Register said) else byInstruction frame said) else byInstruction frame said) (readOf frame)
+
+-- ---- Authenticate, of a frame of CLA 0
+
+-- "Lc under 65": here under 66, so that an empty handle is refused
+abbrev pub emptyHandleRefused : List ℕ → Outcome Command
+emptyHandleRefused frame = onRead (λ said. if ltb (said .lc) 66 then SW 0x6700 else authenticateOf frame said) (readOf frame)
+
+-- "Lc not 65 + data[64]": here 64
+abbrev pub lengthByteUncounted : List ℕ → Outcome Command
+lengthByteUncounted frame =
+    onRead (λ said. if not (eqb (said .lc) (64 + byte (dataOf frame said) 64)) then SW 0x6700 else Gives (Authenticate (said .header .p1) said)) (readOf frame)
+
+-- "P1 looked at before the handle length", a mistake that a quick port makes
+abbrev pub controlBeforeLength : List ℕ → Outcome Command
+controlBeforeLength frame = onRead (λ said. if not (isControl (said .header .p1)) then SW 0x6a80 else authenticateOf frame said) (readOf frame)
+
+-- "P1 not 03, 07 or 08 gives 6a80": here any P1 is taken, and looked at when the order is made
+abbrev pub anyControl : List ℕ → Outcome Command
+anyControl frame =
+    onRead (λ said. if not (eqb (said .lc) (65 + byte (dataOf frame said) 64)) then SW 0x6700 else Gives (Authenticate (said .header .p1) said)) (readOf frame)
+
+-- P1 03 is said as 07: no touch would be asked for
+abbrev pub enforceSaidAsCheckOnly : List ℕ → Outcome Command
+enforceSaidAsCheckOnly frame = onRead (λ said. Gives (Authenticate 0x07 said)) (readOf frame)
+
+-- ---- the others
+
+-- "40..BF vendor and all others: 6d00": here INS 40 is a Version
+abbrev pub vendorAsVersion : List ℕ → Outcome Command
+vendorAsVersion frame = onRead (λ said. if eqb (said .header .ins) 0x40 then Gives Version else byInstruction frame said) (readOf frame)
+
+-- "03 Version: Lc not 0 gives 6700": here Lc is not looked at
+abbrev pub versionWithData : List ℕ → Outcome Command
+versionWithData frame = onRead (λ said. if eqb (said .header .ins) 0x03 then Gives Version else byInstruction frame said) (readOf frame)
+
+-- "6d00, at any Lc": here an unknown INS with data gets 6700
+abbrev pub unknownByLength : List ℕ → Outcome Command
+unknownByLength frame = onRead (λ said. if ltb 0x03 (said .header .ins) then versionOf said else byInstruction frame said) (readOf frame)
+
+-- ---- the parts: "challenge 32, application 32", "after data[64], up to the data's end and without the Le"
+abbrev pub applicationIsTheChallenge : List ℕ → Says → List ℕ
+applicationIsTheChallenge frame said = challengeOf frame said
+
+abbrev pub applicationOf33 : List ℕ → Says → List ℕ
+applicationOf33 frame said = partOf frame (said .dataAt + 32) (said .dataAt + 65)
+
+abbrev pub challengeLate : List ℕ → Says → List ℕ
+challengeLate frame said = partOf frame (said .dataAt + 1) (said .dataAt + 33)
+
+abbrev pub challengeOf31 : List ℕ → Says → List ℕ
+challengeOf31 frame said = partOf frame (said .dataAt) (said .dataAt + 31)
+
+abbrev pub handleOneByteLate : List ℕ → Says → List ℕ
+handleOneByteLate frame said = partOf frame (said .dataAt + 66) (said .dataAt + said .lc)
+
+abbrev pub handleWithTheLe : List ℕ → Says → List ℕ
+handleWithTheLe frame said = partOf frame (said .dataAt + 65) (said .dataAt + said .lc + 1)
+
+abbrev pub handleEmpty : List ℕ → Says → List ℕ
+handleEmpty frame said = []
+
+-- the numbers
+abbrev pub challengeFromTheHeader : Says → Place
+challengeFromTheHeader said = span 4 36
+
+abbrev pub challengePlace31 : Says → Place
+challengePlace31 said = span (said .dataAt) (said .dataAt + 31)
+
+abbrev pub applicationPlaceFirst : Says → Place
+applicationPlaceFirst said = span (said .dataAt) (said .dataAt + 32)
+
+abbrev pub applicationPlaceToTheEnd : Says → Place
+applicationPlaceToTheEnd said = span (said .dataAt + 32) (said .dataAt + said .lc)
+
+abbrev pub handlePlaceLate : Says → Place
+handlePlaceLate said = span (said .dataAt + 66) (said .dataAt + said .lc)
+
+abbrev pub handlePlaceWithTheLe : Says → Place
+handlePlaceWithTheLe said = span (said .dataAt + 65) (said .dataAt + said .lc + 1)
+
+-- the length byte among the handle's numbers; numbers past the frame's end
+abbrev pub handleNumbersEarly : Says → Place
+handleNumbersEarly said = span (said .dataAt + 64) (said .dataAt + said .lc)
+
+abbrev pub handlePastTheEnd : Says → Place
+handlePastTheEnd said = span (said .dataAt + 65) (said .dataAt + said .lc + 3)
+
+-- ---- the control byte
+abbrev pub enforceNumbered07 : Ctap1Flags → ℕ
+enforceNumbered07 CheckOnly = 0x07
+enforceNumbered07 EnforceUpAndSign = 0x07
+enforceNumbered07 DontEnforceUpAndSign = 0x08
+
+abbrev pub numberedByPlace : Ctap1Flags → ℕ
+numberedByPlace CheckOnly = 1
+numberedByPlace EnforceUpAndSign = 2
+numberedByPlace DontEnforceUpAndSign = 3

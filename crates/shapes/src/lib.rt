@@ -1,0 +1,172 @@
+// The eight shapes in code: a shape's row of the table, what a shape can carry, and which shape a payload is in. Reading and
+// writing of whole frames stand on it (apdu). The table itself is apdu_stated's specs/Table.antt.
+ghost use Prim.Native.Nat.{_<_};
+ghost use mathlib.Core.Path.{_≡_};
+ghost use lib.ListN.{length};
+ghost use Rattle.octets.specs.Bytes.{byte};
+ghost use Rattle.apdu_stated.specs.Table.{lcMost, leLeast, leMost, leRead};
+ghost use Rattle.apdu_stated.specs.Reading.{shortOf, extendedOf, afterData};
+ghost use Rattle.apdu_stated.specs.Contracts.{Row, Fits, Payload};
+use apdu_stated::Case;
+use apdu_stated::Lengths;
+use apdu_stated::TableRow;
+
+fn columns(lc_field: usize, lc_least: usize, le_field: usize) -> TableRow
+    ensures { λ r. ⌜ (r .«lc_field» ≡ «lc_field») × (r .«lc_least» ≡ «lc_least») × (r .«le_field» ≡ «le_field») ⌝ }
+{
+    TableRow {
+        lc_field,
+        lc_least,
+        le_field,
+    }
+}
+
+// The shape's row: how many bytes its Lc field has, the least Lc, and how many bytes its Le field has.
+pub fn row(shape: Case) -> TableRow
+    ensures { λ r. ⌜ Row shape r ⌝ }
+{
+    match shape {
+        Case::Instruction => columns(0, 0, 0),
+        Case::Le1 => columns(0, 0, 1),
+        Case::Lc1Data => columns(1, 1, 0),
+        Case::Lc1DataLe1 => columns(1, 1, 1),
+        Case::Lc3Data => columns(3, 1, 0),
+        Case::Lc3DataLe1 => columns(3, 0, 1),
+        Case::Lc3DataLe2 => columns(3, 0, 2),
+        Case::Le3 => columns(0, 0, 3),
+    }
+}
+
+// The most that an Lc field of so many bytes can say.
+fn lc_most(long: usize) -> usize
+    ensures { λ r. ⌜ r ≡ lcMost long ⌝ }
+{
+    if long == 0 {
+        return 0;
+    }
+    if long == 1 { 255 } else { 65535 }
+}
+
+// The least that an Le field of so many bytes can say, and the most.
+fn le_least(long: usize) -> u32
+    ensures { λ r. ⌜ r ≡ leLeast long ⌝ }
+{
+    if long == 0 { 0 } else { 1 }
+}
+
+fn le_most(long: usize) -> u32
+    ensures { λ r. ⌜ r ≡ leMost long ⌝ }
+{
+    if long == 0 {
+        return 0;
+    }
+    if long == 1 { 256 } else { 65536 }
+}
+
+// Whether a frame of the shape can hold so many bytes of data, and say this Le.
+pub fn fits(shape: Case, count: usize, le: u32) -> bool
+    ensures { λ r. ⌜ Fits shape count le r ⌝ }
+{
+    let row = row(shape);
+    if count < row.lc_least {
+        return false;
+    }
+    if lc_most(row.lc_field) < count {
+        return false;
+    }
+    if le < le_least(row.le_field) {
+        return false;
+    }
+    if le_most(row.le_field) < le {
+        return false;
+    }
+    true
+}
+
+// A written Le of 0 stands for the most that its field can say. The rule stands here alone.
+fn le_read(long: usize, written: u16) -> u32
+    ensures { λ r. ⌜ r ≡ leRead long written ⌝ }
+{
+    if written == 0 {
+        return le_most(long);
+    }
+    written as u32
+}
+
+fn le1(b: u8) -> u32
+    ensures { λ r. ⌜ r ≡ leRead 1 b ⌝ }
+{
+    le_read(1, b as u16)
+}
+
+// Lc in one byte, data, and perhaps one byte of Le.
+fn short(p: &[u8], lc: u8) -> Lengths
+    requires { ⌜ (1 < length (now p)) × (lc ≡ byte (now p) 0) ⌝ }
+    ensures { λ r. ⌜ r ≡ shortOf (now (p .entry)) ⌝ }
+{
+    let n = octets::wide(lc);
+    if p.len() < 1 + n {
+        return Lengths::Missing;
+    }
+    if p.len() == 1 + n {
+        return Lengths::Found(Case::Lc1Data, lc as u16, 0);
+    }
+    if p.len() == 2 + n {
+        return Lengths::Found(Case::Lc1DataLe1, lc as u16, le1(p[1 + n]));
+    }
+    Lengths::Surplus
+}
+
+// Data of lc bytes after an extended Lc, and perhaps Le.
+fn after_data(p: &[u8], lc: u16) -> Lengths
+    requires { ⌜ 3 < length (now p) ⌝ }
+    ensures { λ r. ⌜ r ≡ afterData (now (p .entry)) lc ⌝ }
+{
+    let n = lc as usize;
+    if p.len() < 3 + n {
+        return Lengths::Missing;
+    }
+    if p.len() == 3 + n {
+        return Lengths::Found(Case::Lc3Data, lc, 0);
+    }
+    if p.len() == 4 + n {
+        return Lengths::Found(Case::Lc3DataLe1, lc, le1(p[3 + n]));
+    }
+    if p.len() == 5 + n {
+        let le = octets::pair(p[3 + n], p[4 + n]);
+        return Lengths::Found(Case::Lc3DataLe2, lc, le_read(2, le));
+    }
+    Lengths::Surplus
+}
+
+// A payload that begins with 00: an extended Le alone, or an extended Lc.
+fn extended(p: &[u8]) -> Lengths
+    requires { ⌜ 1 < length (now p) ⌝ }
+    ensures { λ r. ⌜ r ≡ extendedOf (now (p .entry)) ⌝ }
+{
+    if p.len() < 3 {
+        return Lengths::Missing;
+    }
+    let field = octets::pair(p[1], p[2]);
+    if p.len() == 3 {
+        return Lengths::Found(Case::Le3, 0, le_read(3, field));
+    }
+    after_data(p, field)
+}
+
+// What a payload, the bytes after the header, says.
+pub fn payload(p: &[u8]) -> Lengths
+    ensures { λ r. ⌜ Payload (now (p .entry)) r ⌝ }
+{
+    if p.len() == 0 {
+        return Lengths::Found(Case::Instruction, 0, 0);
+    }
+    let first = p[0];
+    if p.len() == 1 {
+        return Lengths::Found(Case::Le1, 0, le1(first));
+    }
+    if first == 0 {
+        return extended(p);
+    }
+    short(p, first)
+}
