@@ -43,7 +43,7 @@ packages() { # PACKAGE..
     fi
     echo "installing$missing" >&2
     # shellcheck disable=SC2086
-    { $as_root apt-get update -qq && $as_root apt-get install -y -qq --no-install-recommends $missing; } >&2 || {
+    { $as_root apt-get update -qq && $as_root apt-get install -y -qq --no-install-recommends $missing; } >/dev/null || {
         echo "$script: could not install$missing" >&2
         exit 1
     }

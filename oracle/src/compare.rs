@@ -361,7 +361,9 @@ pub fn run(plan: &Plan) -> bool {
         println!("never met: {key}");
     }
     if !missing.is_empty() {
-        println!("not every answer was met: take more, at least {ENOUGH_FRAMES} frames and {ENOUGH_CALLS} history calls");
+        println!(
+            "not every answer was met: take more, at least {ENOUGH_FRAMES} frames and {ENOUGH_CALLS} history calls"
+        );
     }
     missing.is_empty()
 }
