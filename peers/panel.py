@@ -19,8 +19,12 @@ class Panel:
     def __enter__(self):
         return self
 
-    def __exit__(self, *_):
-        self.close()
+    def __exit__(self, kind, *_):
+        if kind is None:
+            self.close()
+        else:  # that is to be told, and not how the panel ends
+            self.process.kill()
+            self.process.wait()
 
     def close(self):
         self.process.stdin.close()
@@ -29,8 +33,11 @@ class Panel:
 
     def call(self, *words):
         """One call, as words; its answer, as words."""
-        self.process.stdin.write(" ".join(map(written, words)) + "\n")
-        self.process.stdin.flush()
+        try:
+            self.process.stdin.write(" ".join(map(written, words)) + "\n")
+            self.process.stdin.flush()
+        except BrokenPipeError:
+            raise RuntimeError(f"the panel ended before this {words[0]}") from None
         answer = self.process.stdout.readline().split()
         if not answer or answer[0] == "?":
             raise RuntimeError(f"the panel does not take this {words[0]}: {' '.join(answer)}")

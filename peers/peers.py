@@ -11,6 +11,7 @@ from cryptography.x509 import load_der_x509_certificate
 from fido2.attestation import InvalidSignature as InvalidEnrolment
 from fido2.ctap1 import APDU, ApduError, Ctap1, SignatureData
 
+from building import quietly
 from hardware import Attestation, Device
 from panel import Refusal
 from server import ORIGIN, Server, is_known, server_enrolment, server_login
@@ -233,6 +234,8 @@ def passes(case, length):
     try:
         with Device(Attestation(length)) as device:
             case(device)
+    except BrokenPipeError:
+        raise
     except Exception:
         traceback.print_exc(file=sys.stdout)
         say("FAILED")
@@ -240,7 +243,11 @@ def passes(case, length):
     return True
 
 
-if __name__ == "__main__":
+def main():
     passed = sum(passes(case, length) for case, length in CASES)
     print(f"peers: {passed} of {len(CASES)} passed")
-    sys.exit(passed != len(CASES))
+    return passed != len(CASES)
+
+
+if __name__ == "__main__":
+    quietly(main)

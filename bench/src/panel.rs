@@ -1,14 +1,24 @@
-//! The functions of include/brinecandle.h that are measured.
+//! The part of include/brinecandle.h that is measured. Each struct has the name that it has there, without `brinecandle_`
+//! and with a capital, and its fields one by one: .ci/header compares.
 
 #[repr(C)]
 pub struct Frame {
     pub answer: u16,
-    pub header: [u8; 4],
+    pub cla: u8,
+    pub ins: u8,
+    pub p1: u8,
+    pub p2: u8,
     pub shape: u32,
     pub lc: u16,
     pub le: u32,
     pub start: usize,
     pub end: usize,
+}
+
+#[repr(C)]
+pub struct Wrote {
+    pub answer: u16,
+    pub length: usize,
 }
 
 #[repr(C)]
@@ -27,10 +37,16 @@ pub struct Made {
 }
 
 #[repr(C)]
-pub struct Touched {
+pub struct Touch {
     pub answer: u16,
     pub yes: bool,
     pub presence: Presence,
+}
+
+#[repr(C)]
+pub struct Asked {
+    pub answer: u16,
+    pub yes: bool,
 }
 
 #[repr(C)]
@@ -61,19 +77,28 @@ pub struct Decision {
     pub presence: Presence,
 }
 
-#[repr(C)]
-pub struct Wrote {
-    pub answer: u16,
-    pub length: usize,
-}
-
+pub const ORDER: u16 = 0;
+pub const OK: u16 = 0x9000;
 pub const BLOCK: usize = 385;
 
 extern "C" {
     pub fn brinecandle_read(frame: *const u8, frame_length: usize) -> Frame;
+    pub fn brinecandle_write(
+        cla: u8,
+        ins: u8,
+        p1: u8,
+        p2: u8,
+        shape: u32,
+        content: *const u8,
+        content_length: usize,
+        le: u32,
+        out: *mut u8,
+        out_length: usize,
+    ) -> Wrote;
     pub fn brinecandle_new(w: u64) -> Made;
-    pub fn brinecandle_grant_up(presence: Presence, t: u64) -> Touched;
-    pub fn brinecandle_consume_up(presence: Presence, t: u64) -> Touched;
+    pub fn brinecandle_grant_up(presence: Presence, t: u64) -> Touch;
+    pub fn brinecandle_consume_up(presence: Presence, t: u64) -> Touch;
+    pub fn brinecandle_is_up_needed(presence: Presence, t: u64) -> Asked;
     pub fn brinecandle_decide(
         frame: *const u8,
         frame_length: usize,

@@ -2,9 +2,10 @@
 
 use crate::ctap::apdu::{Apdu, ApduStatusCode};
 use crate::ctap::ctap1::Ctap1Command;
+use crate::ctap::u2f_up::U2fUserPresenceState;
 use crate::ctap::{CtapState, TOUCH_TIMEOUT_MS};
 use crate::lent::{self, Lent, CERTIFICATE, COUNTER, HANDLE, SIGNATURE, X, Y};
-use crate::panel::{self, Decision, Frame, Hardware, Order, Presence, Wrote, BLOCK};
+use crate::panel::{self, Asked, Decision, Frame, Hardware, Order, Presence, Touch, Wrote, BLOCK};
 
 /// The room that the panel's firmware has for a reply.
 const ROOM: usize = 1024;
@@ -15,16 +16,29 @@ const NOW: u64 = 1000;
 #[derive(Clone, Copy, PartialEq)]
 enum Kind {
     Read,
+    /// The row's frame is what has to be written. The Rust has no writer.
+    Write,
+    Touch,
+    Check,
+    Ask,
     /// A command that comes to no signature.
     Answered,
     Register,
     Authenticate,
 }
 
+/// What came before the measured call.
+#[derive(Clone, Copy, PartialEq)]
+enum Before {
+    Nothing,
+    Prompt,
+    Touch,
+}
+
 pub struct Row {
     pub name: String,
     kind: Kind,
-    touched: bool,
+    before: Before,
     frame: &'static [u8],
 }
 
@@ -53,19 +67,20 @@ fn data(length: usize) -> Vec<u8> {
 const LENGTHS: [usize; 7] = [0, 1, 10, 255, 256, 4096, 65535];
 
 impl Row {
-    fn new(name: &str, kind: Kind, touched: bool, frame: Vec<u8>) -> Row {
+    fn new(name: &str, kind: Kind, before: Before, frame: Vec<u8>) -> Row {
         Row {
             name: name.into(),
             kind,
-            touched,
+            before,
             frame: frame.leak(),
         }
     }
 
     pub fn all() -> Vec<Row> {
-        let mut rows = Row::readings();
-        rows.extend(Row::commands());
-        rows
+        [Row::readings(), Row::commands(), Row::touches(), Row::writings()]
+            .into_iter()
+            .flatten()
+            .collect()
     }
 
     /// Each shape with each length that it can carry, and a frame under four bytes and one in no shape.
@@ -81,14 +96,15 @@ impl Row {
                 };
                 if carried {
                     let name = format!("read-{shape}-{length}");
-                    rows.push(Row::new(&name, Kind::Read, false, frame(shape, [0, 3, 0, 0], &data(length))));
+                    let frame = frame(shape, [0, 3, 0, 0], &data(length));
+                    rows.push(Row::new(&name, Kind::Read, Before::Nothing, frame));
                 }
             }
         }
-        rows.push(Row::new("read-6a80", Kind::Read, false, vec![0, 3, 0]));
+        rows.push(Row::new("read-6a80", Kind::Read, Before::Nothing, vec![0, 3, 0]));
         let mut cut = frame(5, [0, 3, 0, 0], &data(10));
         cut.pop();
-        rows.push(Row::new("read-6700", Kind::Read, false, cut));
+        rows.push(Row::new("read-6700", Kind::Read, Before::Nothing, cut));
         rows
     }
 
@@ -97,23 +113,57 @@ impl Row {
         let register = frame(7, [0, 1, 3, 0], &data(64));
         let asked = [&data(64), &[HANDLE.len() as u8] as &[u8], &HANDLE].concat();
         let authenticate = |p1| frame(7, [0, 2, p1, 0], &asked);
+        let answered = |name, frame| Row::new(name, Kind::Answered, Before::Nothing, frame);
         vec![
-            Row::new("version", Kind::Answered, false, frame(8, [0, 3, 0, 0], &[])),
-            Row::new("register-untouched", Kind::Answered, false, register.clone()),
-            Row::new("register", Kind::Register, true, register),
-            Row::new("authenticate-03-untouched", Kind::Answered, false, authenticate(3)),
-            Row::new("authenticate-03", Kind::Authenticate, true, authenticate(3)),
-            Row::new("authenticate-07", Kind::Answered, false, authenticate(7)),
-            Row::new("authenticate-08", Kind::Authenticate, false, authenticate(8)),
-            Row::new("authenticate-00", Kind::Answered, false, authenticate(0)),
-            Row::new("cla-80", Kind::Answered, false, frame(7, [0x80, 1, 0, 0], &data(64))),
-            Row::new("ins-40", Kind::Answered, false, frame(7, [0, 0x40, 0, 0], &data(64))),
-            Row::new("register-short", Kind::Answered, false, frame(7, [0, 1, 0, 0], &data(63))),
+            answered("version", frame(8, [0, 3, 0, 0], &[])),
+            answered("register-untouched", register.clone()),
+            Row::new("register", Kind::Register, Before::Touch, register),
+            answered("authenticate-03-untouched", authenticate(3)),
+            Row::new("authenticate-03", Kind::Authenticate, Before::Touch, authenticate(3)),
+            answered("authenticate-07", authenticate(7)),
+            Row::new("authenticate-08", Kind::Authenticate, Before::Nothing, authenticate(8)),
+            answered("authenticate-00", authenticate(0)),
+            answered("cla-80", frame(7, [0x80, 1, 0, 0], &data(64))),
+            answered("ins-40", frame(7, [0, 0x40, 0, 0], &data(64))),
+            answered("register-short", frame(7, [0, 1, 0, 0], &data(63))),
         ]
+    }
+
+    /// Touch, check and ask: with a yes, and with a no.
+    fn touches() -> Vec<Row> {
+        let row = |name, kind, before| Row::new(name, kind, before, Vec::new());
+        vec![
+            row("touch", Kind::Touch, Before::Prompt),
+            row("touch-unasked", Kind::Touch, Before::Nothing),
+            row("check", Kind::Check, Before::Touch),
+            row("check-untouched", Kind::Check, Before::Nothing),
+            row("ask", Kind::Ask, Before::Prompt),
+            row("ask-unasked", Kind::Ask, Before::Nothing),
+        ]
+    }
+
+    /// Each shape, with little data and with much.
+    fn writings() -> Vec<Row> {
+        let mut rows = Vec::new();
+        for shape in 1..=8 {
+            let lengths: &[usize] = match shape {
+                1 | 2 | 8 => &[0],
+                7 => &[0, 10, 4096, 65535],
+                _ => &[10],
+            };
+            for length in lengths {
+                let frame = frame(shape, [0, 3, 0, 0], &data(*length));
+                let name = format!("write-{shape}-{length}");
+                rows.push(Row::new(&name, Kind::Write, Before::Nothing, frame));
+            }
+        }
+        rows
     }
 }
 
 pub type Side = fn(&mut World);
+
+type Presences = U2fUserPresenceState<Lent>;
 
 /// The upstream's functions are called through pointers, as the core's are through their symbols: neither is inlined.
 pub struct World {
@@ -125,6 +175,12 @@ pub struct World {
     reply: [u8; ROOM],
     env: Lent,
     state: CtapState<Lent>,
+    /// What is to be written, and where to.
+    said: Frame,
+    out: Vec<u8>,
+    grant: fn(&mut Presences, &mut Lent),
+    consume: fn(&mut Presences, &mut Lent) -> bool,
+    needed: fn(&mut Presences, &mut Lent) -> bool,
     read: fn(&'static [u8]) -> Result<Apdu, ApduStatusCode>,
     process: fn(&mut Lent, &[u8], &mut CtapState<Lent>) -> Result<Vec<u8>, ApduStatusCode>,
 }
@@ -134,15 +190,19 @@ impl World {
         let mut presence = unsafe { panel::brinecandle_new(TOUCH_TIMEOUT_MS as u64) }.presence;
         let mut env = Lent { now: 0 };
         let mut state = CtapState::new();
-        if row.touched {
+        if row.before != Before::Nothing {
             presence = unsafe { panel::brinecandle_consume_up(presence, 0) }.presence;
-            presence = unsafe { panel::brinecandle_grant_up(presence, TOUCH) }.presence;
             state.u2f_up_state.consume_up(&mut env);
+        }
+        if row.before == Before::Touch {
+            presence = unsafe { panel::brinecandle_grant_up(presence, TOUCH) }.presence;
             env.now = TOUCH;
             state.u2f_up_state.grant_up(&mut env);
         }
         env.now = NOW;
         let mut world = World {
+            said: unsafe { panel::brinecandle_read(row.frame.as_ptr(), row.frame.len()) },
+            out: vec![0; row.frame.len()],
             row,
             presence,
             hardware: Hardware {
@@ -162,6 +222,9 @@ impl World {
             reply: [0; ROOM],
             env,
             state,
+            grant: Presences::grant_up,
+            consume: Presences::consume_up,
+            needed: Presences::is_up_needed,
             read: Apdu::try_from,
             process: Ctap1Command::process_command::<Lent>,
         };
@@ -174,14 +237,23 @@ impl World {
             ("nothing", _) => Some(|_| ()),
             ("core", Kind::Read) => Some(|w| drop(w.said())),
             ("rust", Kind::Read) => Some(|w| drop((w.read)(w.row.frame))),
+            ("core", Kind::Write) => Some(|w| drop(w.wrote())),
+            ("core", Kind::Touch) => Some(|w| drop(w.touched())),
+            ("rust", Kind::Touch) => Some(|w| drop(w.granted())),
+            ("core", Kind::Check) => Some(|w| drop(w.checked())),
+            ("rust", Kind::Check) => Some(|w| drop(w.consumed())),
+            ("core", Kind::Ask) => Some(|w| drop(w.asked())),
+            ("rust", Kind::Ask) => Some(|w| {
+                (w.needed)(&mut w.state.u2f_up_state, &mut w.env);
+            }),
             ("core" | "decide", Kind::Answered) => Some(|w| drop(w.decided())),
-            ("core", _) => Some(|w| {
+            ("core", Kind::Register | Kind::Authenticate) => Some(|w| {
                 w.order = w.decided().order;
                 w.finished();
             }),
             ("decide", Kind::Register | Kind::Authenticate) => Some(|w| drop(w.decided())),
             ("finish", Kind::Register | Kind::Authenticate) => Some(|w| drop(w.finished())),
-            ("rust", _) => Some(|w| drop(w.processed())),
+            ("rust", Kind::Answered | Kind::Register | Kind::Authenticate) => Some(|w| drop(w.processed())),
             ("lent", Kind::Register) => Some(|_| lent::register_hands_over()),
             ("lent", Kind::Authenticate) => Some(|_| lent::authenticate_hands_over()),
             _ => None,
@@ -191,6 +263,55 @@ impl World {
     #[inline(always)]
     fn said(&self) -> Frame {
         unsafe { panel::brinecandle_read(self.row.frame.as_ptr(), self.row.frame.len()) }
+    }
+
+    #[inline(always)]
+    fn wrote(&mut self) -> Wrote {
+        let said = &self.said;
+        let content = &self.row.frame[said.start..said.end];
+        unsafe {
+            panel::brinecandle_write(
+                said.cla,
+                said.ins,
+                said.p1,
+                said.p2,
+                said.shape,
+                content.as_ptr(),
+                content.len(),
+                said.le,
+                self.out.as_mut_ptr(),
+                self.out.len(),
+            )
+        }
+    }
+
+    #[inline(always)]
+    fn touched(&self) -> Touch {
+        unsafe { panel::brinecandle_grant_up(self.presence, NOW) }
+    }
+
+    #[inline(always)]
+    fn checked(&self) -> Touch {
+        unsafe { panel::brinecandle_consume_up(self.presence, NOW) }
+    }
+
+    #[inline(always)]
+    fn asked(&self) -> Asked {
+        unsafe { panel::brinecandle_is_up_needed(self.presence, NOW) }
+    }
+
+    /// The state after it; a copy, as in `processed`.
+    #[inline(always)]
+    fn granted(&mut self) -> Presences {
+        let mut state: Presences = unsafe { std::ptr::read(&self.state.u2f_up_state) };
+        (self.grant)(&mut state, &mut self.env);
+        state
+    }
+
+    #[inline(always)]
+    fn consumed(&mut self) -> (bool, Presences) {
+        let mut state: Presences = unsafe { std::ptr::read(&self.state.u2f_up_state) };
+        ((self.consume)(&mut state, &mut self.env), state)
     }
 
     #[inline(always)]
@@ -247,6 +368,8 @@ impl World {
     pub fn compare(&mut self) {
         let (core, rust) = match self.row.kind {
             Kind::Read => (self.core_reading(), self.rust_reading()),
+            Kind::Write => (self.core_writing(), (panel::OK, self.row.frame.to_vec(), [0, 0])),
+            Kind::Touch | Kind::Check | Kind::Ask => (self.core_presence(), self.rust_presence()),
             _ => (self.core_answer(), self.rust_answer()),
         };
         assert!(core == rust, "{}: the core {core:x?}, the Rust {rust:x?}", self.row.name);
@@ -254,18 +377,53 @@ impl World {
 
     fn core_reading(&self) -> (u16, Vec<u8>, [u32; 2]) {
         let said = self.said();
-        let start = [&said.header[..], &self.row.frame[said.start..said.end]].concat();
+        let header = [said.cla, said.ins, said.p1, said.p2];
+        let start = [&header[..], &self.row.frame[said.start..said.end]].concat();
         match said.answer {
-            0x9000 => (0x9000, start, [said.lc.into(), said.le]),
+            panel::OK => (panel::OK, start, [said.lc.into(), said.le]),
             status => (status, Vec::new(), [0, 0]),
         }
+    }
+
+    fn core_writing(&mut self) -> (u16, Vec<u8>, [u32; 2]) {
+        let wrote = self.wrote();
+        (wrote.answer, self.out[..wrote.length].to_vec(), [0, 0])
+    }
+
+    /// What the call says, and whether a prompt and a touch are live after it. The Rust's touch says nothing: that it was
+    /// accepted shows in the prompt, which is gone.
+    fn core_presence(&mut self) -> (u16, Vec<u8>, [u32; 2]) {
+        let (answer, yes, after) = match self.row.kind {
+            Kind::Touch => (self.touched().answer, self.touched().yes, self.touched().presence),
+            Kind::Check => (self.checked().answer, self.checked().yes, self.checked().presence),
+            _ => (self.asked().answer, self.asked().yes, self.presence),
+        };
+        let is_live = [
+            unsafe { panel::brinecandle_is_up_needed(after, NOW) }.yes,
+            unsafe { panel::brinecandle_consume_up(after, NOW) }.yes,
+        ];
+        (answer, vec![yes.into()], is_live.map(u32::from))
+    }
+
+    fn rust_presence(&mut self) -> (u16, Vec<u8>, [u32; 2]) {
+        let needed = self.state.u2f_up_state.is_up_needed(&mut self.env);
+        let (yes, mut after) = match self.row.kind {
+            Kind::Touch => {
+                let mut after = self.granted();
+                (needed && !after.is_up_needed(&mut self.env), after)
+            }
+            Kind::Check => self.consumed(),
+            _ => (needed, unsafe { std::ptr::read(&self.state.u2f_up_state) }),
+        };
+        let is_live = [after.is_up_needed(&mut self.env), after.consume_up(&mut self.env)];
+        (panel::OK, vec![yes.into()], is_live.map(u32::from))
     }
 
     fn rust_reading(&self) -> (u16, Vec<u8>, [u32; 2]) {
         match (self.read)(self.row.frame) {
             Ok(apdu) => {
                 let header = [apdu.header.cla, apdu.header.ins, apdu.header.p1, apdu.header.p2];
-                (0x9000, [&header[..], &apdu.data].concat(), [apdu.lc.into(), apdu.le])
+                (panel::OK, [&header[..], &apdu.data].concat(), [apdu.lc.into(), apdu.le])
             }
             Err(status) => (status.into(), Vec::new(), [0, 0]),
         }
@@ -274,7 +432,7 @@ impl World {
     fn core_answer(&mut self) -> (u16, Vec<u8>, [u32; 2]) {
         let decision = self.decided();
         let (status, length) = match decision.answer {
-            0 => {
+            panel::ORDER => {
                 self.order = decision.order;
                 let wrote = self.finished();
                 (wrote.answer, wrote.length)
@@ -286,7 +444,7 @@ impl World {
 
     fn rust_answer(&mut self) -> (u16, Vec<u8>, [u32; 2]) {
         match self.processed() {
-            Ok(body) => (0x9000, body, [0, 0]),
+            Ok(body) => (panel::OK, body, [0, 0]),
             Err(status) => (status.into(), Vec::new(), [0, 0]),
         }
     }

@@ -1,7 +1,7 @@
 //! The comparison: the same calls to the panel and to upstream, answer by answer.
 
 use crate::device::{read, reading_name, yes_name, Answer, Call, Device, Outcome, Touch, ANSWERS};
-use crate::generate::{all, all_count, boundary, damaged, Dice, History, ALL_UP_TO};
+use crate::generate::{all, all_count, boundary, damaged, Aimed, Dice, History, ALL_UP_TO};
 use crate::lent::Hardware;
 use crate::panel::{decided, finished, next_line, put_call, put_finish, Panel, Record};
 use std::collections::BTreeMap;
@@ -12,6 +12,10 @@ use std::sync::Arc;
 /// Calls of a block, which has its own dice: what is compared does not depend on how many panels share the work.
 const BLOCK: usize = 1000;
 const HISTORY_CALLS: usize = 25;
+
+/// From so many on every answer is met, whatever the seed.
+const ENOUGH_FRAMES: usize = 10_000;
+const ENOUGH_CALLS: usize = 1_000;
 
 /// Lines that are compared too, and are no answers of upstream's.
 const RECORD: &str = "record";
@@ -222,17 +226,24 @@ impl Plan {
         block
     }
 
+    /// Every second history goes for a touch; the others wander.
     fn calls_of(&self, dice: &mut Dice, first: usize) -> Block {
         let mut block = Block::default();
         let mut device = Device::new();
         let mut record = Record::default();
-        let mut history = History::new(dice);
+        let mut wandering = History::new(dice);
+        let mut aimed = Aimed::new(dice);
         for at in 0..BLOCK.min(self.calls - first) {
             if at % HISTORY_CALLS == 0 {
                 block.call(&mut device, &mut record, &Call::New);
-                history = History::new(dice);
+                wandering = History::new(dice);
+                aimed = Aimed::new(dice);
             }
-            block.call(&mut device, &mut record, &history.next(dice));
+            let call = match at / HISTORY_CALLS % 2 {
+                0 => aimed.next(dice),
+                _ => wandering.next(dice),
+            };
+            block.call(&mut device, &mut record, &call);
         }
         block
     }
@@ -348,6 +359,11 @@ pub fn run(plan: &Plan) -> bool {
     println!("{} answers compared, no difference", tally.values().sum::<u64>());
     for key in &missing {
         println!("never met: {key}");
+    }
+    if !missing.is_empty() {
+        println!(
+            "not every answer was met: take more, at least {ENOUGH_FRAMES} frames and {ENOUGH_CALLS} history calls"
+        );
     }
     missing.is_empty()
 }

@@ -1,5 +1,6 @@
 //! Calls to compare: every frame over a small alphabet, frames around each boundary, damaged copies of good frames, and
-//! histories of touches, checks, asks and commands. The same seed gives the same calls.
+//! histories of touches, checks, asks and commands, some that wander and some that go for a touch. The same seed gives the
+//! same calls.
 
 use crate::ctap::TOUCH_TIMEOUT_MS;
 use crate::device::Call;
@@ -353,4 +354,116 @@ impl History {
             _ => Call::Command(t, good(dice), Box::new(hardware(dice))),
         }
     }
+}
+
+/// A history that goes for a touch again and again: a prompt, something that comes before the touch check, a finger, and
+/// a call that finds the touch. A wandering history comes to the answers after the touch check too seldom.
+pub struct Aimed {
+    now: u64,
+    /// When the window opened that the next call has to meet.
+    opened: u64,
+    step: usize,
+}
+
+impl Aimed {
+    pub fn new(dice: &mut Dice) -> Aimed {
+        let now = History::new(dice).now;
+        Aimed {
+            now,
+            opened: now,
+            step: 0,
+        }
+    }
+
+    /// A moment from now on at which the window is live, its last among them.
+    fn within(&mut self, dice: &mut Dice, window: u64) -> u64 {
+        let last = (self.opened + window).min(MOMENTS) - 1;
+        self.now = dice.pick(&[self.now, self.now + 1, self.now + 500, last]).min(last);
+        self.now
+    }
+
+    pub fn next(&mut self, dice: &mut Dice) -> Call {
+        self.step += 1;
+        match self.step % 4 {
+            1 => {
+                self.now = (self.now + dice.pick(&[0, 1, 5_000, 50_000])).min(MOMENTS - 1);
+                self.opened = self.now;
+                let ins = dice.pick(&[0x01, 0x02]);
+                Call::Command(self.now, touching(dice, ins), Box::new(willing(dice)))
+            }
+            2 => {
+                let t = self.within(dice, PROMPT);
+                before_the_check(dice, t)
+            }
+            3 => {
+                let t = self.within(dice, PROMPT);
+                self.opened = t;
+                Call::Touch(t)
+            }
+            _ => {
+                let t = self.within(dice, W);
+                finding(dice, t)
+            }
+        }
+    }
+}
+
+/// A good command that looks for a touch.
+fn touching(dice: &mut Dice, ins: u8) -> Vec<u8> {
+    let mut out = command(dice, ins);
+    out[2] = 0x03;
+    out
+}
+
+/// Hardware that answers well to everything.
+fn willing(dice: &mut Dice) -> Hardware {
+    let c = dice.below(301);
+    Hardware {
+        allowed: Allowed::Yes,
+        stored: true,
+        new_handle: dice.bytes(64),
+        attested: Attested::Present,
+        certificate: dice.bytes(c),
+        handle: Handle::Good,
+        counter: Counter::Offered(dice.roll() as u32),
+        signature: Some(dice.bytes(70)),
+        ..hardware(dice)
+    }
+}
+
+/// An ask, or a command that is answered before a touch is looked for.
+fn before_the_check(dice: &mut Dice, t: u64) -> Call {
+    let ins = dice.pick(&[0x01, 0x02]);
+    let mut frame = touching(dice, ins);
+    let mut hardware = willing(dice);
+    match dice.below(6) {
+        0 => return Call::Ask(t),
+        1 => frame[0] = dice.pick(&[0x01, 0x80, 0xff]),
+        2 => frame[1] = dice.pick(&[0x00, 0x04, 0x40, 0xbf, 0xff]),
+        3 => hardware.allowed = Allowed::No,
+        4 => hardware.allowed = Allowed::Failed,
+        _ => frame = command(dice, 0x03),
+    }
+    Call::Command(t, frame, Box::new(hardware))
+}
+
+/// A call that finds the touch. In one of three all is well after it, in one the signer fails, in one something before it.
+fn finding(dice: &mut Dice, t: u64) -> Call {
+    let ins = dice.pick(&[0x01, 0x01, 0x01, 0x02, 0x02, 0x02, 0x00]);
+    if ins == 0x00 {
+        return Call::Check(t);
+    }
+    let mut hardware = willing(dice);
+    match (dice.below(3), ins) {
+        (0, _) => {}
+        (1, _) => hardware.signature = None,
+        (_, 0x01) => match dice.below(4) {
+            0 => hardware.stored = false,
+            1 => hardware.attested = Attested::Missing,
+            2 => hardware.attested = Attested::Failed,
+            _ => hardware.new_handle = dice.bytes(256),
+        },
+        _ => hardware.counter = Counter::Failed,
+    }
+    Call::Command(t, touching(dice, ins), Box::new(hardware))
 }
