@@ -6,12 +6,12 @@ use mathlib.Core.Bool.{true}
 use Rattle.outcome.specs.Outcome.{R, Gives}
 use Rattle.u2f_up_stated.specs.Words.{Presence}
 use Rattle.u2f_up_stated.specs.Moments.{isPrompting, settleOf, grantedOf, checkedOf, gave, refused, touchOf, checkOf, askOf}
-use Rattle.u2f_up_stated.specs.History.{Kind, Touching, Checking, Asking, Settling, Short}
+use Rattle.u2f_up_stated.specs.History.{Role, Touching, Checking, Asking, Settling, Short}
 use Rattle.u2f_up_stated.specs.Runs.{doneBy}
 
 module _ (p : Presence) (t : ℕ) where
   -- a refused moment refuses a call of any kind, and moves nothing
-  pub done-refused : (n : ℕ) → settleOf p t ≡ R n → (k : Kind) → doneBy k p t ≡ refused n p
+  pub done-refused : (n : ℕ) → settleOf p t ≡ R n → (k : Role) → doneBy k p t ≡ refused n p
   unfolding doneBy touchOf checkOf askOf
   done-refused n e Touching = rw e
   done-refused n e Checking = rw e
