@@ -4,7 +4,7 @@ pub use Rattle.u2f_up_stated.proofs.Roles.{done-refused, done-touching,
 -- And has demand 3 of their runs.
 pub use Rattle.u2f_up_stated.proofs.Keepers.{demand-3}
 -- No two calls name the same touch.
-pub use Rattle.u2f_up_stated.proofs.Served.{servers-next, named-later}
+pub use Rattle.u2f_up_stated.proofs.Served.{servers-next, named-later, named-counts}
 pub use Rattle.u2f_up_stated.proofs.Lists.{count, length-those}
 -- Settling and the touch check, by the claims' conditions.
 pub use Rattle.u2f_up_stated.proofs.Ways.{bad-window, bad-moment, has-touch, settle-r6, settle-r1, settle-moves, SettleWay, settle-way, settle-no-status, checked-live, checked-dead}

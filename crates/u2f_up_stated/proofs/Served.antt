@@ -14,6 +14,7 @@ use Rattle.u2f_up_stated.specs.Words.{Window, Closed, Opened}
 use Rattle.u2f_up_stated.specs.Moments.{isLive}
 use Rattle.u2f_up_stated.specs.Terms.{ServesOnce}
 use Rattle.u2f_up_stated.specs.History.{Event, Mark, marked, isAccepted, isSpending, latest, unspent, heldAt, serverOf, servers, isNamed}
+use Rattle.u2f_up_stated.specs.Runs.{Caller, next, history}
 use Rattle.u2f_up_stated.proofs.Lists.{count, length-those}
 use Rattle.u2f_up_stated.proofs.Runs.{heldOf, Sorted, Effect, still, moved, touched, spent, prompted}
 use Rattle.u2f_up_stated.proofs.Touches.{Inv, Held, held-next, unspent-next, held-now, window-young}
@@ -110,13 +111,17 @@ module _ (w : ℕ) where
 pub serves-once : (w : ℕ) (h : List Event) → Owned w h → ServesOnce h
 serves-once w h o n = omega (arith, length-those (isNamed n) (servers h), o .once n)
 
--- whatever is named in a history is named in a longer one
-pub named-later : (n : ℕ) (later h : List Event) → count (isNamed n) (servers h) ≤ count (isNamed n) (servers (later ++ h))
-unfolding servers
-named-later n [] h = omega arith
-named-later n (e ∷ later) h = go (isSpending e) refl (named-later n later h)
+-- whatever is named after some calls is named after more of them
+pub named-later : {D : Type 0} (𝒞 : Caller D) (w n : ℕ) (later ds : List D) → count (isNamed n) (servers (history 𝒞 w ds)) ≤ count (isNamed n) (servers (history 𝒞 w (later ++ ds)))
+unfolding history servers
+named-later 𝒞 w n [] ds = omega arith
+named-later 𝒞 w n (d ∷ later) ds = go (isSpending (record { call = 𝒞 .asCall d; outcome = next 𝒞 w (later ++ ds) d })) (named-later 𝒞 w n later ds)
   where
-    go : (s : Bool) → isSpending e ≡ s → count (isNamed n) (servers h) ≤ count (isNamed n) (servers (later ++ h))
-        → count (isNamed n) (servers h) ≤ count (isNamed n) (if s then serverOf (later ++ h) ∷ servers (later ++ h) else servers (later ++ h))
-    go true q more = omega arith
-    go false q more = more
+    go : (s : Bool) → count (isNamed n) (servers (history 𝒞 w ds)) ≤ count (isNamed n) (servers (history 𝒞 w (later ++ ds)))
+        → count (isNamed n) (servers (history 𝒞 w ds)) ≤ count (isNamed n) (if s then serverOf (history 𝒞 w (later ++ ds)) ∷ servers (history 𝒞 w (later ++ ds)) else servers (history 𝒞 w (later ++ ds)))
+    go true more = omega arith
+    go false more = more
+
+-- a touch that is named counts
+pub named-counts : (n : ℕ) (k : Mark) (rest : List (Option Mark)) → k .number ≡ n → count (isNamed n) rest < count (isNamed n) (some k ∷ rest)
+named-counts n k rest e = rw (eq-eqb (k .number) n e) (omega arith)

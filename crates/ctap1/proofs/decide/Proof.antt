@@ -1,6 +1,6 @@
 -- `decide` meets its contract: R6 and R1 come before all else.
 use borrow.Author.Needs.{needs}
-use Rattle.ctap1_stated.proofs.PathTops as Tops
+use Rattle.ctap1_stated.proofs.Tops as Tops
 use Rattle.ctap1.proofs.decide.Statement.{statement}
 use Rattle.ctap1.proofs.decide.Tie as tie
 

@@ -1,6 +1,6 @@
 -- `permitted` meets its contract: by whether CTAP1 is allowed.
 use borrow.Author.Needs.{needs}
-use Rattle.ctap1_stated.proofs.PathTops as Tops
+use Rattle.ctap1_stated.proofs.Tops as Tops
 use Rattle.ctap1.proofs.permitted.Statement.{statement}
 use Rattle.ctap1.proofs.permitted.Tie as tie
 
