@@ -22,7 +22,7 @@ ghost use Rattle.apdu_stated.specs.Answers.{saysOf};
 ghost use Rattle.command_stated.specs.Command.{flagsNo, commandOf};
 ghost use Rattle.u2f_up_stated.specs.Moments.{checkedOf};
 ghost use Rattle.ctap1_stated.specs.Words.{isPresent, decisionSaid};
-ghost use Rattle.ctap1_stated.specs.Path.{versionPath, enrolmentOrder, registerPath, countedEnding, loginPath, commandPath, allowedPath};
+ghost use Rattle.ctap1_stated.specs.Path.{versionPath, enrolmentOrder, registerPath, countedEnding, loginPath, commandPath};
 ghost use Rattle.ctap1_stated.specs.Decision.{refusalResult, statusResult, orderResult, ended, touchChecked, along, replyLeft};
 ghost use Rattle.ctap1_stated.specs.Contracts.{Decide};
 
@@ -241,40 +241,6 @@ fn commanded(
     }
 }
 
-fn permitted(
-    frame: &[u8],
-    t: u64,
-    kept: Presence,
-    hardware: Hardware,
-    handle: &[u8],
-    certificate: &[u8],
-    x: &[u8; 32],
-    y: &[u8; 32],
-    reply: &mut [u8],
-    settled: Presence,
-) -> Decision
-    ensures { λ r. ⌜ decisionSaid r ≡ along (allowedPath (hardware .allowed) (record { frame = now (frame .entry); hardware = hardware; newHandle = now (handle .entry); certificate = now (certificate .entry); x = now (x .entry); y = now (y .entry); room = length (now (reply .entry)) })) kept settled t ⌝ }
-    ensures { λ _. ⌜ now (reply .exit) ≡ replyLeft (along (allowedPath (hardware .allowed) (record { frame = now (frame .entry); hardware = hardware; newHandle = now (handle .entry); certificate = now (certificate .entry); x = now (x .entry); y = now (y .entry); room = length (now (reply .entry)) })) kept settled t) (now (reply .entry)) ⌝ }
-{
-    let allowed = hardware.allowed;
-    match allowed {
-        Allowed::Failed => answered(ApduStatusCode::InternalException, settled),
-        Allowed::No => answered(ApduStatusCode::CommandNotAllowed, settled),
-        Allowed::Yes => commanded(
-            frame,
-            t,
-            kept,
-            hardware,
-            handle,
-            certificate,
-            x,
-            y,
-            reply,
-            settled,
-        ),
-    }
-}
-
 // What a frame is answered at moment t: a refusal, a status word, Version's body, or an order to sign. `handle` and
 // `certificate` are the new handle and the attestation certificate that a Register would use, x and y its public key.
 pub fn decide(
@@ -291,19 +257,24 @@ pub fn decide(
     ensures { λ r. ⌜ Decide presence t (record { frame = now (frame .entry); hardware = hardware; newHandle = now (handle .entry); certificate = now (certificate .entry); x = now (x .entry); y = now (y .entry); room = length (now (reply .entry)) }) (now (reply .entry)) r (now (reply .exit)) ⌝ }
 {
     let ready = u2f_up::settle(presence, t);
+    let allowed = hardware.allowed;
     match ready {
         Ready::Refused(why) => refused(why, presence),
-        Ready::Record(settled) => permitted(
-            frame,
-            t,
-            presence,
-            hardware,
-            handle,
-            certificate,
-            x,
-            y,
-            reply,
-            settled,
-        ),
+        Ready::Record(settled) => match allowed {
+            Allowed::Failed => answered(ApduStatusCode::InternalException, settled),
+            Allowed::No => answered(ApduStatusCode::CommandNotAllowed, settled),
+            Allowed::Yes => commanded(
+                frame,
+                t,
+                presence,
+                hardware,
+                handle,
+                certificate,
+                x,
+                y,
+                reply,
+                settled,
+            ),
+        },
     }
 }

@@ -115,52 +115,46 @@ module _ (i : Inputs) (kept : Presence) (t : ℕ) (settled : Presence) (c : U2fC
     unfolding commandPath
     version-left new e q = q ∙ ap (λ (x : Result). replyLeft x old) (version-any (i .room) kept settled t ∙ here U2fCommand′.Version e)
 
--- ---- by whether CTAP1 is allowed
-module _ (a : Allowed) (i : Inputs) (kept : Presence) (t : ℕ) (settled : Presence) where
-  module _ (r : Result) where
-    pub allowed-failed : a ≡ Allowed′.Failed → r ≡ statusResult 0x6f00 settled → r ≡ along (allowedPath a i) kept settled t
-    unfolding allowedPath
-    allowed-failed e q = q ∙ rw e
-
-    pub allowed-no : a ≡ Allowed′.No → r ≡ statusResult 0x6986 settled → r ≡ along (allowedPath a i) kept settled t
-    unfolding allowedPath
-    allowed-no e q = q ∙ rw e
-
-    pub allowed-yes : a ≡ Allowed′.Yes → r ≡ along (commandPath i (commandOf (i .frame))) kept settled t → r ≡ along (allowedPath a i) kept settled t
-    unfolding allowedPath
-    allowed-yes e q = q ∙ rw e
-
-  module _ (old : List ℕ) where
-    pub failed-kept : a ≡ Allowed′.Failed → old ≡ replyLeft (along (allowedPath a i) kept settled t) old
-    unfolding allowedPath
-    failed-kept e = rw e
-
-    pub no-kept : a ≡ Allowed′.No → old ≡ replyLeft (along (allowedPath a i) kept settled t) old
-    unfolding allowedPath
-    no-kept e = rw e
-
-    pub yes-left : (new : List ℕ) → a ≡ Allowed′.Yes → new ≡ replyLeft (along (commandPath i (commandOf (i .frame))) kept settled t) old → new ≡ replyLeft (along (allowedPath a i) kept settled t) old
-    unfolding allowedPath
-    yes-left new e q = q ∙ rw e
-
--- ---- by the moment
+-- ---- by the moment, and by whether CTAP1 is allowed
 module _ (i : Inputs) (kept : Presence) (t : ℕ) (s : Ready) (is-s : readyOf s ≡ settleOf kept t) where
   settles : (d : Ready) → s ≡ d → onMoment kept t (pathOf i) (readyOf d) ≡ decisionOf kept t i
   unfolding decisionOf
   settles d e = ap (λ (x : Ready). onMoment kept t (pathOf i) (readyOf x)) (sym e) ∙ ap (onMoment kept t (pathOf i)) is-s
 
   pub not-settled : (why : Refusal) (r : Result) → s ≡ Ready′.Refused why → r ≡ refusalResult (refusalNo why) kept → r ≡ decisionOf kept t i
-  unfolding pathOf
   not-settled why r e q = q ∙ settles (Ready′.Refused why) e
 
-  pub settled-then : (p : Presence) (r : Result) → s ≡ Ready′.Record p → r ≡ along (allowedPath (i .hardware .allowed) i) kept p t → r ≡ decisionOf kept t i
-  unfolding pathOf
-  settled-then p r e q = q ∙ settles (Ready′.Record p) e
-
   pub not-settled-kept : (why : Refusal) (old : List ℕ) → s ≡ Ready′.Refused why → old ≡ replyLeft (decisionOf kept t i) old
-  unfolding pathOf
   not-settled-kept why old e = ap (λ (x : Result). replyLeft x old) (settles (Ready′.Refused why) e)
 
-  pub settled-left : (p : Presence) (old new : List ℕ) → s ≡ Ready′.Record p → new ≡ replyLeft (along (allowedPath (i .hardware .allowed) i) kept p t) old → new ≡ replyLeft (decisionOf kept t i) old
-  unfolding pathOf
-  settled-left p old new e q = q ∙ ap (λ (x : Result). replyLeft x old) (settles (Ready′.Record p) e)
+  module _ (p : Presence) (e : s ≡ Ready′.Record p) where
+    here-by : (a : Allowed) → i .hardware .allowed ≡ a → along (allowedPath a i) kept p t ≡ decisionOf kept t i
+    unfolding pathOf
+    here-by a is = ap (λ (b : Allowed). along (allowedPath b i) kept p t) (sym is) ∙ settles (Ready′.Record p) e
+
+    left-by : (a : Allowed) (old new : List ℕ) → i .hardware .allowed ≡ a → new ≡ replyLeft (along (allowedPath a i) kept p t) old → new ≡ replyLeft (decisionOf kept t i) old
+    left-by a old new is q = q ∙ ap (λ (x : Result). replyLeft x old) (here-by a is)
+
+    pub allowed-failed : (r : Result) → i .hardware .allowed ≡ Allowed′.Failed → r ≡ statusResult 0x6f00 p → r ≡ decisionOf kept t i
+    unfolding allowedPath
+    allowed-failed r is q = q ∙ here-by Allowed′.Failed is
+
+    pub allowed-no : (r : Result) → i .hardware .allowed ≡ Allowed′.No → r ≡ statusResult 0x6986 p → r ≡ decisionOf kept t i
+    unfolding allowedPath
+    allowed-no r is q = q ∙ here-by Allowed′.No is
+
+    pub allowed-yes : (r : Result) → i .hardware .allowed ≡ Allowed′.Yes → r ≡ along (commandPath i (commandOf (i .frame))) kept p t → r ≡ decisionOf kept t i
+    unfolding allowedPath
+    allowed-yes r is q = q ∙ here-by Allowed′.Yes is
+
+    pub failed-kept : (old : List ℕ) → i .hardware .allowed ≡ Allowed′.Failed → old ≡ replyLeft (decisionOf kept t i) old
+    unfolding allowedPath
+    failed-kept old is = left-by Allowed′.Failed old old is refl
+
+    pub no-kept : (old : List ℕ) → i .hardware .allowed ≡ Allowed′.No → old ≡ replyLeft (decisionOf kept t i) old
+    unfolding allowedPath
+    no-kept old is = left-by Allowed′.No old old is refl
+
+    pub yes-left : (old new : List ℕ) → i .hardware .allowed ≡ Allowed′.Yes → new ≡ replyLeft (along (commandPath i (commandOf (i .frame))) kept p t) old → new ≡ replyLeft (decisionOf kept t i) old
+    unfolding allowedPath
+    yes-left old new is q = left-by Allowed′.Yes old new is q
