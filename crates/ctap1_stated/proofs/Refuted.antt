@@ -19,9 +19,10 @@ use Rattle.u2f_up_stated.specs.Terms.{Passes, HasTouch}
 use Rattle.u2f_up_stated.specs.declared.Presence.{Presence}
 use Rattle.u2f_up_stated.specs.declared.Window.{Window}
 use Rattle.u2f_up_stated.specs.declared.Window.the-variants.{Closed, Opened}
-use Rattle.ctap1_stated.specs.Words.{Inputs, Given, Body, Ordered, Result, Hardware, Allowed, Attestation, Counter}
-use Rattle.ctap1_stated.specs.Path.{authenticateOrdered, registerEnding, countedEnding, loginPath, registerPath, versionPath, commandPath, allowedPath, pathOf}
-use Rattle.signing_stated.specs.Orders.{authenticateOrder, block}
+use Rattle.ctap1_stated.specs.Words.{Order, Inputs, Given, Body, Ordered, Result, Hardware, Allowed, Attestation, Counter}
+use Rattle.ctap1_stated.specs.Path.{registerOrdered, enrolmentOrder, authenticateOrdered, registerEnding, countedEnding, loginPath, registerPath, versionPath, commandPath, allowedPath, pathOf}
+use Rattle.signing_stated.specs.Orders.{kindNo, certificateLength, isOfLayout, blankOrder, registerOrder, authenticateOrder, block}
+use Rattle.signing_stated.specs.Finishing.{finishOf, roomAsked}
 use Rattle.ctap1_stated.specs.Decision.{decisionOf, replyLeft}
 use Rattle.ctap1_stated.specs.Calls.{TouchAt, CheckAt, DecideAt}
 use Rattle.ctap1_stated.specs.Terms.{Decider, SaysPresent}
@@ -31,7 +32,7 @@ use Rattle.ctap1_stated.specs.declared.Allowed.the-variants as Allowed�
 use Rattle.ctap1_stated.specs.declared.Attestation.the-variants as Attestation′
 use Rattle.ctap1_stated.specs.declared.Counter.the-variants as Counter′
 use Rattle.ctap1_stated.proofs.Ways.{sound}
-use Rattle.ctap1_stated.proofs.Commands.{kind-is, presence-is}
+use Rattle.ctap1_stated.proofs.Commands.{kind-is, presence-is, register-certificate, register-of-layout, register-room, blank-refused}
 
 -- ---- what is lent
 abbrev registerFrame : List ℕ
@@ -119,10 +120,6 @@ room140 d = r-sw 2 0x6985 (sym (rw register-read at (differ Wrong.room140 d (fre
 pub storeFirst : Claims.DecidesExactly Wrong.storeFirst → ⊥
 unfolding decisionOf pathOf allowedPath commandPath versionPath registerPath loginPath registerEnding countedEnding settleOf checkedOf
 storeFirst d = let z = two 0x6985 0x6f00 (rw register-read at (differ Wrong.storeFirst d (fresh 1000) 0 (lent registerFrame notStored [] 139))) in omega arith
-
-pub handle256 : Claims.DecidesExactly Wrong.handle256 → ⊥
-unfolding decisionOf pathOf allowedPath commandPath versionPath registerPath loginPath registerEnding countedEnding settleOf checkedOf
-handle256 d = sw-gives 0x6f00 Ordered (rw register-read at (differ Wrong.handle256 d held 0 (lent registerFrame works (replicate 256 0) 395)))
 
 pub missingTaken : Claims.DecidesExactly Wrong.missingTaken → ⊥
 unfolding decisionOf pathOf allowedPath commandPath versionPath registerPath loginPath registerEnding countedEnding settleOf checkedOf
@@ -252,6 +249,46 @@ clearsRest d =
     (λ x. let z : _≡_ {A = ℕ} 6 7 = rw version-read at (ap (length {A = ℕ}) (x .2)) in omega arith)
     (λ x. x .0 6 (rw version-read refl))
     (d (fresh 1000) 0 a (replicate 7 0) refl)
+
+-- ---- orders
+-- a handle of 256 bytes makes the blank order
+pub handle256 : Claims.OrdersOfLayout Wrong.handle256 → ⊥
+unfolding decisionOf pathOf allowedPath commandPath versionPath registerPath loginPath registerEnding countedEnding settleOf checkedOf enrolmentOrder registerOrder applicationOf challengeOf dataOf partOf
+handle256 d =
+    let a = lent registerFrame works (replicate 256 0) 395 in
+    let made : isOfLayout blankOrder ≡ true = rw register-read at (d held 0 a (refl, refl) (rw register-read refl)) in
+    true≢false (sym made ∙ blank-refused .0)
+
+pub orderAt6985 : Claims.NoOrderIsBlank Wrong.orderAt6985 → ⊥
+unfolding decisionOf pathOf allowedPath commandPath versionPath registerPath loginPath registerEnding countedEnding settleOf checkedOf blankOrder
+orderAt6985 d =
+    let a = lent (signFrame 0x03) works [] 77 in
+    let o = authenticateOrdered a (saidOf 0x02 0x03 3 65 5) true 7 in
+    let none : Wrong.orderAt6985 (fresh 1000) 0 a .answer ≡ Gives Ordered → ⊥ = λ e. sw-gives 0x6985 Ordered (rw read-03 at e) in
+    let blank : o ≡ blankOrder = rw read-03 at (d (fresh 1000) 0 a (record { order = Wrong.orderAt6985 (fresh 1000) 0 a .order; certificate = []; signed = true; signature = []; reply = [] }) none refl .0) in
+    omega (arith, kind-is a 0x03 (saidOf 0x02 0x03 3 65 5) true 7 read-03, ap (λ (q : Order). kindNo (q .kind)) blank)
+
+pub certificateMore : Claims.CertificateOfOrder Wrong.certificateMore → ⊥
+unfolding decisionOf pathOf allowedPath commandPath versionPath registerPath loginPath registerEnding countedEnding settleOf checkedOf registerOrder applicationOf challengeOf dataOf partOf
+certificateMore d =
+    let a = lent registerFrame works [] 139 in
+    ⊎-elim (λ x. let z : _≡_ {A = ℕ} 1 0 = x .1 in omega arith) (λ x. let z : _≡_ {A = ℕ} 1 2 = x .0 in omega arith) (rw register-read at (d held 0 a (refl, refl) (rw register-read refl)))
+
+-- 138 bytes for h 0 and c 0: an order, and R2 when it is finished
+short-finish : (o : Order) → isOfLayout o ≡ true → certificateLength o ≡ 0 → roomAsked o ≡ 139 → finishOf (record { order = o; certificate = []; signed = true; signature = []; reply = replicate 138 0 }) ≡ R 2
+unfolding finishOf
+short-finish o layout certificate room = rw (room, layout, certificate)
+
+pub room138 : Claims.RoomWasAsked Wrong.room138 → ⊥
+unfolding decisionOf pathOf allowedPath commandPath versionPath registerPath loginPath registerEnding countedEnding settleOf checkedOf
+room138 d =
+    let a = lent registerFrame works [] 138 in
+    let said = saidOf 0x01 0x00 3 64 5 in
+    let o = Wrong.room138 held 0 a .order in
+    let is : o ≡ registerOrdered a said = rw register-read refl in
+    let certificate : certificateLength o ≡ 0 = ap certificateLength is ∙ register-certificate a (refl, refl) said register-read (omega arith) in
+    d held 0 a (record { order = o; certificate = []; signed = true; signature = []; reply = replicate 138 0 }) (refl, refl) (rw register-read refl) refl (sym certificate) (omega arith)
+    .2 (short-finish o (ap isOfLayout is ∙ register-of-layout a (refl, refl) said register-read (omega arith)) certificate (ap roomAsked is ∙ register-room a (refl, refl) said register-read (omega arith)))
 
 -- ---- check-only
 passes : (w t : ℕ) → 0 < w → w ≤ 60000 → t < 2 ^ 48 → Passes (fresh w) t

@@ -80,17 +80,19 @@ CounterExactly decide =
 
 -- ---- orders
 
--- Every order that the decision makes is of its layout: finishing it is not R7.
+-- Every order that the decision makes is of its layout: finishing it is not R7. 01, R7: "order not of either layout". A decision that
+-- takes a handle of 256 bytes (`handle256`) fails it.
 abbrev pub OrdersOfLayout : Decider → Type 0
 OrdersOfLayout decide = (p : Presence) (t : ℕ) (a : Inputs) → AreBlocks a → decide p t a .answer ≡ Gives Ordered → isOfLayout (decide p t a .order) ≡ true
 
--- What stands in an answer without an order is the blank order, and finishing that is R7, whatever is lent beside it.
+-- What stands in an answer without an order is the blank order (ours), and finishing that is R7, whatever is lent beside it. A 6985
+-- with the order beside it (`orderAt6985`) fails it.
 abbrev pub NoOrderIsBlank : Decider → Type 0
 NoOrderIsBlank decide =
     (p : Presence) (t : ℕ) (a : Inputs) (f : Finishing) → (decide p t a .answer ≡ Gives Ordered → ⊥) → f .order ≡ decide p t a .order
     → (decide p t a .order ≡ blankOrder) × (finishOf f ≡ R 7)
 
--- "A decision that says 'order' has asked for the room" (ours): finishing it with a certificate of the order's length and a buffer at
+-- A decision that says 'order' has asked for the room (ours; 01, Mistakes a quick port makes: "R2 found after the touch is spent"): finishing it with a certificate of the order's length and a buffer at
 -- least as long as the decision's never gives R7, R4 or R2. A decision that asks for 138 + h + c (`room138`) fails it.
 abbrev pub RoomWasAsked : Decider → Type 0
 RoomWasAsked decide =
@@ -98,7 +100,8 @@ RoomWasAsked decide =
     → length (f .certificate) ≡ certificateLength (decide p t a .order) → a .room ≤ length (f .reply)
     → (finishOf f ≡ R 7 → ⊥) × (finishOf f ≡ R 4 → ⊥) × (finishOf f ≡ R 2 → ⊥)
 
--- "the certificate length (0 for Authenticate)": a Register order's is the lent certificate's.
+-- "the certificate length (0 for Authenticate)": a Register order's is the lent certificate's. One that counts a byte more
+-- (`certificateMore`) fails it.
 abbrev pub CertificateOfOrder : Decider → Type 0
 CertificateOfOrder decide =
     (p : Presence) (t : ℕ) (a : Inputs) → AreBlocks a → decide p t a .answer ≡ Gives Ordered

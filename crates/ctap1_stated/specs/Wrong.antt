@@ -1,6 +1,6 @@
 -- Wrong programs, each with one fault. proofs/Refuted.antt shows of each that a claim is false of it.
 use Rattle.ctap1_stated.specs.Words.{ℕ, _+_, Bool, true, false, not, List, [], _∷_, _++_, ltb, eqb, length, drop, if_then_else_, Outcome, R, SW, Gives}
-use Rattle.ctap1_stated.specs.Words.{Presence, Inputs, Allowed, Attestation, Counter, Given, Body, Ordered, Result, isPresent}
+use Rattle.ctap1_stated.specs.Words.{Presence, Order, Inputs, Allowed, Attestation, Counter, Given, Body, Ordered, Result, isPresent}
 use Rattle.ctap1_stated.specs.Path.{Ending, Internal, WrongData, Orders, Path, NoRoom, Status, SixBytes, Signs, Touch, registerOrdered, authenticateOrdered, registerEnding, countedEnding, registerPath, authenticatePath, commandPath, pathOf, roleOf, roleOfPath}
 use Rattle.ctap1_stated.specs.Decision.{refusalResult, statusResult, ended, touchChecked, along, onMoment, decisionOf, replyLeft}
 use Rattle.ctap1_stated.specs.Calls.{PanelCall, TouchAt, CheckAt, AskAt, DecideAt, callOf, panelDoes, toldBy}
@@ -69,18 +69,18 @@ room140 = registerAs (registerWithin 140)
 abbrev pub storeFirst : Decider
 storeFirst = registerAs (λ a said. if not (a .hardware .stored) then Status 0x6f00 else registerPath a said)
 
-abbrev pub registerEnds : (longest : ℕ) → (Attestation → Bool) → Inputs → Says → Path
-registerEnds longest attested a said =
+abbrev pub registerEnds : (longest : ℕ) → (Attestation → Bool) → (Inputs → Says → Order) → Inputs → Says → Path
+registerEnds longest attested order a said =
     if ltb (a .room) (139 + length (a .newHandle) + length (a .certificate)) then NoRoom
     else Touch
     (if not (a .hardware .stored) then Internal
     else if ltb longest (length (a .newHandle)) then Internal
     else if not (attested (a .hardware .attestation)) then Internal
-    else Orders (registerOrdered a said) false)
+    else Orders (order a said) false)
 
 -- "h > 255": 256 is taken
 abbrev pub handle256 : Decider
-handle256 = registerAs (registerEnds 256 isPresent)
+handle256 = registerAs (registerEnds 256 isPresent registerOrdered)
 
 -- "the attestation is missing or failed": a missing one is taken
 abbrev pub isNotFailed : Attestation → Bool
@@ -89,7 +89,17 @@ isNotFailed Attestation′.Missing = true
 isNotFailed Attestation′.Failed = false
 
 abbrev pub missingTaken : Decider
-missingTaken = registerAs (registerEnds 255 isNotFailed)
+missingTaken = registerAs (registerEnds 255 isNotFailed registerOrdered)
+
+-- "the certificate length": one more
+abbrev pub longerOrder : Inputs → Says → Order
+longerOrder a said =
+    registerOrder
+    (record { application = applicationOf (a .frame) said; challenge = challengeOf (a .frame) said; handle = a .newHandle; x = a .x; y = a .y })
+    (length (a .certificate) + 1)
+
+abbrev pub certificateMore : Decider
+certificateMore = registerAs (registerEnds 255 isPresent longerOrder)
 
 -- another Authenticate
 abbrev pub authenticateOr : (Inputs → ℕ → Says → Path) → Inputs → Outcome Command → Path
@@ -226,6 +236,15 @@ touchAs touch (Touch e) kept settled t = touch (checkedOf settled t) settled e
 -- "The counter taken for P1 03 without a touch": it is reported at the 6985
 abbrev pub takesAt6985 : Decider
 takesAt6985 = decideAlong (touchAs (λ f settled e. if not (f .yes) then record { answer = SW 0x6985; presence = f .presence; order = blankOrder; taken = true } else ended e (f .presence)))
+
+-- what stands in an answer without an order is blank: here the order stands beside the 6985
+abbrev pub orderIn : Ending → Order
+orderIn Internal = blankOrder
+orderIn WrongData = blankOrder
+orderIn (Orders o taken) = o
+
+abbrev pub orderAt6985 : Decider
+orderAt6985 = decideAlong (touchAs (λ f settled e. if not (f .yes) then record { answer = SW 0x6985; presence = f .presence; order = orderIn e; taken = false } else ended e (f .presence)))
 
 -- "with a live touch, it is spent": it is not
 abbrev pub touchKept : Decider

@@ -148,6 +148,13 @@ pub keepsPrompt : Claims.Demand3 Wrong.keepsPrompt → ⊥
 unfolding after history foretold isPromptStanding latest lastMoment checkedOf settleOf
 keepsPrompt d = true≢false (yes-same (d 100 (omega arith) (omega arith) (touch 1 ∷ check 0 ∷ []) .foretells (touch 2)))
 
+-- the touch at 5 is held, and the window says 0
+pub opensAtPrompt : Claims.Demand3 Wrong.opensAtPrompt → ⊥
+unfolding after history unspent lastMoment checkedOf settleOf
+opensAtPrompt d =
+    let z = opened-same (d 100 (omega arith) (omega arith) (touch 5 ∷ check 0 ∷ []) .holds (record { number = 1; moment = 5 }) 6 (omega arith) refl [] (touch 5 ∷ check 0 ∷ []) refl (omega arith)) in
+    omega arith
+
 -- the first touch is found, the second is accepted and not found
 pub firstOnly : Claims.Demand3 Wrong.firstOnly → ⊥
 unfolding after history foretold unspent lastMoment settleOf

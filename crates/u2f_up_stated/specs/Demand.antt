@@ -37,7 +37,7 @@ module _ {D : Type 0} (𝒞 : Caller D) (w : ℕ) (ds : List D) where
     pub finds : (d : D) → 𝒞 .asCall d .role ≡ Checking → (next 𝒞 w ds d ≡ Gives true)
         ↔ ((RefusedAt past (moment d) → ⊥) × ((k : Mark) × (heldAt w past (moment d) ≡ k ∷ [])))
     -- And that touch is the one that the record holds: in every record from that touch on, the touch window is the one that
-    -- it opened. A record that reopens the window at another touch's moment fails, where the moments differ.
+    -- it opened. A record that opens the window at the prompt's moment (`opensAtPrompt`) fails, where the moments differ.
     pub holds : (k : Mark) (t : ℕ) → lastMoment past ≤ t → heldAt w past t ≡ k ∷ []
         → (later earlier : List D) → ds ≡ later ++ earlier → k .number < length earlier → after 𝒞 w earlier .touch ≡ Opened (k .moment)
     -- Every call that spent a touch was served by the latest accepted one before it, and that was the one that was live.
@@ -46,8 +46,9 @@ module _ {D : Type 0} (𝒞 : Caller D) (w : ℕ) (ds : List D) where
     -- No touch serves two calls: none is named twice. A record that keeps a spent touch (`keepsSpent`) fails: one touch, two
     -- checks within W.
     pub once : ServesOnce past
-    -- Accepted touches = calls that spent one + lapsed + live, and at most one is live. A record that keeps a spent touch fails:
-    -- two calls spent the one touch that was accepted.
+    -- Accepted touches = calls that spent one + lapsed + live, and at most one is live. A record that keeps a spent touch fails the
+    -- first: two calls spent the one touch that was accepted. One that loses a touch fails the second: after the next prompt
+    -- another is accepted, and the history holds two.
     pub totals : length (accepted past) ≡ spenders past + length (lapsed w past) + length (heldAt w past (lastMoment past))
     pub one-held : length (heldAt w past (lastMoment past)) ≤ 1
     -- The same for any part of the touches, such as one touch alone: it was spent, has lapsed or is live, and only one of these.

@@ -141,6 +141,10 @@ opensNothing = calling (λ p t. if isPrompting p t then record { yes = true; pre
 abbrev pub keepsPrompt : Caller Call
 keepsPrompt = calling (λ p t. if isPrompting p t then record { yes = true; presence = record { w = p .w; prompt = p .prompt; touch = Opened t; last = p .last } } else record { yes = false; presence = p }) checkedOf
 
+-- an accepted touch opens its window at the prompt's moment
+abbrev pub opensAtPrompt : Caller Call
+opensAtPrompt = calling (λ p t. if isPrompting p t then record { yes = true; presence = record { w = p .w; prompt = Closed; touch = p .prompt; last = p .last } } else record { yes = false; presence = p }) checkedOf
+
 -- honours the first touch only. A window opened at 2^48, which no touch opens, says that one was spent: from then on every touch
 -- is accepted as ever, and every check is an ordinary 6985.
 abbrev pub isUsedUp : Window → Bool
