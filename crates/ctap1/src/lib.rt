@@ -22,11 +22,12 @@ ghost use Rattle.apdu_stated.specs.Answers.{saysOf};
 ghost use Rattle.command_stated.specs.Command.{flagsNo, commandOf};
 ghost use Rattle.u2f_up_stated.specs.Moments.{checkedOf};
 ghost use Rattle.ctap1_stated.specs.Words.{isPresent, decisionSaid};
-ghost use Rattle.ctap1_stated.specs.Decision.{refuse, answer, orderOf, replyLeft};
-ghost use Rattle.ctap1_stated.specs.Path.{along, ended, touchChecked, versionPath, enrolmentOrder, registerPath, countedEnding, loginPath, commandPath, allowedPath, decisionAt};
+ghost use Rattle.ctap1_stated.specs.Path.{versionPath, enrolmentOrder, registerPath, countedEnding, loginPath, commandPath};
+ghost use Rattle.ctap1_stated.specs.Decision.{refusalResult, statusResult, orderResult, ended, touchChecked, along, replyLeft};
+ghost use Rattle.ctap1_stated.specs.Contracts.{Decide};
 
 fn refused(why: Refusal, kept: Presence) -> Decision
-    ensures { λ r. ⌜ decisionSaid r ≡ refuse (refusalNo why) kept ⌝ }
+    ensures { λ r. ⌜ decisionSaid r ≡ refusalResult (refusalNo why) kept ⌝ }
 {
     Decision {
         answer: Decided::Refused(why),
@@ -37,7 +38,7 @@ fn refused(why: Refusal, kept: Presence) -> Decision
 }
 
 fn answered(status: ApduStatusCode, settled: Presence) -> Decision
-    ensures { λ r. ⌜ decisionSaid r ≡ answer (statusNo status) settled ⌝ }
+    ensures { λ r. ⌜ decisionSaid r ≡ statusResult (statusNo status) settled ⌝ }
 {
     Decision {
         answer: Decided::Status(status),
@@ -48,7 +49,7 @@ fn answered(status: ApduStatusCode, settled: Presence) -> Decision
 }
 
 fn ordered(order: Order, settled: Presence, taken: bool) -> Decision
-    ensures { λ r. ⌜ decisionSaid r ≡ orderOf order settled taken ⌝ }
+    ensures { λ r. ⌜ decisionSaid r ≡ orderResult order settled taken ⌝ }
 {
     Decision {
         answer: Decided::Order,
@@ -93,7 +94,7 @@ fn enrol(
     y: &[u8; 32],
     after: Presence,
 ) -> Decision
-    ensures { λ r. ⌜ decisionSaid r ≡ orderOf (enrolmentOrder (now (frame .entry)) (saysOf says) (record { newHandle = now (handle .entry); certificate = now (certificate .entry); x = now (x .entry); y = now (y .entry) })) after false ⌝ }
+    ensures { λ r. ⌜ decisionSaid r ≡ orderResult (enrolmentOrder (now (frame .entry)) (saysOf says) (record { newHandle = now (handle .entry); certificate = now (certificate .entry); x = now (x .entry); y = now (y .entry) })) after false ⌝ }
 {
     let application = command::application(frame, says);
     let challenge = command::challenge(frame, says);
@@ -240,40 +241,6 @@ fn commanded(
     }
 }
 
-fn permitted(
-    frame: &[u8],
-    t: u64,
-    kept: Presence,
-    hardware: Hardware,
-    handle: &[u8],
-    certificate: &[u8],
-    x: &[u8; 32],
-    y: &[u8; 32],
-    reply: &mut [u8],
-    settled: Presence,
-) -> Decision
-    ensures { λ r. ⌜ decisionSaid r ≡ along (allowedPath (hardware .allowed) (record { frame = now (frame .entry); hardware = hardware; newHandle = now (handle .entry); certificate = now (certificate .entry); x = now (x .entry); y = now (y .entry); room = length (now (reply .entry)) })) kept settled t ⌝ }
-    ensures { λ _. ⌜ now (reply .exit) ≡ replyLeft (along (allowedPath (hardware .allowed) (record { frame = now (frame .entry); hardware = hardware; newHandle = now (handle .entry); certificate = now (certificate .entry); x = now (x .entry); y = now (y .entry); room = length (now (reply .entry)) })) kept settled t) (now (reply .entry)) ⌝ }
-{
-    let allowed = hardware.allowed;
-    match allowed {
-        Allowed::Failed => answered(ApduStatusCode::InternalException, settled),
-        Allowed::No => answered(ApduStatusCode::CommandNotAllowed, settled),
-        Allowed::Yes => commanded(
-            frame,
-            t,
-            kept,
-            hardware,
-            handle,
-            certificate,
-            x,
-            y,
-            reply,
-            settled,
-        ),
-    }
-}
-
 // What a frame is answered at moment t: a refusal, a status word, Version's body, or an order to sign. `handle` and
 // `certificate` are the new handle and the attestation certificate that a Register would use, x and y its public key.
 pub fn decide(
@@ -287,23 +254,27 @@ pub fn decide(
     y: &[u8; 32],
     reply: &mut [u8],
 ) -> Decision
-    ensures { λ r. ⌜ decisionSaid r ≡ decisionAt presence t (record { frame = now (frame .entry); hardware = hardware; newHandle = now (handle .entry); certificate = now (certificate .entry); x = now (x .entry); y = now (y .entry); room = length (now (reply .entry)) }) ⌝ }
-    ensures { λ _. ⌜ now (reply .exit) ≡ replyLeft (decisionAt presence t (record { frame = now (frame .entry); hardware = hardware; newHandle = now (handle .entry); certificate = now (certificate .entry); x = now (x .entry); y = now (y .entry); room = length (now (reply .entry)) })) (now (reply .entry)) ⌝ }
+    ensures { λ r. ⌜ Decide presence t (record { frame = now (frame .entry); hardware = hardware; newHandle = now (handle .entry); certificate = now (certificate .entry); x = now (x .entry); y = now (y .entry); room = length (now (reply .entry)) }) (now (reply .entry)) r (now (reply .exit)) ⌝ }
 {
     let ready = u2f_up::settle(presence, t);
+    let allowed = hardware.allowed;
     match ready {
         Ready::Refused(why) => refused(why, presence),
-        Ready::Record(settled) => permitted(
-            frame,
-            t,
-            presence,
-            hardware,
-            handle,
-            certificate,
-            x,
-            y,
-            reply,
-            settled,
-        ),
+        Ready::Record(settled) => match allowed {
+            Allowed::Failed => answered(ApduStatusCode::InternalException, settled),
+            Allowed::No => answered(ApduStatusCode::CommandNotAllowed, settled),
+            Allowed::Yes => commanded(
+                frame,
+                t,
+                presence,
+                hardware,
+                handle,
+                certificate,
+                x,
+                y,
+                reply,
+                settled,
+            ),
+        },
     }
 }

@@ -1,70 +1,335 @@
--- The wrong program, at one frame: an Authenticate with P1 03, a good handle, an offered counter and room, on a fresh record.
+-- Each wrong program of specs/Wrong.antt, and the claim that is false of it, at one input or at a run of a few calls.
 use Prim.Native.Nat.{ℕ, _+_, _^_, _<_, _≤_}
-use mathlib.Core.Path.{_≡_, refl, ap, sym, subst, _∙_}
-use mathlib.Core.Bool.{Bool, true, false}
+use mathlib.Core.Path.{_≡_, refl, ap, sym, _∙_}
+use mathlib.Core.Bool.{Bool, true, false, true≢false, false≢true}
 use mathlib.Core.List.{List, [], _∷_, _++_}
 use mathlib.Core.Logic.{_⊎_, inl, inr, ⊎-elim}
 use native.Mathlib.Omega.{arith}
 use lib.ListN.{length, replicate}
 use Rattle.outcome.specs.Outcome.{Outcome, R, SW, Gives}
-use Rattle.outcome.proofs.Laws.{sw-gives}
-use Rattle.octets.specs.Bytes.{partOf}
+use Rattle.outcome.proofs.Laws.{sw-same, sw-gives, r-gives, r-sw}
+use Rattle.octets.specs.Bytes.{partOf, byte}
 use Rattle.apdu_stated.specs.Answers.{Says}
 use Rattle.apdu_stated.specs.Reading.{readOf, sayOf, lengthsOf, shortOf, extendedOf, afterData, dataOf}
-use Rattle.command_stated.specs.Command.{Command, Authenticate, commandOf, onReading, byInstruction, authenticateOf, applicationOf, challengeOf}
-use Rattle.u2f_up_stated.specs.Moments.{fresh, settleOf}
+use Rattle.command_stated.specs.Command.{Command, Register, Authenticate, Version, commandOf, onReading, byInstruction, registerOf, authenticateOf, versionOf, applicationOf, challengeOf}
+use Rattle.u2f_up_stated.specs.Moments.{Told, fresh, settleOf, grantedOf, checkedOf, touchOf, checkOf}
+use Rattle.u2f_up_stated.specs.History.{Mark, lastMoment, latest, isPromptStanding, unspent, foretold}
+use Rattle.u2f_up_stated.specs.Runs.{after, history, doneBy}
+use Rattle.u2f_up_stated.specs.Terms.{Passes, HasTouch}
 use Rattle.u2f_up_stated.specs.declared.Presence.{Presence}
+use Rattle.u2f_up_stated.specs.declared.Window.{Window}
 use Rattle.u2f_up_stated.specs.declared.Window.the-variants.{Closed, Opened}
-use Rattle.ctap1_stated.specs.Words.{Given, Ordered, Result, Hardware}
-use Rattle.ctap1_stated.specs.Path.{Asked, authenticateOrdered, pathOf, Touch, Orders}
-use Rattle.ctap1_stated.specs.Rows
-use Rattle.ctap1_stated.specs.Rows.{Row, HasTouch, DecidesExactly, OrdersNeedATouch, untouched}
+use Rattle.ctap1_stated.specs.Words.{Order, Inputs, Given, Body, Ordered, Result, Hardware, Allowed, Attestation, Counter}
+use Rattle.ctap1_stated.specs.Path.{registerOrdered, enrolmentOrder, authenticateOrdered, registerEnding, countedEnding, loginPath, registerPath, versionPath, commandPath, allowedPath, pathOf}
+use Rattle.signing_stated.specs.Orders.{kindNo, certificateLength, isOfLayout, blankOrder, registerOrder, authenticateOrder, block}
+use Rattle.signing_stated.specs.Finishing.{finishOf, roomAsked}
+use Rattle.ctap1_stated.specs.Decision.{decisionOf, replyLeft}
+use Rattle.ctap1_stated.specs.Calls.{TouchAt, CheckAt, DecideAt}
+use Rattle.ctap1_stated.specs.Terms.{Decider, SaysPresent}
+use Rattle.ctap1_stated.specs.Claims
+use Rattle.ctap1_stated.specs.Wrong
 use Rattle.ctap1_stated.specs.declared.Allowed.the-variants as Allowed′
 use Rattle.ctap1_stated.specs.declared.Attestation.the-variants as Attestation′
 use Rattle.ctap1_stated.specs.declared.Counter.the-variants as Counter′
-use Rattle.ctap1_stated.proofs.Determined.{row-is}
-use Rattle.ctap1_stated.proofs.Headline.{kind-is, presence-is}
+use Rattle.ctap1_stated.proofs.Ways.{sound}
+use Rattle.ctap1_stated.proofs.Commands.{kind-is, presence-is, register-certificate, register-of-layout, register-room, blank-refused}
 
-abbrev frame03 : List ℕ
-frame03 = 0x00 ∷ 0x02 ∷ 0x03 ∷ 0x00 ∷ 0x41 ∷ replicate 65 0x00
+-- ---- what is lent
+abbrev registerFrame : List ℕ
+registerFrame = 0x00 ∷ 0x01 ∷ 0x00 ∷ 0x00 ∷ 0x40 ∷ replicate 64 0x00
 
-abbrev asked03 : Asked
-asked03 = record {
-  frame = frame03;
-  hardware = record { allowed = Allowed′.Yes; stored = true; attestation = Attestation′.Present; good = true; counter = Counter′.Offered 7 };
-  newHandle = [];
-  certificate = [];
-  x = replicate 32 0;
-  y = replicate 32 0;
-  room = 77;
-}
+abbrev signFrame : ℕ → List ℕ
+signFrame p1 = 0x00 ∷ 0x02 ∷ p1 ∷ 0x00 ∷ 0x41 ∷ replicate 65 0x00
 
-abbrev said03 : Says
-said03 = record { header = record { cla = 0x00; ins = 0x02; p1 = 0x03; p2 = 0x00 }; shape = 3; lc = 65; le = 0; dataAt = 5 }
+abbrev versionFrame : List ℕ
+versionFrame = 0x00 ∷ 0x03 ∷ 0x00 ∷ 0x00 ∷ []
 
-read03 : commandOf frame03 ≡ Gives (Authenticate 0x03 said03)
+-- hardware that works
+abbrev works : Hardware
+works = record { allowed = Allowed′.Yes; stored = true; attestation = Attestation′.Present; good = true; counter = Counter′.Offered 7 }
+
+abbrev lent : List ℕ → Hardware → List ℕ → ℕ → Inputs
+lent frame hardware handle room = record { frame = frame; hardware = hardware; newHandle = handle; certificate = []; x = replicate 32 0; y = replicate 32 0; room = room }
+
+-- a record with a live touch
+abbrev held : Presence
+held = record { w = 1000; prompt = Closed; touch = Opened 0; last = 0 }
+
+-- how the frames are read
+abbrev saidOf : (ins p1 shape lc at : ℕ) → Says
+saidOf ins p1 shape lc at = record { header = record { cla = 0x00; ins = ins; p1 = p1; p2 = 0x00 }; shape = shape; lc = lc; le = 0; dataAt = at }
+
+register-read : commandOf registerFrame ≡ Gives (Register (saidOf 0x01 0x00 3 64 5))
+unfolding commandOf onReading byInstruction registerOf readOf sayOf lengthsOf shortOf extendedOf afterData
+register-read = refl
+
+read-03 : commandOf (signFrame 0x03) ≡ Gives (Authenticate 0x03 (saidOf 0x02 0x03 3 65 5))
 unfolding commandOf onReading byInstruction authenticateOf readOf sayOf lengthsOf shortOf extendedOf afterData dataOf partOf
-read03 = refl
+read-03 = refl
 
-row03 : Row asked03 (Touch (Orders (authenticateOrdered asked03 said03 true 7) true))
-row03 = Rows.sign-03 said03 (refl, read03) refl (omega arith) _ (Rows.counts 7 refl)
+read-07 : commandOf (signFrame 0x07) ≡ Gives (Authenticate 0x07 (saidOf 0x02 0x07 3 65 5))
+unfolding commandOf onReading byInstruction authenticateOf readOf sayOf lengthsOf shortOf extendedOf afterData dataOf partOf
+read-07 = refl
 
-no-touch03 : HasTouch (fresh 1000) 0 → ⊥
-no-touch03 h = closed-open (h .0) (h .1)
-  where
-    closed-open : (m : ℕ) → Closed ≡ Opened m → ⊥
-    closed-open m x = let z : _≡_ {A = ℕ} 0 1 = cc in omega arith
+read-08 : commandOf (signFrame 0x08) ≡ Gives (Authenticate 0x08 (saidOf 0x02 0x08 3 65 5))
+unfolding commandOf onReading byInstruction authenticateOf readOf sayOf lengthsOf shortOf extendedOf afterData dataOf partOf
+read-08 = refl
 
-answered03 : untouched (fresh 1000) 0 asked03 .answer ≡ Gives Ordered
-unfolding settleOf
-answered03 = rw (row-is asked03 _ row03)
+version-read : commandOf versionFrame ≡ Gives Version
+unfolding commandOf onReading byInstruction versionOf readOf sayOf lengthsOf shortOf extendedOf afterData
+version-read = refl
 
-pub not-decided : DecidesExactly untouched → ⊥
-not-decided d =
-    sw-gives _ _ (sym (ap (λ (r : Result). r .answer) (d .no-touch (fresh 1000) 0 asked03 (λ b. ⊎-elim (λ z. omega arith) (λ z. omega arith) b, λ b. ⊎-elim (λ z. omega arith) (λ z. omega arith) b) no-touch03 _ row03)) ∙ answered03)
+none-read : commandOf [] ≡ SW 0x6a80
+unfolding commandOf onReading readOf
+none-read = refl
 
--- and the headline is false of it: an order with presence byte 01 without a touch
-pub not-headline : OrdersNeedATouch untouched → ⊥
-unfolding settleOf
-not-headline d =
-    no-touch03 (d (fresh 1000) 0 asked03 answered03 (rw (row-is asked03 _ row03) (inr (kind-is asked03 0x03 said03 true 7 read03, presence-is asked03 0x03 said03 true 7 read03))) .0)
+-- ---- the table: a decision that keeps to it is the definition
+differ : (f : Decider) → Claims.DecidesExactly f → (p : Presence) (t : ℕ) (a : Inputs) → decisionOf p t a .answer ≡ f p t a .answer
+differ f F p t a = ap (λ (r : Result). r .answer) (sound p t a (f p t a) (F p t a))
+
+two : (m n : ℕ) → _≡_ {A = Outcome Given} (SW m) (SW n) → m ≡ n
+two = sw-same
+
+abbrev forbids : Hardware
+forbids = record { allowed = Allowed′.No; stored = true; attestation = Attestation′.Present; good = true; counter = Counter′.Offered 7 }
+
+abbrev notStored : Hardware
+notStored = record { allowed = Allowed′.Yes; stored = false; attestation = Attestation′.Present; good = true; counter = Counter′.Offered 7 }
+
+abbrev notAttested : Hardware
+notAttested = record { allowed = Allowed′.Yes; stored = true; attestation = Attestation′.Missing; good = true; counter = Counter′.Offered 7 }
+
+abbrev badHandle : Hardware
+badHandle = record { allowed = Allowed′.Yes; stored = true; attestation = Attestation′.Present; good = false; counter = Counter′.Offered 7 }
+
+-- 'no', and three bytes too few
+pub frameFirst : Claims.DecidesExactly Wrong.frameFirst → ⊥
+unfolding decisionOf pathOf allowedPath commandPath versionPath registerPath loginPath registerEnding countedEnding settleOf checkedOf
+frameFirst d = let z = two 0x6986 0x6a80 (rw none-read at (differ Wrong.frameFirst d (fresh 1000) 0 (lent [] forbids [] 0))) in omega arith
+
+pub noAndFailed : Claims.DecidesExactly Wrong.noAndFailed → ⊥
+unfolding decisionOf pathOf allowedPath commandPath versionPath registerPath loginPath registerEnding countedEnding settleOf checkedOf
+noAndFailed d = let z = two 0x6986 0x6f00 (differ Wrong.noAndFailed d (fresh 1000) 0 (lent [] forbids [] 0)) in omega arith
+
+-- 139 bytes are enough for h 0 and c 0
+pub room140 : Claims.DecidesExactly Wrong.room140 → ⊥
+unfolding decisionOf pathOf allowedPath commandPath versionPath registerPath loginPath registerEnding countedEnding settleOf checkedOf
+room140 d = r-sw 2 0x6985 (sym (rw register-read at (differ Wrong.room140 d (fresh 1000) 0 (lent registerFrame works [] 139))))
+
+-- a store that failed, without a touch
+pub storeFirst : Claims.DecidesExactly Wrong.storeFirst → ⊥
+unfolding decisionOf pathOf allowedPath commandPath versionPath registerPath loginPath registerEnding countedEnding settleOf checkedOf
+storeFirst d = let z = two 0x6985 0x6f00 (rw register-read at (differ Wrong.storeFirst d (fresh 1000) 0 (lent registerFrame notStored [] 139))) in omega arith
+
+pub missingTaken : Claims.DecidesExactly Wrong.missingTaken → ⊥
+unfolding decisionOf pathOf allowedPath commandPath versionPath registerPath loginPath registerEnding countedEnding settleOf checkedOf
+missingTaken d = sw-gives 0x6f00 Ordered (rw register-read at (differ Wrong.missingTaken d held 0 (lent registerFrame notAttested [] 139)))
+
+-- no room and no touch
+pub touchFirst : Claims.DecidesExactly Wrong.touchFirst → ⊥
+unfolding decisionOf pathOf allowedPath commandPath versionPath registerPath loginPath registerEnding countedEnding settleOf checkedOf
+touchFirst d = r-sw 2 0x6985 (rw register-read at (differ Wrong.touchFirst d (fresh 1000) 0 (lent registerFrame works [] 138)))
+
+pub checkOnlyFirst : Claims.DecidesExactly Wrong.checkOnlyFirst → ⊥
+unfolding decisionOf pathOf allowedPath commandPath versionPath registerPath loginPath registerEnding countedEnding settleOf checkedOf
+checkOnlyFirst d = let z = two 0x6a80 0x6985 (rw read-07 at (differ Wrong.checkOnlyFirst d (fresh 1000) 0 (lent (signFrame 0x07) badHandle [] 0))) in omega arith
+
+pub roomFirst : Claims.DecidesExactly Wrong.roomFirst → ⊥
+unfolding decisionOf pathOf allowedPath commandPath versionPath registerPath loginPath registerEnding countedEnding settleOf checkedOf
+roomFirst d = r-sw 2 0x6985 (sym (rw read-07 at (differ Wrong.roomFirst d (fresh 1000) 0 (lent (signFrame 0x07) works [] 0))))
+
+pub room76 : Claims.DecidesExactly Wrong.room76 → ⊥
+unfolding decisionOf pathOf allowedPath commandPath versionPath registerPath loginPath registerEnding countedEnding settleOf checkedOf
+room76 d = r-gives 2 Ordered (rw read-08 at (differ Wrong.room76 d (fresh 1000) 0 (lent (signFrame 0x08) works [] 76)))
+
+pub room78 : Claims.DecidesExactly Wrong.room78 → ⊥
+unfolding decisionOf pathOf allowedPath commandPath versionPath registerPath loginPath registerEnding countedEnding settleOf checkedOf
+room78 d = r-gives 2 Ordered (sym (rw read-08 at (differ Wrong.room78 d (fresh 1000) 0 (lent (signFrame 0x08) works [] 77))))
+
+pub touchOf08 : Claims.DecidesExactly Wrong.touchOf08 → ⊥
+unfolding decisionOf pathOf allowedPath commandPath versionPath registerPath loginPath registerEnding countedEnding settleOf checkedOf
+touchOf08 d = sw-gives 0x6985 Ordered (rw read-03 at (differ Wrong.touchOf08 d (fresh 1000) 0 (lent (signFrame 0x03) works [] 77)))
+
+pub touchTurned : Claims.DecidesExactly Wrong.touchTurned → ⊥
+unfolding decisionOf pathOf allowedPath commandPath versionPath registerPath loginPath registerEnding countedEnding settleOf checkedOf
+touchTurned d = sw-gives 0x6985 Ordered (rw read-03 at (differ Wrong.touchTurned d (fresh 1000) 0 (lent (signFrame 0x03) works [] 77)))
+
+-- challenge all 00, application all 01: the bytes to sign begin with the application
+abbrev apartFrame : List ℕ
+apartFrame = 0x00 ∷ 0x02 ∷ 0x08 ∷ 0x00 ∷ 0x41 ∷ replicate 32 0x00 ++ replicate 32 0x01 ++ 0x00 ∷ []
+
+apart-read : commandOf apartFrame ≡ Gives (Authenticate 0x08 (saidOf 0x02 0x08 3 65 5))
+unfolding commandOf onReading byInstruction authenticateOf readOf sayOf lengthsOf shortOf extendedOf afterData dataOf partOf
+apart-read = refl
+
+pub challengeFirst : Claims.DecidesExactly Wrong.challengeFirst → ⊥
+unfolding decisionOf pathOf allowedPath commandPath versionPath registerPath loginPath registerEnding countedEnding settleOf checkedOf authenticateOrder block applicationOf challengeOf dataOf partOf
+challengeFirst d =
+    let a = lent apartFrame works [] 77 in
+    let z : _≡_ {A = ℕ} 0x01 0x00 = rw apart-read at (ap (λ (r : Result). byte (r .order .bytes) 0) (sound (fresh 1000) 0 a (Wrong.challengeFirst (fresh 1000) 0 a) (d (fresh 1000) 0 a))) in
+    omega arith
+
+-- ---- the sentence on the box
+closed-open : (m : ℕ) → Closed ≡ Opened m → ⊥
+closed-open m x = let z : _≡_ {A = ℕ} 0 1 = cc in omega arith
+
+untouched : (t : ℕ) → HasTouch (fresh 1000) t → ⊥
+untouched t h = closed-open (h .0) (h .1)
+
+-- an order with presence byte 01 on a fresh record
+pub straight : Claims.OrdersNeedATouch Wrong.straight → ⊥
+unfolding decisionOf pathOf allowedPath commandPath versionPath registerPath loginPath registerEnding countedEnding settleOf checkedOf
+straight d =
+    let a = lent (signFrame 0x03) works [] 77 in
+    untouched 0 (d .touch (fresh 1000) 0 a (rw read-03 (refl, inr (kind-is a 0x03 (saidOf 0x02 0x03 3 65 5) true 7 read-03, presence-is a 0x03 (saidOf 0x02 0x03 3 65 5) true 7 read-03))) .0)
+
+pub present08 : Claims.OrdersNeedATouch Wrong.present08 → ⊥
+unfolding decisionOf pathOf allowedPath commandPath versionPath registerPath loginPath registerEnding countedEnding settleOf checkedOf
+present08 d =
+    let a = lent (signFrame 0x08) works [] 77 in
+    let claimed : byte (Wrong.present08 (fresh 1000) 0 a .order .bytes) 32 ≡ 0x00 = d .present (fresh 1000) 0 a 0x08 (saidOf 0x02 0x08 3 65 5) (refl, read-08) (rw read-08 refl) .1 .1 refl in
+    let made : byte (Wrong.present08 (fresh 1000) 0 a .order .bytes) 32 ≡ 0x01 = rw read-08 (presence-is a 0x08 (saidOf 0x02 0x08 3 65 5) true 7 read-08) in
+    omega arith
+
+-- a check at 0 prompts, the touch at 1 is accepted, and P1 03 at 2 and at 3 get an order each
+pub touchKept : Claims.OrdersHaveTheirTouch Wrong.touchKept → ⊥
+unfolding decisionOf pathOf allowedPath commandPath versionPath registerPath loginPath registerEnding countedEnding settleOf checkedOf after history latest touchOf checkOf grantedOf commandOf onReading byInstruction authenticateOf readOf sayOf lengthsOf shortOf extendedOf afterData dataOf partOf
+touchKept d =
+    let a = lent (signFrame 0x03) works [] 77 in
+    let says : SaysPresent (authenticateOrdered a (saidOf 0x02 0x03 3 65 5) true 7) = inr (kind-is a 0x03 (saidOf 0x02 0x03 3 65 5) true 7 read-03, presence-is a 0x03 (saidOf 0x02 0x03 3 65 5) true 7 read-03) in
+    d .apart 1000 (omega arith) (omega arith) (TouchAt 1 ∷ CheckAt 0 ∷ []) [] 2 3 a a (record { number = 1; moment = 1 }) (record { number = 1; moment = 1 }) (refl, says) refl (refl, says) refl refl
+
+-- ---- what each answer leaves
+pub r2Spends : Claims.RefusalChangesNothing Wrong.r2Spends replyLeft → ⊥
+unfolding decisionOf pathOf allowedPath commandPath versionPath registerPath loginPath registerEnding countedEnding settleOf checkedOf
+r2Spends d =
+    let a = lent registerFrame works [] 138 in
+    closed-open 0 (rw register-read at (ap (λ (p : Presence). p .touch) (d held 0 a 2 [] (rw register-read refl) .0)))
+
+pub r2Takes : Claims.RefusalChangesNothing Wrong.r2Takes replyLeft → ⊥
+unfolding decisionOf pathOf allowedPath commandPath versionPath registerPath loginPath registerEnding countedEnding settleOf checkedOf
+r2Takes d =
+    let a = lent registerFrame works [] 138 in
+    true≢false (rw register-read at (d held 0 a 2 [] (rw register-read refl) .2))
+
+pub r2Moves : Claims.RefusalChangesNothing Wrong.r2Moves replyLeft → ⊥
+unfolding decisionOf pathOf allowedPath commandPath versionPath registerPath loginPath registerEnding countedEnding settleOf checkedOf
+r2Moves d =
+    let a = lent versionFrame works [] 5 in
+    let z : _≡_ {A = ℕ} 7 0 = rw version-read at (ap (λ (p : Presence). p .last) (d held 7 a 2 [] (rw version-read refl) .0)) in
+    omega arith
+
+pub takesAt6985 : Claims.CounterExactly Wrong.takesAt6985 → ⊥
+unfolding decisionOf pathOf allowedPath commandPath versionPath registerPath loginPath registerEnding countedEnding settleOf checkedOf
+takesAt6985 d =
+    let a = lent (signFrame 0x03) works [] 77 in
+    sw-gives 0x6985 Ordered (rw read-03 at (d (fresh 1000) 0 a (refl, refl) .0 (rw read-03 refl) .0))
+
+pub notTaken : Claims.CounterExactly Wrong.notTaken → ⊥
+unfolding decisionOf pathOf allowedPath commandPath versionPath registerPath loginPath registerEnding countedEnding settleOf checkedOf
+notTaken d =
+    let a = lent (signFrame 0x08) works [] 77 in
+    false≢true (rw read-08 at (d (fresh 1000) 0 a (refl, refl) .1 (rw read-08 (refl, kind-is a 0x08 (saidOf 0x02 0x08 3 65 5) false 7 read-08))))
+
+-- ---- the reply
+pub otherBytes : Claims.RepliesExactly decisionOf Wrong.otherBytes → ⊥
+unfolding decisionOf pathOf allowedPath commandPath versionPath registerPath loginPath registerEnding countedEnding settleOf checkedOf
+otherBytes d =
+    let a = lent versionFrame works [] 6 in
+    ⊎-elim
+    (λ x. let z : _≡_ {A = ℕ} 0x31 0x32 = rw version-read at (ap (λ (l : List ℕ). byte l 5) (x .2)) in omega arith)
+    (λ x. x .0 6 (rw version-read refl))
+    (d (fresh 1000) 0 a (replicate 6 0) refl)
+
+pub clearsRest : Claims.RepliesExactly decisionOf Wrong.clearsRest → ⊥
+unfolding decisionOf pathOf allowedPath commandPath versionPath registerPath loginPath registerEnding countedEnding settleOf checkedOf
+clearsRest d =
+    let a = lent versionFrame works [] 7 in
+    ⊎-elim
+    (λ x. let z : _≡_ {A = ℕ} 6 7 = rw version-read at (ap (length {A = ℕ}) (x .2)) in omega arith)
+    (λ x. x .0 6 (rw version-read refl))
+    (d (fresh 1000) 0 a (replicate 7 0) refl)
+
+-- ---- orders
+-- a handle of 256 bytes makes the blank order
+pub handle256 : Claims.OrdersOfLayout Wrong.handle256 → ⊥
+unfolding decisionOf pathOf allowedPath commandPath versionPath registerPath loginPath registerEnding countedEnding settleOf checkedOf enrolmentOrder registerOrder applicationOf challengeOf dataOf partOf
+handle256 d =
+    let a = lent registerFrame works (replicate 256 0) 395 in
+    let made : isOfLayout blankOrder ≡ true = rw register-read at (d held 0 a (refl, refl) (rw register-read refl)) in
+    true≢false (sym made ∙ blank-refused .0)
+
+pub orderAt6985 : Claims.NoOrderIsBlank Wrong.orderAt6985 → ⊥
+unfolding decisionOf pathOf allowedPath commandPath versionPath registerPath loginPath registerEnding countedEnding settleOf checkedOf blankOrder
+orderAt6985 d =
+    let a = lent (signFrame 0x03) works [] 77 in
+    let o = authenticateOrdered a (saidOf 0x02 0x03 3 65 5) true 7 in
+    let none : Wrong.orderAt6985 (fresh 1000) 0 a .answer ≡ Gives Ordered → ⊥ = λ e. sw-gives 0x6985 Ordered (rw read-03 at e) in
+    let blank : o ≡ blankOrder = rw read-03 at (d (fresh 1000) 0 a (record { order = Wrong.orderAt6985 (fresh 1000) 0 a .order; certificate = []; signed = true; signature = []; reply = [] }) none refl .0) in
+    omega (arith, kind-is a 0x03 (saidOf 0x02 0x03 3 65 5) true 7 read-03, ap (λ (q : Order). kindNo (q .kind)) blank)
+
+pub certificateMore : Claims.CertificateOfOrder Wrong.certificateMore → ⊥
+unfolding decisionOf pathOf allowedPath commandPath versionPath registerPath loginPath registerEnding countedEnding settleOf checkedOf registerOrder applicationOf challengeOf dataOf partOf
+certificateMore d =
+    let a = lent registerFrame works [] 139 in
+    ⊎-elim (λ x. let z : _≡_ {A = ℕ} 1 0 = x .1 in omega arith) (λ x. let z : _≡_ {A = ℕ} 1 2 = x .0 in omega arith) (rw register-read at (d held 0 a (refl, refl) (rw register-read refl)))
+
+-- 138 bytes for h 0 and c 0: an order, and R2 when it is finished
+short-finish : (o : Order) → isOfLayout o ≡ true → certificateLength o ≡ 0 → roomAsked o ≡ 139 → finishOf (record { order = o; certificate = []; signed = true; signature = []; reply = replicate 138 0 }) ≡ R 2
+unfolding finishOf
+short-finish o layout certificate room = rw (room, layout, certificate)
+
+pub room138 : Claims.RoomWasAsked Wrong.room138 → ⊥
+unfolding decisionOf pathOf allowedPath commandPath versionPath registerPath loginPath registerEnding countedEnding settleOf checkedOf
+room138 d =
+    let a = lent registerFrame works [] 138 in
+    let said = saidOf 0x01 0x00 3 64 5 in
+    let o = Wrong.room138 held 0 a .order in
+    let is : o ≡ registerOrdered a said = rw register-read refl in
+    let certificate : certificateLength o ≡ 0 = ap certificateLength is ∙ register-certificate a (refl, refl) said register-read (omega arith) in
+    d held 0 a (record { order = o; certificate = []; signed = true; signature = []; reply = replicate 138 0 }) (refl, refl) (rw register-read refl) refl (sym certificate) (omega arith)
+    .2 (short-finish o (ap isOfLayout is ∙ register-of-layout a (refl, refl) said register-read (omega arith)) certificate (ap roomAsked is ∙ register-room a (refl, refl) said register-read (omega arith)))
+
+-- ---- check-only
+passes : (w t : ℕ) → 0 < w → w ≤ 60000 → t < 2 ^ 48 → Passes (fresh w) t
+passes w t a b c = (⊎-elim (λ z. omega arith) (λ z. omega arith), ⊎-elim (λ z. omega arith) (λ z. omega arith))
+
+pub checkOnlyPrompts : Claims.CheckOnlyLooksAtNoTouch Wrong.checkOnlyPrompts → ⊥
+unfolding decisionOf pathOf allowedPath commandPath versionPath registerPath loginPath registerEnding countedEnding settleOf checkedOf
+checkOnlyPrompts d =
+    let a = lent (signFrame 0x07) works [] 0 in
+    closed-open 0 (sym (rw read-07 at (ap (λ (r : Result). r .presence .prompt) (d (fresh 1000) 0 a (saidOf 0x02 0x07 3 65 5) (passes 1000 0 (omega arith) (omega arith) (omega arith)) read-07))))
+
+pub checkOnlySpends : Claims.CheckOnlyLooksAtNoTouch Wrong.checkOnlySpends → ⊥
+unfolding decisionOf pathOf allowedPath commandPath versionPath registerPath loginPath registerEnding countedEnding settleOf checkedOf
+checkOnlySpends d =
+    let a = lent (signFrame 0x07) works [] 0 in
+    closed-open 0 (rw read-07 at (ap (λ (r : Result). r .presence .touch) (d held 0 a (saidOf 0x02 0x07 3 65 5) (passes 1000 0 (omega arith) (omega arith) (omega arith)) read-07)))
+
+-- ---- the record
+pub statusLeaves : Claims.KeepsToItsRole Wrong.statusLeaves → ⊥
+unfolding decisionOf pathOf allowedPath commandPath versionPath registerPath loginPath registerEnding countedEnding settleOf checkedOf doneBy
+statusLeaves d =
+    let z : _≡_ {A = ℕ} 0 7 = rw none-read at (ap (λ (s : Told). s .presence .last) (d (fresh 1000) (DecideAt 7 (lent [] works [] 0)))) in
+    omega arith
+
+yes-same : {a b : Bool} → _≡_ {A = Outcome Bool} (Gives a) (Gives b) → a ≡ b
+yes-same e = cc
+
+-- a check-only at 0 is said to prompt; the touch at 1 is not accepted
+pub checkOnlyAsCheck : Claims.Demand3OfThePanel Wrong.checkOnlyAsCheck → ⊥
+unfolding decisionOf pathOf allowedPath commandPath versionPath registerPath loginPath registerEnding countedEnding settleOf checkedOf after history foretold isPromptStanding latest lastMoment touchOf grantedOf commandOf onReading byInstruction authenticateOf readOf sayOf lengthsOf shortOf extendedOf afterData dataOf partOf
+checkOnlyAsCheck d =
+    false≢true (yes-same (d 1000 (omega arith) (omega arith) (DecideAt 0 (lent (signFrame 0x07) works [] 0) ∷ []) .foretells (TouchAt 1)))
+
+-- P1 03 at 0 is said not to prompt; the touch at 1 is accepted
+pub touchAsOther : Claims.Demand3OfThePanel Wrong.touchAsOther → ⊥
+unfolding decisionOf pathOf allowedPath commandPath versionPath registerPath loginPath registerEnding countedEnding settleOf checkedOf after history foretold isPromptStanding latest lastMoment touchOf grantedOf commandOf onReading byInstruction authenticateOf readOf sayOf lengthsOf shortOf extendedOf afterData dataOf partOf
+touchAsOther d =
+    true≢false (yes-same (d 1000 (omega arith) (omega arith) (DecideAt 0 (lent (signFrame 0x03) works [] 77) ∷ []) .foretells (TouchAt 1)))
+
+-- a Register that is not stored, with the touch at 1
+pub ordersAloneSpend : Claims.Demand3OfThePanel Wrong.ordersAloneSpend → ⊥
+unfolding decisionOf pathOf allowedPath commandPath versionPath registerPath loginPath registerEnding countedEnding settleOf checkedOf after history foretold unspent lastMoment touchOf checkOf grantedOf
+ordersAloneSpend d =
+    false≢true (yes-same (rw register-read at (d 1000 (omega arith) (omega arith) (TouchAt 1 ∷ CheckAt 0 ∷ []) .foretells (DecideAt 2 (lent registerFrame notStored [] 139)))))

@@ -1,232 +1,279 @@
 -- The claims of specs/Claims.antt, each under its own name.
-use Prim.Native.Nat.{ℕ, _<_, _≤_}
-use mathlib.Core.Path.{_≡_, refl, ap, ap₂, sym, subst, _∙_}
-use mathlib.Core.Bool.{Bool, true, false, not, true≢false}
-use mathlib.Core.Logic.{_⊎_, inl, inr}
-use mathlib.Core.List.{List, _++_}
+use Prim.Native.Nat.{ℕ, _+_, _*_, _<_, _≤_}
+use mathlib.Core.Path.{_≡_, refl, ap, ap₂, sym, _∙_}
+use mathlib.Core.Bool.{Bool, true, false, true≢false}
+use mathlib.Core.Logic.{_↔_, _⊎_, inl, inr}
+use mathlib.Core.List.{List, [], _∷_, _++_}
+use mathlib.Core.Option.{Option, some}
 use native.Mathlib.Omega.{arith}
+use borrow.Author.Tests.{eqb-true, eq-eqb}
+use lib.Dec.{eqb}
 use lib.ListN.{length, drop}
 use Rattle.outcome.specs.Notation.{if_then_else_}
 use Rattle.outcome.specs.Outcome.{Outcome, R, SW, Gives}
-use Rattle.outcome.specs.declared.ApduStatusCode.{ApduStatusCode}
-use Rattle.outcome.specs.declared.Refusal.{Refusal}
-use Rattle.outcome.proofs.Laws.{gives-same, sw-gives, r-gives, r-sw, both-are, one-to-one}
-use Rattle.outcome.proofs.Theorems.{statusOf, status-back, refusalOf, refusal-back}
-use Rattle.octets.specs.Bytes.{bytes4}
+use Rattle.outcome.proofs.Laws.{gives-same, sw-gives, r-gives, r-sw, both-are}
+use Rattle.octets.specs.Bytes.{byte}
 use Rattle.octets.proofs.Laid.{laid-fits}
 use Rattle.apdu_stated.specs.Answers.{Says}
-use Rattle.command_stated.specs.Command.{Register, Authenticate, commandOf}
-use Rattle.command_stated.proofs.Theorems as Command′
-use Rattle.u2f_up_stated.specs.Moments.{settleOf, movedTo, isR6, isR1}
+use Rattle.command_stated.specs.Command.{Command, Version, Register, Authenticate, commandOf}
+use Rattle.u2f_up_stated.specs.Moments.{movedTo, touchClosed}
+use Rattle.u2f_up_stated.specs.History.{Role, Mark, Checking, isSpending, isNamed, heldAt, serverOf, servers}
+use Rattle.u2f_up_stated.specs.Runs.{after, next, history}
+use Rattle.u2f_up_stated.specs.Terms.{Passes, HasTouch}
 use Rattle.u2f_up_stated.specs.declared.Presence.{Presence}
-use Rattle.u2f_up_stated.proofs.Theorems.{demand-3}
-use Rattle.signing_stated.specs.Orders.{kindNo, certificateLength, blankOrder, isOfLayout, registerOrder, authenticateOrder}
-use Rattle.signing_stated.specs.Layouts.{presenceByte}
-use Rattle.signing_stated.specs.Finishing.{Finishing, finishOf, registerRoom, authenticateRoom, roomAsked}
-use Rattle.signing_stated.specs.declared.Order.{Order}
-use Rattle.signing_stated.proofs.Fit.{RegisterLengths, AuthenticateLengths, register-fit, authenticate-fit}
-use Rattle.signing_stated.proofs.Made.{register-order-fit, authenticate-order-fit}
-use Rattle.signing_stated.proofs.Theorems.{made-of-layout, blank-refused, room-of-made, room-kept}
-use Rattle.ctap1_stated.specs.Words.{Inputs, loginOf, Given, Body, Ordered, Result, Allowed, Decision, Decided, decidedOf, decisionSaid}
-use Rattle.ctap1_stated.specs.Decision.{answer, versionBytes, authenticateDecision, onCommand, onAllowed, onSettled, decisionOf, replyLeft}
-use Rattle.ctap1_stated.specs.declared.Allowed.the-variants as Allowed′
-use Rattle.ctap1_stated.specs.declared.Decided.the-variants as Decided′
-use Rattle.ctap1_stated.specs.Calls.{PanelCall, panel}
+use Rattle.u2f_up_stated.proofs.Laws.{demand-3, servers-next, named-later, named-counts, count, length-those}
+use Rattle.signing_stated.specs.Orders.{kindNo, certificateLength, blankOrder, isOfLayout}
+use Rattle.signing_stated.specs.Finishing.{Finishing, finishOf, roomAsked}
+use Rattle.ctap1_stated.specs.Words.{Inputs, Given, Body, Ordered, Result, Allowed, Decision}
+use Rattle.ctap1_stated.specs.Path.{roleOf, registerOrdered, authenticateOrdered}
+use Rattle.ctap1_stated.specs.Decision.{statusResult, versionBytes, decisionOf, replyLeft}
+use Rattle.ctap1_stated.specs.Calls.{PanelCall, DecideAt, panelCalls, seen}
+use Rattle.ctap1_stated.specs.Terms.{AreBlocks, SaysPresent, OrdersPresent, Comes, Registering, Signing, checkOnlyAnswer}
+use Rattle.ctap1_stated.specs.Table
+use Rattle.ctap1_stated.specs.Table.{Answers}
 use Rattle.ctap1_stated.specs.Claims
-use Rattle.ctap1_stated.specs.Claims.{AreBlocks, checkOnlyAnswer}
-use Rattle.ctap1_stated.proofs.Ways.{Way, refused, stated, versioned, enrolled, signed, way, registerParts, authenticateParts}
-use Rattle.ctap1_stated.proofs.Told.{panel-keeps}
+use Rattle.ctap1_stated.specs.declared.Allowed.the-variants as Allowed′
+use Rattle.ctap1_stated.specs.declared.Counter.the-variants as Counter′
+use Rattle.ctap1_stated.proofs.Ways.{Way, refused, stated, versioned, enrolled, signed-03, signed-08, way, row, sound, registering-checks, signing-checks}
+use Rattle.ctap1_stated.proofs.Commands as Commands
+use Rattle.ctap1_stated.proofs.Kept.{panel-keeps}
+use Rattle.ctap1_stated.proofs.Numbers.{decided-apart, decision-apart}
 
 -- a body and an order are apart
 body-order : (n : ℕ) → _≡_ {A = Outcome Given} (Gives (Body n)) (Gives Ordered) → ⊥
 body-order n e = let z : _≡_ {A = ℕ} 0 1 = cc in omega arith
 
+-- ---- the whole decision
+pub DecidesExactly : Claims.DecidesExactly decisionOf
+DecidesExactly = row
+
+abbrev Left : Inputs → List ℕ → Result → Type 0
+Left a old r =
+    ((r .answer ≡ Gives (Body 6)) × (6 ≤ a .room) × (replyLeft r old ≡ 0x55 ∷ 0x32 ∷ 0x46 ∷ 0x5F ∷ 0x56 ∷ 0x32 ∷ drop 6 old))
+    ⊎ (((n : ℕ) → r .answer ≡ Gives (Body n) → ⊥) × (replyLeft r old ≡ old))
+
+pub RepliesExactly : Claims.RepliesExactly decisionOf replyLeft
+RepliesExactly p t a old long = go (decisionOf p t a) (way p t a)
+  where
+    go : (r : Result) → Way p t a r → Left a old r
+    go _ (refused n) = inr (λ n x. r-gives _ _ x, refl)
+    go _ (stated n q) = inr (λ n x. sw-gives _ _ x, refl)
+    go _ (versioned c room) = inl (refl, room, laid-fits versionBytes old (omega arith))
+    go _ (enrolled said x l h) = inr (λ n x. body-order _ (sym x), refl)
+    go _ (signed-03 said n x l k) = inr (λ n x. body-order _ (sym x), refl)
+    go _ (signed-08 said n x k) = inr (λ n x. body-order _ (sym x), refl)
+
 -- ---- what each answer leaves
-pub RefusalChangesNothing : Claims.RefusalChangesNothing
-RefusalChangesNothing i n old e = go (decisionOf i) (way i) e
+pub RefusalChangesNothing : Claims.RefusalChangesNothing decisionOf replyLeft
+RefusalChangesNothing p t a n old e = go (decisionOf p t a) (way p t a) e
   where
-    go : (o : Result) → Way i o → o .answer ≡ R n → (o .presence ≡ i .presence) × (replyLeft o old ≡ old) × (o .taken ≡ false) × (o .order ≡ blankOrder)
+    go : (r : Result) → Way p t a r → r .answer ≡ R n → (r .presence ≡ p) × (replyLeft r old ≡ old) × (r .taken ≡ false) × (r .order ≡ blankOrder)
     go _ (refused m) x = (refl, refl, refl, refl)
-    go _ (stated m p) x = absurd (r-sw _ _ (sym x))
-    go _ (versioned p room) x = absurd (r-gives _ _ (sym x))
-    go _ (enrolled said p c room h) x = absurd (r-gives _ _ (sym x))
-    go _ (signed p1 m said present p c room) x = absurd (r-gives _ _ (sym x))
+    go _ (stated m q) x = absurd (r-sw _ _ (sym x))
+    go _ (versioned c room) x = absurd (r-gives _ _ (sym x))
+    go _ (enrolled said y l h) x = absurd (r-gives _ _ (sym x))
+    go _ (signed-03 said m y l k) x = absurd (r-gives _ _ (sym x))
+    go _ (signed-08 said m y k) x = absurd (r-gives _ _ (sym x))
 
-pub OnlyBodiesWrite : Claims.OnlyBodiesWrite
-OnlyBodiesWrite i old = (λ n e. status (decisionOf i) (way i) n e, λ e. order (decisionOf i) (way i) e)
+pub CounterExactly : Claims.CounterExactly decisionOf
+CounterExactly p t a blocks = (λ e. forth (decisionOf p t a) (way p t a) e, λ e. back (decisionOf p t a) (way p t a) (e .0) (e .1))
   where
-    status : (o : Result) → Way i o → (n : ℕ) → o .answer ≡ SW n → replyLeft o old ≡ old
-    status _ (refused m) n x = refl
-    status _ (stated m p) n x = refl
-    status _ (versioned p room) n x = absurd (sw-gives _ _ (sym x))
-    status _ (enrolled said p c room h) n x = refl
-    status _ (signed p1 m said present p c room) n x = refl
-
-    order : (o : Result) → Way i o → o .answer ≡ Gives Ordered → replyLeft o old ≡ old
-    order _ (refused m) x = refl
-    order _ (stated m p) x = refl
-    order _ (versioned p room) x = absurd (body-order _ x)
-    order _ (enrolled said p c room h) x = refl
-    order _ (signed p1 m said present p c room) x = refl
-
-pub BodyIsVersion : Claims.BodyIsVersion
-BodyIsVersion i n old e long = go (decisionOf i) (way i) e
-  where
-    same : (m : ℕ) → _≡_ {A = Outcome Given} (Gives (Body m)) (Gives (Body n)) → n ≡ m
-    same m x = cc
-
-    go : (o : Result) → Way i o → o .answer ≡ Gives (Body n) → (n ≡ 6) × (6 ≤ i .room) × (replyLeft o old ≡ versionBytes ++ drop 6 old)
-    go _ (refused m) x = absurd (r-gives _ _ x)
-    go _ (stated m p) x = absurd (sw-gives _ _ x)
-    go _ (versioned p room) x = (same 6 x, room, laid-fits versionBytes old (omega arith))
-    go _ (enrolled said p c room h) x = absurd (body-order _ (sym x))
-    go _ (signed p1 m said present p c room) x = absurd (body-order _ (sym x))
-
--- ---- orders fit their layouts
-module _ (i : Inputs) (blocks : AreBlocks i) (said : Says) where
-  register-lengths : commandOf (i .frame) ≡ Gives (Register said) → length (i .newHandle) ≤ 255 → RegisterLengths (registerParts i said)
-  register-lengths c h =
-      let parts = Command′.RegisterParts (i .frame) said c in
-      record { application = parts .2; challenge = parts .1; handle = h; x = blocks .0; y = blocks .1 }
-
-  authenticate-lengths : (p1 n : ℕ) (present : Bool) → commandOf (i .frame) ≡ Gives (Authenticate p1 said) → AuthenticateLengths (authenticateParts i said present n)
-  authenticate-lengths p1 n present c =
-      let parts = Command′.AuthenticateParts (i .frame) p1 said c in
-      record { application = parts .2; presence = small present; counter = refl; challenge = parts .1 }
-    where
-      small : (b : Bool) → presenceByte b ≤ 1
-      small true = omega arith
-      small false = omega arith
-
-pub OrdersOfLayout : Claims.OrdersOfLayout
-OrdersOfLayout i blocks e = go (decisionOf i) (way i) e
-  where
-    go : (o : Result) → Way i o → o .answer ≡ Gives Ordered → isOfLayout (o .order) ≡ true
-    go _ (refused m) x = absurd (r-gives _ _ x)
-    go _ (stated m p) x = absurd (sw-gives _ _ x)
-    go _ (versioned p room) x = absurd (body-order _ x)
-    go _ (enrolled said p c room h) x = made-of-layout .0 (registerParts i said) (length (i .certificate)) (register-fit _ (register-lengths i blocks said c h))
-    go _ (signed p1 m said present p c room) x = made-of-layout .1 (authenticateParts i said present m) (authenticate-fit _ (authenticate-lengths i blocks said p1 m present c))
-
-pub NoOrderIsBlank : Claims.NoOrderIsBlank
-NoOrderIsBlank i f none same = (blank, blank-refused .1 f (same ∙ blank))
-  where
-    go : (o : Result) → Way i o → (o .answer ≡ Gives Ordered → ⊥) → o .order ≡ blankOrder
-    go _ (refused m) n = refl
-    go _ (stated m p) n = refl
-    go _ (versioned p room) n = refl
-    go _ (enrolled said p c room h) n = absurd (n refl)
-    go _ (signed p1 m said present p c room) n = absurd (n refl)
-
-    blank : decisionOf i .order ≡ blankOrder
-    blank = go (decisionOf i) (way i) none
-
-room-was-asked : (i : Inputs) → AreBlocks i → (o : Result) → Way i o → o .answer ≡ Gives Ordered → roomAsked (o .order) ≤ i .room
-room-was-asked i blocks _ (refused m) x = absurd (r-gives _ _ x)
-room-was-asked i blocks _ (stated m p) x = absurd (sw-gives _ _ x)
-room-was-asked i blocks _ (versioned p room) x = absurd (body-order _ x)
-room-was-asked i blocks _ (enrolled said p c room h) x =
-    rw (room-of-made .0 (registerParts i said) (length (i .certificate)) (register-fit _ (register-lengths i blocks said c h))) room
-room-was-asked i blocks _ (signed p1 m said present p c room) x =
-    rw (room-of-made .1 (authenticateParts i said present m) (authenticate-fit _ (authenticate-lengths i blocks said p1 m present c))) room
-
-pub RoomWasAsked : Claims.RoomWasAsked
-RoomWasAsked i f blocks e same certificate room =
-    let asked : roomAsked (decisionOf i .order) ≤ i .room = room-was-asked i blocks (decisionOf i) (way i) e in
-    room-kept f (ap isOfLayout same ∙ OrdersOfLayout i blocks e) (certificate ∙ ap certificateLength (sym same)) (rw (same, room) asked)
-
-pub CertificateOfOrder : Claims.CertificateOfOrder
-CertificateOfOrder i blocks e = go (decisionOf i) (way i) e
-  where
-    go : (o : Result) → Way i o → o .answer ≡ Gives Ordered
-        → ((kindNo (o .order .kind) ≡ 0x01) × (certificateLength (o .order) ≡ length (i .certificate))) ⊎ ((kindNo (o .order .kind) ≡ 0x02) × (certificateLength (o .order) ≡ 0))
-    go _ (refused m) x = absurd (r-gives _ _ x)
-    go _ (stated m p) x = absurd (sw-gives _ _ x)
-    go _ (versioned p room) x = absurd (body-order _ x)
-    go _ (enrolled said p c room h) x =
-        let is = register-order-fit (registerParts i said) (length (i .certificate)) (register-lengths i blocks said c h) in
-        inl (ap (λ (o : Order). kindNo (o .kind)) is, ap certificateLength is)
-    go _ (signed p1 m said present p c room) x =
-        let is = authenticate-order-fit (authenticateParts i said present m) (authenticate-lengths i blocks said p1 m present c) in
-        inr (ap (λ (o : Order). kindNo (o .kind)) is, ap certificateLength is)
-
-pub CounterExactly : Claims.CounterExactly
-CounterExactly i blocks = (λ e. forth (decisionOf i) (way i) e, λ t. back (decisionOf i) (way i) (t .0) (t .1))
-  where
-    forth : (o : Result) → Way i o → o .taken ≡ true → (o .answer ≡ Gives Ordered) × (kindNo (o .order .kind) ≡ 0x02)
+    forth : (r : Result) → Way p t a r → r .taken ≡ true → (r .answer ≡ Gives Ordered) × (kindNo (r .order .kind) ≡ 0x02)
     forth _ (refused m) x = absurd (true≢false (sym x))
-    forth _ (stated m p) x = absurd (true≢false (sym x))
-    forth _ (versioned p room) x = absurd (true≢false (sym x))
-    forth _ (enrolled said p c room h) x = absurd (true≢false (sym x))
-    forth _ (signed p1 m said present p c room) x =
-        (refl, ap (λ (o : Order). kindNo (o .kind)) (authenticate-order-fit (authenticateParts i said present m) (authenticate-lengths i blocks said p1 m present c)))
+    forth _ (stated m q) x = absurd (true≢false (sym x))
+    forth _ (versioned c room) x = absurd (true≢false (sym x))
+    forth _ (enrolled said y l h) x = absurd (true≢false (sym x))
+    forth _ (signed-03 said m y l k) x = (refl, Commands.kind-is a 0x03 said true m (y .1 .1))
+    forth _ (signed-08 said m y k) x = (refl, Commands.kind-is a 0x08 said false m (y .1 .1))
 
-    back : (o : Result) → Way i o → o .answer ≡ Gives Ordered → kindNo (o .order .kind) ≡ 0x02 → o .taken ≡ true
+    back : (r : Result) → Way p t a r → r .answer ≡ Gives Ordered → kindNo (r .order .kind) ≡ 0x02 → r .taken ≡ true
     back _ (refused m) x k = absurd (r-gives _ _ x)
-    back _ (stated m p) x k = absurd (sw-gives _ _ x)
-    back _ (versioned p room) x k = absurd (body-order _ x)
-    back _ (enrolled said p c room h) x k =
-        let is = ap (λ (o : Order). kindNo (o .kind)) (register-order-fit (registerParts i said) (length (i .certificate)) (register-lengths i blocks said c h)) in
-        absurd (omega arith)
-    back _ (signed p1 m said present p c room) x k = refl
+    back _ (stated m q) x k = absurd (sw-gives _ _ x)
+    back _ (versioned c room) x k = absurd (body-order _ x)
+    back _ (enrolled said y l h) x k = absurd (omega (arith, Commands.register-kind a blocks said (y .1 .1) h))
+    back _ (signed-03 said m y l n) x k = refl
+    back _ (signed-08 said m y n) x k = refl
+
+-- ---- orders
+pub OrdersOfLayout : Claims.OrdersOfLayout decisionOf
+OrdersOfLayout p t a blocks e = go (decisionOf p t a) (way p t a) e
+  where
+    go : (r : Result) → Way p t a r → r .answer ≡ Gives Ordered → isOfLayout (r .order) ≡ true
+    go _ (refused m) x = absurd (r-gives _ _ x)
+    go _ (stated m q) x = absurd (sw-gives _ _ x)
+    go _ (versioned c room) x = absurd (body-order _ x)
+    go _ (enrolled said y l h) x = Commands.register-of-layout a blocks said (y .1 .1) h
+    go _ (signed-03 said m y l k) x = Commands.of-layout a 0x03 said true m (y .1 .1)
+    go _ (signed-08 said m y k) x = Commands.of-layout a 0x08 said false m (y .1 .1)
+
+pub NoOrderIsBlank : Claims.NoOrderIsBlank decisionOf
+NoOrderIsBlank p t a f none same = (blank, Commands.blank-refused .1 f (same ∙ blank))
+  where
+    go : (r : Result) → Way p t a r → (r .answer ≡ Gives Ordered → ⊥) → r .order ≡ blankOrder
+    go _ (refused m) n = refl
+    go _ (stated m q) n = refl
+    go _ (versioned c room) n = refl
+    go _ (enrolled said y l h) n = absurd (n refl)
+    go _ (signed-03 said m y l k) n = absurd (n refl)
+    go _ (signed-08 said m y k) n = absurd (n refl)
+
+    blank : decisionOf p t a .order ≡ blankOrder
+    blank = go (decisionOf p t a) (way p t a) none
+
+room-was-asked : (p : Presence) (t : ℕ) (a : Inputs) → AreBlocks a → (r : Result) → Way p t a r → r .answer ≡ Gives Ordered → roomAsked (r .order) ≤ a .room
+room-was-asked p t a blocks _ (refused m) x = absurd (r-gives _ _ x)
+room-was-asked p t a blocks _ (stated m q) x = absurd (sw-gives _ _ x)
+room-was-asked p t a blocks _ (versioned c room) x = absurd (body-order _ x)
+room-was-asked p t a blocks _ (enrolled said y l h) x = rw (Commands.register-room a blocks said (y .1 .1) h) (y .2)
+room-was-asked p t a blocks _ (signed-03 said m y l k) x = rw (Commands.room-is a 0x03 said true m (y .1 .1)) (y .3)
+room-was-asked p t a blocks _ (signed-08 said m y k) x = rw (Commands.room-is a 0x08 said false m (y .1 .1)) (y .3)
+
+pub RoomWasAsked : Claims.RoomWasAsked decisionOf
+RoomWasAsked p t a f blocks e same certificate room =
+    let asked : roomAsked (decisionOf p t a .order) ≤ a .room = room-was-asked p t a blocks (decisionOf p t a) (way p t a) e in
+    Commands.room-kept f (ap isOfLayout same ∙ OrdersOfLayout p t a blocks e) (certificate ∙ ap certificateLength (sym same)) (rw same (omega (arith, asked, room)))
+
+pub CertificateOfOrder : Claims.CertificateOfOrder decisionOf
+CertificateOfOrder p t a blocks e = go (decisionOf p t a) (way p t a) e
+  where
+    go : (r : Result) → Way p t a r → r .answer ≡ Gives Ordered
+        → ((kindNo (r .order .kind) ≡ 0x01) × (certificateLength (r .order) ≡ length (a .certificate))) ⊎ ((kindNo (r .order .kind) ≡ 0x02) × (certificateLength (r .order) ≡ 0))
+    go _ (refused m) x = absurd (r-gives _ _ x)
+    go _ (stated m q) x = absurd (sw-gives _ _ x)
+    go _ (versioned c room) x = absurd (body-order _ x)
+    go _ (enrolled said y l h) x = inl (Commands.register-kind a blocks said (y .1 .1) h, Commands.register-certificate a blocks said (y .1 .1) h)
+    go _ (signed-03 said m y l k) x = inr (Commands.kind-is a 0x03 said true m (y .1 .1), Commands.certificate-is a 0x03 said true m (y .1 .1))
+    go _ (signed-08 said m y k) x = inr (Commands.kind-is a 0x08 said false m (y .1 .1), Commands.certificate-is a 0x08 said false m (y .1 .1))
 
 -- ---- check-only
-settled-is : (p : Presence) (t : ℕ) (q : Presence) → settleOf p t ≡ Gives q → q ≡ movedTo p t
-unfolding settleOf
-settled-is p t q e = go (isR6 (p .w)) (isR1 (p .last) t) e
+pub CheckOnlyLooksAtNoTouch : Claims.CheckOnlyLooksAtNoTouch decisionOf
+CheckOnlyLooksAtNoTouch p t a said ok c = by (a .hardware .allowed) refl (a .hardware .good) refl
   where
-    go : (a b : Bool) → (if a then R 6 else if b then R 1 else Gives (movedTo p t)) ≡ Gives q → q ≡ movedTo p t
-    go true b x = absurd (r-gives _ _ x)
-    go false true x = absurd (r-gives _ _ x)
-    go false false x = sym (gives-same _ _ x)
+    by : (w : Allowed) → a .hardware .allowed ≡ w → (g : Bool) → a .hardware .good ≡ g → decisionOf p t a ≡ statusResult (checkOnlyAnswer w g) (movedTo p t)
+    by Allowed′.Failed y g e = sound p t a _ (Table.failed ok y)
+    by Allowed′.No y g e = sound p t a _ (Table.forbidden ok y)
+    by Allowed′.Yes y true e = sound p t a _ (Table.check-only said ok (y, c) e)
+    by Allowed′.Yes y false e = sound p t a _ (Table.bad-handle 0x07 said ok (y, c) e)
 
-check-only : (i : Inputs) (said : Says) (q : Presence) (good : Bool) → i .hardware .good ≡ good → authenticateDecision (loginOf i) 0x07 said q ≡ answer (if good then 0x6985 else 0x6a80) q
-unfolding authenticateDecision
-check-only i said q true g = rw g
-check-only i said q false g = rw g
+-- ---- the record
+pub KeepsToItsRole : Claims.KeepsToItsRole decisionOf
+KeepsToItsRole = panel-keeps
 
-check-only-allowed : (i : Inputs) (said : Says) (q : Presence) → commandOf (i .frame) ≡ Gives (Authenticate 0x07 said) → (a : Allowed)
-    → onAllowed a i q ≡ answer (checkOnlyAnswer a (i .hardware .good)) q
-unfolding onAllowed onCommand
-check-only-allowed i said q c Allowed′.Failed = refl
-check-only-allowed i said q c Allowed′.No = refl
-check-only-allowed i said q c Allowed′.Yes = ap (onCommand i q) c ∙ check-only i said q (i .hardware .good) refl
+pub Demand3OfThePanel : Claims.Demand3OfThePanel panelCalls
+Demand3OfThePanel = demand-3 panelCalls panel-keeps
 
-pub CheckOnlyLooksAtNoTouch : Claims.CheckOnlyLooksAtNoTouch
-unfolding decisionOf onSettled
-CheckOnlyLooksAtNoTouch i said q c s =
-    ap (onSettled i) s
-    ∙ check-only-allowed i said q c (i .hardware .allowed)
-    ∙ ap (answer (checkOnlyAnswer (i .hardware .allowed) (i .hardware .good))) (settled-is (i .presence) (i .moment) q s)
+-- ---- the sentence on the box
+-- one frame is one command
+same-p1 : (a : Inputs) (c d : Command) → commandOf (a .frame) ≡ Gives c → commandOf (a .frame) ≡ Gives d → c ≡ d
+same-p1 a c d e f = gives-same c d (sym e ∙ f)
 
--- ---- demand 3
-pub Demand3OfThePanel : Claims.Demand3OfThePanel
-Demand3OfThePanel w least most calls = demand-3 PanelCall panel panel-keeps w least most calls
+p1-of : (a : Inputs) (p1 q1 : ℕ) (said told : Says) → commandOf (a .frame) ≡ Gives (Authenticate p1 said) → commandOf (a .frame) ≡ Gives (Authenticate q1 told) → p1 ≡ q1
+p1-of a p1 q1 said told e f = let z = same-p1 a _ _ e f in cc
+
+not-register : (a : Inputs) (p1 : ℕ) (said told : Says) → commandOf (a .frame) ≡ Gives (Authenticate p1 said) → commandOf (a .frame) ≡ Gives (Register told) → ⊥
+not-register a p1 said told e f = let w = same-p1 a _ _ e f in let z : _≡_ {A = ℕ} 0 1 = cc in omega arith
+
+pub OrdersNeedATouch : Claims.OrdersNeedATouch decisionOf
+OrdersNeedATouch = record {
+  touch = λ p t a o. touch p t a (decisionOf p t a) (way p t a) (o .0) (o .1);
+  present = λ p t a p1 said c e. present p t a p1 said (c .1) (decisionOf p t a) (way p t a) e;
+  counter = λ p t a p1 said c e. counter p t a p1 said (c .1) (decisionOf p t a) (way p t a) e;
+}
+  where
+    touch : (p : Presence) (t : ℕ) (a : Inputs) (r : Result) → Way p t a r → r .answer ≡ Gives Ordered → SaysPresent (r .order) → HasTouch p t × (r .presence ≡ touchClosed (movedTo p t))
+    touch p t a _ (refused m) x o = absurd (r-gives _ _ x)
+    touch p t a _ (stated m q) x o = absurd (sw-gives _ _ x)
+    touch p t a _ (versioned c room) x o = absurd (body-order _ x)
+    touch p t a _ (enrolled said y l h) x o = (l, refl)
+    touch p t a _ (signed-03 said m y l k) x o = (l, refl)
+    touch p t a _ (signed-08 said m y k) x o = absurd (Commands.absent a 0x08 said m (y .1 .1) o)
+
+    present : (p : Presence) (t : ℕ) (a : Inputs) (p1 : ℕ) (said : Says) → commandOf (a .frame) ≡ Gives (Authenticate p1 said) → (r : Result) → Way p t a r → r .answer ≡ Gives Ordered
+        → ((byte (r .order .bytes) 32 ≡ 0x01) ↔ (p1 ≡ 0x03)) × ((byte (r .order .bytes) 32 ≡ 0x00) ↔ (p1 ≡ 0x08))
+    present p t a p1 said c _ (refused m) x = absurd (r-gives _ _ x)
+    present p t a p1 said c _ (stated m q) x = absurd (sw-gives _ _ x)
+    present p t a p1 said c _ (versioned d room) x = absurd (body-order _ x)
+    present p t a p1 said c _ (enrolled told y l h) x = absurd (not-register a p1 said told c (y .1 .1))
+    present p t a p1 said c _ (signed-03 told m y l k) x =
+        let is = Commands.presence-is a 0x03 told true m (y .1 .1) in
+        let z = p1-of a p1 0x03 said told c (y .1 .1) in
+        ((λ e. z, λ e. is), (λ e. absurd (omega arith), λ e. absurd (omega arith)))
+    present p t a p1 said c _ (signed-08 told m y k) x =
+        let is = Commands.presence-is a 0x08 told false m (y .1 .1) in
+        let z = p1-of a p1 0x08 said told c (y .1 .1) in
+        ((λ e. absurd (omega arith), λ e. absurd (omega arith)), (λ e. z, λ e. is))
+
+    counter : (p : Presence) (t : ℕ) (a : Inputs) (p1 : ℕ) (said : Says) → commandOf (a .frame) ≡ Gives (Authenticate p1 said) → (r : Result) → Way p t a r → r .answer ≡ Gives Ordered
+        → (n : ℕ) × (a .hardware .counter ≡ Counter′.Offered n) × (r .taken ≡ true)
+        × (byte (r .order .bytes) 33 * 0x1000000 + byte (r .order .bytes) 34 * 0x10000 + byte (r .order .bytes) 35 * 256 + byte (r .order .bytes) 36 ≡ n)
+    counter p t a p1 said c _ (refused m) x = absurd (r-gives _ _ x)
+    counter p t a p1 said c _ (stated m q) x = absurd (sw-gives _ _ x)
+    counter p t a p1 said c _ (versioned d room) x = absurd (body-order _ x)
+    counter p t a p1 said c _ (enrolled told y l h) x = absurd (not-register a p1 said told c (y .1 .1))
+    counter p t a p1 said c _ (signed-03 told m y l k) x = (m, k, refl, Commands.counter-is a 0x03 told true m (y .1 .1))
+    counter p t a p1 said c _ (signed-08 told m y k) x = (m, k, refl, Commands.counter-is a 0x08 told false m (y .1 .1))
+
+-- such an order comes from a call that reaches the touch check, and the check succeeds
+seen-spending : (p : Presence) (t : ℕ) (a : Inputs) (r : Result) → Way p t a r → r .answer ≡ Gives Ordered → SaysPresent (r .order) → (roleOf a ≡ Checking) × (seen Checking (r .answer) ≡ Gives true)
+seen-spending p t a _ (refused m) x o = absurd (r-gives _ _ x)
+seen-spending p t a _ (stated m q) x o = absurd (sw-gives _ _ x)
+seen-spending p t a _ (versioned c room) x o = absurd (body-order _ x)
+seen-spending p t a _ (enrolled said y l h) x o = (registering-checks p t a said y, refl)
+seen-spending p t a _ (signed-03 said m y l k) x o = (signing-checks p t a said y, refl)
+seen-spending p t a _ (signed-08 said m y k) x o = absurd (Commands.absent a 0x08 said m (y .1 .1) o)
+
+module _ (w : ℕ) (least : 0 < w) (most : w ≤ 60000) (earlier : List PanelCall) (t : ℕ) (a : Inputs) (o : OrdersPresent (decisionOf (after panelCalls w earlier) t a)) where
+  now : Presence
+  now = after panelCalls w earlier
+
+  spending : (roleOf a ≡ Checking) × (seen Checking (decisionOf now t a .answer) ≡ Gives true)
+  unfolding now
+  spending = seen-spending now t a (decisionOf now t a) (way now t a) (o .0) (o .1)
+
+  found : next panelCalls w earlier (DecideAt t a) ≡ Gives true
+  unfolding now
+  found = rw (spending .0) (spending .1)
+
+  own : (k : Mark) × (serverOf (history panelCalls w earlier) ≡ some k) × (heldAt w (history panelCalls w earlier) t ≡ k ∷ [])
+  own = demand-3 panelCalls panel-keeps w least most earlier .serves (DecideAt t a) (spending .0) found
+
+  spends : (k : Role) (o : Outcome Bool) → k ≡ Checking → o ≡ Gives true → isSpending (record { call = record { role = k; moment = t }; outcome = o }) ≡ true
+  spends k o e f = rw (e, f)
+
+  -- the call names its touch
+  named : (k : Mark) → serverOf (history panelCalls w earlier) ≡ some k → servers (history panelCalls w (DecideAt t a ∷ earlier)) ≡ some k ∷ servers (history panelCalls w earlier)
+  unfolding history
+  named k e = servers-next _ (history panelCalls w earlier) true (spends _ _ (spending .0) found) ∙ ap (λ (j : Option Mark). j ∷ servers (history panelCalls w earlier)) e
+
+pub OrdersHaveTheirTouch : Claims.OrdersHaveTheirTouch decisionOf
+OrdersHaveTheirTouch = record { own = own; apart = apart }
+  where
+    apart : (w : ℕ) → 0 < w → w ≤ 60000 → (earlier later : List PanelCall) (t u : ℕ) (a b : Inputs) (j k : Mark)
+        → OrdersPresent (decisionOf (after panelCalls w earlier) t a) → serverOf (history panelCalls w earlier) ≡ some j
+        → OrdersPresent (decisionOf (after panelCalls w (later ++ DecideAt t a ∷ earlier)) u b) → serverOf (history panelCalls w (later ++ DecideAt t a ∷ earlier)) ≡ some k
+        → j .number ≡ k .number → ⊥
+    apart w least most earlier later t u a b j k o e q f same =
+        let mid = later ++ DecideAt t a ∷ earlier in
+        let n = k .number in
+        let first = ap (count (isNamed n)) (named w least most earlier t a o j e) in
+        let second = ap (count (isNamed n)) (named w least most mid u b q k f) in
+        let all = servers (history panelCalls w (DecideAt u b ∷ mid)) in
+        omega (
+          arith,
+          first,
+          second,
+          length-those (isNamed n) all,
+          demand-3 panelCalls panel-keeps w least most (DecideAt u b ∷ mid) .once n,
+          named-counts n j (servers (history panelCalls w earlier)) same,
+          named-counts n k (servers (history panelCalls w mid)) refl,
+          named-later panelCalls w n later (DecideAt t a ∷ earlier),
+        )
 
 -- ---- two results are equal
-decidedBack : Outcome Given → Decided
-decidedBack (R n) = Decided′.Refused (refusalOf n)
-decidedBack (SW n) = Decided′.Status (statusOf n)
-decidedBack (Gives (Body n)) = Decided′.Body n
-decidedBack (Gives Ordered) = Decided′.Order
-
-decided-back : (d : Decided) → decidedBack (decidedOf d) ≡ d
-unfolding decidedBack
-decided-back (Decided′.Refused r) = ap Decided′.Refused (refusal-back r)
-decided-back (Decided′.Status s) = ap Decided′.Status (status-back s)
-decided-back (Decided′.Body n) = refl
-decided-back Decided′.Order = refl
-
 pub DecidedOneToOne : Claims.DecidedOneToOne
-DecidedOneToOne = one-to-one decidedOf decidedBack decided-back
+DecidedOneToOne = decided-apart
 
-resultBack : Result → Decision
-resultBack r = record { answer = decidedBack (r .answer); presence = r .presence; order = r .order; taken = r .taken }
-
-result-back : (d : Decision) → resultBack (decisionSaid d) ≡ d
-unfolding resultBack
-result-back d = ap (λ (a : Decided). record { answer = a; presence = d .presence; order = d .order; taken = d .taken }) (decided-back (d .answer))
-
-pub DecideDetermined : Claims.DecideDetermined
-DecideDetermined i old a b p q =
-    ap₂ (λ (d : Decision) (l : List ℕ). (d, l)) (one-to-one decisionSaid resultBack result-back (a .0) (b .0) (both-are _ _ (p .0) (q .0))) (both-are _ _ (p .1) (q .1))
+pub ResultsDetermined : Claims.ResultsDetermined
+ResultsDetermined = record {
+  decide = λ p t a old x y hx hy. ap₂ (λ (d : Decision) (l : List ℕ). (d, l)) (decision-apart (x .0) (y .0) (both-are _ _ (hx .0) (hy .0))) (both-are _ _ (hx .1) (hy .1));
+}

@@ -1,4 +1,4 @@
--- The decision's outer checks, in both its results: the answer with the record, and the reply buffer. It mentions no function.
+-- The decision's outer checks, in both its results: the statusResult with the record, and the reply buffer. It mentions no function.
 use Prim.Native.Nat.{ℕ}
 use mathlib.Core.Path.{_≡_, refl, ap, sym, _∙_}
 use mathlib.Core.Bool.{Bool, true, false, not}
@@ -19,136 +19,142 @@ use Rattle.command_stated.specs.declared.U2fCommand.the-variants as U2fCommand�
 use Rattle.u2f_up_stated.specs.Moments.{settleOf, checkedOf}
 use Rattle.u2f_up_stated.specs.Answers.{readyOf}
 use Rattle.u2f_up_stated.specs.declared.Presence.{Presence}
-use Rattle.u2f_up_stated.specs.declared.Found.{Found}
+use Rattle.u2f_up_stated.specs.declared.Finding.{Finding}
 use Rattle.u2f_up_stated.specs.declared.Ready.{Ready}
 use Rattle.u2f_up_stated.specs.declared.Ready.the-variants as Ready′
 use Rattle.signing_stated.specs.Finishing.{registerRoom, authenticateRoom}
-use Rattle.ctap1_stated.specs.Words.{Inputs, Login, loginOf, isPresent, Result, Allowed, Counter}
-use Rattle.ctap1_stated.specs.Decision.{refuse, answer, registerOrdered, registerDecision, countedBy, enforced, authenticateDecision, versionDecision, onCommand, onAllowed, onSettled, decisionOf, replyLeft}
+use Rattle.ctap1_stated.specs.Words.{Inputs, Hardware, Result, Allowed}
+use Rattle.ctap1_stated.specs.Decision.{refusalResult, statusResult, ended, touchChecked, along, onMoment, decisionOf, replyLeft}
+use Rattle.ctap1_stated.specs.Path.{Ending, Internal, WrongData, Orders, Path, NoRoom, Status, SixBytes, Signs, Touch, versionPath, registerPath, registerEnding, countedEnding, loginPath, commandPath, allowedPath, pathOf}
 use Rattle.ctap1_stated.specs.declared.Allowed.the-variants as Allowed′
-use Rattle.ctap1_stated.specs.declared.Counter.the-variants as Counter′
 
--- ---- neither Register nor Authenticate writes the reply
-either : (b : Bool) (old : List ℕ) (r s : Result) → old ≡ replyLeft r old → old ≡ replyLeft s old → old ≡ replyLeft (if b then r else s) old
-either true old r s p q = p
-either false old r s p q = q
+-- ---- only Version's path writes the reply
+ended-keeps : (e : Ending) (p : Presence) (old : List ℕ) → old ≡ replyLeft (ended e p) old
+ended-keeps Internal p old = refl
+ended-keeps WrongData p old = refl
+ended-keeps (Orders o taken) p old = refl
 
-counted-keeps : (c : Counter) (frame : List ℕ) (said : Says) (present : Bool) (p : Presence) (old : List ℕ) → old ≡ replyLeft (countedBy c frame said present p) old
-unfolding countedBy
-counted-keeps Counter′.Failed frame said present p old = refl
-counted-keeps (Counter′.Offered n) frame said present p old = refl
+checked-keeps : (f : Finding) (e : Ending) (old : List ℕ) → old ≡ replyLeft (touchChecked f e) old
+checked-keeps f e old = by (f .yes)
+  where
+    by : (y : Bool) → old ≡ replyLeft (if not y then statusResult 0x6985 (f .presence) else ended e (f .presence)) old
+    by true = ended-keeps e (f .presence) old
+    by false = refl
 
-enforced-keeps : (c : Counter) (frame : List ℕ) (said : Says) (f : Found) (old : List ℕ) → old ≡ replyLeft (enforced c frame said f) old
-unfolding enforced
-enforced-keeps c frame said f old = either (not (f .yes)) old _ _ refl (counted-keeps c frame said true (f .presence) old)
+module _ (kept settled : Presence) (t : ℕ) (old : List ℕ) where
+  Keeps : Path → Type 0
+  Keeps x = old ≡ replyLeft (along x kept settled t) old
 
-pub register-keeps : (i : Inputs) (said : Says) (settled : Presence) (old : List ℕ) → old ≡ replyLeft (registerDecision i said settled) old
-unfolding registerDecision registerOrdered
-register-keeps i said settled old =
-    let found = checkedOf settled (i .moment) in
-    either (ltb (i .room) (registerRoom (length (i .newHandle)) (length (i .certificate)))) old _ _ refl
-    (either (not (found .yes)) old _ _ refl
-    (either (not (i .hardware .stored)) old _ _ refl
-    (either (ltb 255 (length (i .newHandle))) old _ _ refl
-    (either (not (isPresent (i .hardware .attestation))) old _ _ refl refl))))
+  either : (b : Bool) (x y : Path) → Keeps x → Keeps y → Keeps (if b then x else y)
+  either true x y p q = p
+  either false x y p q = q
 
-pub authenticate-keeps : (i : Login) (p1 : ℕ) (said : Says) (settled : Presence) (old : List ℕ) → old ≡ replyLeft (authenticateDecision i p1 said settled) old
-unfolding authenticateDecision
-authenticate-keeps i p1 said settled old =
-    either (not (i .hardware .good)) old _ _ refl
-    (either (eqb p1 0x07) old _ _ refl
-    (either (ltb (i .room) authenticateRoom) old _ _ refl
-    (either (eqb p1 0x03) old _ _ (enforced-keeps (i .hardware .counter) (i .frame) said (checkedOf settled (i .moment)) old)
-    (counted-keeps (i .hardware .counter) (i .frame) said false settled old))))
+  pub register-keeps : (a : Inputs) (said : Says) → old ≡ replyLeft (along (registerPath a said) kept settled t) old
+  unfolding registerPath Keeps
+  register-keeps a said =
+      either (ltb (a .room) (registerRoom (length (a .newHandle)) (length (a .certificate)))) NoRoom (Touch (registerEnding a said)) refl (checked-keeps (checkedOf settled t) (registerEnding a said) old)
+
+  pub authenticate-keeps : (frame : List ℕ) (h : Hardware) (room p1 : ℕ) (said : Says) → old ≡ replyLeft (along (loginPath frame h room p1 said) kept settled t) old
+  unfolding loginPath Keeps
+  authenticate-keeps frame h room p1 said =
+      either (not (h .good)) (Status 0x6a80) _ refl
+      (either (eqb p1 0x07) (Status 0x6985) _ refl
+      (either (ltb room authenticateRoom) NoRoom _ refl
+      (either (eqb p1 0x03) (Touch (countedEnding frame said true (h .counter))) (Signs (countedEnding frame said false (h .counter)))
+      (checked-keeps (checkedOf settled t) (countedEnding frame said true (h .counter)) old)
+      (ended-keeps (countedEnding frame said false (h .counter)) settled old))))
+
+-- Version looks at no moment
+version-any : (room : ℕ) (kept settled : Presence) (t : ℕ) → along (versionPath room) kept settled 0 ≡ along (versionPath room) kept settled t
+unfolding versionPath
+version-any room kept settled t = by (ltb room 6)
+  where
+    by : (b : Bool) → along (if b then NoRoom else SixBytes) kept settled 0 ≡ along (if b then NoRoom else SixBytes) kept settled t
+    by true = refl
+    by false = refl
 
 -- ---- by the command
-module _ (i : Inputs) (settled : Presence) (c : U2fCommand) (is-c : commandSaid c ≡ commandOf (i .frame)) where
-  here : (d : U2fCommand) → c ≡ d → onCommand i settled (commandSaid d) ≡ onCommand i settled (commandOf (i .frame))
-  here d e = ap (λ (x : U2fCommand). onCommand i settled (commandSaid x)) (sym e) ∙ ap (onCommand i settled) is-c
+module _ (i : Inputs) (kept : Presence) (t : ℕ) (settled : Presence) (c : U2fCommand) (is-c : commandSaid c ≡ commandOf (i .frame)) where
+  here : (d : U2fCommand) → c ≡ d → along (commandPath i (commandSaid d)) kept settled t ≡ along (commandPath i (commandOf (i .frame))) kept settled t
+  here d e = ap (λ (x : U2fCommand). along (commandPath i (commandSaid x)) kept settled t) (sym e) ∙ ap (λ (o : Outcome Command). along (commandPath i o) kept settled t) is-c
 
-  kept-here : (d : U2fCommand) (old : List ℕ) → c ≡ d → old ≡ replyLeft (onCommand i settled (commandSaid d)) old → old ≡ replyLeft (onCommand i settled (commandOf (i .frame))) old
+  kept-here : (d : U2fCommand) (old : List ℕ) → c ≡ d → old ≡ replyLeft (along (commandPath i (commandSaid d)) kept settled t) old → old ≡ replyLeft (along (commandPath i (commandOf (i .frame))) kept settled t) old
   kept-here d old e k = k ∙ ap (λ (x : Result). replyLeft x old) (here d e)
 
   module _ (r : Result) where
-    pub on-status : (s : ApduStatusCode) → c ≡ U2fCommand′.Status s → r ≡ answer (statusNo s) settled → r ≡ onCommand i settled (commandOf (i .frame))
-    unfolding onCommand
+    pub on-status : (s : ApduStatusCode) → c ≡ U2fCommand′.Status s → r ≡ statusResult (statusNo s) settled → r ≡ along (commandPath i (commandOf (i .frame))) kept settled t
+    unfolding commandPath
     on-status s e q = q ∙ here (U2fCommand′.Status s) e
 
-    pub on-version : c ≡ U2fCommand′.Version → r ≡ versionDecision (i .presence) settled (i .room) → r ≡ onCommand i settled (commandOf (i .frame))
-    unfolding onCommand
-    on-version e q = q ∙ here U2fCommand′.Version e
+    pub on-version : c ≡ U2fCommand′.Version → r ≡ along (versionPath (i .room)) kept settled 0 → r ≡ along (commandPath i (commandOf (i .frame))) kept settled t
+    unfolding commandPath
+    on-version e q = q ∙ version-any (i .room) kept settled t ∙ here U2fCommand′.Version e
 
-    pub on-register : (a : Apdu) → c ≡ U2fCommand′.Register a → r ≡ registerDecision i (saysOf a) settled → r ≡ onCommand i settled (commandOf (i .frame))
-    unfolding onCommand
+    pub on-register : (a : Apdu) → c ≡ U2fCommand′.Register a → r ≡ along (registerPath i (saysOf a)) kept settled t → r ≡ along (commandPath i (commandOf (i .frame))) kept settled t
+    unfolding commandPath
     on-register a e q = q ∙ here (U2fCommand′.Register a) e
 
-    pub on-authenticate : (f : Ctap1Flags) (a : Apdu) → c ≡ U2fCommand′.Authenticate f a → r ≡ authenticateDecision (loginOf i) (flagsNo f) (saysOf a) settled → r ≡ onCommand i settled (commandOf (i .frame))
-    unfolding onCommand
+    pub on-authenticate : (f : Ctap1Flags) (a : Apdu) → c ≡ U2fCommand′.Authenticate f a → r ≡ along (loginPath (i .frame) (i .hardware) (i .room) (flagsNo f) (saysOf a)) kept settled t → r ≡ along (commandPath i (commandOf (i .frame))) kept settled t
+    unfolding commandPath
     on-authenticate f a e q = q ∙ here (U2fCommand′.Authenticate f a) e
 
   module _ (old : List ℕ) where
-    pub status-kept : (s : ApduStatusCode) → c ≡ U2fCommand′.Status s → old ≡ replyLeft (onCommand i settled (commandOf (i .frame))) old
-    unfolding onCommand
+    pub status-kept : (s : ApduStatusCode) → c ≡ U2fCommand′.Status s → old ≡ replyLeft (along (commandPath i (commandOf (i .frame))) kept settled t) old
+    unfolding commandPath
     status-kept s e = kept-here (U2fCommand′.Status s) old e refl
 
-    pub register-kept : (a : Apdu) → c ≡ U2fCommand′.Register a → old ≡ replyLeft (onCommand i settled (commandOf (i .frame))) old
-    unfolding onCommand
-    register-kept a e = kept-here (U2fCommand′.Register a) old e (register-keeps i (saysOf a) settled old)
+    pub register-kept : (a : Apdu) → c ≡ U2fCommand′.Register a → old ≡ replyLeft (along (commandPath i (commandOf (i .frame))) kept settled t) old
+    unfolding commandPath
+    register-kept a e = kept-here (U2fCommand′.Register a) old e (register-keeps kept settled t old i (saysOf a))
 
-    pub authenticate-kept : (f : Ctap1Flags) (a : Apdu) → c ≡ U2fCommand′.Authenticate f a → old ≡ replyLeft (onCommand i settled (commandOf (i .frame))) old
-    unfolding onCommand
-    authenticate-kept f a e = kept-here (U2fCommand′.Authenticate f a) old e (authenticate-keeps (loginOf i) (flagsNo f) (saysOf a) settled old)
+    pub authenticate-kept : (f : Ctap1Flags) (a : Apdu) → c ≡ U2fCommand′.Authenticate f a → old ≡ replyLeft (along (commandPath i (commandOf (i .frame))) kept settled t) old
+    unfolding commandPath
+    authenticate-kept f a e = kept-here (U2fCommand′.Authenticate f a) old e (authenticate-keeps kept settled t old (i .frame) (i .hardware) (i .room) (flagsNo f) (saysOf a))
 
-    pub version-left : (new : List ℕ) → c ≡ U2fCommand′.Version → new ≡ replyLeft (versionDecision (i .presence) settled (i .room)) old → new ≡ replyLeft (onCommand i settled (commandOf (i .frame))) old
-    unfolding onCommand
-    version-left new e q = q ∙ ap (λ (x : Result). replyLeft x old) (here U2fCommand′.Version e)
+    pub version-left : (new : List ℕ) → c ≡ U2fCommand′.Version → new ≡ replyLeft (along (versionPath (i .room)) kept settled 0) old → new ≡ replyLeft (along (commandPath i (commandOf (i .frame))) kept settled t) old
+    unfolding commandPath
+    version-left new e q = q ∙ ap (λ (x : Result). replyLeft x old) (version-any (i .room) kept settled t ∙ here U2fCommand′.Version e)
 
--- ---- by whether CTAP1 is allowed
-module _ (a : Allowed) (i : Inputs) (settled : Presence) where
-  module _ (r : Result) where
-    pub allowed-failed : a ≡ Allowed′.Failed → r ≡ answer 0x6f00 settled → r ≡ onAllowed a i settled
-    unfolding onAllowed
-    allowed-failed e q = q ∙ rw e
-
-    pub allowed-no : a ≡ Allowed′.No → r ≡ answer 0x6986 settled → r ≡ onAllowed a i settled
-    unfolding onAllowed
-    allowed-no e q = q ∙ rw e
-
-    pub allowed-yes : a ≡ Allowed′.Yes → r ≡ onCommand i settled (commandOf (i .frame)) → r ≡ onAllowed a i settled
-    unfolding onAllowed
-    allowed-yes e q = q ∙ rw e
-
-  module _ (old : List ℕ) where
-    pub failed-kept : a ≡ Allowed′.Failed → old ≡ replyLeft (onAllowed a i settled) old
-    unfolding onAllowed
-    failed-kept e = rw e
-
-    pub no-kept : a ≡ Allowed′.No → old ≡ replyLeft (onAllowed a i settled) old
-    unfolding onAllowed
-    no-kept e = rw e
-
-    pub yes-left : (new : List ℕ) → a ≡ Allowed′.Yes → new ≡ replyLeft (onCommand i settled (commandOf (i .frame))) old → new ≡ replyLeft (onAllowed a i settled) old
-    unfolding onAllowed
-    yes-left new e q = q ∙ rw e
-
--- ---- by the moment
-module _ (i : Inputs) (s : Ready) (is-s : readyOf s ≡ settleOf (i .presence) (i .moment)) where
-  settles : (d : Ready) → s ≡ d → onSettled i (readyOf d) ≡ decisionOf i
+-- ---- by the moment, and by whether CTAP1 is allowed
+module _ (i : Inputs) (kept : Presence) (t : ℕ) (s : Ready) (is-s : readyOf s ≡ settleOf kept t) where
+  settles : (d : Ready) → s ≡ d → onMoment kept t (pathOf i) (readyOf d) ≡ decisionOf kept t i
   unfolding decisionOf
-  settles d e = ap (λ (x : Ready). onSettled i (readyOf x)) (sym e) ∙ ap (onSettled i) is-s
+  settles d e = ap (λ (x : Ready). onMoment kept t (pathOf i) (readyOf x)) (sym e) ∙ ap (onMoment kept t (pathOf i)) is-s
 
-  pub not-settled : (why : Refusal) (r : Result) → s ≡ Ready′.Refused why → r ≡ refuse (refusalNo why) (i .presence) → r ≡ decisionOf i
-  unfolding onSettled
+  pub not-settled : (why : Refusal) (r : Result) → s ≡ Ready′.Refused why → r ≡ refusalResult (refusalNo why) kept → r ≡ decisionOf kept t i
   not-settled why r e q = q ∙ settles (Ready′.Refused why) e
 
-  pub settled-then : (p : Presence) (r : Result) → s ≡ Ready′.Record p → r ≡ onAllowed (i .hardware .allowed) i p → r ≡ decisionOf i
-  unfolding onSettled
-  settled-then p r e q = q ∙ settles (Ready′.Record p) e
-
-  pub not-settled-kept : (why : Refusal) (old : List ℕ) → s ≡ Ready′.Refused why → old ≡ replyLeft (decisionOf i) old
-  unfolding onSettled
+  pub not-settled-kept : (why : Refusal) (old : List ℕ) → s ≡ Ready′.Refused why → old ≡ replyLeft (decisionOf kept t i) old
   not-settled-kept why old e = ap (λ (x : Result). replyLeft x old) (settles (Ready′.Refused why) e)
 
-  pub settled-left : (p : Presence) (old new : List ℕ) → s ≡ Ready′.Record p → new ≡ replyLeft (onAllowed (i .hardware .allowed) i p) old → new ≡ replyLeft (decisionOf i) old
-  unfolding onSettled
-  settled-left p old new e q = q ∙ ap (λ (x : Result). replyLeft x old) (settles (Ready′.Record p) e)
+  module _ (p : Presence) (e : s ≡ Ready′.Record p) where
+    here-by : (a : Allowed) → i .hardware .allowed ≡ a → along (allowedPath a i) kept p t ≡ decisionOf kept t i
+    unfolding pathOf
+    here-by a is = ap (λ (b : Allowed). along (allowedPath b i) kept p t) (sym is) ∙ settles (Ready′.Record p) e
+
+    left-by : (a : Allowed) (old new : List ℕ) → i .hardware .allowed ≡ a → new ≡ replyLeft (along (allowedPath a i) kept p t) old → new ≡ replyLeft (decisionOf kept t i) old
+    left-by a old new is q = q ∙ ap (λ (x : Result). replyLeft x old) (here-by a is)
+
+    pub allowed-failed : (r : Result) → i .hardware .allowed ≡ Allowed′.Failed → r ≡ statusResult 0x6f00 p → r ≡ decisionOf kept t i
+    unfolding allowedPath
+    allowed-failed r is q = q ∙ here-by Allowed′.Failed is
+
+    pub allowed-no : (r : Result) → i .hardware .allowed ≡ Allowed′.No → r ≡ statusResult 0x6986 p → r ≡ decisionOf kept t i
+    unfolding allowedPath
+    allowed-no r is q = q ∙ here-by Allowed′.No is
+
+    pub allowed-yes : (r : Result) → i .hardware .allowed ≡ Allowed′.Yes → r ≡ along (commandPath i (commandOf (i .frame))) kept p t → r ≡ decisionOf kept t i
+    unfolding allowedPath
+    allowed-yes r is q = q ∙ here-by Allowed′.Yes is
+
+    pub failed-kept : (old : List ℕ) → i .hardware .allowed ≡ Allowed′.Failed → old ≡ replyLeft (decisionOf kept t i) old
+    unfolding allowedPath
+    failed-kept old is = left-by Allowed′.Failed old old is refl
+
+    pub no-kept : (old : List ℕ) → i .hardware .allowed ≡ Allowed′.No → old ≡ replyLeft (decisionOf kept t i) old
+    unfolding allowedPath
+    no-kept old is = left-by Allowed′.No old old is refl
+
+    pub yes-left : (old new : List ℕ) → i .hardware .allowed ≡ Allowed′.Yes → new ≡ replyLeft (along (commandPath i (commandOf (i .frame))) kept p t) old → new ≡ replyLeft (decisionOf kept t i) old
+    unfolding allowedPath
+    yes-left old new is q = left-by Allowed′.Yes old new is q

@@ -1,101 +1,209 @@
--- Every way that a decision ends, with the facts that it shows.
-use Prim.Native.Nat.{ℕ, _<_, _≤_}
+-- Every row of the table is what the definition says, and what the definition says is a row; and the few ways that the claims on
+-- orders, counter and reply tell apart.
+use Prim.Native.Nat.{ℕ, _+_, _<_, _≤_}
 use mathlib.Core.Path.{_≡_, refl, ap, sym, _∙_}
 use mathlib.Core.Bool.{Bool, true, false, not}
-use mathlib.Core.List.{List}
-use borrow.Author.Tests.{ltb-false}
+use native.Mathlib.Omega.{arith}
+use borrow.Author.Tests.{lt-ltb, le-ltb, ltb-true, ltb-false, eqb-true, eqb-false, ne-eqb, not-true, not-false}
 use lib.Dec.{ltb, eqb}
 use lib.ListN.{length}
 use Rattle.outcome.specs.Notation.{if_then_else_}
 use Rattle.outcome.specs.Outcome.{Outcome, R, SW, Gives}
-use Rattle.octets.specs.Bytes.{bytes4}
 use Rattle.apdu_stated.specs.Answers.{Says}
-use Rattle.command_stated.specs.Command.{Command, Register, Authenticate, Version, commandOf, challengeOf, applicationOf}
-use Rattle.u2f_up_stated.specs.Moments.{settleOf, checkedOf}
+use Rattle.command_stated.specs.Command.{Command, Register, Authenticate, Version, commandOf}
+use Rattle.u2f_up_stated.specs.Moments.{movedTo, touchClosed, promptOpened, settleOf, checkedOf}
+use Rattle.u2f_up_stated.specs.History.{Checking}
+use Rattle.u2f_up_stated.specs.Terms.{BadWindow, BadMoment, Passes, HasTouch}
 use Rattle.u2f_up_stated.specs.declared.Presence.{Presence}
-use Rattle.u2f_up_stated.specs.declared.Found.{Found}
-use Rattle.signing_stated.specs.Layouts.{AuthenticateFields, RegisterFields, presenceByte}
-use Rattle.signing_stated.specs.Orders.{authenticateOrder, registerOrder}
-use Rattle.signing_stated.specs.Finishing.{registerRoom, authenticateRoom}
-use Rattle.ctap1_stated.specs.Words.{Inputs, loginOf, isPresent, Result, Allowed, Counter}
-use Rattle.ctap1_stated.specs.Decision.{refuse, answer, bodyOf, orderOf, registerOrdered, registerDecision, countedBy, enforced, authenticateDecision, versionDecision, onCommand, onAllowed, onSettled, decisionOf}
+use Rattle.u2f_up_stated.proofs.Laws.{bad-window, bad-moment, has-touch, settle-r6, settle-r1, settle-moves, checked-live, checked-dead}
+use Rattle.ctap1_stated.specs.Words.{Inputs, Result, Ordered, Allowed, Attestation, Counter, isPresent}
+use Rattle.ctap1_stated.specs.Path.{Ending, Internal, WrongData, Orders, Path, NoRoom, Status, SixBytes, Signs, Touch, registerOrdered, authenticateOrdered, enrolmentOrder, registerEnding, countedEnding, loginPath, registerPath, versionPath, authenticatePath, commandPath, allowedPath, pathOf, roleOf}
+use Rattle.ctap1_stated.specs.Decision.{refusalResult, statusResult, bodyResult, orderResult, ended, along, decisionOf}
+use Rattle.ctap1_stated.specs.Terms.{Comes, roomOfRegister, Registering, Signing}
+use Rattle.ctap1_stated.specs.Table
+use Rattle.ctap1_stated.specs.Table.{Answers}
 use Rattle.ctap1_stated.specs.declared.Allowed.the-variants as Allowed′
+use Rattle.ctap1_stated.specs.declared.Attestation.the-variants as Attestation′
 use Rattle.ctap1_stated.specs.declared.Counter.the-variants as Counter′
+use Rattle.ctap1_stated.proofs.Commands.{never-refused, p1-08}
 
-abbrev pub registerParts : Inputs → Says → RegisterFields
-registerParts i said = record { application = applicationOf (i .frame) said; challenge = challengeOf (i .frame) said; handle = i .newHandle; x = i .x; y = i .y }
+module _ (a : Inputs) where
+  comes : (c : Command) → Comes a c → pathOf a ≡ commandPath a (Gives c)
+  unfolding pathOf allowedPath
+  comes c (y, e) = rw (y, e)
 
-abbrev pub authenticateParts : Inputs → Says → Bool → ℕ → AuthenticateFields
-authenticateParts i said present n = record { application = applicationOf (i .frame) said; presence = presenceByte present; counter = bytes4 n; challenge = challengeOf (i .frame) said }
+  split : {A : Type 0} (W : A → Type 0) (b : Bool) (r s : A) → (b ≡ true → W r) → (b ≡ false → W s) → W (if b then r else s)
+  split W true r s f g = f refl
+  split W false r s f g = g refl
 
-pub data Way (i : Inputs) : Result → Type 0 where
-  refused : (n : ℕ) → Way i (refuse n (i .presence))
-  stated : (n : ℕ) (p : Presence) → Way i (answer n p)
-  versioned : (p : Presence) → 6 ≤ i .room → Way i (bodyOf 6 p)
-  enrolled : (said : Says) (p : Presence) → commandOf (i .frame) ≡ Gives (Register said)
-      → registerRoom (length (i .newHandle)) (length (i .certificate)) ≤ i .room → length (i .newHandle) ≤ 255
-      → Way i (orderOf (registerOrder (registerParts i said) (length (i .certificate))) p false)
-  signed : (p1 n : ℕ) (said : Says) (present : Bool) (p : Presence) → commandOf (i .frame) ≡ Gives (Authenticate p1 said)
-      → authenticateRoom ≤ i .room → Way i (orderOf (authenticateOrder (authenticateParts i said present n)) p true)
+  with-p1 : (p1 k : ℕ) (said : Says) → p1 ≡ k → Comes a (Authenticate p1 said) → Comes a (Authenticate k said)
+  with-p1 p1 k said z c = rw z at c
 
-pub split : (W : Result → Type 0) (b : Bool) (r s : Result) → (b ≡ true → W r) → (b ≡ false → W s) → W (if b then r else s)
-split W true r s f g = f refl
-split W false r s f g = g refl
-
-module _ (i : Inputs) where
-  counted-way : (c : Counter) (p1 : ℕ) (said : Says) (present : Bool) (p : Presence) → commandOf (i .frame) ≡ Gives (Authenticate p1 said)
-      → authenticateRoom ≤ i .room → Way i (countedBy c (i .frame) said present p)
-  unfolding countedBy
-  counted-way Counter′.Failed p1 said present p e room = stated 0x6a80 p
-  counted-way (Counter′.Offered n) p1 said present p e room = signed p1 n said present p e room
-
-  enforced-way : (c : Counter) (p1 : ℕ) (said : Says) (f : Found) → commandOf (i .frame) ≡ Gives (Authenticate p1 said)
-      → authenticateRoom ≤ i .room → Way i (enforced c (i .frame) said f)
-  unfolding enforced
-  enforced-way c p1 said f e room = split (Way i) (not (f .yes)) _ _ (λ n. stated 0x6985 (f .presence)) (λ y. counted-way c p1 said true (f .presence) e room)
-
-  authenticate-way : (p1 : ℕ) (said : Says) (settled : Presence) → commandOf (i .frame) ≡ Gives (Authenticate p1 said) → Way i (authenticateDecision (loginOf i) p1 said settled)
-  unfolding authenticateDecision
-  authenticate-way p1 said settled e =
-      split (Way i) (not (i .hardware .good)) _ _ (λ a. stated 0x6a80 settled)
-      (λ a. split (Way i) (eqb p1 0x07) _ _ (λ b. stated 0x6985 settled)
-      (λ b. split (Way i) (ltb (i .room) authenticateRoom) _ _ (λ c. refused 2)
-      (λ c. split (Way i) (eqb p1 0x03) _ _
-      (λ d. enforced-way (i .hardware .counter) p1 said (checkedOf settled (i .moment)) e (ltb-false (i .room) authenticateRoom c))
-      (λ d. counted-way (i .hardware .counter) p1 said false settled e (ltb-false (i .room) authenticateRoom c)))))
-
-  register-way : (said : Says) (settled : Presence) → commandOf (i .frame) ≡ Gives (Register said) → Way i (registerDecision i said settled)
-  unfolding registerDecision registerOrdered
-  register-way said settled e =
-      let found = checkedOf settled (i .moment) in
-      let room = registerRoom (length (i .newHandle)) (length (i .certificate)) in
-      split (Way i) (ltb (i .room) room) _ _ (λ a. refused 2)
-      (λ a. split (Way i) (not (found .yes)) _ _ (λ b. stated 0x6985 (found .presence))
-      (λ b. split (Way i) (not (i .hardware .stored)) _ _ (λ c. stated 0x6f00 (found .presence))
-      (λ c. split (Way i) (ltb 255 (length (i .newHandle))) _ _ (λ d. stated 0x6f00 (found .presence))
-      (λ d. split (Way i) (not (isPresent (i .hardware .attestation))) _ _ (λ f. stated 0x6f00 (found .presence))
-      (λ f. enrolled said (found .presence) e (ltb-false (i .room) room a) (ltb-false 255 (length (i .newHandle)) d))))))
-
-  command-way : (settled : Presence) (o : Outcome Command) → commandOf (i .frame) ≡ o → Way i (onCommand i settled o)
-  unfolding onCommand versionDecision
-  command-way settled (R n) e = refused n
-  command-way settled (SW n) e = stated n settled
-  command-way settled (Gives Version) e = split (Way i) (ltb (i .room) 6) _ _ (λ a. refused 2) (λ a. versioned settled (ltb-false (i .room) 6 a))
-  command-way settled (Gives (Register said)) e = register-way said settled e
-  command-way settled (Gives (Authenticate p1 said)) e = authenticate-way p1 said settled e
-
-  allowed-way : (a : Allowed) (settled : Presence) → Way i (onAllowed a i settled)
-  unfolding onAllowed
-  allowed-way Allowed′.Failed settled = stated 0x6f00 settled
-  allowed-way Allowed′.No settled = stated 0x6986 settled
-  allowed-way Allowed′.Yes settled = command-way settled (commandOf (i .frame)) refl
-
-  settled-way : (o : Outcome Presence) → Way i (onSettled i o)
-  unfolding onSettled
-  settled-way (R n) = refused n
-  settled-way (SW n) = stated n (i .presence)
-  settled-way (Gives q) = allowed-way (i .hardware .allowed) q
-
-  pub way : Way i (decisionOf i)
+module _ (p : Presence) (t : ℕ) (a : Inputs) where
+  settled : Passes p t → decisionOf p t a ≡ along (pathOf a) p (movedTo p t) t
   unfolding decisionOf
-  way = settled-way (settleOf (i .presence) (i .moment))
+  settled ok = rw (settle-moves p t ok)
+
+  came : (c : Command) → Passes p t → Comes a c → decisionOf p t a ≡ along (commandPath a (Gives c)) p (movedTo p t) t
+  came c ok e = settled ok ∙ ap (λ (x : Path). along x p (movedTo p t) t) (comes a c e)
+
+  is-r6 : BadWindow (p .w) → decisionOf p t a ≡ refusalResult 6 p
+  unfolding decisionOf
+  is-r6 b = rw (settle-r6 p t b)
+
+  is-r1 : (BadWindow (p .w) → ⊥) → BadMoment (p .last) t → decisionOf p t a ≡ refusalResult 1 p
+  unfolding decisionOf
+  is-r1 g b = rw (settle-r1 p t g b)
+
+  -- ---- each row is what the definition says
+  pub sound : (r : Result) → Answers p t a r → decisionOf p t a ≡ r
+  unfolding pathOf allowedPath commandPath versionPath registerPath loginPath registerEnding countedEnding enrolmentOrder
+  sound _ (Table.r6 b) = is-r6 b
+  sound _ (Table.r1 g b) = is-r1 g b
+  sound _ (Table.failed ok y) = settled ok ∙ rw y
+  sound _ (Table.forbidden ok y) = settled ok ∙ rw y
+  sound _ (Table.frame ok y n e) = settled ok ∙ rw (y, e)
+  sound _ (Table.version-short ok c h) = came _ ok c ∙ rw (lt-ltb (a .room) 6 h)
+  sound _ (Table.version ok c h) = came _ ok c ∙ rw (le-ltb (a .room) 6 h)
+  sound _ (Table.register-short said ok c h) = came _ ok c ∙ rw (lt-ltb (a .room) (roomOfRegister a) h)
+  sound _ (Table.register-6985 said (ok, c, h) n) = came _ ok c ∙ rw (le-ltb (a .room) (roomOfRegister a) h, checked-dead p t n)
+  sound _ (Table.not-stored said (ok, c, h) l s) = came _ ok c ∙ rw (le-ltb (a .room) (roomOfRegister a) h, checked-live p t l, s)
+  sound _ (Table.long said (ok, c, h) l s k) = came _ ok c ∙ rw (le-ltb (a .room) (roomOfRegister a) h, checked-live p t l, s, lt-ltb 255 (length (a .newHandle)) k)
+  sound _ (Table.missing said (ok, c, h) l s k m) = came _ ok c ∙ rw (le-ltb (a .room) (roomOfRegister a) h, checked-live p t l, s, le-ltb 255 (length (a .newHandle)) k, m)
+  sound _ (Table.no-attestation said (ok, c, h) l s k m) = came _ ok c ∙ rw (le-ltb (a .room) (roomOfRegister a) h, checked-live p t l, s, le-ltb 255 (length (a .newHandle)) k, m)
+  sound _ (Table.enrols said (ok, c, h) l s k m) = came _ ok c ∙ rw (le-ltb (a .room) (roomOfRegister a) h, checked-live p t l, s, le-ltb 255 (length (a .newHandle)) k, m)
+  sound _ (Table.bad-handle p1 said ok c g) = came _ ok c ∙ rw g
+  sound _ (Table.check-only said ok c g) = came _ ok c ∙ rw g
+  sound _ (Table.sign-short p1 said ok c g n h) = came _ ok c ∙ rw (g, ne-eqb p1 0x07 n, lt-ltb (a .room) 77 h)
+  sound _ (Table.sign-6985 said (ok, c, g, h) n) = came _ ok c ∙ rw (g, le-ltb (a .room) 77 h, checked-dead p t n)
+  sound _ (Table.no-counter-03 said (ok, c, g, h) l k) = came _ ok c ∙ rw (g, le-ltb (a .room) 77 h, checked-live p t l, k)
+  sound _ (Table.signs-03 said n (ok, c, g, h) l k) = came _ ok c ∙ rw (g, le-ltb (a .room) 77 h, checked-live p t l, k)
+  sound _ (Table.no-counter-08 said (ok, c, g, h) k) = came _ ok c ∙ rw (g, le-ltb (a .room) 77 h, k)
+  sound _ (Table.signs-08 said n (ok, c, g, h) k) = came _ ok c ∙ rw (g, le-ltb (a .room) 77 h, k)
+
+  -- ---- and what the definition says is a row
+  module _ (ok : Passes p t) where
+    abbrev At : Path → Type 0
+    At x = Answers p t a (along x p (movedTo p t) t)
+
+    touched : (e : Ending) → ((HasTouch p t → ⊥) → Answers p t a (statusResult 0x6985 (promptOpened (movedTo p t) t)))
+        → (HasTouch p t → Answers p t a (ended e (touchClosed (movedTo p t)))) → At (Touch e)
+    touched e f g = by (has-touch p t)
+      where
+        by : Dec (HasTouch p t) → At (Touch e)
+        by (yes h) = rw (checked-live p t h) (g h)
+        by (no h) = rw (checked-dead p t h) (f h)
+
+    register-at : (said : Says) → Comes a (Register said) → At (commandPath a (Gives (Register said)))
+    unfolding commandPath versionPath registerPath registerEnding enrolmentOrder
+    register-at said c =
+        split a At (ltb (a .room) (roomOfRegister a)) _ _ (λ h. Table.register-short said ok c (ltb-true (a .room) (roomOfRegister a) h))
+        (λ h. let in-room : Registering p t a said = (ok, c, ltb-false (a .room) (roomOfRegister a) h) in
+        let signed = if not (isPresent (a .hardware .attestation)) then Internal else Orders (registerOrdered a said) false in
+        touched (registerEnding a said) (λ n. Table.register-6985 said in-room n)
+        (λ l. split a After (not (a .hardware .stored)) Internal (if ltb 255 (length (a .newHandle)) then Internal else signed) (λ n. Table.not-stored said in-room l (not-true (a .hardware .stored) n))
+        (λ n. split a After (ltb 255 (length (a .newHandle))) Internal signed (λ k. Table.long said in-room l (not-false (a .hardware .stored) n) (ltb-true 255 (length (a .newHandle)) k))
+        (λ k. by in-room l (not-false (a .hardware .stored) n) (ltb-false 255 (length (a .newHandle)) k) (a .hardware .attestation) refl))))
+      where
+        After : Ending → Type 0
+        After e = Answers p t a (ended e (touchClosed (movedTo p t)))
+
+        by : Registering p t a said → HasTouch p t → a .hardware .stored ≡ true → length (a .newHandle) ≤ 255 → (m : Attestation) → a .hardware .attestation ≡ m
+            → After (if not (isPresent m) then Internal else Orders (registerOrdered a said) false)
+        by x l s k Attestation′.Present m = Table.enrols said x l s k m
+        by x l s k Attestation′.Missing m = Table.missing said x l s k m
+        by x l s k Attestation′.Failed m = Table.no-attestation said x l s k m
+
+    counts-03 : (said : Says) → Signing p t a 0x03 said → HasTouch p t → (c : Counter) → a .hardware .counter ≡ c
+        → Answers p t a (ended (countedEnding (a .frame) said true c) (touchClosed (movedTo p t)))
+    unfolding countedEnding
+    counts-03 said x l Counter′.Failed k = Table.no-counter-03 said x l k
+    counts-03 said x l (Counter′.Offered n) k = Table.signs-03 said n x l k
+
+    counts-08 : (said : Says) → Signing p t a 0x08 said → (c : Counter) → a .hardware .counter ≡ c → Answers p t a (ended (countedEnding (a .frame) said false c) (movedTo p t))
+    unfolding countedEnding
+    counts-08 said x Counter′.Failed k = Table.no-counter-08 said x k
+    counts-08 said x (Counter′.Offered n) k = Table.signs-08 said n x k
+
+    authenticate-at : (p1 : ℕ) (said : Says) → Comes a (Authenticate p1 said) → At (authenticatePath a p1 said)
+    unfolding loginPath
+    authenticate-at p1 said c =
+        split a At (not (a .hardware .good)) _ _ (λ n. Table.bad-handle p1 said ok c (not-true (a .hardware .good) n))
+        (λ n. let g = not-false (a .hardware .good) n in
+        split a At (eqb p1 0x07) _ _ (λ z. Table.check-only said ok (with-p1 a p1 0x07 said (eqb-true p1 0x07 z) c) g)
+        (λ n7. split a At (ltb (a .room) 77) _ _ (λ h. Table.sign-short p1 said ok c g (eqb-false p1 0x07 n7) (ltb-true (a .room) 77 h))
+        (λ h. split a At (eqb p1 0x03) _ _
+        (λ z. let x : Signing p t a 0x03 said = (ok, with-p1 a p1 0x03 said (eqb-true p1 0x03 z) c, g, ltb-false (a .room) 77 h) in
+        touched (countedEnding (a .frame) said true (a .hardware .counter)) (λ u. Table.sign-6985 said x u) (λ l. counts-03 said x l (a .hardware .counter) refl))
+        (λ n3. counts-08 said (ok, with-p1 a p1 0x08 said (p1-08 (a .frame) p1 said (c .1) n7 n3) c, g, ltb-false (a .room) 77 h) (a .hardware .counter) refl))))
+
+    command-at : (o : Outcome Command) → a .hardware .allowed ≡ Allowed′.Yes → commandOf (a .frame) ≡ o → At (commandPath a o)
+    unfolding commandPath versionPath registerPath
+    command-at (R n) y e = absurd (never-refused (a .frame) n e)
+    command-at (SW n) y e = Table.frame ok y n e
+    command-at (Gives Version) y e = split a At (ltb (a .room) 6) _ _ (λ h. Table.version-short ok (y, e) (ltb-true (a .room) 6 h)) (λ h. Table.version ok (y, e) (ltb-false (a .room) 6 h))
+    command-at (Gives (Register said)) y e = register-at said (y, e)
+    command-at (Gives (Authenticate p1 said)) y e = authenticate-at p1 said (y, e)
+
+    allowed-at : (w : Allowed) → a .hardware .allowed ≡ w → At (allowedPath w a)
+    unfolding allowedPath
+    allowed-at Allowed′.Failed y = Table.failed ok y
+    allowed-at Allowed′.No y = Table.forbidden ok y
+    allowed-at Allowed′.Yes y = command-at (commandOf (a .frame)) y refl
+
+  pub row : Answers p t a (decisionOf p t a)
+  unfolding decisionOf pathOf
+  row = at (bad-window (p .w)) (bad-moment (p .last) t)
+    where
+      at : Dec (BadWindow (p .w)) → Dec (BadMoment (p .last) t) → Answers p t a (decisionOf p t a)
+      at (yes b) m = rw (settle-r6 p t b) (Table.r6 b)
+      at (no w) (yes b) = rw (settle-r1 p t w b) (Table.r1 w b)
+      at (no w) (no m) = rw (settle-moves p t (w, m)) (allowed-at (w, m) (a .hardware .allowed) refl)
+
+  -- ---- the ways that the other claims tell apart
+  pub data Way : Result → Type 0 where
+    refused : (n : ℕ) → Way (refusalResult n p)
+    stated : (n : ℕ) (q : Presence) → Way (statusResult n q)
+    versioned : Comes a Version → 6 ≤ a .room → Way (bodyResult 6 (movedTo p t))
+    enrolled : (said : Says) → Registering p t a said → HasTouch p t → length (a .newHandle) ≤ 255 → Way (orderResult (registerOrdered a said) (touchClosed (movedTo p t)) false)
+    signed-03 : (said : Says) (n : ℕ) → Signing p t a 0x03 said → HasTouch p t → a .hardware .counter ≡ Counter′.Offered n
+        → Way (orderResult (authenticateOrdered a said true n) (touchClosed (movedTo p t)) true)
+    signed-08 : (said : Says) (n : ℕ) → Signing p t a 0x08 said → a .hardware .counter ≡ Counter′.Offered n
+        → Way (orderResult (authenticateOrdered a said false n) (movedTo p t) true)
+
+  pub way : Way (decisionOf p t a)
+  unfolding enrolmentOrder
+  way = by (decisionOf p t a) row
+    where
+      by : (r : Result) → Answers p t a r → Way r
+      by _ (Table.r6 b) = refused 6
+      by _ (Table.r1 g b) = refused 1
+      by _ (Table.failed ok y) = stated 0x6f00 _
+      by _ (Table.forbidden ok y) = stated 0x6986 _
+      by _ (Table.frame ok y n e) = stated n _
+      by _ (Table.version-short ok c h) = refused 2
+      by _ (Table.version ok c h) = versioned c h
+      by _ (Table.register-short said ok c h) = refused 2
+      by _ (Table.register-6985 said x n) = stated 0x6985 _
+      by _ (Table.not-stored said x l s) = stated 0x6f00 _
+      by _ (Table.long said x l s k) = stated 0x6f00 _
+      by _ (Table.missing said x l s k m) = stated 0x6f00 _
+      by _ (Table.no-attestation said x l s k m) = stated 0x6f00 _
+      by _ (Table.enrols said x l s k m) = enrolled said x l k
+      by _ (Table.bad-handle p1 said ok c g) = stated 0x6a80 _
+      by _ (Table.check-only said ok c g) = stated 0x6985 _
+      by _ (Table.sign-short p1 said ok c g n h) = refused 2
+      by _ (Table.sign-6985 said x n) = stated 0x6985 _
+      by _ (Table.no-counter-03 said x l k) = stated 0x6a80 _
+      by _ (Table.signs-03 said n x l k) = signed-03 said n x l k
+      by _ (Table.no-counter-08 said x k) = stated 0x6a80 _
+      by _ (Table.signs-08 said n x k) = signed-08 said n x k
+
+-- ---- a decision that comes to the touch check has that role
+pub registering-checks : (p : Presence) (t : ℕ) (a : Inputs) (said : Says) → Registering p t a said → roleOf a ≡ Checking
+unfolding commandPath registerPath
+registering-checks p t a said (ok, c, h) = rw (comes a _ c) (rw (le-ltb (a .room) (roomOfRegister a) h))
+
+pub signing-checks : (p : Presence) (t : ℕ) (a : Inputs) (said : Says) → Signing p t a 0x03 said → roleOf a ≡ Checking
+unfolding commandPath loginPath
+signing-checks p t a said (ok, c, g, h) = rw (comes a _ c) (rw (g, le-ltb (a .room) 77 h))

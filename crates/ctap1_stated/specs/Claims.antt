@@ -1,106 +1,143 @@
--- What is promised of the decision beyond its contract: open this file first. Inhabited in proofs/Theorems.antt, same names.
+-- What is promised of the decision beyond its contract: open this file first. Proved in proofs/Theorems.antt under the same names;
+-- proofs/Only.antt shows that no other decision meets them, proofs/Refuted.antt that wrong ones do not. `decide` is any function
+-- of a record, a moment and all that is lent.
 use mathlib.Core.Logic.{_↔_, _⊎_}
-use Rattle.ctap1_stated.specs.Words.{if_then_else_, AtMostOne, R, SW, Gives, _++_, drop, ℕ, _<_, _≤_, _≡_, Bool, true, false, List, length, Presence, Decision, Decided, Inputs, Given, Body, Ordered, decidedOf, decisionSaid, Allowed}
-use Rattle.ctap1_stated.specs.Decision.{decisionOf, replyLeft, versionBytes, answer}
-use Rattle.ctap1_stated.specs.Calls.{PanelCall, panel}
-use Rattle.ctap1_stated.specs.declared.Allowed.the-variants as Allowed′
+use mathlib.Core.Option.{some}
+use Rattle.ctap1_stated.specs.Words.{AtMostOne, R, SW, Gives, [], _∷_, _++_, drop, ℕ, _+_, _*_, _<_, _≤_, _≡_, true, false, List, length, Presence, Decision, Decided, Inputs, Body, Ordered, Result, decidedOf}
+use Rattle.ctap1_stated.specs.Calls.{PanelCall, DecideAt, callsWith}
+use Rattle.ctap1_stated.specs.Contracts.{Decide}
+use Rattle.ctap1_stated.specs.Terms.{Decider, AreBlocks, result, movedAt, spentAt, Comes, SaysPresent, OrdersPresent, checkOnlyAnswer}
+use Rattle.ctap1_stated.specs.Table.{Answers}
+use Rattle.ctap1_stated.specs.declared.Counter.the-variants as Counter′
+use Rattle.octets.specs.Bytes.{byte}
 use Rattle.apdu_stated.specs.Answers.{Says}
 use Rattle.command_stated.specs.Command.{Authenticate, commandOf}
-use Rattle.u2f_up_stated.specs.Moments.{settleOf, movedTo}
-use Rattle.u2f_up_stated.specs.Claims.{Demand3}
+use Rattle.u2f_up_stated.specs.History.{Mark, heldAt, serverOf}
+use Rattle.u2f_up_stated.specs.Runs.{Caller, Keeps, after, history}
+use Rattle.u2f_up_stated.specs.Terms.{Passes, HasTouch}
+use Rattle.u2f_up_stated.specs.Claims as Up
 use Rattle.signing_stated.specs.Orders.{kindNo, certificateLength, blankOrder, isOfLayout}
 use Rattle.signing_stated.specs.Finishing.{Finishing, finishOf}
 
--- x and y are lent as blocks of 32 bytes; a definition over lists has to say so
-abbrev pub AreBlocks : Inputs → Type 0
-AreBlocks i = (length (i .x) ≡ 32) × (length (i .y) ≡ 32)
+-- ---- the sentence on the box
+
+-- An order that says a person was there is made only where the record holds a live touch, and it is spent. 01, The decision: "for P1 03
+-- touch check, 6985", "presence byte (01 for P1 03, 00 for 08)", "the offered counter is reported as taken". The order's presence
+-- byte is 01 exactly for P1 03 and 00 exactly for P1 08, and its counter is the offered one. A decision that goes from P1 03
+-- straight to the counter (Wrong `straight`) fails it on a fresh record; one that says 01 for P1 08 (`present08`) does there.
+pub record OrdersNeedATouch (decide : Decider) : Type 0 where
+  pub touch : (p : Presence) (t : ℕ) (a : Inputs) → OrdersPresent (decide p t a) → HasTouch p t × (decide p t a .presence ≡ spentAt p t)
+  pub present : (p : Presence) (t : ℕ) (a : Inputs) (p1 : ℕ) (said : Says) → Comes a (Authenticate p1 said) → decide p t a .answer ≡ Gives Ordered
+      → ((byte (decide p t a .order .bytes) 32 ≡ 0x01) ↔ (p1 ≡ 0x03)) × ((byte (decide p t a .order .bytes) 32 ≡ 0x00) ↔ (p1 ≡ 0x08))
+  pub counter : (p : Presence) (t : ℕ) (a : Inputs) (p1 : ℕ) (said : Says) → Comes a (Authenticate p1 said) → decide p t a .answer ≡ Gives Ordered
+      → (n : ℕ) × (a .hardware .counter ≡ Counter′.Offered n) × (decide p t a .taken ≡ true)
+      × (byte (decide p t a .order .bytes) 33 * 0x1000000 + byte (decide p t a .order .bytes) 34 * 0x10000 + byte (decide p t a .order .bytes) 35 * 256 + byte (decide p t a .order .bytes) 36 ≡ n)
+
+-- And over a history: every such order has an accepted touch of its own, the latest before it, which was live; no two share one. A
+-- decision that does not spend the touch (`touchKept`) fails it: two orders within W, one touch.
+pub record OrdersHaveTheirTouch (decide : Decider) : Type 0 where
+  pub own : (w : ℕ) → 0 < w → w ≤ 60000 → (earlier : List PanelCall) (t : ℕ) (a : Inputs) → OrdersPresent (decide (after (callsWith decide) w earlier) t a)
+      → (k : Mark) × (serverOf (history (callsWith decide) w earlier) ≡ some k) × (heldAt w (history (callsWith decide) w earlier) t ≡ k ∷ [])
+  pub apart : (w : ℕ) → 0 < w → w ≤ 60000 → (earlier later : List PanelCall) (t u : ℕ) (a b : Inputs) (j k : Mark)
+      → OrdersPresent (decide (after (callsWith decide) w earlier) t a) → serverOf (history (callsWith decide) w earlier) ≡ some j
+      → OrdersPresent (decide (after (callsWith decide) w (later ++ DecideAt t a ∷ earlier)) u b) → serverOf (history (callsWith decide) w (later ++ DecideAt t a ∷ earlier)) ≡ some k
+      → j .number ≡ k .number → ⊥
+
+-- ---- the whole decision
+
+-- Whatever is lent, the result is the one that document 01's table has for it: specs/Table.antt, row by row, each answer with its record,
+-- order and counter. So each answer comes exactly under its row's conditions. A decision that looks at the frame before 'allowed'
+-- (`frameFirst`), at the touch before the room (`touchFirst`), at the store before the touch (`storeFirst`), at P1 07 before the
+-- handle (`checkOnlyFirst`), or asks a check-only for room (`roomFirst`) fails it.
+abbrev pub DecidesExactly : Decider → Type 0
+DecidesExactly decide = (p : Presence) (t : ℕ) (a : Inputs) → Answers p t a (decide p t a)
+
+-- The reply buffer. 01, Refusal numbers: "An order and a status word other than 9000 change no reply buffer", "An R refusal changes no
+-- buffer", "A 9000 body fills the front of the buffer; the rest stays"; The decision, 4: "the six bytes 55 32 46 5F 56 32". A
+-- Version of other bytes (`otherBytes`) fails it, and so does a buffer cleared behind the body (`clearsRest`).
+abbrev pub RepliesExactly : Decider → (Result → List ℕ → List ℕ) → Type 0
+RepliesExactly decide left =
+    (p : Presence) (t : ℕ) (a : Inputs) (old : List ℕ) → length old ≡ a .room
+    → ((decide p t a .answer ≡ Gives (Body 6)) × (6 ≤ a .room) × (left (decide p t a) old ≡ 0x55 ∷ 0x32 ∷ 0x46 ∷ 0x5F ∷ 0x56 ∷ 0x32 ∷ drop 6 old))
+    ⊎ (((n : ℕ) → decide p t a .answer ≡ Gives (Body n) → ⊥) × (left (decide p t a) old ≡ old))
 
 -- ---- what each answer leaves
 
--- "An R refusal changes no buffer and no record", and takes no counter. A decision that finds R2 after the touch is spent or
--- the counter taken fails it: the enrolment that was lost. Bites at a Register with 502 bytes for h 64, c 300.
-abbrev pub RefusalChangesNothing : Type 0
-RefusalChangesNothing =
-    (i : Inputs) (n : ℕ) (old : List ℕ) → decisionOf i .answer ≡ R n
-    → (decisionOf i .presence ≡ i .presence) × (replyLeft (decisionOf i) old ≡ old) × (decisionOf i .taken ≡ false) × (decisionOf i .order ≡ blankOrder)
+-- "An R refusal changes no buffer and no record", and takes no counter. A decision that finds R2 after the touch is spent
+-- (`r2Spends`) or the counter taken (`r2Takes`) fails it: the enrolment that was lost. Bites at a Register with 502 bytes for h
+-- 64, c 300.
+abbrev pub RefusalChangesNothing : Decider → (Result → List ℕ → List ℕ) → Type 0
+RefusalChangesNothing decide left =
+    (p : Presence) (t : ℕ) (a : Inputs) (n : ℕ) (old : List ℕ) → decide p t a .answer ≡ R n
+    → (decide p t a .presence ≡ p) × (left (decide p t a) old ≡ old) × (decide p t a .taken ≡ false) × (decide p t a .order ≡ blankOrder)
 
--- "An order and a status word other than 9000 change no reply buffer." A decision that writes the key before it signs fails it.
-abbrev pub OnlyBodiesWrite : Type 0
-OnlyBodiesWrite =
-    (i : Inputs) (old : List ℕ)
-    → ((n : ℕ) → decisionOf i .answer ≡ SW n → replyLeft (decisionOf i) old ≡ old)
-    × (decisionOf i .answer ≡ Gives Ordered → replyLeft (decisionOf i) old ≡ old)
-
--- "A 9000 body fills the front of the buffer; the rest stays"; a decision's body is Version's six bytes, and never exceeds the
--- room. A Version that writes into five bytes fails it.
-abbrev pub BodyIsVersion : Type 0
-BodyIsVersion =
-    (i : Inputs) (n : ℕ) (old : List ℕ) → decisionOf i .answer ≡ Gives (Body n) → length old ≡ i .room
-    → (n ≡ 6) × (6 ≤ i .room) × (replyLeft (decisionOf i) old ≡ versionBytes ++ drop 6 old)
-
--- "In every other answer it is not taken": the counter is taken exactly for an Authenticate order. A decision that takes it
--- for P1 03 without a touch fails it.
-abbrev pub CounterExactly : Type 0
-CounterExactly =
-    (i : Inputs) → AreBlocks i
-    → (decisionOf i .taken ≡ true) ↔ ((decisionOf i .answer ≡ Gives Ordered) × (kindNo (decisionOf i .order .kind) ≡ 0x02))
+-- "In every other answer it is not taken": the counter is taken exactly for an Authenticate order. A decision that takes it at a
+-- 6985 (`takesAt6985`) fails it.
+abbrev pub CounterExactly : Decider → Type 0
+CounterExactly decide =
+    (p : Presence) (t : ℕ) (a : Inputs) → AreBlocks a
+    → (decide p t a .taken ≡ true) ↔ ((decide p t a .answer ≡ Gives Ordered) × (kindNo (decide p t a .order .kind) ≡ 0x02))
 
 -- ---- orders
 
--- Every order that the decision makes is of its layout: finishing it is not R7.
-abbrev pub OrdersOfLayout : Type 0
-OrdersOfLayout = (i : Inputs) → AreBlocks i → decisionOf i .answer ≡ Gives Ordered → isOfLayout (decisionOf i .order) ≡ true
+-- Every order that the decision makes is of its layout: finishing it is not R7. 01, R7: "order not of either layout". A decision that
+-- takes a handle of 256 bytes (`handle256`) fails it.
+abbrev pub OrdersOfLayout : Decider → Type 0
+OrdersOfLayout decide = (p : Presence) (t : ℕ) (a : Inputs) → AreBlocks a → decide p t a .answer ≡ Gives Ordered → isOfLayout (decide p t a .order) ≡ true
 
--- What stands in an answer without an order is the blank order, and finishing that is R7, whatever is lent beside it.
-abbrev pub NoOrderIsBlank : Type 0
-NoOrderIsBlank =
-    (i : Inputs) (f : Finishing) → (decisionOf i .answer ≡ Gives Ordered → ⊥) → f .order ≡ decisionOf i .order
-    → (decisionOf i .order ≡ blankOrder) × (finishOf f ≡ R 7)
+-- What stands in an answer without an order is the blank order (ours), and finishing that is R7, whatever is lent beside it. A 6985
+-- with the order beside it (`orderAt6985`) fails it.
+abbrev pub NoOrderIsBlank : Decider → Type 0
+NoOrderIsBlank decide =
+    (p : Presence) (t : ℕ) (a : Inputs) (f : Finishing) → (decide p t a .answer ≡ Gives Ordered → ⊥) → f .order ≡ decide p t a .order
+    → (decide p t a .order ≡ blankOrder) × (finishOf f ≡ R 7)
 
--- "A decision that says 'order' has asked for the room": finishing it with a certificate of the order's length and a buffer
--- as long as the decision's never gives R7, R4 or R2. A decision that asks for 138 + h + c fails it.
-abbrev pub RoomWasAsked : Type 0
-RoomWasAsked =
-    (i : Inputs) (f : Finishing) → AreBlocks i → decisionOf i .answer ≡ Gives Ordered → f .order ≡ decisionOf i .order
-    → length (f .certificate) ≡ certificateLength (decisionOf i .order) → length (f .reply) ≡ i .room
+-- A decision that says 'order' has asked for the room (ours; 01, Mistakes a quick port makes: "R2 found after the touch is spent"): finishing it with a certificate of the order's length and a buffer at
+-- least as long as the decision's never gives R7, R4 or R2. A decision that asks for 138 + h + c (`room138`) fails it.
+abbrev pub RoomWasAsked : Decider → Type 0
+RoomWasAsked decide =
+    (p : Presence) (t : ℕ) (a : Inputs) (f : Finishing) → AreBlocks a → decide p t a .answer ≡ Gives Ordered → f .order ≡ decide p t a .order
+    → length (f .certificate) ≡ certificateLength (decide p t a .order) → a .room ≤ length (f .reply)
     → (finishOf f ≡ R 7 → ⊥) × (finishOf f ≡ R 4 → ⊥) × (finishOf f ≡ R 2 → ⊥)
 
--- "the certificate length (0 for Authenticate)": a Register order's is the lent certificate's.
-abbrev pub CertificateOfOrder : Type 0
-CertificateOfOrder =
-    (i : Inputs) → AreBlocks i → decisionOf i .answer ≡ Gives Ordered
-    → ((kindNo (decisionOf i .order .kind) ≡ 0x01) × (certificateLength (decisionOf i .order) ≡ length (i .certificate)))
-    ⊎ ((kindNo (decisionOf i .order .kind) ≡ 0x02) × (certificateLength (decisionOf i .order) ≡ 0))
+-- "the certificate length (0 for Authenticate)": a Register order's is the lent certificate's. One that counts a byte more
+-- (`certificateMore`) fails it.
+abbrev pub CertificateOfOrder : Decider → Type 0
+CertificateOfOrder decide =
+    (p : Presence) (t : ℕ) (a : Inputs) → AreBlocks a → decide p t a .answer ≡ Gives Ordered
+    → ((kindNo (decide p t a .order .kind) ≡ 0x01) × (certificateLength (decide p t a .order) ≡ length (a .certificate)))
+    ⊎ ((kindNo (decide p t a .order .kind) ≡ 0x02) × (certificateLength (decide p t a .order) ≡ 0))
 
 -- ---- check-only
 
 -- "A check-only answer is the same whatever the touches and counter, once R6 and R1 are passed": it is said from whether
 -- CTAP1 is allowed and whether the handle is good. The record moves in its last moment alone. A check-only 6985 that opens a
--- prompt or spends a touch fails it.
-abbrev pub checkOnlyAnswer : Allowed → Bool → ℕ
-checkOnlyAnswer Allowed′.Failed good = 0x6f00
-checkOnlyAnswer Allowed′.No good = 0x6986
-checkOnlyAnswer Allowed′.Yes good = if good then 0x6985 else 0x6a80
+-- prompt (`checkOnlyPrompts`) or spends a touch (`checkOnlySpends`) fails it.
+abbrev pub CheckOnlyLooksAtNoTouch : Decider → Type 0
+CheckOnlyLooksAtNoTouch decide =
+    (p : Presence) (t : ℕ) (a : Inputs) (said : Says) → Passes p t → commandOf (a .frame) ≡ Gives (Authenticate 0x07 said)
+    → decide p t a ≡ result (SW (checkOnlyAnswer (a .hardware .allowed) (a .hardware .good))) (movedAt p t) blankOrder false
 
-abbrev pub CheckOnlyLooksAtNoTouch : Type 0
-CheckOnlyLooksAtNoTouch =
-    (i : Inputs) (said : Says) (settled : Presence) → commandOf (i .frame) ≡ Gives (Authenticate 0x07 said)
-    → settleOf (i .presence) (i .moment) ≡ Gives settled
-    → decisionOf i ≡ answer (checkOnlyAnswer (i .hardware .allowed) (i .hardware .good)) (movedTo (i .presence) (i .moment))
+-- ---- the record
 
--- ---- demand 3, over touches, direct checks, asks and decisions
+-- What a decision does to any lent record is what its role says, no more: 01, Refusal numbers: "Without an R refusal, each touch, direct
+-- check and decision sets the last moment to t; beyond that a check or decision does to the record only what the touch check says."
+-- A frame's status that leaves the last moment (`statusLeaves`) fails it.
+abbrev pub KeepsToItsRole : Decider → Type 0
+KeepsToItsRole decide = Keeps (callsWith decide)
 
--- From a fresh record, each call taking the record the last one gave back, for any sequence of calls. The sentences stand in
--- u2f_up's specs/Claims.antt, at `Demand3`; what a decision is to the record is `kindOf`, and what is seen of it `seen`.
-abbrev pub Demand3OfThePanel : Type 0
-Demand3OfThePanel = (w : ℕ) → 0 < w → w ≤ 60000 → (calls : List PanelCall) → Demand3 panel w calls
+-- Demand 3 over touches, direct checks, asks and decisions. From a fresh record, each call taking the record the last one gave
+-- back, for any sequence of calls. The sentences stand in u2f_up's specs/Demand.antt; what a decision is to the record is
+-- `roleOf`, and what is seen of it `seen`.
+-- A 6985 from P1 07 that counts as a prompting refusal (`checkOnlyAsCheck`) fails it, as does a touch seen to be spent by orders
+-- alone (`ordersAloneSpend`).
+abbrev pub Demand3OfThePanel : Caller PanelCall → Type 0
+Demand3OfThePanel 𝒞 = Up.Demand3 𝒞
 
 -- ---- two results that satisfy the contract are equal
 abbrev pub DecidedOneToOne : Type 0
 DecidedOneToOne = (a b : Decided) → decidedOf a ≡ decidedOf b → a ≡ b
 
 -- the decision, and what the reply buffer holds afterwards
-abbrev pub DecideDetermined : Type 0
-DecideDetermined =
-    (i : Inputs) (old : List ℕ)
-    → AtMostOne (λ (o : Decision × List ℕ). (decisionSaid (o .0) ≡ decisionOf i) × (o .1 ≡ replyLeft (decisionOf i) old))
+pub record ResultsDetermined : Type 0 where
+  pub decide : (p : Presence) (t : ℕ) (a : Inputs) (old : List ℕ) → AtMostOne (λ (o : Decision × List ℕ). Decide p t a old (o .0) (o .1))

@@ -1,9 +1,9 @@
 pub mod Words
-pub mod Decision
 pub mod Path
-pub mod Rows
-pub mod Table
-pub mod Due
+pub mod Decision
 pub mod Calls
-pub mod PathCalls
+pub mod Contracts
+pub mod Terms
+pub mod Table
 pub mod Claims
+pub mod Wrong

@@ -1,5 +1,5 @@
 -- What the decision is lent and what it answers, in document 01's words; the names that the other files here are written with.
-pub use Prim.Native.Nat.{ℕ, _+_, _<_, _≤_}
+pub use Prim.Native.Nat.{ℕ, _+_, _*_, _<_, _≤_}
 pub use mathlib.Core.Path.{_≡_}
 pub use mathlib.Core.Bool.{Bool, true, false, not}
 pub use mathlib.Core.List.{List, [], _∷_, _++_}
@@ -18,11 +18,10 @@ pub use Rattle.ctap1_stated.specs.declared.Decided.{Decided}
 use Rattle.ctap1_stated.specs.declared.Decided.the-variants as Decided′
 pub use Rattle.ctap1_stated.specs.declared.Decision.{Decision}
 
--- 01, The decision: "Lent in: frame, moment, whether CTAP1 is allowed .., reply buffer, and the hardware's answers"
+-- 01, The decision: "Lent in: frame, moment, whether CTAP1 is allowed .., reply buffer, and the hardware's answers": all of it but
+-- the moment, which stands apart with the record
 pub record Inputs : Type 0 where
   pub frame : List ℕ
-  pub moment : ℕ
-  pub presence : Presence
   pub hardware : Hardware  -- allowed; new handle stored; attestation; given handle good; counter
   pub newHandle : List ℕ
   pub certificate : List ℕ
@@ -36,20 +35,6 @@ pub record Enrolment : Type 0 where
   pub certificate : List ℕ
   pub x : List ℕ
   pub y : List ℕ
-
-abbrev pub enrolmentOf : Inputs → Enrolment
-enrolmentOf i = record { newHandle = i .newHandle; certificate = i .certificate; x = i .x; y = i .y }
-
--- what of this an Authenticate looks at
-pub record Login : Type 0 where
-  pub frame : List ℕ
-  pub moment : ℕ
-  pub presence : Presence
-  pub hardware : Hardware
-  pub room : ℕ
-
-abbrev pub loginOf : Inputs → Login
-loginOf i = record { frame = i .frame; moment = i .moment; presence = i .presence; hardware = i .hardware; room = i .room }
 
 -- 01, The decision, 5: "the attestation is missing or failed"
 abbrev pub isPresent : Attestation → Bool

@@ -3,7 +3,7 @@
 // Any values may stand in a record: no sum of moments is ever made, so none can wrap.
 use outcome::Refusal;
 pub use u2f_up_stated::Answer;
-pub use u2f_up_stated::Found;
+pub use u2f_up_stated::Finding;
 pub use u2f_up_stated::Presence;
 pub use u2f_up_stated::Ready;
 pub use u2f_up_stated::Step;
@@ -11,7 +11,8 @@ pub use u2f_up_stated::Window;
 ghost use mathlib.Core.Path.{_≡_};
 ghost use Rattle.outcome.specs.Outcome.{Gives, refusalNo};
 ghost use Rattle.u2f_up_stated.specs.Moments.{isLive, isR6, isR1, grantedOf, gave, refused};
-ghost use Rattle.u2f_up_stated.specs.Answers.{outcomeOf, toldOf, New, Settle, GrantUp, TouchCheck, ConsumeUp, IsUpNeeded, IsUpNeededLent};
+ghost use Rattle.u2f_up_stated.specs.Answers.{outcomeOf, toldOf};
+ghost use Rattle.u2f_up_stated.specs.Contracts.{New, Settle, TouchCheck, GrantUp, ConsumeUp, IsUpNeeded, GrantUpLent, ConsumeUpLent, IsUpNeededLent};
 
 const U2F_UP_PROMPT_TIMEOUT_MS: u64 = 10000;
 
@@ -90,12 +91,12 @@ fn is_live(window: Window, d: u64, t: u64) -> bool
 }
 
 // Touch on a settled record: accepted while the prompt is live.
-fn granted(settled: Presence, t: u64) -> Found
+fn granted(settled: Presence, t: u64) -> Finding
     ensures { λ r. ⌜ r ≡ grantedOf settled t ⌝ }
 {
     let prompt = settled.prompt;
     if is_live(prompt, U2F_UP_PROMPT_TIMEOUT_MS, t) {
-        return Found {
+        return Finding {
             yes: true,
             presence: Presence {
                 w: settled.w,
@@ -105,7 +106,7 @@ fn granted(settled: Presence, t: u64) -> Found
             },
         };
     }
-    Found {
+    Finding {
         yes: false,
         presence: settled,
     }
@@ -113,13 +114,13 @@ fn granted(settled: Presence, t: u64) -> Found
 
 // The touch check on a settled record: a live touch is spent, else a prompt opens. For callers that settled the moment
 // themselves and had more to look at before they came here.
-pub fn touch_check(presence: Presence, t: u64) -> Found
+pub fn touch_check(presence: Presence, t: u64) -> Finding
     ensures { λ r. ⌜ TouchCheck presence t r ⌝ }
 {
     let prompt = presence.prompt;
     let touch = presence.touch;
     if is_live(touch, presence.w, t) {
-        return Found {
+        return Finding {
             yes: true,
             presence: Presence {
                 w: presence.w,
@@ -129,7 +130,7 @@ pub fn touch_check(presence: Presence, t: u64) -> Found
             },
         };
     }
-    Found {
+    Finding {
         yes: false,
         presence: Presence {
             w: presence.w,
@@ -146,7 +147,7 @@ fn answer_of(yes: bool) -> Answer
     if yes { Answer::Yes } else { Answer::No }
 }
 
-fn tell(found: Found) -> Step
+fn tell(found: Finding) -> Step
     ensures { λ r. ⌜ toldOf r ≡ gave found ⌝ }
 {
     let presence = found.presence;
@@ -198,7 +199,7 @@ pub fn is_up_needed(presence: Presence, t: u64) -> Answer
 
 // The same three on a record lent for writing, as the Rust has them. No branch: the work is done by value.
 pub fn grant_up_lent(presence: &mut Presence, t: u64) -> Answer
-    ensures { λ r. ⌜ GrantUp (now (presence .entry)) t (record { answer = r; presence = now (presence .exit) }) ⌝ }
+    ensures { λ r. ⌜ GrantUpLent (now (presence .entry)) t r (now (presence .exit)) ⌝ }
 {
     let step = grant_up(*presence, t);
     *presence = step.presence;
@@ -206,7 +207,7 @@ pub fn grant_up_lent(presence: &mut Presence, t: u64) -> Answer
 }
 
 pub fn consume_up_lent(presence: &mut Presence, t: u64) -> Answer
-    ensures { λ r. ⌜ ConsumeUp (now (presence .entry)) t (record { answer = r; presence = now (presence .exit) }) ⌝ }
+    ensures { λ r. ⌜ ConsumeUpLent (now (presence .entry)) t r (now (presence .exit)) ⌝ }
 {
     let step = consume_up(*presence, t);
     *presence = step.presence;
@@ -215,7 +216,7 @@ pub fn consume_up_lent(presence: &mut Presence, t: u64) -> Answer
 
 // Asking leaves the lent record as it was.
 pub fn is_up_needed_lent(presence: &mut Presence, t: u64) -> Answer
-    ensures { λ r. ⌜ IsUpNeededLent (now (presence .entry)) t (record { answer = r; presence = now (presence .exit) }) ⌝ }
+    ensures { λ r. ⌜ IsUpNeededLent (now (presence .entry)) t r (now (presence .exit)) ⌝ }
 {
     is_up_needed(*presence, t)
 }

@@ -7,8 +7,8 @@ use native.Mathlib.Omega.{arith}
 use lib.Dec.{ltb}
 use borrow.Author.Tests.{lt-ltb, le-ltb, le-leb, lt-leb, eq-eqb, ne-eqb, ltb-true, ltb-false}
 use Rattle.outcome.specs.declared.Refusal.{Refusal}
-use Rattle.u2f_up_stated.specs.Words.{Outcome, R, Gives, refusalNo, Presence, Window, Opened, Found}
-use Rattle.u2f_up_stated.specs.Moments.{isLive, isR6, isR1, fresh, newOf, movedTo, touched, spent, prompted, settleOf, grantedOf, checkedOf}
+use Rattle.u2f_up_stated.specs.Words.{Outcome, R, Gives, refusalNo, Presence, Window, Opened, Finding}
+use Rattle.u2f_up_stated.specs.Moments.{isLive, isR6, isR1, fresh, newOf, movedTo, touchOpened, touchClosed, promptOpened, settleOf, grantedOf, checkedOf}
 use Rattle.u2f_up_stated.specs.Moments.{Told, gave, refused, onSettled, touchOf, checkOf, askOf}
 use Rattle.u2f_up_stated.specs.Answers.{readyOf}
 use Rattle.u2f_up_stated.specs.declared.Ready.{Ready}
@@ -65,7 +65,7 @@ live-since window m d t e h = rw e (same (ltb (t - m) d) refl)
 
 -- touch and touch check on a settled record
 module _ (p : Presence) (t : ℕ) (live : Bool) where
-  pub granted-yes : live ≡ isLive (p .prompt) 10000 t → live ≡ true → record { yes = true; presence = touched p t } ≡ grantedOf p t
+  pub granted-yes : live ≡ isLive (p .prompt) 10000 t → live ≡ true → record { yes = true; presence = touchOpened p t } ≡ grantedOf p t
   unfolding grantedOf
   granted-yes e h = rw (sym e ∙ h)
 
@@ -73,16 +73,16 @@ module _ (p : Presence) (t : ℕ) (live : Bool) where
   unfolding grantedOf
   granted-no e h = rw (sym e ∙ h)
 
-  pub checked-yes : live ≡ isLive (p .touch) (p .w) t → live ≡ true → record { yes = true; presence = spent p } ≡ checkedOf p t
+  pub checked-yes : live ≡ isLive (p .touch) (p .w) t → live ≡ true → record { yes = true; presence = touchClosed p } ≡ checkedOf p t
   unfolding checkedOf
   checked-yes e h = rw (sym e ∙ h)
 
-  pub checked-no : live ≡ isLive (p .touch) (p .w) t → live ≡ false → record { yes = false; presence = prompted p t } ≡ checkedOf p t
+  pub checked-no : live ≡ isLive (p .touch) (p .w) t → live ≡ false → record { yes = false; presence = promptOpened p t } ≡ checkedOf p t
   unfolding checkedOf
   checked-no e h = rw (sym e ∙ h)
 
 -- an answer and a record, told
-pub told-as : (found : Found) (o : Outcome Bool) → o ≡ Gives (found .yes) → record { outcome = o; presence = found .presence } ≡ gave found
+pub told-as : (found : Finding) (o : Outcome Bool) → o ≡ Gives (found .yes) → record { outcome = o; presence = found .presence } ≡ gave found
 told-as found o e = rw e
 
 -- the calls: a refusal keeps the record that came in, and what is found on the settled record is what is told
@@ -99,8 +99,8 @@ module _ (p : Presence) (t : ℕ) (ready : Ready) (settles : readyOf ready ≡ s
     unfolding checkOf
     check-refused = told-refused (λ q. gave (checkedOf q t))
 
-  module _ (q : Presence) (is : ready ≡ Ready′.Record q) (found : Found) (tells : s ≡ gave found) where
-    told-found : (f : Presence → Found) → found ≡ f q → s ≡ onSettled p (settleOf p t) (λ x. gave (f x))
+  module _ (q : Presence) (is : ready ≡ Ready′.Record q) (found : Finding) (tells : s ≡ gave found) where
+    told-found : (f : Presence → Finding) → found ≡ f q → s ≡ onSettled p (settleOf p t) (λ x. gave (f x))
     told-found f e = tells ∙ rw (← settles, is, ← e)
 
     pub touch-found : found ≡ grantedOf q t → s ≡ touchOf p t

@@ -1,23 +1,26 @@
--- Demand 3 for the runs of any way of calling that keeps to the five kinds: the record is read off the history, and so is
+-- Demand 3 for the runs of any way of calling that keeps to the five roles: the record is read off the history, and so is
 -- every outcome.
 use Prim.Native.Nat.{ℕ, suc, _<_, _≤_}
 use mathlib.Core.Path.{_≡_, refl, sym, ap, _∙_}
 use mathlib.Core.Bool.{Bool, true, false}
 use mathlib.Core.List.{List, [], _∷_, _++_}
+use mathlib.Core.Option.{some}
 use native.Mathlib.Omega.{arith}
 use lib.ListN.{length, length-append}
 use Rattle.outcome.specs.Notation.{if_then_else_}
 use Rattle.outcome.specs.Outcome.{Outcome, R, Gives}
 use Rattle.u2f_up_stated.specs.Words.{Presence, Opened}
 use Rattle.u2f_up_stated.specs.Moments.{Told, isLive, isR6, isR1, movedTo, settleOf, grantedOf, checkedOf}
-use Rattle.u2f_up_stated.specs.History.{Kind, Touching, Checking, Asking, Settling, Short, Event, Place, placed, those, isYoung, isOld, live, lastMoment, unspent, isPrompted, unrefused, foretold}
+use Rattle.u2f_up_stated.specs.History.{Role, Touching, Checking, Asking, Settling, Short, Event, Mark, marked, those, isYoung, isOld, heldAt, lastMoment, unspent, isPromptStanding, unrefused, foretold, serverOf}
 use Rattle.u2f_up_stated.specs.Runs.{Caller, Keeps, after, next, history, doneBy}
-use Rattle.u2f_up_stated.proofs.Callers.{done-refused, done-touching, done-checking, done-asking, done-settling, done-short}
+use Rattle.u2f_up_stated.proofs.Roles.{done-refused, done-touching, done-checking, done-asking, done-settling, done-short}
 use Rattle.u2f_up_stated.proofs.Lists.{stay-old, left-old}
 use Rattle.u2f_up_stated.proofs.Runs.{promptOf, heldOf, recordOf, not-before, Sorted, Effect, still, moved, touched, spent, prompted, Follows, follows, settles-r1, settles}
 use Rattle.u2f_up_stated.proofs.Touches.{Inv, inv-at-first, keeps, held-now, prompt-old, last-next, unspent-next, live-any, at-most-one, window-of}
 use Rattle.u2f_up_stated.proofs.Prompts.{Agrees, agrees-at-first, agrees-next}
 use Rattle.u2f_up_stated.proofs.Ledger.{Balanced, balanced-at-first, balanced-next, OneEach, one-at-first, one-next}
+use Rattle.u2f_up_stated.proofs.Served.{Owned, owned-at-first, owned-next}
+use Rattle.u2f_up_stated.proofs.Served as Served
 
 abbrev outcome : Told → Outcome Bool
 outcome s = s .outcome
@@ -27,7 +30,7 @@ module _ (w : ℕ) (h : List Event) (t : ℕ) (within : isR6 w ≡ false) where
   abbrev p : Presence
   p = recordOf w h
 
-  abbrev gives : Kind → Outcome Bool
+  abbrev gives : Role → Outcome Bool
   gives Touching = Gives (isLive (promptOf h) 10000 t)
   gives Checking = Gives (isLive (heldOf h) w t)
   gives Asking = Gives (isLive (promptOf h) 10000 t)
@@ -44,7 +47,7 @@ module _ (w : ℕ) (h : List Event) (t : ℕ) (within : isR6 w ≡ false) where
   yes-checked true e = rw e
   yes-checked false e = rw e
 
-  outcome-given : settleOf p t ≡ Gives (movedTo p t) → (k : Kind) → doneBy k p t .outcome ≡ gives k
+  outcome-given : settleOf p t ≡ Gives (movedTo p t) → (k : Role) → doneBy k p t .outcome ≡ gives k
   outcome-given e Touching = ap outcome (done-touching p t (movedTo p t) e) ∙ ap {B = Outcome Bool} Gives (yes-granted (isLive (promptOf h) 10000 t) refl)
   outcome-given e Checking = ap outcome (done-checking p t (movedTo p t) e) ∙ ap {B = Outcome Bool} Gives (yes-checked (isLive (heldOf h) w t) refl)
   outcome-given e Asking = ap outcome (done-asking p t (movedTo p t) e)
@@ -52,15 +55,15 @@ module _ (w : ℕ) (h : List Event) (t : ℕ) (within : isR6 w ≡ false) where
   outcome-given e Short = ap outcome (done-short p t (movedTo p t) e)
 
   module _ (i : Inv w h) (g : Agrees h) where
-    gives-foretold : lastMoment h ≤ t → (k : Kind) → gives k ≡ unrefused w h k t
-    unfolding isPrompted
+    gives-foretold : lastMoment h ≤ t → (k : Role) → gives k ≡ unrefused w h k t
+    unfolding isPromptStanding
     gives-foretold late Touching = ap {B = Outcome Bool} Gives (g .agrees t)
     gives-foretold late Checking = ap {B = Outcome Bool} Gives (live-any w t (unspent w h) (heldOf h) (held-now w h t late i))
     gives-foretold late Asking = ap {B = Outcome Bool} Gives (g .agrees t)
     gives-foretold late Settling = refl
     gives-foretold late Short = refl
 
-    pub outcome-foretold : (k : Kind) → doneBy k p t .outcome ≡ foretold w h (record { kind = k; moment = t })
+    pub outcome-foretold : (k : Role) → doneBy k p t .outcome ≡ foretold w h (record { role = k; moment = t })
     unfolding foretold
     outcome-foretold k = go (isR1 (lastMoment h) t) refl
       where
@@ -69,24 +72,24 @@ module _ (w : ℕ) (h : List Event) (t : ℕ) (within : isR6 w ≡ false) where
         go false e = outcome-given (settles w h t within e) k ∙ gives-foretold (not-before (lastMoment h) t e) k
 
 -- a touch that is live after an event, and is not that event, was live before it
-module _ (w : ℕ) (h : List Event) (e : Event) (k : Place) (t : ℕ) where
+module _ (w : ℕ) (h : List Event) (e : Event) (k : Mark) (t : ℕ) where
   abbrev Before : Type 0
-  Before = (lastMoment h ≤ t) × (live w h t ≡ k ∷ [])
+  Before = (lastMoment h ≤ t) × (heldAt w h t ≡ k ∷ [])
 
-  passes : {m p : Bool} → Sorted e m false false p → lastMoment h ≤ t → live w (e ∷ h) t ≡ k ∷ [] → Before
+  passes : {m p : Bool} → Sorted e m false false p → lastMoment h ≤ t → heldAt w (e ∷ h) t ≡ k ∷ [] → Before
   passes x late l = (late, sym (ap (those (isYoung w t)) (unspent-next h w x)) ∙ l)
 
-  not-empty : those (isYoung w t) (unspent w (e ∷ h)) ≡ [] → live w (e ∷ h) t ≡ k ∷ [] → ⊥
+  not-empty : those (isYoung w t) (unspent w (e ∷ h)) ≡ [] → heldAt w (e ∷ h) t ≡ k ∷ [] → ⊥
   not-empty n l = let z : _≡_ {A = ℕ} 0 1 = cc in omega arith
 
-  module _ (i : Inv w h) (late : lastMoment (e ∷ h) ≤ t) (l : live w (e ∷ h) t ≡ k ∷ []) (n : k .number < length h) where
+  module _ (i : Inv w h) (late : lastMoment (e ∷ h) ≤ t) (l : heldAt w (e ∷ h) t ≡ k ∷ []) (n : k .number < length h) where
     accepted-now : (x : Sorted e true true false false) → lastMoment h ≤ e .call .moment → isLive (promptOf h) 10000 (e .call .moment) ≡ true → Before
-    accepted-now x b is-live = absurd (go (isYoung w t (placed e h)) (sym (ap (those (isYoung w t)) (unspent-next h w x)) ∙ l))
+    accepted-now x b is-live = absurd (go (isYoung w t (marked e h)) (sym (ap (those (isYoung w t)) (unspent-next h w x)) ∙ l))
       where
         old : those (isYoung w t) (unspent w h) ≡ []
         old = stay-old w (lastMoment h) t (omega (arith, last-next h w x)) (unspent w h) (prompt-old w (lastMoment h) (e .call .moment) (unspent w h) (promptOf h) is-live (i .prompting))
 
-        go : (y : Bool) → (if y then placed e h ∷ those (isYoung w t) (unspent w h) else those (isYoung w t) (unspent w h)) ≡ k ∷ [] → ⊥
+        go : (y : Bool) → (if y then marked e h ∷ those (isYoung w t) (unspent w h) else those (isYoung w t) (unspent w h)) ≡ k ∷ [] → ⊥
         go true q = let z : length h ≡ k .number = cc in omega arith
         go false q = let z : _≡_ {A = ℕ} 0 1 = cc old in omega arith
 
@@ -103,11 +106,11 @@ module _ {D : Type 0} (𝒞 : Caller D) (keeping : Keeps 𝒞) (w : ℕ) (within
   abbrev past : List D → List Event
   past ds = history 𝒞 w ds
 
-  step : (ds : List D) (d : D) → after 𝒞 w ds ≡ recordOf w (past ds) → 𝒞 .does (after 𝒞 w ds) d ≡ doneBy (𝒞 .asCall d .kind) (recordOf w (past ds)) (𝒞 .asCall d .moment)
-  step ds d e = keeping (after 𝒞 w ds) d ∙ ap (λ q. doneBy (𝒞 .asCall d .kind) q (𝒞 .asCall d .moment)) e
+  step : (ds : List D) (d : D) → after 𝒞 w ds ≡ recordOf w (past ds) → 𝒞 .does (after 𝒞 w ds) d ≡ doneBy (𝒞 .asCall d .role) (recordOf w (past ds)) (𝒞 .asCall d .moment)
+  step ds d e = keeping (after 𝒞 w ds) d ∙ ap (λ q. doneBy (𝒞 .asCall d .role) q (𝒞 .asCall d .moment)) e
 
-  step-follows : (ds : List D) (d : D) → after 𝒞 w ds ≡ recordOf w (past ds) → Follows w (past ds) (𝒞 .asCall d .moment) (𝒞 .asCall d .kind) (𝒞 .does (after 𝒞 w ds) d)
-  step-follows ds d e = rw (step ds d e) (follows w (past ds) (𝒞 .asCall d .moment) within (𝒞 .asCall d .kind))
+  step-follows : (ds : List D) (d : D) → after 𝒞 w ds ≡ recordOf w (past ds) → Follows w (past ds) (𝒞 .asCall d .moment) (𝒞 .asCall d .role) (𝒞 .does (after 𝒞 w ds) d)
+  step-follows ds d e = rw (step ds d e) (follows w (past ds) (𝒞 .asCall d .moment) within (𝒞 .asCall d .role))
 
   pub exact : (ds : List D) → after 𝒞 w ds ≡ recordOf w (past ds)
   unfolding after history promptOf heldOf lastMoment
@@ -129,24 +132,31 @@ module _ {D : Type 0} (𝒞 : Caller D) (keeping : Keeps 𝒞) (w : ℕ) (within
   agreeing : (ds : List D) → Agrees (past ds)
   agreeing = along Agrees agrees-at-first (λ h e x g. agrees-next w h e g x)
 
-  pub balanced : (picks : Place → Bool) (ds : List D) → Balanced w picks (past ds)
+  pub balanced : (picks : Mark → Bool) (ds : List D) → Balanced w picks (past ds)
   balanced picks = along (Balanced w picks) (balanced-at-first w picks) (λ h e x b. balanced-next w picks h e b x)
 
   pub one-each : (ds : List D) → OneEach w (past ds)
   one-each ds = along (λ h. Inv w h × OneEach w h) (inv-at-first, one-at-first w) (λ h e x b. (keeps w h e x (b .0), one-next w h e (b .0) (b .1) x)) ds .1
 
-  pub foretells : (ds : List D) (d : D) → next 𝒞 w ds d ≡ foretold w (past ds) (𝒞 .asCall d)
-  foretells ds d = ap outcome (step ds d (exact ds)) ∙ outcome-foretold w (past ds) (𝒞 .asCall d .moment) within (invariant ds) (agreeing ds) (𝒞 .asCall d .kind)
+  pub owned : (ds : List D) → Owned w (past ds)
+  owned = along (Owned w) (owned-at-first w) (λ h e x o. owned-next w h e o x)
 
-  pub one-live-at : (ds : List D) (t : ℕ) → lastMoment (past ds) ≤ t → length (live w (past ds) t) ≤ 1
-  one-live-at ds t late = at-most-one w t (unspent w (past ds)) (heldOf (past ds)) (held-now w (past ds) t late (invariant ds))
+  pub serves : (ds : List D) (d : D) → 𝒞 .asCall d .role ≡ Checking → next 𝒞 w ds d ≡ Gives true
+      → (k : Mark) × (serverOf (past ds) ≡ some k) × (heldAt w (past ds) (𝒞 .asCall d .moment) ≡ k ∷ [])
+  serves ds d r y = Served.serves w (past ds) _ (owned ds) (invariant ds) (effect ds d) (rw (r, y))
+
+  pub foretells : (ds : List D) (d : D) → next 𝒞 w ds d ≡ foretold w (past ds) (𝒞 .asCall d)
+  foretells ds d = ap outcome (step ds d (exact ds)) ∙ outcome-foretold w (past ds) (𝒞 .asCall d .moment) within (invariant ds) (agreeing ds) (𝒞 .asCall d .role)
+
+  pub one-held-at : (ds : List D) (t : ℕ) → lastMoment (past ds) ≤ t → length (heldAt w (past ds) t) ≤ 1
+  one-held-at ds t late = at-most-one w t (unspent w (past ds)) (heldOf (past ds)) (held-now w (past ds) t late (invariant ds))
 
   history-length : (ds : List D) → length (past ds) ≡ length ds
   unfolding history
   history-length [] = refl
   history-length (d ∷ ds) = ap suc (history-length ds)
 
-  pub holds : (later earlier : List D) (k : Place) (t : ℕ) → lastMoment (past (later ++ earlier)) ≤ t → live w (past (later ++ earlier)) t ≡ k ∷ [] → k .number < length earlier
+  pub holds : (later earlier : List D) (k : Mark) (t : ℕ) → lastMoment (past (later ++ earlier)) ≤ t → heldAt w (past (later ++ earlier)) t ≡ k ∷ [] → k .number < length earlier
       → after 𝒞 w earlier .touch ≡ Opened (k .moment)
   unfolding history
   holds [] earlier k t late l n =

@@ -11,8 +11,8 @@ use lib.ListN.{length}
 use borrow.Author.Tests.{ltb-true, leb-true, lt-ltb}
 use Rattle.outcome.specs.Outcome.{Outcome, R, Gives}
 use Rattle.u2f_up_stated.specs.Moments.{isR1}
-use Rattle.u2f_up_stated.specs.History.{Kind, Touching, Checking, Asking, Settling, Short, Event, Place, isAny, live, lastMoment, isPrompted, latest, isAccepted, isPromptingRefusal, isAfter, isPromptedBy, unrefused, foretold}
-use Rattle.u2f_up_stated.specs.Claims.{RefusedAt}
+use Rattle.u2f_up_stated.specs.History.{Role, Touching, Checking, Asking, Settling, Short, Event, Mark, isAny, heldAt, lastMoment, isPromptStanding, latest, isAccepted, isPromptingRefusal, isAfter, isStandingBy, unrefused, foretold}
+use Rattle.u2f_up_stated.specs.Terms.{RefusedAt}
 use Rattle.u2f_up_stated.proofs.Cases.{r1-beyond}
 
 both : (a b : Bool) → a && b ≡ true → (a ≡ true) × (b ≡ true)
@@ -45,30 +45,30 @@ module _ (h : List Event) (t : ℕ) where
 
 module _ (w : ℕ) (h : List Event) (t : ℕ) (o : Outcome Bool) where
   -- a foretold outcome, by whether the moment passes
-  foretold-r1 : (k : Kind) → o ≡ foretold w h (record { kind = k; moment = t }) → isR1 (lastMoment h) t ≡ true → o ≡ R 1
+  foretold-r1 : (k : Role) → o ≡ foretold w h (record { role = k; moment = t }) → isR1 (lastMoment h) t ≡ true → o ≡ R 1
   unfolding foretold
   foretold-r1 k f e = f ∙ rw e
 
-  foretold-given : (k : Kind) → o ≡ foretold w h (record { kind = k; moment = t }) → isR1 (lastMoment h) t ≡ false → o ≡ unrefused w h k t
+  foretold-given : (k : Role) → o ≡ foretold w h (record { role = k; moment = t }) → isR1 (lastMoment h) t ≡ false → o ≡ unrefused w h k t
   unfolding foretold
   foretold-given k f e = f ∙ rw e
 
   -- R1, and never R6
-  unrefused-no-r : (n : ℕ) → (2 ≡ n → ⊥) → (k : Kind) → unrefused w h k t ≡ R n → ⊥
+  unrefused-no-r : (n : ℕ) → (2 ≡ n → ⊥) → (k : Role) → unrefused w h k t ≡ R n → ⊥
   unrefused-no-r n d Touching e = no-refusal n _ (sym e)
   unrefused-no-r n d Checking e = no-refusal n _ (sym e)
   unrefused-no-r n d Asking e = no-refusal n _ (sym e)
   unrefused-no-r n d Settling e = no-refusal n _ (sym e)
   unrefused-no-r n d Short e = d (cc)
 
-  pub refuses : (k : Kind) → o ≡ foretold w h (record { kind = k; moment = t }) → (o ≡ R 1) ↔ RefusedAt h t
+  pub refuses : (k : Role) → o ≡ foretold w h (record { role = k; moment = t }) → (o ≡ R 1) ↔ RefusedAt h t
   refuses k f = (go (isR1 (lastMoment h) t) refl, λ r. foretold-r1 k f (refused-r1 h t r))
     where
       go : (b : Bool) → isR1 (lastMoment h) t ≡ b → o ≡ R 1 → RefusedAt h t
       go true e q = r1-refused h t e
       go false e q = absurd (unrefused-no-r 1 (omega arith) k (sym (foretold-given k f e) ∙ q))
 
-  pub refuses-no-window : (k : Kind) → o ≡ foretold w h (record { kind = k; moment = t }) → o ≡ R 6 → ⊥
+  pub refuses-no-window : (k : Role) → o ≡ foretold w h (record { role = k; moment = t }) → o ≡ R 6 → ⊥
   refuses-no-window k f = go (isR1 (lastMoment h) t) refl
     where
       go : (b : Bool) → isR1 (lastMoment h) t ≡ b → o ≡ R 6 → ⊥
@@ -76,7 +76,7 @@ module _ (w : ℕ) (h : List Event) (t : ℕ) (o : Outcome Bool) where
       go false e q = unrefused-no-r 6 (omega arith) k (sym (foretold-given k f e) ∙ q)
 
   -- yes: the moment passes, and what was asked is so
-  yes : (k : Kind) (b : Bool) → unrefused w h k t ≡ Gives b → o ≡ foretold w h (record { kind = k; moment = t }) → (o ≡ Gives true) ↔ ((RefusedAt h t → ⊥) × (b ≡ true))
+  yes : (k : Role) (b : Bool) → unrefused w h k t ≡ Gives b → o ≡ foretold w h (record { role = k; moment = t }) → (o ≡ Gives true) ↔ ((RefusedAt h t → ⊥) × (b ≡ true))
   yes k b u f = (go (isR1 (lastMoment h) t) refl, back (isR1 (lastMoment h) t) refl)
     where
       go : (c : Bool) → isR1 (lastMoment h) t ≡ c → o ≡ Gives true → (RefusedAt h t → ⊥) × (b ≡ true)
@@ -89,35 +89,35 @@ module _ (w : ℕ) (h : List Event) (t : ℕ) (o : Outcome Bool) where
 
 -- a standing prompt, in the document's words
 abbrev Standing : List Event → ℕ → Type 0
-Standing h t = (s : Place) × (latest isPromptingRefusal h ≡ some s) × (isAfter s (latest isAccepted h) ≡ true) × (t < s .moment + 10000)
+Standing h t = (s : Mark) × (latest isPromptingRefusal h ≡ some s) × (isAfter s (latest isAccepted h) ≡ true) × (t < s .moment + 10000)
 
-standing : (h : List Event) (t : ℕ) → (isPrompted h t ≡ true) ↔ Standing h t
-unfolding isPrompted
+standing : (h : List Event) (t : ℕ) → (isPromptStanding h t ≡ true) ↔ Standing h t
+unfolding isPromptStanding
 standing h t = (go (latest isPromptingRefusal h) refl, back)
   where
-    go : (o : Option Place) → latest isPromptingRefusal h ≡ o → isPromptedBy o (latest isAccepted h) t ≡ true → Standing h t
+    go : (o : Option Mark) → latest isPromptingRefusal h ≡ o → isStandingBy o (latest isAccepted h) t ≡ true → Standing h t
     go none e q = absurd (false≢true q)
     go (some s) e q = let z = both (isAfter s (latest isAccepted h)) (ltb t (s .moment + 10000)) q in (s, e, z .0, ltb-true t (s .moment + 10000) (z .1))
 
-    back : Standing h t → isPromptedBy (latest isPromptingRefusal h) (latest isAccepted h) t ≡ true
+    back : Standing h t → isStandingBy (latest isPromptingRefusal h) (latest isAccepted h) t ≡ true
     back s = rw (s .1, s .2) (lt-ltb t (s .0 .moment + 10000) (s .3))
 
 -- one touch held
-only : (ks : List Place) → length ks ≤ 1 → (isAny ks ≡ true) ↔ ((k : Place) × (ks ≡ k ∷ []))
+only : (ks : List Mark) → length ks ≤ 1 → (isAny ks ≡ true) ↔ ((k : Mark) × (ks ≡ k ∷ []))
 only [] b = (λ e. absurd (false≢true e), λ s. let z : _≡_ {A = ℕ} 0 1 = omega (arith, ap length (s .1)) in absurd (omega arith))
 only (k ∷ []) b = (λ e. (k, refl), λ s. refl)
 only (k ∷ (j ∷ ks)) b = (λ e. absurd (omega arith), λ s. refl)
 
 module _ (w : ℕ) (h : List Event) (t : ℕ) (o : Outcome Bool) where
-  pub accepts : o ≡ foretold w h (record { kind = Touching; moment = t }) → (o ≡ Gives true) ↔ ((RefusedAt h t → ⊥) × Standing h t)
-  accepts f = let y = yes w h t o Touching (isPrompted h t) refl f in
+  pub accepts : o ≡ foretold w h (record { role = Touching; moment = t }) → (o ≡ Gives true) ↔ ((RefusedAt h t → ⊥) × Standing h t)
+  accepts f = let y = yes w h t o Touching (isPromptStanding h t) refl f in
       (λ q. (y .0 q .0, standing h t .0 (y .0 q .1)), λ s. y .1 (s .0, standing h t .1 (s .1)))
 
-  pub finds : (lastMoment h ≤ t → length (live w h t) ≤ 1) → o ≡ foretold w h (record { kind = Checking; moment = t })
-      → (o ≡ Gives true) ↔ ((RefusedAt h t → ⊥) × ((k : Place) × (live w h t ≡ k ∷ [])))
-  finds one f = let y = yes w h t o Checking (isAny (live w h t)) refl f in (
-    λ q. (y .0 q .0, only (live w h t) (one (late (y .0 q .0))) .0 (y .0 q .1)),
-    λ s. y .1 (s .0, only (live w h t) (one (late (s .0))) .1 (s .1)),
+  pub finds : (lastMoment h ≤ t → length (heldAt w h t) ≤ 1) → o ≡ foretold w h (record { role = Checking; moment = t })
+      → (o ≡ Gives true) ↔ ((RefusedAt h t → ⊥) × ((k : Mark) × (heldAt w h t ≡ k ∷ [])))
+  finds one f = let y = yes w h t o Checking (isAny (heldAt w h t)) refl f in (
+    λ q. (y .0 q .0, only (heldAt w h t) (one (late (y .0 q .0))) .0 (y .0 q .1)),
+    λ s. y .1 (s .0, only (heldAt w h t) (one (late (s .0))) .1 (s .1)),
   )
     where
       late : (RefusedAt h t → ⊥) → lastMoment h ≤ t

@@ -1,23 +1,21 @@
--- Counting: every accepted touch was spent or is unspent, each call that spends takes one, and no number stands twice.
-use Prim.Native.Nat.{ℕ, suc, _+_, _≤_}
+-- Counting: every accepted touch was spent or is unspent, and each call that spends takes one.
+use Prim.Native.Nat.{ℕ, _+_, _≤_}
 use mathlib.Core.Path.{_≡_, refl, sym, _∙_}
 use mathlib.Core.Bool.{Bool, true, false}
 use mathlib.Core.List.{List, [], _∷_}
 use native.Mathlib.Omega.{arith}
-use lib.Dec.{eqb}
 use lib.ListN.{length, length-append}
-use borrow.Author.Tests.{eqb-true}
 use Rattle.outcome.specs.Notation.{if_then_else_}
-use Rattle.u2f_up_stated.specs.History.{Event, Place, placed, those, isAccepted, isSpending, isYoung, isAny, live, lapsed, lastMoment, unspent, accepted, served, spenders, isNumber}
+use Rattle.u2f_up_stated.specs.History.{Event, Mark, marked, those, isAccepted, isSpending, isYoung, isAny, heldAt, lapsed, lastMoment, unspent, accepted, served, spenders}
 use Rattle.u2f_up_stated.proofs.Lists.{count, count-append, count-split, count-all, length-those}
 use Rattle.u2f_up_stated.proofs.Runs.{heldOf, Sorted, Effect, still, moved, touched, spent, prompted}
 use Rattle.u2f_up_stated.proofs.Touches.{Inv, held-now, accepted-next, served-next, unspent-next, live-any, at-most-one}
 
 -- spent or unspent
-abbrev pub Balanced : ℕ → (Place → Bool) → List Event → Type 0
+abbrev pub Balanced : ℕ → (Mark → Bool) → List Event → Type 0
 Balanced w picks h = count picks (accepted h) ≡ count picks (served w h) + count picks (unspent w h)
 
-module _ (w : ℕ) (picks : Place → Bool) where
+module _ (w : ℕ) (picks : Mark → Bool) where
   pub balanced-at-first : Balanced w picks []
   unfolding accepted served unspent
   balanced-at-first = refl
@@ -32,7 +30,7 @@ module _ (w : ℕ) (picks : Place → Bool) where
     balanced-next (touched x late is-live) = rw (accepted-next h w x, served-next h w x, unspent-next h w x) (omega arith)
     balanced-next (spent x late is-live) =
         rw (accepted-next h w x, served-next h w x, unspent-next h w x)
-        (omega (arith, count-append picks (live w h (e .call .moment)) (served w h), count-split (isYoung w (e .call .moment)) picks (unspent w h)))
+        (omega (arith, count-append picks (heldAt w h (e .call .moment)) (served w h), count-split (isYoung w (e .call .moment)) picks (unspent w h)))
     balanced-next (prompted x late not-live) = passes x
 
 -- one touch for each call that spends
@@ -50,7 +48,7 @@ module _ (w : ℕ) (h : List Event) (e : Event) (i : Inv w h) (o : OneEach w h) 
   passes-one : {m a p : Bool} → Sorted e m a false p → OneEach w (e ∷ h)
   passes-one x = rw (served-next h w x) (o ∙ sym (spenders-next false (x .spends)))
 
-  exactly-one : (ks : List Place) → length ks ≤ 1 → isAny ks ≡ true → length ks ≡ 1
+  exactly-one : (ks : List Mark) → length ks ≤ 1 → isAny ks ≡ true → length ks ≡ 1
   exactly-one [] b q = let z : _≡_ {A = ℕ} 0 1 = cc in absurd (omega arith)
   exactly-one (k ∷ ks) b q = omega arith
 
@@ -61,38 +59,17 @@ module _ (w : ℕ) (h : List Event) (e : Event) (i : Inv w h) (o : OneEach w h) 
   one-next (spent x late is-live) =
       let T = e .call .moment in
       let now = held-now w h T late i in
-      let one : length (live w h T) ≡ 1 = exactly-one (live w h T) (at-most-one w T (unspent w h) (heldOf h) now) (sym (live-any w T (unspent w h) (heldOf h) now) ∙ is-live) in
-      rw (served-next h w x) (omega (arith, length-append (live w h T) (served w h), spenders-next true (x .spends)))
+      let one : length (heldAt w h T) ≡ 1 = exactly-one (heldAt w h T) (at-most-one w T (unspent w h) (heldOf h) now) (sym (live-any w T (unspent w h) (heldOf h) now) ∙ is-live) in
+      rw (served-next h w x) (omega (arith, length-append (heldAt w h T) (served w h), spenders-next true (x .spends)))
   one-next (prompted x late not-live) = passes-one x
 
--- no number stands twice among the accepted touches
-abbrev Once : ℕ → ℕ → List Place → Type 0
-Once n size ks = (size ≤ n → count (isNumber n) ks ≡ 0) × (count (isNumber n) ks ≤ 1)
-
-once-next : (n : ℕ) (h : List Event) (e : Event) (a : Bool) → Once n (length h) (accepted h)
-    → Once n (suc (length h)) (if a then placed e h ∷ accepted h else accepted h)
-once-next n h e false o = (λ b. o .0 (omega arith), o .1)
-once-next n h e true o = go (eqb (length h) n) refl
-  where
-    go : (b : Bool) → eqb (length h) n ≡ b → Once n (suc (length h)) (placed e h ∷ accepted h)
-    go true q = let z = eqb-true (length h) n q in rw q (λ b. omega arith, omega (arith, o .0 (omega arith)))
-    go false q = rw q (λ b. omega (arith, o .0 (omega arith)), omega (arith, o .1))
-
-numbers-once : (n : ℕ) (h : List Event) → Once n (length h) (accepted h)
-unfolding accepted
-numbers-once n [] = (λ b. refl, omega arith)
-numbers-once n (e ∷ h) = once-next n h e (isAccepted e) (numbers-once n h)
-
-pub served-once : (w n : ℕ) (h : List Event) → Balanced w (isNumber n) h → length (those (isNumber n) (served w h)) ≤ 1
-served-once w n h b = omega (arith, length-those (isNumber n) (served w h), numbers-once n h .1)
-
 -- spent, lapsed or live
-pub accounted : (w : ℕ) (picks : Place → Bool) (h : List Event) → Balanced w picks h
-    → length (those picks (accepted h)) ≡ length (those picks (served w h)) + length (those picks (lapsed w h)) + length (those picks (live w h (lastMoment h)))
+pub accounted : (w : ℕ) (picks : Mark → Bool) (h : List Event) → Balanced w picks h
+    → length (those picks (accepted h)) ≡ length (those picks (served w h)) + length (those picks (lapsed w h)) + length (those picks (heldAt w h (lastMoment h)))
 accounted w picks h b =
-    omega (arith, length-those picks (accepted h), length-those picks (served w h), length-those picks (lapsed w h), length-those picks (live w h (lastMoment h)), count-split (isYoung w (lastMoment h)) picks (unspent w h))
+    omega (arith, length-those picks (accepted h), length-those picks (served w h), length-those picks (lapsed w h), length-those picks (heldAt w h (lastMoment h)), count-split (isYoung w (lastMoment h)) picks (unspent w h))
 
 pub totals : (w : ℕ) (h : List Event) → Balanced w (λ _. true) h → OneEach w h
-    → length (accepted h) ≡ spenders h + length (lapsed w h) + length (live w h (lastMoment h))
+    → length (accepted h) ≡ spenders h + length (lapsed w h) + length (heldAt w h (lastMoment h))
 totals w h b o =
-    omega (arith, count-all (accepted h), count-all (served w h), count-all (lapsed w h), count-all (live w h (lastMoment h)), count-split (isYoung w (lastMoment h)) (λ _. true) (unspent w h))
+    omega (arith, count-all (accepted h), count-all (served w h), count-all (lapsed w h), count-all (heldAt w h (lastMoment h)), count-split (isYoung w (lastMoment h)) (λ _. true) (unspent w h))

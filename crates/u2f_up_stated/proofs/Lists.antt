@@ -7,7 +7,7 @@ use native.Mathlib.Omega.{arith}
 use lib.ListN.{length}
 use borrow.Author.Tests.{ltb-true, ltb-false}
 use Rattle.outcome.specs.Notation.{if_then_else_}
-use Rattle.u2f_up_stated.specs.History.{Place, those, isYoung, isOld}
+use Rattle.u2f_up_stated.specs.History.{Mark, those, isYoung, isOld}
 
 abbrev one : Bool → ℕ
 one true = 1
@@ -45,11 +45,11 @@ module _ {A : Type 0} where
       go false h = omega arith
 
 -- none of the touches is young any more
-abbrev pub AllOld : ℕ → ℕ → List Place → Type 0
+abbrev pub AllOld : ℕ → ℕ → List Mark → Type 0
 AllOld w t ks = those (isYoung w t) ks ≡ []
 
 -- what is old stays old
-pub stay-old : (w t u : ℕ) → t ≤ u → (ks : List Place) → AllOld w t ks → AllOld w u ks
+pub stay-old : (w t u : ℕ) → t ≤ u → (ks : List Mark) → AllOld w t ks → AllOld w u ks
 stay-old w t u later [] h = refl
 stay-old w t u later (k ∷ ks) h = go (isYoung w t k) refl h (isYoung w u k) refl (stay-old w t u later ks)
   where
@@ -60,7 +60,7 @@ stay-old w t u later (k ∷ ks) h = go (isYoung w t k) refl h (isYoung w u k) re
     go false e h false f ih = ih h
 
 -- a call that spends leaves nothing young
-pub left-old : (w t : ℕ) (ks : List Place) → AllOld w t (those (isOld w t) ks)
+pub left-old : (w t : ℕ) (ks : List Mark) → AllOld w t (those (isOld w t) ks)
 left-old w t [] = refl
 left-old w t (k ∷ ks) = go (isYoung w t k) refl (left-old w t ks)
   where

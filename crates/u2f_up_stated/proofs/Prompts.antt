@@ -11,39 +11,39 @@ use lib.ListN.{length}
 use borrow.Author.Tests.{lt-ltb, le-ltb}
 use Rattle.outcome.specs.Notation.{if_then_else_}
 use Rattle.u2f_up_stated.specs.Moments.{isLive}
-use Rattle.u2f_up_stated.specs.History.{Event, Place, placed, latest, isAccepted, isPromptingRefusal, isPromptedBy}
+use Rattle.u2f_up_stated.specs.History.{Event, Mark, marked, latest, isAccepted, isPromptingRefusal, isStandingBy}
 use Rattle.u2f_up_stated.proofs.Runs.{promptOf, Sorted, Effect, still, moved, touched, spent, prompted}
 use Rattle.u2f_up_stated.proofs.Touches.{prompt-next}
 
 -- an event of the past has a number below the history's length
-abbrev Below : ℕ → Option Place → Type 0
+abbrev Below : ℕ → Option Mark → Type 0
 Below n none = Unit {0}
 Below n (some k) = k .number < n
 
-below-more : (n : ℕ) (o : Option Place) → Below n o → Below (suc n) o
+below-more : (n : ℕ) (o : Option Mark) → Below n o → Below (suc n) o
 below-more n none b = tt
 below-more n (some k) b = omega arith
 
 pub record Agrees (h : List Event) : Type 0 where
   pub prompt-below : Below (length h) (latest isPromptingRefusal h)
   pub accepted-below : Below (length h) (latest isAccepted h)
-  pub agrees : (t : ℕ) → isLive (promptOf h) 10000 t ≡ isPromptedBy (latest isPromptingRefusal h) (latest isAccepted h) t
+  pub agrees : (t : ℕ) → isLive (promptOf h) 10000 t ≡ isStandingBy (latest isPromptingRefusal h) (latest isAccepted h) t
 
 pub agrees-at-first : Agrees []
 unfolding latest promptOf
 agrees-at-first = record { prompt-below = tt; accepted-below = tt; agrees = λ t. refl }
 
 -- a prompt that was there before an accepted touch does not come after it
-passed-by : (n m t : ℕ) (o : Option Place) → Below n o → false ≡ isPromptedBy o (some (record { number = n; moment = m })) t
+passed-by : (n m t : ℕ) (o : Option Mark) → Below n o → false ≡ isStandingBy o (some (record { number = n; moment = m })) t
 passed-by n m t none b = refl
 passed-by n m t (some s) b = rw (le-ltb n (s .number) (omega arith))
 
 -- a prompting refusal comes after every touch before it
-comes-after : (n m t : ℕ) (o : Option Place) → Below n o → ltb t (m + 10000) ≡ isPromptedBy (some (record { number = n; moment = m })) o t
+comes-after : (n m t : ℕ) (o : Option Mark) → Below n o → ltb t (m + 10000) ≡ isStandingBy (some (record { number = n; moment = m })) o t
 comes-after n m t none b = refl
 comes-after n m t (some a) b = rw (lt-ltb (a .number) n b)
 
-latest-next : (picks : Event → Bool) (h : List Event) (e : Event) (b : Bool) → picks e ≡ b → latest picks (e ∷ h) ≡ (if b then some (placed e h) else latest picks h)
+pub latest-next : (picks : Event → Bool) (h : List Event) (e : Event) (b : Bool) → picks e ≡ b → latest picks (e ∷ h) ≡ (if b then some (marked e h) else latest picks h)
 unfolding latest
 latest-next picks h e b q = rw q
 

@@ -9,10 +9,10 @@ use Rattle.outcome.specs.Notation.{if_then_else_}
 use Rattle.outcome.specs.Outcome.{Outcome, R, Gives}
 use Rattle.u2f_up_stated.specs.Words.{Presence, Window, Closed, Opened}
 use Rattle.u2f_up_stated.specs.Moments.{Told, isLive, isR6, isR1, movedTo, settleOf, grantedOf, checkedOf, gave, refused}
-use Rattle.u2f_up_stated.specs.History.{Kind, Touching, Checking, Asking, Settling, Short, Event, isAccepted, isSpending, isPromptingRefusal, isMoving, lastMoment}
+use Rattle.u2f_up_stated.specs.History.{Role, Touching, Checking, Asking, Settling, Short, Event, isAccepted, isSpending, isPromptingRefusal, isMoving, lastMoment}
 use Rattle.u2f_up_stated.specs.Runs.{doneBy}
 use Rattle.u2f_up_stated.proofs.Cases.{settle-r1, settled}
-use Rattle.u2f_up_stated.proofs.Callers.{done-refused, done-touching, done-checking, done-asking, done-settling, done-short}
+use Rattle.u2f_up_stated.proofs.Roles.{done-refused, done-touching, done-checking, done-asking, done-settling, done-short}
 
 unfoldable pub promptOf : List Event → Window
 promptOf [] = Closed
@@ -58,18 +58,18 @@ not-before last t e = ltb-false t last (right (leb (2 ^ 48) t) (ltb t last) e)
     right false b e = e
 
 module _ (w : ℕ) (h : List Event) (t : ℕ) where
-  abbrev at : Kind → Outcome Bool → Event
-  at k o = record { call = record { kind = k; moment = t }; outcome = o }
+  abbrev at : Role → Outcome Bool → Event
+  at k o = record { call = record { role = k; moment = t }; outcome = o }
 
   abbrev p : Presence
   p = recordOf w h
 
   -- the record moves as the history does
-  pub record Follows (k : Kind) (s : Told) : Type 0 where
+  pub record Follows (k : Role) (s : Told) : Type 0 where
     pub effect : Effect w h (at k (s .outcome))
     pub exact : s .presence ≡ recordOf w (at k (s .outcome) ∷ h)
 
-  stays-refused : (k : Kind) (n : ℕ) → Follows k (refused n p)
+  stays-refused : (k : Role) (n : ℕ) → Follows k (refused n p)
   unfolding promptOf heldOf lastMoment
   stays-refused Touching n = record { effect = still (sorted _); exact = refl }
   stays-refused Checking n = record { effect = still (sorted _); exact = refl }
@@ -103,16 +103,16 @@ module _ (w : ℕ) (h : List Event) (t : ℕ) where
     pub settles : isR1 (lastMoment h) t ≡ false → settleOf p t ≡ Gives (movedTo p t)
     settles e = sym (settled p t (isR6 w) (isR1 (lastMoment h) t) refl within refl e)
 
-    follows-settled : settleOf p t ≡ Gives (movedTo p t) → lastMoment h ≤ t → (k : Kind) → Follows k (doneBy k p t)
+    follows-settled : settleOf p t ≡ Gives (movedTo p t) → lastMoment h ≤ t → (k : Role) → Follows k (doneBy k p t)
     follows-settled e late Touching = rw (done-touching p t (movedTo p t) e) (touching late (isLive (promptOf h) 10000 t) refl)
     follows-settled e late Checking = rw (done-checking p t (movedTo p t) e) (checking late (isLive (heldOf h) w t) refl)
     follows-settled e late Asking = rw (done-asking p t (movedTo p t) e) (asking late (isLive (promptOf h) 10000 t))
     follows-settled e late Settling = rw (done-settling p t (movedTo p t) e) (settling late)
     follows-settled e late Short = rw (done-short p t (movedTo p t) e) (stays-refused Short 2)
 
-    pub follows : (k : Kind) → Follows k (doneBy k p t)
+    pub follows : (k : Role) → Follows k (doneBy k p t)
     follows = go (isR1 (lastMoment h) t) refl
       where
-        go : (b : Bool) → isR1 (lastMoment h) t ≡ b → (k : Kind) → Follows k (doneBy k p t)
+        go : (b : Bool) → isR1 (lastMoment h) t ≡ b → (k : Role) → Follows k (doneBy k p t)
         go true e k = rw (done-refused p t 1 (settles-r1 e) k) (stays-refused k 1)
         go false e k = follows-settled (settles e) (not-before (lastMoment h) t e) k

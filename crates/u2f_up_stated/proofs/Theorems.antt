@@ -1,84 +1,111 @@
--- The claims of specs/Claims.antt, proved.
-use Prim.Native.Nat.{ℕ, _<_, _≤_}
-use mathlib.Core.Path.{_≡_, refl, sym, ap, _∙_}
-use mathlib.Core.Bool.{true, false}
-use mathlib.Core.List.{List, [], _∷_, _++_}
-use native.Mathlib.Omega.{arith}
-use lib.ListN.{length}
-use borrow.Author.Tests.{le-ltb}
-use Rattle.outcome.proofs.Theorems.{refusal-one-to-one}
-use Rattle.u2f_up_stated.specs.Words.{Opened}
-use Rattle.u2f_up_stated.specs.Answers.{Ready, Answer, Step}
-use Rattle.u2f_up_stated.specs.Moments.{isR6}
-use Rattle.u2f_up_stated.specs.History.{Kind, Touching, Checking, Place, lastMoment, live, foretold, isNumber}
-use Rattle.u2f_up_stated.specs.Runs.{Caller, Keeps, after, next, history}
-use Rattle.u2f_up_stated.specs.Claims.{ReadyOneToOne, AnswerOneToOne, StepOneToOne, Determined, Demand3, Demand3Met}
-use Rattle.u2f_up_stated.specs.declared.Ready.the-variants as Ready′
-use Rattle.u2f_up_stated.specs.declared.Answer.the-variants as Answer′
-use Rattle.u2f_up_stated.proofs.Cases.{r6-above}
-use Rattle.u2f_up_stated.proofs.Demand as Demand
-use Rattle.u2f_up_stated.proofs.Exactly as Exactly
-use Rattle.u2f_up_stated.proofs.Ledger as Ledger
+-- The claims of specs/Claims.antt, each under its own name.
+use Prim.Native.Nat.{ℕ}
+use mathlib.Core.Path.{_≡_, refl, sym, ap, ap₂, _∙_}
+use mathlib.Core.Bool.{Bool, true, false}
+use mathlib.Core.Logic.{inl}
+use Rattle.outcome.specs.Notation.{if_then_else_}
+use Rattle.outcome.proofs.Laws.{r-gives, both-are}
+use Rattle.u2f_up_stated.specs.Words.{Outcome, R, Gives, Closed, Presence}
+use Rattle.u2f_up_stated.specs.Answers.{Answer, Step}
+use Rattle.u2f_up_stated.specs.Moments.{Told, isR6, fresh, isPrompting, newOf, settleOf, grantedOf, checkedOf, gave, touchOf, checkOf, askOf}
+use Rattle.u2f_up_stated.specs.Runs.{own}
+use Rattle.u2f_up_stated.specs.Terms.{BadWindow, BadMoment}
+use Rattle.u2f_up_stated.specs.Claims
+use Rattle.u2f_up_stated.proofs.Ways.{bad-window, is-r6, not-r6, settle-r6, settle-r1, settle-moves, SettleWay, settle-way, settles-first, window-live, window-over}
+use Rattle.u2f_up_stated.proofs.Ways
+use Rattle.u2f_up_stated.proofs.Numbers.{ready-apart, answer-apart, step-apart}
+use Rattle.u2f_up_stated.proofs.Keepers.{demand-3}
 
-pub ready-one-to-one : ReadyOneToOne
-ready-one-to-one (Ready′.Refused a) (Ready′.Refused b) e = ap {B = Ready} Ready′.Refused (refusal-one-to-one a b (cc))
-ready-one-to-one (Ready′.Refused a) (Ready′.Record q) e = let z : _≡_ {A = ℕ} 0 1 = cc in absurd (omega arith)
-ready-one-to-one (Ready′.Record p) (Ready′.Refused b) e = let z : _≡_ {A = ℕ} 0 1 = cc in absurd (omega arith)
-ready-one-to-one (Ready′.Record p) (Ready′.Record q) e = cc
+-- ---- each call
+pub MakesExactly : Claims.MakesExactly newOf
+unfolding newOf
+MakesExactly = record {
+  r6 = λ w. (λ e. due w (bad-window w) e, λ b. rw (is-r6 w b));
+  makes = λ w g. rw (not-r6 w g);
+}
+  where
+    due : (w : ℕ) → Dec (BadWindow w) → (if isR6 w then R 6 else Gives (fresh w)) ≡ R 6 → BadWindow w
+    due w (yes b) e = b
+    due w (no g) e = absurd (r-gives 6 (fresh w) (sym e ∙ rw (not-r6 w g)))
 
-pub answer-one-to-one : AnswerOneToOne
-answer-one-to-one (Answer′.Refused a) (Answer′.Refused b) e = ap {B = Answer} Answer′.Refused (refusal-one-to-one a b (cc))
-answer-one-to-one (Answer′.Refused a) Answer′.Yes e = let z : _≡_ {A = ℕ} 0 1 = cc in absurd (omega arith)
-answer-one-to-one (Answer′.Refused a) Answer′.No e = let z : _≡_ {A = ℕ} 0 1 = cc in absurd (omega arith)
-answer-one-to-one Answer′.Yes (Answer′.Refused b) e = let z : _≡_ {A = ℕ} 0 1 = cc in absurd (omega arith)
-answer-one-to-one Answer′.Yes Answer′.Yes e = refl
-answer-one-to-one Answer′.Yes Answer′.No e = let z : _≡_ {A = ℕ} 0 1 = cc in absurd (omega arith)
-answer-one-to-one Answer′.No (Answer′.Refused b) e = let z : _≡_ {A = ℕ} 0 1 = cc in absurd (omega arith)
-answer-one-to-one Answer′.No Answer′.Yes e = let z : _≡_ {A = ℕ} 0 1 = cc in absurd (omega arith)
-answer-one-to-one Answer′.No Answer′.No e = refl
+pub SettlesExactly : Claims.SettlesExactly settleOf
+SettlesExactly = record {
+  r6 = λ p t. (λ e. r6-due p t (settleOf p t) (settle-way p t) e, settle-r6 p t);
+  r1 = λ p t. (λ e. r1-due p t (settleOf p t) (settle-way p t) e, λ b. settle-r1 p t (b .0) (b .1));
+  moves = settle-moves;
+}
+  where
+    r6-due : (p : Presence) (t : ℕ) (o : Outcome Presence) → SettleWay p t o → o ≡ R 6 → BadWindow (p .w)
+    r6-due p t _ (Ways.r6 b) e = b
+    r6-due p t _ (Ways.r1 g b) e = let z : _≡_ {A = ℕ} 1 6 = cc in absurd (omega native.Mathlib.Omega.arith)
+    r6-due p t _ (Ways.moves ok) e = absurd (r-gives _ _ (sym e))
 
-same-step : (a b : Step) → a .answer ≡ b .answer → a .presence ≡ b .presence → a ≡ b
-same-step a b e f = λ i. record { answer = e i; presence = f i }
+    r1-due : (p : Presence) (t : ℕ) (o : Outcome Presence) → SettleWay p t o → o ≡ R 1 → (BadWindow (p .w) → ⊥) × BadMoment (p .last) t
+    r1-due p t _ (Ways.r6 b) e = let z : _≡_ {A = ℕ} 1 6 = cc in absurd (omega native.Mathlib.Omega.arith)
+    r1-due p t _ (Ways.r1 g b) e = (g, b)
+    r1-due p t _ (Ways.moves ok) e = absurd (r-gives _ _ (sym e))
 
-pub step-one-to-one : StepOneToOne
-step-one-to-one a b e = same-step a b (answer-one-to-one (a .answer) (b .answer) (ap (λ s. s .outcome) e)) (ap (λ s. s .presence) e)
-
-pub determined : Determined
-determined = record {
-  new = λ w a b ha hb. ready-one-to-one a b (ha ∙ sym hb);
-  settle = λ p t a b ha hb. ready-one-to-one a b (ha ∙ sym hb);
-  touch-check = λ p t a b ha hb. ha ∙ sym hb;
-  grant-up = λ p t a b ha hb. step-one-to-one a b (ha ∙ sym hb);
-  consume-up = λ p t a b ha hb. step-one-to-one a b (ha ∙ sym hb);
-  is-up-needed = λ p t a b ha hb. answer-one-to-one a b (ha ∙ sym hb);
-  is-up-needed-lent = λ p t a b ha hb. same-step a b (answer-one-to-one (a .answer) (b .answer) (ha .0 ∙ sym (hb .0))) (ha .1 ∙ sym (hb .1));
+pub TouchesExactly : Claims.TouchesExactly touchOf
+unfolding touchOf grantedOf
+TouchesExactly = record {
+  settles = settles-first (λ p t q. gave (grantedOf q t)) (λ p t q. (grantedOf q t .yes, refl));
+  accepts = λ p t ok h. rw (settle-moves p t ok, window-live (p .prompt) 10000 t h);
+  otherwise = λ p t ok h. rw (settle-moves p t ok, window-over (p .prompt) 10000 t h);
 }
 
-module _ {D : Type 0} (𝒞 : Caller D) (keeping : Keeps 𝒞) (w : ℕ) (within : isR6 w ≡ false) (ds : List D) where
-  -- what is foretold of a call of a given kind
-  foretold-as : (d : D) (k : Kind) → 𝒞 .asCall d .kind ≡ k → next 𝒞 w ds d ≡ foretold w (history 𝒞 w ds) (record { kind = k; moment = 𝒞 .asCall d .moment })
-  foretold-as d k e = Demand.foretells 𝒞 keeping w within ds d ∙ ap (λ j. foretold w (history 𝒞 w ds) (record { kind = j; moment = 𝒞 .asCall d .moment })) e
+pub ChecksExactly : Claims.ChecksExactly checkOf
+unfolding checkOf checkedOf
+ChecksExactly = record {
+  settles = settles-first (λ p t q. gave (checkedOf q t)) (λ p t q. (checkedOf q t .yes, refl));
+  finds = λ p t ok h. rw (settle-moves p t ok, window-live (p .touch) (p .w) t h);
+  prompts = λ p t ok h. rw (settle-moves p t ok, window-over (p .touch) (p .w) t h);
+}
 
-  holds : (k : Place) (t : ℕ) → lastMoment (history 𝒞 w ds) ≤ t → live w (history 𝒞 w ds) t ≡ k ∷ []
-      → (later earlier : List D) → ds ≡ later ++ earlier → k .number < length earlier → after 𝒞 w earlier .touch ≡ Opened (k .moment)
-  holds k t late l later earlier e n = Demand.holds 𝒞 keeping w within later earlier k t (rw e at late) (rw e at l) n
+pub FindsExactly : Claims.FindsExactly checkedOf
+unfolding checkedOf
+FindsExactly = record {
+  finds = λ p t h. rw (window-live (p .touch) (p .w) t h);
+  prompts = λ p t h. rw (window-over (p .touch) (p .w) t h);
+}
 
-  met : Demand3 𝒞 w ds
-  met = record {
-    foretells = Demand.foretells 𝒞 keeping w within ds;
-    refuses = λ d. Exactly.refuses w (history 𝒞 w ds) (𝒞 .asCall d .moment) (next 𝒞 w ds d) (𝒞 .asCall d .kind) (foretold-as d (𝒞 .asCall d .kind) refl);
-    refuses-no-window = λ d. Exactly.refuses-no-window w (history 𝒞 w ds) (𝒞 .asCall d .moment) (next 𝒞 w ds d) (𝒞 .asCall d .kind) (foretold-as d (𝒞 .asCall d .kind) refl);
-    accepts = λ d e. Exactly.accepts w (history 𝒞 w ds) (𝒞 .asCall d .moment) (next 𝒞 w ds d) (foretold-as d Touching e);
-    finds = λ d e. Exactly.finds w (history 𝒞 w ds) (𝒞 .asCall d .moment) (next 𝒞 w ds d) (Demand.one-live-at 𝒞 keeping w within ds (𝒞 .asCall d .moment)) (foretold-as d Checking e);
-    holds = holds;
-    once = λ n. Ledger.served-once w n (history 𝒞 w ds) (Demand.balanced 𝒞 keeping w within (isNumber n) ds);
-    totals = Ledger.totals w (history 𝒞 w ds) (Demand.balanced 𝒞 keeping w within (λ _. true) ds) (Demand.one-each 𝒞 keeping w within ds);
-    one-live = Demand.one-live-at 𝒞 keeping w within ds (lastMoment (history 𝒞 w ds)) (omega arith);
-    each = λ picks. Ledger.accounted w picks (history 𝒞 w ds) (Demand.balanced 𝒞 keeping w within picks ds);
-  }
+pub AsksExactly : Claims.AsksExactly askOf
+unfolding askOf
+AsksExactly = record {
+  settles = settles-first (λ p t q. record { outcome = Gives (isPrompting p t); presence = p }) (λ p t q. (isPrompting p t, refl));
+  live = λ p t ok h. rw (settle-moves p t ok, window-live (p .prompt) 10000 t h);
+  not-live = λ p t ok h. rw (settle-moves p t ok, window-over (p .prompt) 10000 t h);
+}
 
-within : (w : ℕ) → 0 < w → w ≤ 60000 → isR6 w ≡ false
-within w least most = sym (r6-above w (omega arith)) ∙ le-ltb 60000 w most
+-- ---- demand 3
+pub Demand3 : Claims.Demand3 own
+Demand3 = demand-3 own (λ p c. refl)
 
-pub demand-3 : Demand3Met
-demand-3 D 𝒞 keeping w least most ds = met 𝒞 keeping w (within w least most) ds
+-- ---- two results are equal
+pub ReadyOneToOne : Claims.ReadyOneToOne
+ReadyOneToOne = ready-apart
+
+pub AnswerOneToOne : Claims.AnswerOneToOne
+AnswerOneToOne = answer-apart
+
+pub StepOneToOne : Claims.StepOneToOne
+StepOneToOne = step-apart
+
+-- answer and record at exit, from the step that they make
+same-lent : (a b : Answer × Presence) → a .0 ≡ b .0 → a .1 ≡ b .1 → a ≡ b
+same-lent a b e f = ap₂ (λ (x : Answer) (q : Presence). (x, q)) e f
+
+lent : (a b : Answer × Presence) → _≡_ {A = Step} (record { answer = a .0; presence = a .1 }) (record { answer = b .0; presence = b .1 }) → a ≡ b
+lent a b e = same-lent a b (ap (λ (s : Step). s .answer) e) (ap (λ (s : Step). s .presence) e)
+
+pub ResultsDetermined : Claims.ResultsDetermined
+ResultsDetermined = record {
+  new = λ w a b ha hb. ready-apart a b (both-are _ _ ha hb);
+  settle = λ p t a b ha hb. ready-apart a b (both-are _ _ ha hb);
+  touch-check = λ p t a b. both-are a b;
+  grant-up = λ p t a b ha hb. step-apart a b (both-are _ _ ha hb);
+  consume-up = λ p t a b ha hb. step-apart a b (both-are _ _ ha hb);
+  is-up-needed = λ p t a b ha hb. answer-apart a b (both-are _ _ ha hb);
+  grant-up-lent = λ p t a b ha hb. lent a b (step-apart _ _ (both-are _ _ ha hb));
+  consume-up-lent = λ p t a b ha hb. lent a b (step-apart _ _ (both-are _ _ ha hb));
+  is-up-needed-lent = λ p t a b ha hb. same-lent a b (answer-apart (a .0) (b .0) (both-are _ _ (ha .0) (hb .0))) (both-are _ _ (ha .1) (hb .1));
+}

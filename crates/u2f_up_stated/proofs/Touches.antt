@@ -10,7 +10,7 @@ use lib.ListN.{length}
 use Rattle.outcome.specs.Notation.{if_then_else_}
 use Rattle.u2f_up_stated.specs.Words.{Window, Closed, Opened}
 use Rattle.u2f_up_stated.specs.Moments.{isLive}
-use Rattle.u2f_up_stated.specs.History.{Event, Place, placed, those, isYoung, isOld, isAny, live, lastMoment, unspent, accepted, served}
+use Rattle.u2f_up_stated.specs.History.{Event, Mark, marked, those, isYoung, isOld, isAny, heldAt, lastMoment, unspent, accepted, served}
 use Rattle.u2f_up_stated.proofs.Lists.{AllOld, stay-old, left-old}
 use Rattle.u2f_up_stated.proofs.Runs.{promptOf, heldOf, Sorted, Effect, still, moved, touched, spent, prompted}
 
@@ -28,25 +28,25 @@ module _ {e : Event} {m a s p : Bool} (h : List Event) (w : ℕ) (x : Sorted e m
   unfolding heldOf
   held-next = rw (x .accepts, x .spends)
 
-  pub unspent-next : unspent w (e ∷ h) ≡ (if a then placed e h ∷ unspent w h else if s then those (isOld w (e .call .moment)) (unspent w h) else unspent w h)
+  pub unspent-next : unspent w (e ∷ h) ≡ (if a then marked e h ∷ unspent w h else if s then those (isOld w (e .call .moment)) (unspent w h) else unspent w h)
   unfolding unspent
   unspent-next = rw (x .accepts, x .spends)
 
-  pub accepted-next : accepted (e ∷ h) ≡ (if a then placed e h ∷ accepted h else accepted h)
+  pub accepted-next : accepted (e ∷ h) ≡ (if a then marked e h ∷ accepted h else accepted h)
   unfolding accepted
   accepted-next = rw (x .accepts)
 
-  pub served-next : served w (e ∷ h) ≡ (if s then live w h (e .call .moment) ++ served w h else served w h)
+  pub served-next : served w (e ∷ h) ≡ (if s then heldAt w h (e .call .moment) ++ served w h else served w h)
   unfolding served
   served-next = rw (x .spends)
 
 -- the unspent touches, as the touch window has them at the last moment
-abbrev pub Held : ℕ → ℕ → List Place → Window → Type 0
+abbrev pub Held : ℕ → ℕ → List Mark → Window → Type 0
 Held w last ks Closed = AllOld w last ks
-Held w last ks (Opened m) = (k : Place) × (rest : List Place) × (ks ≡ k ∷ rest) × (k .moment ≡ m) × AllOld w last rest
+Held w last ks (Opened m) = (k : Mark) × (rest : List Mark) × (ks ≡ k ∷ rest) × (k .moment ≡ m) × AllOld w last rest
 
 -- and as the prompt window has them
-abbrev pub Prompting : ℕ → ℕ → List Place → Window → Type 0
+abbrev pub Prompting : ℕ → ℕ → List Mark → Window → Type 0
 Prompting w last ks Closed = Unit {0}
 Prompting w last ks (Opened s) = AllOld w last ks
 
@@ -54,7 +54,7 @@ pub record Inv (w : ℕ) (h : List Event) : Type 0 where
   pub held : Held w (lastMoment h) (unspent w h) (heldOf h)
   pub prompting : Prompting w (lastMoment h) (unspent w h) (promptOf h)
 
-module _ (w t u : ℕ) (later : t ≤ u) (ks : List Place) where
+module _ (w t u : ℕ) (later : t ≤ u) (ks : List Mark) where
   held-later : (x : Window) → Held w t ks x → Held w u ks x
   held-later Closed h = stay-old w t u later ks h
   held-later (Opened m) h = (h .0, h .1, h .2, h .3, stay-old w t u later (h .1) (h .4))
@@ -64,21 +64,21 @@ module _ (w t u : ℕ) (later : t ≤ u) (ks : List Place) where
   prompting-later (Opened s) h = stay-old w t u later ks h
 
 -- a live prompt: nothing unspent is young
-pub prompt-old : (w last t : ℕ) (ks : List Place) (x : Window) → isLive x 10000 t ≡ true → Prompting w last ks x → AllOld w last ks
+pub prompt-old : (w last t : ℕ) (ks : List Mark) (x : Window) → isLive x 10000 t ≡ true → Prompting w last ks x → AllOld w last ks
 prompt-old w last t ks Closed e h = let z : _≡_ {A = ℕ} 0 1 = cc in absurd (omega arith)
 prompt-old w last t ks (Opened s) e h = h
 
 -- what is young of what an open touch window holds: its own touch, while it is live
-window-young : (w t : ℕ) (ks : List Place) (m : ℕ) (h : Held w t ks (Opened m)) → those (isYoung w t) ks ≡ (if ltb t (m + w) then h .0 ∷ [] else [])
+pub window-young : (w t : ℕ) (ks : List Mark) (m : ℕ) (h : Held w t ks (Opened m)) → those (isYoung w t) ks ≡ (if ltb t (m + w) then h .0 ∷ [] else [])
 window-young w t ks m h = rw (h .2, h .4, h .3)
 
 -- no live touch: nothing unspent is young
-none-old : (w t : ℕ) (ks : List Place) (x : Window) → isLive x w t ≡ false → Held w t ks x → AllOld w t ks
+none-old : (w t : ℕ) (ks : List Mark) (x : Window) → isLive x w t ≡ false → Held w t ks x → AllOld w t ks
 none-old w t ks Closed e h = h
 none-old w t ks (Opened m) e h = window-young w t ks m h ∙ rw e
 
 -- the window is live exactly when something unspent is young, and no more than one is
-pub live-any : (w t : ℕ) (ks : List Place) (x : Window) → Held w t ks x → isLive x w t ≡ isAny (those (isYoung w t) ks)
+pub live-any : (w t : ℕ) (ks : List Mark) (x : Window) → Held w t ks x → isLive x w t ≡ isAny (those (isYoung w t) ks)
 live-any w t ks Closed h = rw h
 live-any w t ks (Opened m) h = rw (window-young w t ks m h) (go (ltb t (m + w)))
   where
@@ -86,7 +86,7 @@ live-any w t ks (Opened m) h = rw (window-young w t ks m h) (go (ltb t (m + w)))
     go true = refl
     go false = refl
 
-pub at-most-one : (w t : ℕ) (ks : List Place) (x : Window) → Held w t ks x → length (those (isYoung w t) ks) ≤ 1
+pub at-most-one : (w t : ℕ) (ks : List Mark) (x : Window) → Held w t ks x → length (those (isYoung w t) ks) ≤ 1
 at-most-one w t ks Closed h = rw h (omega arith)
 at-most-one w t ks (Opened m) h = rw (window-young w t ks m h) (go (ltb t (m + w)))
   where
@@ -95,7 +95,7 @@ at-most-one w t ks (Opened m) h = rw (window-young w t ks m h) (go (ltb t (m + w
     go false = omega arith
 
 -- and it was opened at the moment of that one
-pub window-of : (w t : ℕ) (ks : List Place) (x : Window) (k : Place) → Held w t ks x → those (isYoung w t) ks ≡ k ∷ [] → x ≡ Opened (k .moment)
+pub window-of : (w t : ℕ) (ks : List Mark) (x : Window) (k : Mark) → Held w t ks x → those (isYoung w t) ks ≡ k ∷ [] → x ≡ Opened (k .moment)
 window-of w t ks Closed k h e = let z : _≡_ {A = ℕ} 0 1 = cc in absurd (omega arith)
 window-of w t ks (Opened m) k h e = go (ltb t (m + w)) (sym (window-young w t ks m h) ∙ e)
   where
@@ -119,7 +119,7 @@ module _ (w : ℕ) (h : List Event) (e : Event) where
   }
   keeps (touched x late is-live) i = record {
     held = rw (last-next h w x, unspent-next h w x, held-next h w x)
-        (placed e h, unspent w h, refl, refl, stay-old w (lastMoment h) T late (unspent w h) (prompt-old w (lastMoment h) T (unspent w h) (promptOf h) is-live (i .prompting)));
+        (marked e h, unspent w h, refl, refl, stay-old w (lastMoment h) T late (unspent w h) (prompt-old w (lastMoment h) T (unspent w h) (promptOf h) is-live (i .prompting)));
     prompting = rw (last-next h w x, unspent-next h w x, prompt-next h w x) tt;
   }
   keeps (spent x late is-live) i = record {

@@ -7,16 +7,16 @@ use lib.ListN.{length}
 use Rattle.u2f_up_stated.specs.Words.{ℕ, _+_, Bool, true, false, not, _&&_, ltb, eqb, if_then_else_, Outcome, R, SW, Gives}
 use Rattle.u2f_up_stated.specs.Moments.{isR1}
 
--- What a call asks of the record. It follows from the call's own inputs, never from the record.
-pub data Kind : Type 0 where
-  Touching : Kind  -- a touch
-  Checking : Kind  -- a call that reaches the touch check: a direct check, or a decision that comes so far
-  Asking : Kind  -- whether a prompt is live
-  Settling : Kind  -- a decision that is answered before the touch check
-  Short : Kind  -- a decision whose buffer is too short, R2
+-- What a call is to the record. It follows from the call's own inputs, never from the record.
+pub data Role : Type 0 where
+  Touching : Role  -- a touch
+  Checking : Role  -- a call that reaches the touch check: a direct check, or a decision that comes so far
+  Asking : Role  -- whether a prompt is live
+  Settling : Role  -- a decision that is answered before the touch check
+  Short : Role  -- a decision whose buffer is too short, R2
 
 pub record Call : Type 0 where
-  pub kind : Kind
+  pub role : Role
   pub moment : ℕ
 
 -- A call and what came of it. A call that reached the touch check has Gives true where the check succeeded.
@@ -24,21 +24,21 @@ pub record Event : Type 0 where
   pub call : Call
   pub outcome : Outcome Bool
 
-abbrev pub isTouching : Kind → Bool
+abbrev pub isTouching : Role → Bool
 isTouching Touching = true
 isTouching Checking = false
 isTouching Asking = false
 isTouching Settling = false
 isTouching Short = false
 
-abbrev pub isChecking : Kind → Bool
+abbrev pub isChecking : Role → Bool
 isChecking Touching = false
 isChecking Checking = true
 isChecking Asking = false
 isChecking Settling = false
 isChecking Short = false
 
-abbrev pub isAsking : Kind → Bool
+abbrev pub isAsking : Role → Bool
 isAsking Touching = false
 isAsking Checking = false
 isAsking Asking = true
@@ -62,19 +62,19 @@ isNo (Gives b) = not b
 
 -- 01, Moments and touches: "A touch at t is accepted"
 abbrev pub isAccepted : Event → Bool
-isAccepted e = isTouching (e .call .kind) && isYes (e .outcome)
+isAccepted e = isTouching (e .call .role) && isYes (e .outcome)
 
 -- 01, Moments and touches: "a prompting refusal is a touch check that finds no live touch"
 abbrev pub isPromptingRefusal : Event → Bool
-isPromptingRefusal e = isChecking (e .call .kind) && isNo (e .outcome)
+isPromptingRefusal e = isChecking (e .call .role) && isNo (e .outcome)
 
 -- 01, Moments and touches: "A call spends a touch if the check succeeds"
 abbrev pub isSpending : Event → Bool
-isSpending e = isChecking (e .call .kind) && isYes (e .outcome)
+isSpending e = isChecking (e .call .role) && isYes (e .outcome)
 
 -- 01, Refusal numbers: "Without an R refusal, each touch, direct check and decision sets the last moment to t"
 abbrev pub isMoving : Event → Bool
-isMoving e = not (isAsking (e .call .kind)) && isGiven (e .outcome)
+isMoving e = not (isAsking (e .call .role)) && isGiven (e .outcome)
 
 -- The last moment of a history, 0 in a new one.
 unfoldable pub lastMoment : List Event → ℕ
@@ -83,30 +83,31 @@ lastMoment (e ∷ past) = if isMoving e then e .call .moment else lastMoment pas
 
 -- A touch, or a prompting refusal, as the history knows it: which event it is, counted from 0 in the order of the calls, and its
 -- moment. Two touches may share a moment; they never share a number.
-pub record Place : Type 0 where
+pub record Mark : Type 0 where
   pub number : ℕ
   pub moment : ℕ
 
-abbrev pub placed : Event → List Event → Place
-placed e past = record { number = length past; moment = e .call .moment }
+abbrev pub marked : Event → List Event → Mark
+marked e past = record { number = length past; moment = e .call .moment }
 
 -- The latest event that the test picks.
-unfoldable pub latest : (Event → Bool) → List Event → Option Place
+unfoldable pub latest : (Event → Bool) → List Event → Option Mark
 latest picks [] = none
-latest picks (e ∷ past) = if picks e then some (placed e past) else latest picks past
+latest picks (e ∷ past) = if picks e then some (marked e past) else latest picks past
 
 -- 's comes after', in the order of the calls; everything comes after what never was.
-abbrev pub isAfter : Place → Option Place → Bool
+abbrev pub isAfter : Mark → Option Mark → Bool
 isAfter s none = true
 isAfter s (some a) = ltb (a .number) (s .number)
 
--- 01, Moments and touches: "the latest prompting refusal, at s, comes after the latest accepted touch, and t - s < 10,000"
-abbrev pub isPromptedBy : Option Place → Option Place → ℕ → Bool
-isPromptedBy none a t = false
-isPromptedBy (some s) a t = isAfter s a && ltb t (s .moment + 10000)
+-- 01, Moments and touches: "the latest prompting refusal, at s, comes after the latest accepted touch, and t - s < 10,000". (Of a
+-- record, a prompt window is live; of a history, a prompt stands.)
+abbrev pub isStandingBy : Option Mark → Option Mark → ℕ → Bool
+isStandingBy none a t = false
+isStandingBy (some s) a t = isAfter s a && ltb t (s .moment + 10000)
 
-unfoldable pub isPrompted : List Event → ℕ → Bool
-isPrompted past t = isPromptedBy (latest isPromptingRefusal past) (latest isAccepted past) t
+unfoldable pub isPromptStanding : List Event → ℕ → Bool
+isPromptStanding past t = isStandingBy (latest isPromptingRefusal past) (latest isAccepted past) t
 
 -- Those of a list that the test picks.
 abbrev pub those : {A : Type 0} → (A → Bool) → List A → List A
@@ -114,54 +115,66 @@ those picks [] = []
 those picks (a ∷ rest) = if picks a then a ∷ those picks rest else those picks rest
 
 -- 01, Moments and touches: "A touch has lapsed when it is unspent and W has passed"; it is young while W has not
-abbrev pub isYoung : ℕ → ℕ → Place → Bool
+abbrev pub isYoung : ℕ → ℕ → Mark → Bool
 isYoung w t k = ltb t (k .moment + w)
 
-abbrev pub isOld : ℕ → ℕ → Place → Bool
+abbrev pub isOld : ℕ → ℕ → Mark → Bool
 isOld w t k = not (isYoung w t k)
 
 -- The touches that were accepted.
-unfoldable pub accepted : List Event → List Place
+unfoldable pub accepted : List Event → List Mark
 accepted [] = []
-accepted (e ∷ past) = if isAccepted e then placed e past ∷ accepted past else accepted past
+accepted (e ∷ past) = if isAccepted e then marked e past ∷ accepted past else accepted past
 
--- Those of them that no call has spent: a call that spends takes what is young at its moment, and what is old stays.
-unfoldable pub unspent : ℕ → List Event → List Place
+-- Those of them that no call has spent. A touch goes when a call spends while it is young; one that has grown old by then was not
+-- there to be spent, and stays in the list for good.
+unfoldable pub unspent : ℕ → List Event → List Mark
 unspent w [] = []
 unspent w (e ∷ past) =
-    if isAccepted e then placed e past ∷ unspent w past
+    if isAccepted e then marked e past ∷ unspent w past
     else if isSpending e then those (isOld w (e .call .moment)) (unspent w past)
     else unspent w past
 
--- The accepted touches, unspent and younger than W, that a history holds at t.
-abbrev pub live : ℕ → List Event → ℕ → List Place
-live w past t = those (isYoung w t) (unspent w past)
+-- The accepted touches, unspent and younger than W, that a history holds at t. (Of a record, a window is live; of a history, a
+-- touch is held.)
+abbrev pub heldAt : ℕ → List Event → ℕ → List Mark
+heldAt w past t = those (isYoung w t) (unspent w past)
 
 -- 01, Moments and touches: "A touch has lapsed when it is unspent and W has passed at the last moment."
-abbrev pub lapsed : ℕ → List Event → List Place
+abbrev pub lapsed : ℕ → List Event → List Mark
 lapsed w past = those (isOld w (lastMoment past)) (unspent w past)
 
--- The touches that calls have spent, call by call: each took what its past held at its moment.
-unfoldable pub served : ℕ → List Event → List Place
+-- The touches that are gone from the unspent ones, call by call: what its past held when a call spent.
+unfoldable pub served : ℕ → List Event → List Mark
 served w [] = []
-served w (e ∷ past) = if isSpending e then live w past (e .call .moment) ++ served w past else served w past
+served w (e ∷ past) = if isSpending e then heldAt w past (e .call .moment) ++ served w past else served w past
 
-abbrev pub isNumber : ℕ → Place → Bool
-isNumber n k = eqb (k .number) n
+-- Which touch served a call that spent one, said without a word of what is spent: the latest accepted one before it.
+abbrev pub serverOf : List Event → Option Mark
+serverOf past = latest isAccepted past
+
+-- The touches that served the calls of a history, call by call.
+unfoldable pub servers : List Event → List (Option Mark)
+servers [] = []
+servers (e ∷ past) = if isSpending e then serverOf past ∷ servers past else servers past
+
+abbrev pub isNamed : ℕ → Option Mark → Bool
+isNamed n none = false
+isNamed n (some k) = eqb (k .number) n
 
 -- How many calls spent a touch.
 abbrev pub spenders : List Event → ℕ
 spenders past = length (those isSpending past)
 
-abbrev pub isAny : List Place → Bool
+abbrev pub isAny : List Mark → Bool
 isAny [] = false
 isAny (k ∷ ks) = true
 
 -- What a history says of its next call, once the call's moment has passed R1.
-abbrev pub unrefused : ℕ → List Event → Kind → ℕ → Outcome Bool
-unrefused w past Touching t = Gives (isPrompted past t)  -- accepted, or not
-unrefused w past Checking t = Gives (isAny (live w past t))  -- finds a touch, or prompts
-unrefused w past Asking t = Gives (isPrompted past t)
+abbrev pub unrefused : ℕ → List Event → Role → ℕ → Outcome Bool
+unrefused w past Touching t = Gives (isPromptStanding past t)  -- accepted, or not
+unrefused w past Checking t = Gives (isAny (heldAt w past t))  -- finds a touch, or prompts
+unrefused w past Asking t = Gives (isPromptStanding past t)
 unrefused w past Settling t = Gives true
 unrefused w past Short t = R 2
 
@@ -169,4 +182,4 @@ unrefused w past Short t = R 2
 unfoldable pub foretold : ℕ → List Event → Call → Outcome Bool
 foretold w past c =
     if isR1 (lastMoment past) (c .moment) then R 1
-    else unrefused w past (c .kind) (c .moment)
+    else unrefused w past (c .role) (c .moment)

@@ -1,7 +1,10 @@
 pub mod Words
 pub mod Moments
 pub mod Answers
+pub mod Contracts
 pub mod History
 pub mod Runs
+pub mod Terms
+pub mod Demand
 pub mod Claims
 pub mod Wrong

@@ -1,7 +1,7 @@
 -- Document 01, 'Moments and touches' and, of 'Refusal numbers', R1 and R6: the presence record, and what touch, check and
 -- ask do to it. In a record, w is W, prompt and touch are the two windows, last is the last moment.
 use Rattle.u2f_up_stated.specs.Words.{ℕ, _+_, _^_, Bool, true, false, _||_, ltb, leb, eqb, if_then_else_}
-use Rattle.u2f_up_stated.specs.Words.{Outcome, R, SW, Gives, Window, Closed, Opened, Presence, Found}
+use Rattle.u2f_up_stated.specs.Words.{Outcome, R, SW, Gives, Window, Closed, Opened, Presence, Finding}
 
 -- 01, Moments and touches: "A window opened at m with length d is live at t when t < m + d, as whole numbers"
 abbrev pub isLive : Window → ℕ → ℕ → Bool
@@ -36,16 +36,16 @@ abbrev pub movedTo : Presence → ℕ → Presence
 movedTo p t = record { w = p .w; prompt = p .prompt; touch = p .touch; last = t }
 
 -- 01, Moments and touches: "then the prompt closes and a touch window opens"
-abbrev pub touched : Presence → ℕ → Presence
-touched p t = record { w = p .w; prompt = Closed; touch = Opened t; last = p .last }
+abbrev pub touchOpened : Presence → ℕ → Presence
+touchOpened p t = record { w = p .w; prompt = Closed; touch = Opened t; last = p .last }
 
 -- 01, Moments and touches: "with a live touch, it is spent"
-abbrev pub spent : Presence → Presence
-spent p = record { w = p .w; prompt = p .prompt; touch = Closed; last = p .last }
+abbrev pub touchClosed : Presence → Presence
+touchClosed p = record { w = p .w; prompt = p .prompt; touch = Closed; last = p .last }
 
 -- 01, Moments and touches: "without, a prompt window opens at t, replacing an older one"
-abbrev pub prompted : Presence → ℕ → Presence
-prompted p t = record { w = p .w; prompt = Opened t; touch = p .touch; last = p .last }
+abbrev pub promptOpened : Presence → ℕ → Presence
+promptOpened p t = record { w = p .w; prompt = Opened t; touch = p .touch; last = p .last }
 
 -- 01, Moments and touches: "Touch, check and ask give R6, then R1, before all else."
 unfoldable pub settleOf : Presence → ℕ → Outcome Presence
@@ -56,16 +56,16 @@ settleOf p t =
 
 -- 01, Moments and touches: "Touch (grant_up) is accepted when the prompt is live; then the prompt closes and a touch window
 -- opens. Otherwise nothing but the last moment moves." Here the last moment has moved already.
-unfoldable pub grantedOf : Presence → ℕ → Found
+unfoldable pub grantedOf : Presence → ℕ → Finding
 grantedOf p t =
-    if isPrompting p t then record { yes = true; presence = touched p t }
+    if isPrompting p t then record { yes = true; presence = touchOpened p t }
     else record { yes = false; presence = p }
 
 -- 01, Moments and touches: "The touch check (consume_up): with a live touch, it is spent; without, a prompt window opens"
-unfoldable pub checkedOf : Presence → ℕ → Found
+unfoldable pub checkedOf : Presence → ℕ → Finding
 checkedOf p t =
-    if isLive (p .touch) (p .w) t then record { yes = true; presence = spent p }
-    else record { yes = false; presence = prompted p t }
+    if isLive (p .touch) (p .w) t then record { yes = true; presence = touchClosed p }
+    else record { yes = false; presence = promptOpened p t }
 
 -- What a call comes to: its outcome, and the record after it.
 pub record Told : Type 0 where
@@ -73,7 +73,7 @@ pub record Told : Type 0 where
   pub presence : Presence
 
 -- The outcome of a call that was not refused, with the record after it.
-abbrev pub gave : Found → Told
+abbrev pub gave : Finding → Told
 gave f = record { outcome = Gives (f .yes); presence = f .presence }
 
 -- 01, Refusal numbers: "An R refusal changes no buffer and no record."

@@ -2,10 +2,10 @@
 use mathlib.Core.List.{List, [], _∷_}
 use Rattle.u2f_up_stated.specs.Words.{ℕ, Bool, true, Outcome, Gives, _≡_, Presence}
 use Rattle.u2f_up_stated.specs.Moments.{Told, fresh, settleOf, refused, onSettled, touchOf, checkOf, askOf}
-use Rattle.u2f_up_stated.specs.History.{Kind, Touching, Checking, Asking, Settling, Short, Call, Event}
+use Rattle.u2f_up_stated.specs.History.{Role, Touching, Checking, Asking, Settling, Short, Call, Event}
 
 -- What a call of each kind does to the record.
-unfoldable pub doneBy : Kind → Presence → ℕ → Told
+unfoldable pub doneBy : Role → Presence → ℕ → Told
 doneBy Touching p t = touchOf p t
 doneBy Checking p t = checkOf p t
 doneBy Asking p t = askOf p t
@@ -21,11 +21,11 @@ pub record Caller (D : Type 0) : Type 0 where
 
 -- It does nothing to the record but what its kind says.
 abbrev pub Keeps : {D : Type 0} → Caller D → Type 0
-Keeps {D} 𝒞 = (p : Presence) (d : D) → 𝒞 .does p d ≡ doneBy (𝒞 .asCall d .kind) p (𝒞 .asCall d .moment)
+Keeps {D} 𝒞 = (p : Presence) (d : D) → 𝒞 .does p d ≡ doneBy (𝒞 .asCall d .role) p (𝒞 .asCall d .moment)
 
 -- The calls of this crate.
 abbrev pub own : Caller Call
-own = record { asCall = λ c. c; does = λ p c. doneBy (c .kind) p (c .moment) }
+own = record { asCall = λ c. c; does = λ p c. doneBy (c .role) p (c .moment) }
 
 module _ {D : Type 0} (𝒞 : Caller D) (w : ℕ) where
   -- The record after the calls, newest first. 01, Moments and touches: "A new fresh record begins a new history."

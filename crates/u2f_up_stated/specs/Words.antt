@@ -8,4 +8,4 @@ pub use Rattle.outcome.specs.Outcome.{Outcome, R, SW, Gives, refusalNo}
 pub use Rattle.u2f_up_stated.specs.declared.Window.{Window}
 pub use Rattle.u2f_up_stated.specs.declared.Window.the-variants.{Closed, Opened}
 pub use Rattle.u2f_up_stated.specs.declared.Presence.{Presence}
-pub use Rattle.u2f_up_stated.specs.declared.Found.{Found}
+pub use Rattle.u2f_up_stated.specs.declared.Finding.{Finding}

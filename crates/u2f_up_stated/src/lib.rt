@@ -36,7 +36,7 @@ pub struct Step {
 }
 
 // What a call finds on a record whose moment is settled, where nothing is refused any more.
-pub struct Found {
+pub struct Finding {
     pub yes: bool,
     pub presence: Presence,
 }

@@ -1,6 +1,6 @@
 -- `answered` meets its contract.
 use borrow.Author.Needs.{needs}
-use Rattle.ctap1_stated.proofs.PathCases as Cases
+use Rattle.ctap1_stated.proofs.Cases as Cases
 use Rattle.ctap1.proofs.answered.Statement.{statement}
 use Rattle.ctap1.proofs.answered.Tie as tie
 

@@ -1,6 +1,6 @@
--- `authenticate` meets its contract: each way through the checks is a case of `authenticateDecision`.
+-- `authenticate` meets its contract: each way through the checks is a case of `loginPath`.
 use borrow.Author.Needs.{needs}
-use Rattle.ctap1_stated.proofs.PathCases as Cases
+use Rattle.ctap1_stated.proofs.Cases as Cases
 use Rattle.ctap1.proofs.authenticate.Statement.{statement}
 use Rattle.ctap1.proofs.authenticate.Tie as tie
 

@@ -1,6 +1,6 @@
 -- `commanded` meets its contract: by the command.
 use borrow.Author.Needs.{needs}
-use Rattle.ctap1_stated.proofs.PathTops as Tops
+use Rattle.ctap1_stated.proofs.Tops as Tops
 use Rattle.ctap1.proofs.commanded.Statement.{statement}
 use Rattle.ctap1.proofs.commanded.Tie as tie
 

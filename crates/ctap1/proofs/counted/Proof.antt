@@ -1,6 +1,6 @@
 -- `counted` meets its contract: by the counter's answer.
 use borrow.Author.Needs.{needs}
-use Rattle.ctap1_stated.proofs.PathCases as Cases
+use Rattle.ctap1_stated.proofs.Cases as Cases
 use Rattle.ctap1.proofs.counted.Statement.{statement}
 use Rattle.ctap1.proofs.counted.Tie as tie
 

@@ -1,6 +1,6 @@
--- `decide` meets its contract: R6 and R1 come before all else.
+-- `decide` meets its contract: the moment first, then by whether CTAP1 is allowed.
 use borrow.Author.Needs.{needs}
-use Rattle.ctap1_stated.proofs.PathTops as Tops
+use Rattle.ctap1_stated.proofs.Tops as Tops
 use Rattle.ctap1.proofs.decide.Statement.{statement}
 use Rattle.ctap1.proofs.decide.Tie as tie
 
@@ -16,17 +16,38 @@ refused-requires c κs = search needs
 enum-known-ready-2 : tie.Need-enum-known-ready-2
 enum-known-ready-2 c = search needs
 
-permitted-requires : tie.Need-permitted-requires
-permitted-requires c κs = search needs
+enum-told : tie.Need-enum-told
+enum-told c = search needs
+
+answered-requires : tie.Need-answered-requires
+answered-requires c κs = search needs
+
+enum-told-2 : tie.Need-enum-told-2
+enum-told-2 c = search needs
+
+answered-requires-2 : tie.Need-answered-requires-2
+answered-requires-2 c κs = search needs
+
+enum-told-3 : tie.Need-enum-told-3
+enum-told-3 c = search needs
+
+commanded-requires : tie.Need-commanded-requires
+commanded-requires c κs = search needs
 
 returns : tie.Need-returns
 returns c = (search (needs, Tops.not-settled), search (needs, Tops.not-settled-kept))
 
+returns-2 : tie.Need-returns-2
+returns-2 c = (search (needs, Tops.allowed-failed), search (needs, Tops.failed-kept))
+
+returns-3 : tie.Need-returns-3
+returns-3 c = (search (needs, Tops.allowed-no), search (needs, Tops.no-kept))
+
 same-length : tie.Need-same-length
 same-length c = search needs
 
-returns-2 : tie.Need-returns-2
-returns-2 c = (search (needs, Tops.settled-then), search (needs, Tops.settled-left))
+returns-4 : tie.Need-returns-4
+returns-4 c = (search (needs, Tops.allowed-yes), search (needs, Tops.yes-left))
 
 pub decide-spec : {M : Type 1} → statement M
 decide-spec =
@@ -36,7 +57,14 @@ decide-spec =
     enum-known-ready
     refused-requires
     enum-known-ready-2
-    permitted-requires
+    enum-told
+    answered-requires
+    enum-told-2
+    answered-requires-2
+    enum-told-3
+    commanded-requires
     returns
+    returns-2
+    returns-3
     same-length
-    returns-2)
+    returns-4)

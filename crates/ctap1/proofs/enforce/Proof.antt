@@ -1,6 +1,6 @@
 -- `enforce` meets its contract: by the touch check.
 use borrow.Author.Needs.{needs}
-use Rattle.ctap1_stated.proofs.PathCases as Cases
+use Rattle.ctap1_stated.proofs.Cases as Cases
 use Rattle.ctap1.proofs.enforce.Statement.{statement}
 use Rattle.ctap1.proofs.enforce.Tie as tie
 

@@ -1,6 +1,6 @@
 -- `enrol` meets its contract: the order from the frame's parts and the hardware's.
 use borrow.Author.Needs.{needs}
-use Rattle.ctap1_stated.proofs.PathCases as Cases
+use Rattle.ctap1_stated.proofs.Cases as Cases
 use Rattle.ctap1.proofs.enrol.Statement.{statement}
 use Rattle.ctap1.proofs.enrol.Tie as tie
 

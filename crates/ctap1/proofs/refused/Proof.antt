@@ -1,6 +1,6 @@
 -- `refused` meets its contract.
 use borrow.Author.Needs.{needs}
-use Rattle.ctap1_stated.proofs.PathCases as Cases
+use Rattle.ctap1_stated.proofs.Cases as Cases
 use Rattle.ctap1.proofs.refused.Statement.{statement}
 use Rattle.ctap1.proofs.refused.Tie as tie
 

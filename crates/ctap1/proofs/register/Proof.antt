@@ -1,6 +1,6 @@
--- `register` meets its contract: each way through the checks is a case of `registerDecision`.
+-- `register` meets its contract: each way through the checks is a case of `registerPath`.
 use borrow.Author.Needs.{needs}
-use Rattle.ctap1_stated.proofs.PathCases as Cases
+use Rattle.ctap1_stated.proofs.Cases as Cases
 use Rattle.ctap1.proofs.register.Statement.{statement}
 use Rattle.ctap1.proofs.register.Tie as tie
 

@@ -1,6 +1,6 @@
 -- `version` meets its contract: too little room, or the six bytes.
 use borrow.Author.Needs.{needs}
-use Rattle.ctap1_stated.proofs.PathCases as Cases
+use Rattle.ctap1_stated.proofs.Cases as Cases
 use Rattle.ctap1.proofs.version.Statement.{statement}
 use Rattle.ctap1.proofs.version.Tie as tie
 

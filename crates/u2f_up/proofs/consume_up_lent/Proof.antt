@@ -2,7 +2,7 @@
 use contract.Running.{givenOf, tables, tablesOf}
 use denote.Triple.Spec.{tripleOf}
 use denote.Triple.Table.{entered, cited}
-use Rattle.u2f_up_stated.specs.Answers.{ConsumeUp}
+use Rattle.u2f_up_stated.specs.Contracts.{ConsumeUp}
 use Rattle.u2f_up.proofs.Lent.{Stepping, steps-meets}
 use Rattle.u2f_up.proofs.consume_up.Symbol as callee
 use Rattle.u2f_up.proofs.consume_up.Met as callee-thm

@@ -2,7 +2,7 @@
 use contract.Running.{givenOf, tables, tablesOf}
 use denote.Triple.Spec.{tripleOf}
 use denote.Triple.Table.{entered, cited}
-use Rattle.u2f_up_stated.specs.Answers.{IsUpNeeded}
+use Rattle.u2f_up_stated.specs.Contracts.{IsUpNeeded}
 use Rattle.u2f_up.proofs.Lent.{Asking, asks-meets}
 use Rattle.u2f_up.proofs.is_up_needed.Symbol as callee
 use Rattle.u2f_up.proofs.is_up_needed.Met as callee-thm

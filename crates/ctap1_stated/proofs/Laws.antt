@@ -1,0 +1,45 @@
+-- What other crates cite.
+use Prim.Native.Nat.{ℕ}
+use mathlib.Core.Path.{_≡_, refl}
+use Rattle.outcome.specs.Outcome.{Outcome, R, SW, Gives}
+use Rattle.command_stated.specs.Command.{commandOf}
+use Rattle.u2f_up_stated.specs.declared.Presence.{Presence}
+use Rattle.ctap1_stated.specs.Words.{Inputs, Given, Body, Ordered, Result}
+use Rattle.ctap1_stated.specs.Decision.{decisionOf}
+use Rattle.ctap1_stated.specs.Table
+use Rattle.ctap1_stated.specs.Table.{Answers}
+use Rattle.ctap1_stated.proofs.Ways.{row}
+pub use Rattle.ctap1_stated.proofs.Theorems.{RefusalChangesNothing, KeepsToItsRole, Demand3OfThePanel}
+pub use Rattle.ctap1_stated.proofs.Kept.{panel-keeps}
+pub use Rattle.ctap1_stated.proofs.Ways.{sound}
+pub use Rattle.ctap1_stated.proofs.Ways.{row}
+
+-- whatever holds of these answers holds of every decision's
+pub every-answer : (P : Outcome Given → Type 0) (p : Presence) (t : ℕ) (a : Inputs)
+    → P (R 6) → P (R 1) → P (R 2) → P (SW 0x6f00) → P (SW 0x6986) → P (SW 0x6985) → P (SW 0x6a80) → ((n : ℕ) → commandOf (a .frame) ≡ SW n → P (SW n))
+    → P (Gives (Body 6)) → P (Gives Ordered) → P (decisionOf p t a .answer)
+every-answer P p t a six one two internal forbidden unsatisfied wrong status body order = by (decisionOf p t a) (row p t a)
+  where
+    by : (r : Result) → Answers p t a r → P (r .answer)
+    by _ (Table.r6 b) = six
+    by _ (Table.r1 g b) = one
+    by _ (Table.failed ok y) = internal
+    by _ (Table.forbidden ok y) = forbidden
+    by _ (Table.frame ok y n e) = status n e
+    by _ (Table.version-short ok c h) = two
+    by _ (Table.version ok c h) = body
+    by _ (Table.register-short said ok c h) = two
+    by _ (Table.register-6985 said x n) = unsatisfied
+    by _ (Table.not-stored said x l s) = internal
+    by _ (Table.long said x l s k) = internal
+    by _ (Table.missing said x l s k m) = internal
+    by _ (Table.no-attestation said x l s k m) = internal
+    by _ (Table.enrols said x l s k m) = order
+    by _ (Table.bad-handle p1 said ok c g) = wrong
+    by _ (Table.check-only said ok c g) = unsatisfied
+    by _ (Table.sign-short p1 said ok c g n h) = two
+    by _ (Table.sign-6985 said x n) = unsatisfied
+    by _ (Table.no-counter-03 said x l k) = wrong
+    by _ (Table.signs-03 said n x l k) = order
+    by _ (Table.no-counter-08 said x k) = wrong
+    by _ (Table.signs-08 said n x k) = order

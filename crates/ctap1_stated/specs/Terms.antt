@@ -1,0 +1,85 @@
+-- Words that only the claims use: conditions, and records and orders spelled out.
+use mathlib.Core.Logic.{_⊎_}
+use Rattle.ctap1_stated.specs.Words.{if_then_else_, Outcome, Gives, ℕ, _+_, _<_, _≤_, _≡_, Bool, true, false, length, Presence, Order, Inputs, Given, Ordered, Result, Allowed}
+use Rattle.ctap1_stated.specs.declared.Allowed.the-variants as Allowed′
+use Rattle.octets.specs.Bytes.{byte, bytes4}
+use Rattle.apdu_stated.specs.Answers.{Says}
+use Rattle.command_stated.specs.Command.{Command, Register, Authenticate, Version, commandOf, challengeOf, applicationOf}
+use Rattle.u2f_up_stated.specs.declared.Window.the-variants.{Closed, Opened}
+use Rattle.u2f_up_stated.specs.Terms.{Passes, HasTouch}
+use Rattle.signing_stated.specs.Orders.{kindNo, registerOrder, authenticateOrder}
+
+-- what decides: of the record, the moment and all that is lent
+abbrev pub Decider : Type 0
+Decider = Presence → ℕ → Inputs → Result
+
+-- x and y are lent as blocks of 32 bytes; a definition over lists has to say so
+abbrev pub AreBlocks : Inputs → Type 0
+AreBlocks a = (length (a .x) ≡ 32) × (length (a .y) ≡ 32)
+
+-- ---- results: an answer, the record after it, the order, whether the counter was taken
+abbrev pub result : Outcome Given → Presence → Order → Bool → Result
+result answer after order taken = record { answer = answer; presence = after; order = order; taken = taken }
+
+-- the three records after a call without an R refusal: only the last moment moved; the touch spent too; a prompt opened too
+abbrev pub movedAt : Presence → ℕ → Presence
+movedAt p t = record { w = p .w; prompt = p .prompt; touch = p .touch; last = t }
+
+abbrev pub spentAt : Presence → ℕ → Presence
+spentAt p t = record { w = p .w; prompt = p .prompt; touch = Closed; last = t }
+
+abbrev pub promptedAt : Presence → ℕ → Presence
+promptedAt p t = record { w = p .w; prompt = Opened t; touch = p .touch; last = t }
+
+-- 01: "Register, 130 + h: 00, application, challenge, handle, public key (04, x, y)", with the certificate's length
+abbrev pub orderOfRegister : Inputs → Says → Order
+orderOfRegister a said =
+    registerOrder
+    (record {
+      application = applicationOf (a .frame) said;
+      challenge = challengeOf (a .frame) said;
+      handle = a .newHandle;
+      x = a .x;
+      y = a .y;
+    })
+    (length (a .certificate))
+
+-- 01: "Authenticate, 69: application, presence byte .., counter (4, big-endian), challenge"
+abbrev pub orderOfAuthenticate : Inputs → Says → (presence counter : ℕ) → Order
+orderOfAuthenticate a said presence counter =
+    authenticateOrder
+    (record {
+      application = applicationOf (a .frame) said;
+      presence = presence;
+      counter = bytes4 counter;
+      challenge = challengeOf (a .frame) said;
+    })
+
+-- ---- conditions
+-- CTAP1 is allowed, and the frame is read as a command
+abbrev pub Comes : Inputs → Command → Type 0
+Comes a c = (a .hardware .allowed ≡ Allowed′.Yes) × (commandOf (a .frame) ≡ Gives c)
+
+-- 5. "139 + h + c"
+abbrev pub roomOfRegister : Inputs → ℕ
+roomOfRegister a = 139 + length (a .newHandle) + length (a .certificate)
+
+-- a Register, allowed, with room; and an Authenticate, allowed, with a good handle and room
+abbrev pub Registering : Presence → ℕ → Inputs → Says → Type 0
+Registering p t a said = Passes p t × Comes a (Register said) × (roomOfRegister a ≤ a .room)
+
+abbrev pub Signing : Presence → ℕ → Inputs → ℕ → Says → Type 0
+Signing p t a p1 said = Passes p t × Comes a (Authenticate p1 said) × (a .hardware .good ≡ true) × (77 ≤ a .room)
+
+-- ---- an order that says a person was there: a Register order, or an Authenticate order with presence byte 01
+abbrev pub SaysPresent : Order → Type 0
+SaysPresent o = (kindNo (o .kind) ≡ 0x01) ⊎ ((kindNo (o .kind) ≡ 0x02) × (byte (o .bytes) 32 ≡ 0x01))
+
+abbrev pub OrdersPresent : Result → Type 0
+OrdersPresent r = (r .answer ≡ Gives Ordered) × SaysPresent (r .order)
+
+-- ---- check-only: said from whether CTAP1 is allowed and whether the handle is good
+abbrev pub checkOnlyAnswer : Allowed → Bool → ℕ
+checkOnlyAnswer Allowed′.Failed good = 0x6f00
+checkOnlyAnswer Allowed′.No good = 0x6986
+checkOnlyAnswer Allowed′.Yes good = if good then 0x6985 else 0x6a80

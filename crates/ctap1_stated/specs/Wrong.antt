@@ -1,0 +1,317 @@
+-- Wrong programs, each with one fault. proofs/Refuted.antt shows of each that a claim is false of it.
+use Rattle.ctap1_stated.specs.Words.{ℕ, _+_, Bool, true, false, not, List, [], _∷_, _++_, ltb, eqb, length, drop, if_then_else_, Outcome, R, SW, Gives}
+use Rattle.ctap1_stated.specs.Words.{Presence, Order, Inputs, Allowed, Attestation, Counter, Given, Body, Ordered, Result, isPresent}
+use Rattle.ctap1_stated.specs.Path.{Ending, Internal, WrongData, Orders, Path, NoRoom, Status, SixBytes, Signs, Touch, registerOrdered, authenticateOrdered, registerEnding, countedEnding, registerPath, authenticatePath, commandPath, pathOf, roleOf, roleOfPath}
+use Rattle.ctap1_stated.specs.Decision.{refusalResult, statusResult, ended, touchChecked, along, onMoment, decisionOf, replyLeft}
+use Rattle.ctap1_stated.specs.Calls.{PanelCall, TouchAt, CheckAt, AskAt, DecideAt, callOf, panelDoes, toldBy}
+use Rattle.ctap1_stated.specs.Terms.{Decider}
+use Rattle.ctap1_stated.specs.declared.Allowed.the-variants as Allowed′
+use Rattle.ctap1_stated.specs.declared.Attestation.the-variants as Attestation′
+use Rattle.ctap1_stated.specs.declared.Counter.the-variants as Counter′
+use Rattle.octets.specs.Bytes.{laid, bytes4}
+use Rattle.apdu_stated.specs.Answers.{Says}
+use Rattle.command_stated.specs.Command.{Command, Register, Authenticate, Version, commandOf, challengeOf, applicationOf}
+use Rattle.u2f_up_stated.specs.Moments.{Told, settleOf, checkedOf, movedTo, touchClosed, promptOpened}
+use Rattle.u2f_up_stated.specs.History.{Role, Touching, Checking, Asking, Settling, Short, Call}
+use Rattle.u2f_up_stated.specs.Runs.{Caller}
+use Rattle.u2f_up_stated.specs.declared.Finding.{Finding}
+use Rattle.signing_stated.specs.Orders.{blankOrder, registerOrder, authenticateOrder}
+
+-- ---- another path
+abbrev pub decideBy : (Inputs → Path) → Decider
+decideBy path p t a = onMoment p t (path a) (settleOf p t)
+
+-- "2. failed gives 6f00, no gives 6986. 3. the frame's status": the frame's status first
+abbrev pub onFrame : Inputs → Outcome Command → Path
+onFrame a (R n) = pathOf a
+onFrame a (SW n) = Status n
+onFrame a (Gives c) = pathOf a
+
+abbrev pub frameFirst : Decider
+frameFirst = decideBy (λ a. onFrame a (commandOf (a .frame)))
+
+-- "failed gives 6f00, no gives 6986": the other way round
+abbrev pub onSwapped : Inputs → Allowed → Path
+onSwapped a Allowed′.Failed = Status 0x6986
+onSwapped a Allowed′.No = Status 0x6f00
+onSwapped a Allowed′.Yes = pathOf a
+
+abbrev pub noAndFailed : Decider
+noAndFailed = decideBy (λ a. onSwapped a (a .hardware .allowed))
+
+abbrev pub ifAllowed : Allowed → Path → Path
+ifAllowed Allowed′.Failed x = Status 0x6f00
+ifAllowed Allowed′.No x = Status 0x6986
+ifAllowed Allowed′.Yes x = x
+
+-- another Register
+abbrev pub registerOr : (Inputs → Says → Path) → Inputs → Outcome Command → Path
+registerOr path a (R n) = commandPath a (R n)
+registerOr path a (SW n) = commandPath a (SW n)
+registerOr path a (Gives Version) = commandPath a (Gives Version)
+registerOr path a (Gives (Register said)) = path a said
+registerOr path a (Gives (Authenticate p1 said)) = commandPath a (Gives (Authenticate p1 said))
+
+abbrev pub registerAs : (Inputs → Says → Path) → Decider
+registerAs path = decideBy (λ a. ifAllowed (a .hardware .allowed) (registerOr path a (commandOf (a .frame))))
+
+abbrev pub registerWithin : ℕ → Inputs → Says → Path
+registerWithin least a said = if ltb (a .room) (least + length (a .newHandle) + length (a .certificate)) then NoRoom else Touch (registerEnding a said)
+
+-- "R2 if the buffer is shorter than 139 + h + c": one less, one more
+abbrev pub room138 : Decider
+room138 = registerAs (registerWithin 138)
+
+abbrev pub room140 : Decider
+room140 = registerAs (registerWithin 140)
+
+-- "touch check, 6985; then 6f00 if the store failed": the store first
+abbrev pub storeFirst : Decider
+storeFirst = registerAs (λ a said. if not (a .hardware .stored) then Status 0x6f00 else registerPath a said)
+
+abbrev pub registerEnds : (longest : ℕ) → (Attestation → Bool) → (Inputs → Says → Order) → Inputs → Says → Path
+registerEnds longest attested order a said =
+    if ltb (a .room) (139 + length (a .newHandle) + length (a .certificate)) then NoRoom
+    else Touch
+    (if not (a .hardware .stored) then Internal
+    else if ltb longest (length (a .newHandle)) then Internal
+    else if not (attested (a .hardware .attestation)) then Internal
+    else Orders (order a said) false)
+
+-- "h > 255": 256 is taken
+abbrev pub handle256 : Decider
+handle256 = registerAs (registerEnds 256 isPresent registerOrdered)
+
+-- "the attestation is missing or failed": a missing one is taken
+abbrev pub isNotFailed : Attestation → Bool
+isNotFailed Attestation′.Present = true
+isNotFailed Attestation′.Missing = true
+isNotFailed Attestation′.Failed = false
+
+abbrev pub missingTaken : Decider
+missingTaken = registerAs (registerEnds 255 isNotFailed registerOrdered)
+
+-- "the certificate length": one more
+abbrev pub longerOrder : Inputs → Says → Order
+longerOrder a said =
+    registerOrder
+    (record { application = applicationOf (a .frame) said; challenge = challengeOf (a .frame) said; handle = a .newHandle; x = a .x; y = a .y })
+    (length (a .certificate) + 1)
+
+abbrev pub certificateMore : Decider
+certificateMore = registerAs (registerEnds 255 isPresent longerOrder)
+
+-- another Authenticate
+abbrev pub authenticateOr : (Inputs → ℕ → Says → Path) → Inputs → Outcome Command → Path
+authenticateOr path a (R n) = commandPath a (R n)
+authenticateOr path a (SW n) = commandPath a (SW n)
+authenticateOr path a (Gives Version) = commandPath a (Gives Version)
+authenticateOr path a (Gives (Register said)) = commandPath a (Gives (Register said))
+authenticateOr path a (Gives (Authenticate p1 said)) = path a p1 said
+
+abbrev pub authenticateAs : (Inputs → ℕ → Says → Path) → Decider
+authenticateAs path = decideBy (λ a. ifAllowed (a .hardware .allowed) (authenticateOr path a (commandOf (a .frame))))
+
+-- "handle not good gives 6a80; P1 07 gives 6985": P1 07 first
+abbrev pub checkOnlyFirst : Decider
+checkOnlyFirst = authenticateAs (λ a p1 said. if eqb p1 0x07 then Status 0x6985 else authenticatePath a p1 said)
+
+-- "P1 07 gives 6985; buffer under 77 gives R2": a check-only is asked for room
+abbrev pub roomFirst : Decider
+roomFirst = authenticateAs (λ a p1 said. if ltb (a .room) 77 then NoRoom else authenticatePath a p1 said)
+
+abbrev pub authenticateEnds : (least : ℕ) → (Inputs → Says → Ending) → Inputs → ℕ → Says → Path
+authenticateEnds least ends08 a p1 said =
+    if not (a .hardware .good) then Status 0x6a80
+    else if eqb p1 0x07 then Status 0x6985
+    else if ltb (a .room) least then NoRoom
+    else if eqb p1 0x03 then Touch (countedEnding (a .frame) said true (a .hardware .counter))
+    else Signs (ends08 a said)
+
+-- "buffer under 77 gives R2": 76 is enough, 77 is not
+abbrev pub room76 : Decider
+room76 = authenticateAs (authenticateEnds 76 (λ a said. countedEnding (a .frame) said false (a .hardware .counter)))
+
+abbrev pub room78 : Decider
+room78 = authenticateAs (authenticateEnds 78 (λ a said. countedEnding (a .frame) said false (a .hardware .counter)))
+
+-- "presence byte (01 for P1 03, 00 for 08)": 01 for both
+abbrev pub present08 : Decider
+present08 = authenticateAs (authenticateEnds 77 (λ a said. countedEnding (a .frame) said true (a .hardware .counter)))
+
+-- "application, presence byte .., counter .., challenge": the challenge first
+abbrev pub turnedEnding : List ℕ → Says → Counter → Ending
+turnedEnding frame said Counter′.Failed = WrongData
+turnedEnding frame said (Counter′.Offered n) = Orders (authenticateOrder (record { application = challengeOf frame said; presence = 0x00; counter = bytes4 n; challenge = applicationOf frame said })) true
+
+abbrev pub challengeFirst : Decider
+challengeFirst = authenticateAs (authenticateEnds 77 (λ a said. turnedEnding (a .frame) said (a .hardware .counter)))
+
+-- "for P1 03 touch check": 08 asks for a touch and 03 does not
+abbrev pub touchOf08 : Decider
+touchOf08 = authenticateAs (λ a p1 said. if not (a .hardware .good) then Status 0x6a80 else if eqb p1 0x07 then Status 0x6985 else if ltb (a .room) 77 then NoRoom else if eqb p1 0x08 then Touch (countedEnding (a .frame) said true (a .hardware .counter)) else Signs (countedEnding (a .frame) said false (a .hardware .counter)))
+
+-- "for P1 03 touch check, 6985": from P1 03 straight to the counter
+abbrev pub straightened : Path → Path
+straightened NoRoom = NoRoom
+straightened (Status n) = Status n
+straightened SixBytes = SixBytes
+straightened (Signs e) = Signs e
+straightened (Touch Internal) = Touch Internal
+straightened (Touch WrongData) = Signs WrongData
+straightened (Touch (Orders o false)) = Touch (Orders o false)
+straightened (Touch (Orders o true)) = Signs (Orders o true)
+
+abbrev pub straight : Decider
+straight = decideBy (λ a. straightened (pathOf a))
+
+-- "the offered counter is reported as taken": it is not
+abbrev pub untaken : Path → Path
+untaken NoRoom = NoRoom
+untaken (Status n) = Status n
+untaken SixBytes = SixBytes
+untaken (Signs Internal) = Signs Internal
+untaken (Signs WrongData) = Signs WrongData
+untaken (Signs (Orders o taken)) = Signs (Orders o false)
+untaken (Touch e) = Touch e
+
+abbrev pub notTaken : Decider
+notTaken = decideBy (λ a. untaken (pathOf a))
+
+-- ---- another walk along the path
+abbrev pub onWalk : (Path → Presence → Presence → ℕ → Result) → Presence → ℕ → Path → Outcome Presence → Result
+onWalk walk p t path (R n) = refusalResult n p
+onWalk walk p t path (SW n) = statusResult n p
+onWalk walk p t path (Gives settled) = walk path p settled t
+
+abbrev pub decideAlong : (Path → Presence → Presence → ℕ → Result) → Decider
+decideAlong walk p t a = onWalk walk p t (pathOf a) (settleOf p t)
+
+abbrev pub shortAs : (Presence → Presence → ℕ → Result) → Path → Presence → Presence → ℕ → Result
+shortAs short NoRoom kept settled t = short kept settled t
+shortAs short (Status n) kept settled t = along (Status n) kept settled t
+shortAs short SixBytes kept settled t = along SixBytes kept settled t
+shortAs short (Signs e) kept settled t = along (Signs e) kept settled t
+shortAs short (Touch e) kept settled t = along (Touch e) kept settled t
+
+-- "R2 ..; touch check, 6985": the touch check first, and R2 after it
+abbrev pub touchFirst : Decider
+touchFirst = decideAlong (shortAs (λ kept settled t. if not (checkedOf settled t .yes) then statusResult 0x6985 (checkedOf settled t .presence) else refusalResult 2 kept))
+
+-- "R2 found after the touch is spent", "or the counter taken"; or the last moment moved
+abbrev pub r2Spends : Decider
+r2Spends = decideAlong (shortAs (λ kept settled t. refusalResult 2 (checkedOf settled t .presence)))
+
+abbrev pub r2Takes : Decider
+r2Takes = decideAlong (shortAs (λ kept settled t. record { answer = R 2; presence = kept; order = blankOrder; taken = true }))
+
+abbrev pub r2Moves : Decider
+r2Moves = decideAlong (shortAs (λ kept settled t. refusalResult 2 settled))
+
+abbrev pub statusAs : (ℕ → Presence → Presence → ℕ → Result) → Path → Presence → Presence → ℕ → Result
+statusAs status NoRoom kept settled t = along NoRoom kept settled t
+statusAs status (Status n) kept settled t = status n kept settled t
+statusAs status SixBytes kept settled t = along SixBytes kept settled t
+statusAs status (Signs e) kept settled t = along (Signs e) kept settled t
+statusAs status (Touch e) kept settled t = along (Touch e) kept settled t
+
+-- "each .. decision sets the last moment to t": a status leaves it
+abbrev pub statusLeaves : Decider
+statusLeaves = decideAlong (statusAs (λ n kept settled t. statusResult n kept))
+
+-- "A check-only 6985 opening a prompt, or spending a touch"
+abbrev pub checkOnlyPrompts : Decider
+checkOnlyPrompts = decideAlong (statusAs (λ n kept settled t. statusResult n (if eqb n 0x6985 then promptOpened settled t else settled)))
+
+abbrev pub checkOnlySpends : Decider
+checkOnlySpends = decideAlong (statusAs (λ n kept settled t. statusResult n (if eqb n 0x6985 then touchClosed settled else settled)))
+
+abbrev pub touchAs : (Finding → Presence → Ending → Result) → Path → Presence → Presence → ℕ → Result
+touchAs touch NoRoom kept settled t = along NoRoom kept settled t
+touchAs touch (Status n) kept settled t = along (Status n) kept settled t
+touchAs touch SixBytes kept settled t = along SixBytes kept settled t
+touchAs touch (Signs e) kept settled t = along (Signs e) kept settled t
+touchAs touch (Touch e) kept settled t = touch (checkedOf settled t) settled e
+
+-- "The counter taken for P1 03 without a touch": it is reported at the 6985
+abbrev pub takesAt6985 : Decider
+takesAt6985 = decideAlong (touchAs (λ f settled e. if not (f .yes) then record { answer = SW 0x6985; presence = f .presence; order = blankOrder; taken = true } else ended e (f .presence)))
+
+-- what stands in an answer without an order is blank: here the order stands beside the 6985
+abbrev pub orderIn : Ending → Order
+orderIn Internal = blankOrder
+orderIn WrongData = blankOrder
+orderIn (Orders o taken) = o
+
+abbrev pub orderAt6985 : Decider
+orderAt6985 = decideAlong (touchAs (λ f settled e. if not (f .yes) then record { answer = SW 0x6985; presence = f .presence; order = orderIn e; taken = false } else ended e (f .presence)))
+
+-- "with a live touch, it is spent": it is not
+abbrev pub touchKept : Decider
+touchKept = decideAlong (touchAs (λ f settled e. if not (f .yes) then statusResult 0x6985 (f .presence) else ended e settled))
+
+-- 6985 with a touch, and on without
+abbrev pub touchTurned : Decider
+touchTurned = decideAlong (touchAs (λ f settled e. if f .yes then statusResult 0x6985 (f .presence) else ended e (f .presence)))
+
+-- ---- another reply
+-- "the six bytes 55 32 46 5F 56 32": U2F_V1
+abbrev pub replyAs : (List ℕ → List ℕ) → Outcome Given → List ℕ → List ℕ
+replyAs body (R n) old = old
+replyAs body (SW n) old = old
+replyAs body (Gives (Body n)) old = body old
+replyAs body (Gives Ordered) old = old
+
+abbrev pub otherBytes : Result → List ℕ → List ℕ
+otherBytes r old = replyAs (laid (0x55 ∷ 0x32 ∷ 0x46 ∷ 0x5F ∷ 0x56 ∷ 0x31 ∷ [])) (r .answer) old
+
+-- "the rest stays": it goes
+abbrev pub clearsRest : Result → List ℕ → List ℕ
+clearsRest r old = replyAs (λ (l : List ℕ). 0x55 ∷ 0x32 ∷ 0x46 ∷ 0x5F ∷ 0x56 ∷ 0x32 ∷ []) (r .answer) old
+
+-- ---- another role in the history
+abbrev pub rolesBy : (Path → Role) → PanelCall → Call
+rolesBy role (TouchAt t) = callOf (TouchAt t)
+rolesBy role (CheckAt t) = callOf (CheckAt t)
+rolesBy role (AskAt t) = callOf (AskAt t)
+rolesBy role (DecideAt t a) = record { role = role (pathOf a); moment = t }
+
+abbrev pub doesBy : (Path → Result → Told) → Presence → PanelCall → Told
+doesBy told p (TouchAt t) = panelDoes decisionOf p (TouchAt t)
+doesBy told p (CheckAt t) = panelDoes decisionOf p (CheckAt t)
+doesBy told p (AskAt t) = panelDoes decisionOf p (AskAt t)
+doesBy told p (DecideAt t a) = told (pathOf a) (decisionOf p t a)
+
+abbrev pub callsBy : (Path → Role) → Caller PanelCall
+callsBy role = record { asCall = rolesBy role; does = doesBy (λ x r. toldBy (role x) r) }
+
+-- "never a 6985 from P1 07": it is taken for a prompting refusal
+abbrev pub roleOf07 : Path → Role
+roleOf07 NoRoom = Short
+roleOf07 (Status n) = if eqb n 0x6985 then Checking else Settling
+roleOf07 SixBytes = Settling
+roleOf07 (Signs e) = Settling
+roleOf07 (Touch e) = Checking
+
+abbrev pub checkOnlyAsCheck : Caller PanelCall
+checkOnlyAsCheck = callsBy roleOf07
+
+-- "a 6985 from Register or from P1 03": it is taken for an answer without the touch check
+abbrev pub roleOfTouch : Path → Role
+roleOfTouch NoRoom = Short
+roleOfTouch (Status n) = Settling
+roleOfTouch SixBytes = Settling
+roleOfTouch (Signs e) = Settling
+roleOfTouch (Touch e) = Settling
+
+abbrev pub touchAsOther : Caller PanelCall
+touchAsOther = callsBy roleOfTouch
+
+-- "A call spends a touch if the check succeeds, also when a later step answers 6f00 or 6a80": seen to spend by orders alone
+abbrev pub orderSeen : Outcome Given → Outcome Bool
+orderSeen (R n) = R n
+orderSeen (SW n) = Gives false
+orderSeen (Gives g) = Gives true
+
+abbrev pub ordersAloneSpend : Caller PanelCall
+ordersAloneSpend = record { asCall = callOf; does = doesBy (λ x r. record { outcome = orderSeen (r .answer); presence = r .presence }) }
