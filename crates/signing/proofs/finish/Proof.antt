@@ -1,4 +1,4 @@
-use Rattle.signing_stated.proofs.Checks.{of-layout, enough, answers-r7, answers-r4, answers-r2, answers-6f00, answers-r3, answers-body}
+use Rattle.signing_stated.proofs.Cases.{of-layout, enough, answers-r7, answers-r4, answers-r2, answers-6f00, answers-r3, answers-body}
 use borrow.Author.Needs.{needs}
 use Rattle.signing.proofs.finish.Statement.{statement}
 use Rattle.signing.proofs.finish.Tie as tie

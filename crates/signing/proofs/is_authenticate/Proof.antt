@@ -1,4 +1,4 @@
-use Rattle.signing_stated.proofs.Judged.{other-length, other-presence, authenticate-tail, authenticate-certificate}
+use Rattle.signing_stated.proofs.Cases.{other-length, other-presence, authenticate-tail, authenticate-certificate}
 use borrow.Author.Needs.{needs}
 use Rattle.signing.proofs.is_authenticate.Statement.{statement}
 use Rattle.signing.proofs.is_authenticate.Tie as tie

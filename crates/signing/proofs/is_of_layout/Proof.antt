@@ -1,4 +1,4 @@
-use Rattle.signing_stated.proofs.Judged.{register-judged, authenticate-judged}
+use Rattle.signing_stated.proofs.Cases.{register-judged, authenticate-judged}
 use borrow.Author.Needs.{needs}
 use Rattle.signing.proofs.is_of_layout.Statement.{statement}
 use Rattle.signing.proofs.is_of_layout.Tie as tie

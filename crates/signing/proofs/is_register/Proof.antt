@@ -1,4 +1,4 @@
-use Rattle.signing_stated.proofs.Judged.{too-few, too-many, other-first, other-marker, register-tail}
+use Rattle.signing_stated.proofs.Cases.{too-few, too-many, other-first, other-marker, register-tail}
 use borrow.Author.Needs.{needs}
 use Rattle.signing.proofs.is_register.Statement.{statement}
 use Rattle.signing.proofs.is_register.Tie as tie

@@ -1,11 +1,9 @@
 // Fields one after the other into a lent buffer: each writer writes its first field and lends the rest of the buffer to
 // the writer of the fields that follow. A write stops where the buffer ends, so nothing is asked of the caller.
-ghost use mathlib.Core.Path.{_≡_};
-ghost use mathlib.Core.List.{_++_};
-ghost use Rattle.octets.specs.Bytes.{laid};
+ghost use Rattle.fields.specs.Contracts.{PutTwo, PutThree, PutFour, PutFive, PutSix};
 
 pub fn put_two(out: &mut [u8], a: &[u8], b: &[u8])
-    ensures { λ _. ⌜ now (out .exit) ≡ laid (now (a .entry) ++ now (b .entry)) (now (out .entry)) ⌝ }
+    ensures { λ _. ⌜ PutTwo (now (a .entry)) (now (b .entry)) (now (out .entry)) (now (out .exit)) ⌝ }
 {
     octets::put(out, a);
     let n = a.len();
@@ -15,7 +13,7 @@ pub fn put_two(out: &mut [u8], a: &[u8], b: &[u8])
 }
 
 pub fn put_three(out: &mut [u8], a: &[u8], b: &[u8], c: &[u8])
-    ensures { λ _. ⌜ now (out .exit) ≡ laid (now (a .entry) ++ (now (b .entry) ++ now (c .entry))) (now (out .entry)) ⌝ }
+    ensures { λ _. ⌜ PutThree (now (a .entry)) (now (b .entry)) (now (c .entry)) (now (out .entry)) (now (out .exit)) ⌝ }
 {
     octets::put(out, a);
     let n = a.len();
@@ -25,7 +23,7 @@ pub fn put_three(out: &mut [u8], a: &[u8], b: &[u8], c: &[u8])
 }
 
 pub fn put_four(out: &mut [u8], a: &[u8], b: &[u8], c: &[u8], d: &[u8])
-    ensures { λ _. ⌜ now (out .exit) ≡ laid (now (a .entry) ++ (now (b .entry) ++ (now (c .entry) ++ now (d .entry)))) (now (out .entry)) ⌝ }
+    ensures { λ _. ⌜ PutFour (now (a .entry)) (now (b .entry)) (now (c .entry)) (now (d .entry)) (now (out .entry)) (now (out .exit)) ⌝ }
 {
     octets::put(out, a);
     let n = a.len();
@@ -35,7 +33,7 @@ pub fn put_four(out: &mut [u8], a: &[u8], b: &[u8], c: &[u8], d: &[u8])
 }
 
 pub fn put_five(out: &mut [u8], a: &[u8], b: &[u8], c: &[u8], d: &[u8], e: &[u8])
-    ensures { λ _. ⌜ now (out .exit) ≡ laid (now (a .entry) ++ (now (b .entry) ++ (now (c .entry) ++ (now (d .entry) ++ now (e .entry))))) (now (out .entry)) ⌝ }
+    ensures { λ _. ⌜ PutFive (now (a .entry)) (now (b .entry)) (now (c .entry)) (now (d .entry)) (now (e .entry)) (now (out .entry)) (now (out .exit)) ⌝ }
 {
     octets::put(out, a);
     let n = a.len();
@@ -45,7 +43,7 @@ pub fn put_five(out: &mut [u8], a: &[u8], b: &[u8], c: &[u8], d: &[u8], e: &[u8]
 }
 
 pub fn put_six(out: &mut [u8], a: &[u8], b: &[u8], c: &[u8], d: &[u8], e: &[u8], f: &[u8])
-    ensures { λ _. ⌜ now (out .exit) ≡ laid (now (a .entry) ++ (now (b .entry) ++ (now (c .entry) ++ (now (d .entry) ++ (now (e .entry) ++ now (f .entry)))))) (now (out .entry)) ⌝ }
+    ensures { λ _. ⌜ PutSix (now (a .entry)) (now (b .entry)) (now (c .entry)) (now (d .entry)) (now (e .entry)) (now (f .entry)) (now (out .entry)) (now (out .exit)) ⌝ }
 {
     octets::put(out, a);
     let n = a.len();

@@ -1,7 +1,7 @@
 use Rattle.octets.proofs.Tails.{laid-then, laid-over}
 use borrow.Author.Needs.{needs}
-use Rattle.signing.proofs.fields.put_five.Statement.{statement}
-use Rattle.signing.proofs.fields.put_five.Tie as tie
+use Rattle.fields.proofs.put_five.Statement.{statement}
+use Rattle.fields.proofs.put_five.Tie as tie
 
 put-requires : tie.Need-put-requires
 put-requires c κs = search needs
