@@ -18,7 +18,7 @@ ghost use lib.Dec.{leb};
 ghost use lib.ListN.{length};
 ghost use Rattle.octets.specs.Bytes.{byte, laid};
 ghost use Rattle.signing_stated.specs.Layouts.{presenceByte, registerBody, authenticateBody};
-ghost use Rattle.signing_stated.specs.Orders.{certificateLength, isRegisterLayout, isAuthenticateLayout, isOfLayout, registerFieldsOf, authenticateFieldsOf};
+ghost use Rattle.signing_stated.specs.Orders.{certificateLength, isOfLayout, registerFieldsOf, authenticateFieldsOf};
 ghost use Rattle.signing_stated.specs.Finishing.{roomAsked, bodyOf};
 ghost use Rattle.signing_stated.specs.Contracts.{KindNumber, Blank, RegisterOrder, AuthenticateOrder, HasRegisterRoom, HasAuthenticateRoom, Finish};
 
@@ -117,51 +117,6 @@ pub fn authenticate_order(
     }
 }
 
-fn is_register(to_sign: usize, bytes: [u8; 385]) -> bool
-    ensures { λ r. ⌜ r ≡ isRegisterLayout «to_sign» bytes ⌝ }
-{
-    if to_sign < 130 {
-        return false;
-    }
-    if 385 < to_sign {
-        return false;
-    }
-    if bytes[0] != 0x00 {
-        return false;
-    }
-    if bytes[to_sign - 65] != 0x04 {
-        return false;
-    }
-    octets::all_zero(&bytes[to_sign..])
-}
-
-fn is_authenticate(to_sign: usize, certificate_length: usize, bytes: [u8; 385]) -> bool
-    ensures { λ r. ⌜ r ≡ isAuthenticateLayout «to_sign» «certificate_length» bytes ⌝ }
-{
-    if to_sign != 69 {
-        return false;
-    }
-    if 0x01 < bytes[32] {
-        return false;
-    }
-    if !octets::all_zero(&bytes[69..]) {
-        return false;
-    }
-    certificate_length == 0
-}
-
-// An order is whatever the caller hands in, so its layout is looked at before a byte of it is used.
-fn is_of_layout(order: Order) -> bool
-    ensures { λ r. ⌜ r ≡ isOfLayout order ⌝ }
-{
-    let kind = order.kind;
-    let bytes = order.bytes;
-    match kind {
-        Kind::Register => is_register(order.to_sign, bytes),
-        Kind::Authenticate => is_authenticate(order.to_sign, order.certificate_length, bytes),
-    }
-}
-
 // Whether a buffer of room bytes holds the longest reply to a Register. Tested by subtraction: the sum could wrap.
 pub fn has_register_room(room: usize, handle_length: usize, certificate_length: usize) -> bool
     ensures { λ r. ⌜ HasRegisterRoom room «handle_length» «certificate_length» r ⌝ }
@@ -256,7 +211,7 @@ pub fn finish(
 ) -> Finished
     ensures { λ r. ⌜ Finish (record { order = order; certificate = now (certificate .entry); signed = signed; signature = now (signature .entry); reply = now (reply .entry) }) r (now (reply .exit)) ⌝ }
 {
-    if !is_of_layout(order) {
+    if !layouts::has_layout(order) {
         return Finished::Refused(Refusal::R7);
     }
     if certificate.len() != order.certificate_length {

@@ -44,6 +44,7 @@ ResultsDetermined =
       blank = λ a b. both-are a b;
       register-order = λ f c a b. both-are a b;
       authenticate-order = λ p a b. both-are a b;
+      has-layout = λ o a b. both-are a b;
       has-register-room = λ room h c a b. both-are a b;
       has-authenticate-room = λ room a b. both-are a b;
       finish =

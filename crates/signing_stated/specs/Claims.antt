@@ -13,7 +13,7 @@ use Rattle.octets.specs.Bytes.{byte}
 use Rattle.signing_stated.specs.Layouts.{RegisterFields, AuthenticateFields, registerToSign, authenticateToSign, registerBody, authenticateBody, isRegisterFit, isAuthenticateFit}
 use Rattle.signing_stated.specs.Orders.{Kind, Register, Authenticate, Order, AuthenticateParts, toSign, certificateLength, registerOrderOf, authenticateOrderOf}
 use Rattle.signing_stated.specs.Finishing.{Finishing, Finished, Ended}
-use Rattle.signing_stated.specs.Contracts.{KindNumber, Blank, RegisterOrder, AuthenticateOrder, HasRegisterRoom, HasAuthenticateRoom, Finish}
+use Rattle.signing_stated.specs.Contracts.{KindNumber, Blank, RegisterOrder, AuthenticateOrder, HasLayout, HasRegisterRoom, HasAuthenticateRoom, Finish}
 use Rattle.signing_stated.specs.Terms.{part, RegisterLengths, PartsLengths, IsWhole, IsBlank, IsRegisterOrder, IsAuthenticateOrder, HoldsJust, RegisterShaped, AuthenticateShaped, AsksFor, OfLayout, keeping}
 
 -- ---- numbers and results
@@ -39,6 +39,7 @@ pub record ResultsDetermined : Type 0 where
   pub blank : AtMostOne Blank
   pub register-order : (f : RegisterFields) (c : ℕ) → AtMostOne (RegisterOrder f c)
   pub authenticate-order : (p : AuthenticateParts) → AtMostOne (AuthenticateOrder p)
+  pub has-layout : (o : Order) → AtMostOne (HasLayout o)
   pub has-register-room : (room h c : ℕ) → AtMostOne (HasRegisterRoom room h c)
   pub has-authenticate-room : (room : ℕ) → AtMostOne (HasAuthenticateRoom room)
   pub finish : (i : Finishing) → AtMostOne (λ (r : Finished × List ℕ). Finish i (r .0) (r .1))

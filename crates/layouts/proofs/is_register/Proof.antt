@@ -1,7 +1,7 @@
 use Rattle.signing_stated.proofs.Cases.{too-few, too-many, other-first, other-marker, register-tail}
 use borrow.Author.Needs.{needs}
-use Rattle.signing.proofs.is_register.Statement.{statement}
-use Rattle.signing.proofs.is_register.Tie as tie
+use Rattle.layouts.proofs.is_register.Statement.{statement}
+use Rattle.layouts.proofs.is_register.Tie as tie
 
 returns : tie.Need-returns
 returns c = search (needs, too-few)

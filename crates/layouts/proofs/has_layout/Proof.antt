@@ -1,7 +1,7 @@
 use Rattle.signing_stated.proofs.Cases.{register-judged, authenticate-judged}
 use borrow.Author.Needs.{needs}
-use Rattle.signing.proofs.is_of_layout.Statement.{statement}
-use Rattle.signing.proofs.is_of_layout.Tie as tie
+use Rattle.layouts.proofs.has_layout.Statement.{statement}
+use Rattle.layouts.proofs.has_layout.Tie as tie
 
 enum-told : tie.Need-enum-told
 enum-told c = search needs
@@ -21,8 +21,8 @@ returns c = search (needs, register-judged)
 returns-2 : tie.Need-returns-2
 returns-2 c = search (needs, authenticate-judged)
 
-pub is-of-layout-spec : {M : Type 1} → statement M
-is-of-layout-spec =
+pub has-layout-spec : {M : Type 1} → statement M
+has-layout-spec =
     tie.close
     (tie.spec
     enum-told

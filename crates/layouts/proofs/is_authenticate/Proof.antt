@@ -1,7 +1,7 @@
 use Rattle.signing_stated.proofs.Cases.{other-length, other-presence, authenticate-tail, authenticate-certificate}
 use borrow.Author.Needs.{needs}
-use Rattle.signing.proofs.is_authenticate.Statement.{statement}
-use Rattle.signing.proofs.is_authenticate.Tie as tie
+use Rattle.layouts.proofs.is_authenticate.Statement.{statement}
+use Rattle.layouts.proofs.is_authenticate.Tie as tie
 
 returns : tie.Need-returns
 returns c = search (needs, other-length)
