@@ -1,9 +1,12 @@
-//! The functions of include/brinecandle.h that are measured.
+//! The functions of include/brinecandle.h that are measured. .ci/header compares this file with it.
 
 #[repr(C)]
 pub struct Frame {
     pub answer: u16,
-    pub header: [u8; 4],
+    pub cla: u8,
+    pub ins: u8,
+    pub p1: u8,
+    pub p2: u8,
     pub shape: u32,
     pub lc: u16,
     pub le: u32,

@@ -254,7 +254,7 @@ impl World {
 
     fn core_reading(&self) -> (u16, Vec<u8>, [u32; 2]) {
         let said = self.said();
-        let start = [&said.header[..], &self.row.frame[said.start..said.end]].concat();
+        let start = [&[said.cla, said.ins, said.p1, said.p2][..], &self.row.frame[said.start..said.end]].concat();
         match said.answer {
             0x9000 => (0x9000, start, [said.lc.into(), said.le]),
             status => (status, Vec::new(), [0, 0]),
