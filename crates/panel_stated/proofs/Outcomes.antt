@@ -5,14 +5,15 @@ use mathlib.Core.Bool.{Bool, true, false, not}
 use mathlib.Core.List.{List}
 use native.Mathlib.Omega.{arith}
 use lib.Dec.{ltb, eqb}
-use lib.ListN.{length}
+use lib.ListN.{length, drop}
 use Rattle.outcome.specs.Notation.{if_then_else_}
 use Rattle.outcome.specs.Outcome.{Outcome, R, SW, Gives}
 use Rattle.apdu_stated.specs.Answers.{Says}
-use Rattle.apdu_stated.specs.Reading.{readOf, strictOf, strictly}
+use Rattle.apdu_stated.specs.Reading.{readOf, sayOf, lengthsOf, strictOf, strictly}
 use Rattle.apdu_stated.specs.Table.{canCarry}
 use Rattle.apdu_stated.specs.Writing.{Parts, frameOf, writeOf}
-use Rattle.apdu_stated.proofs.Frames.{Answer, under, found, no-shape, answer}
+use Rattle.apdu_stated.specs.declared.Lengths.{Lengths}
+use Rattle.apdu_stated.specs.declared.Lengths.the-variants as Lengths′
 use Rattle.command_stated.specs.Command.{Command, Register, Authenticate, Version, isControl, registerOf, authenticateOf, versionOf, byInstruction, onReading, commandOf}
 use Rattle.u2f_up_stated.specs.Moments.{isR6, isR1, onSettled, Told, newOf, settleOf, checkedOf, touchOf, checkOf, askOf}
 use Rattle.u2f_up_stated.specs.declared.Presence.{Presence}
@@ -37,13 +38,15 @@ module _ {A : Type 0} where
   test b x y = either IsNumbered b x y
 
 -- ---- frames
+say-said : (frame : List ℕ) (l : Lengths) → IsNumbered (sayOf frame l)
+unfolding sayOf
+say-said frame (Lengths′.Found s lc le) = tt
+say-said frame Lengths′.Missing = (omega arith, omega arith)
+say-said frame Lengths′.Surplus = (omega arith, omega arith)
+
 pub read-said : (frame : List ℕ) → IsNumbered (readOf frame)
-read-said frame = go (readOf frame) (answer frame)
-  where
-    go : (o : Outcome Says) → Answer frame o → IsNumbered o
-    go _ (under h) = (omega arith, omega arith)
-    go _ (no-shape h) = (omega arith, omega arith)
-    go _ (found long s lc le f) = tt
+unfolding readOf
+read-said frame = test (ltb (length frame) 4) _ _ (omega arith, omega arith) (say-said frame (lengthsOf (drop 4 frame)))
 
 strictly-said : (o : Outcome Says) → IsNumbered o → IsNumbered (strictly o)
 unfolding strictly
@@ -89,7 +92,7 @@ pub new-said : (w : ℕ) → IsNumbered (newOf w)
 unfolding newOf
 new-said w = test (isR6 w) _ _ (omega arith, omega arith) tt
 
-settle-said : (p : Presence) (t : ℕ) → IsNumbered (settleOf p t)
+pub settle-said : (p : Presence) (t : ℕ) → IsNumbered (settleOf p t)
 unfolding settleOf
 settle-said p t = test (isR6 (p .w)) _ _ (omega arith, omega arith) (test (isR1 (p .last) t) _ _ (omega arith, omega arith) tt)
 

@@ -1,6 +1,6 @@
 -- The definitions meet the claims of specs/Claims.antt, each under the claim's own name.
-use Prim.Native.Nat.{ℕ, _≤_, _<_, _^_}
-use mathlib.Core.Path.{_≡_, refl, ap, sym}
+use Prim.Native.Nat.{ℕ, _≤_, _<_, _^_, _+_}
+use mathlib.Core.Path.{_≡_, refl, ap, sym, _∙_}
 use mathlib.Core.Logic.{_↔_, _⊎_, inl, inr}
 use native.Mathlib.Omega.{arith}
 use native.Mathlib.Decide.{ℕ-discrete}
@@ -14,9 +14,9 @@ use Rattle.u2f_up_stated.specs.declared.Window.the-variants.{Closed, Opened}
 use Rattle.signing_stated.specs.Orders.{kindNo}
 use Rattle.ctap1_stated.specs.Words.{Given, Body, Ordered}
 use Rattle.panel_stated.specs.Numbers.{answerNo, decidedNo, closedNo, windowOf, windowNo, presenceOf, presenceNumbers, shapeOf, kindOf, allowedOf, attestationOf}
-use Rattle.panel_stated.specs.Exports.{ToWrite, ToFinish, inputsOf, writeAs, finishAs, orderAfter}
+use Rattle.panel_stated.specs.Exports.{ToWrite, ToFinish, inputsOf, writeAs, finishAs, orderAfter, frameNumbers, commandNumbers, lengthNumbers, askedNumbers, stepNumbers, madeNumbers, blockAfter, decisionNumbers, decidedBy}
 use Rattle.panel_stated.specs.Claims
-use Rattle.panel_stated.specs.Terms.{IsNumbered, IsOfMoment, AfterWriting, AfterDeciding}
+use Rattle.panel_stated.specs.Terms.{IsNumbered, IsOfMoment, AfterWriting, AfterDeciding, Carries, register, authenticate}
 use Rattle.panel_stated.specs.declared.Shaped.{Shaped}
 use Rattle.panel_stated.specs.declared.Shaped.the-variants as Shaped′
 use Rattle.panel_stated.specs.declared.Kinded.{Kinded}
@@ -24,6 +24,18 @@ use Rattle.panel_stated.specs.declared.Kinded.the-variants as Kinded′
 use Rattle.panel_stated.proofs.Cases
 use Rattle.panel_stated.proofs.Outcomes
 use mathlib.Core.Bool.{Bool}
+use mathlib.Core.List.{List}
+use Rattle.octets.specs.Bytes.{partOf}
+use Rattle.apdu_stated.specs.Answers.{Says}
+use Rattle.apdu_stated.specs.Reading.{dataOf}
+use Rattle.apdu_stated.proofs.Frames.{data-within}
+use Rattle.command_stated.specs.Command.{Command, commandOf, challengeOf, applicationOf, handleOf}
+use Rattle.command_stated.proofs.Theorems.{RegisterExactly, AuthenticateExactly}
+use Rattle.u2f_up_stated.specs.Moments.{Told, settleOf, onSettled, touchOf, checkOf}
+use Rattle.u2f_up_stated.specs.declared.Presence.{Presence}
+use Rattle.ctap1_stated.specs.Path as Path′
+use Rattle.ctap1_stated.specs.Path.{decisionAt}
+use Rattle.panel_stated.specs.Words.{Kind, Order, OrderNumbers}
 
 -- ---- one answer number says which answer it is
 pub EveryOutcomeNumbered : Claims.EveryOutcomeNumbered
@@ -175,6 +187,105 @@ AttestationNumbers =
 
 pub OrderBack : Claims.OrderBack orderAfter
 OrderBack order certificate signed signature reply = rw (sym (Cases.kinded (order .kind) (kindNo (order .kind)) refl)) refl
+
+-- ---- what is not said is 0
+pub FrameNumbers : Claims.FrameNumbers frameNumbers
+FrameNumbers = record { refused = λ n. refl; status = λ n. refl; given = λ s. refl }
+
+pub CommandNumbers : Claims.CommandNumbers commandNumbers
+CommandNumbers =
+    record {
+      refused = λ n. refl;
+      status = λ n. refl;
+      version = refl;
+      register = λ s. refl;
+      authenticate = λ p1 s. refl;
+    }
+
+pub LengthNumbers : Claims.LengthNumbers lengthNumbers
+LengthNumbers = record { refused = λ n. refl; status = λ n. refl; given = λ n. refl }
+
+pub AskedNumbers : Claims.AskedNumbers askedNumbers
+AskedNumbers = record { refused = λ n. refl; status = λ n. refl; given = λ b. refl }
+
+pub StepNumbers : Claims.StepNumbers stepNumbers
+StepNumbers = record { refused = λ n p. refl; status = λ n p. refl; given = λ b p. refl }
+
+pub MadeNumbers : Claims.MadeNumbers madeNumbers
+MadeNumbers = record { refused = λ n. refl; status = λ n. refl; given = λ p. refl }
+
+pub OrderNumbersExactly : Claims.OrderNumbersExactly orderAfter
+OrderNumbersExactly =
+    record {
+      refused = λ n o. refl;
+      status = λ n o. refl;
+      body = λ n o. refl;
+      register = λ o k. ap (numbered o) k;
+      authenticate = λ o k. ap (numbered o) k;
+    }
+  where
+    numbered : Order → Kind → OrderNumbers
+    numbered o k = record { kind = kindNo k; «to_sign» = o .«to_sign»; «certificate_length» = o .«certificate_length» }
+
+pub BlockExactly : Claims.BlockExactly blockAfter
+BlockExactly =
+    record { refused = λ n bytes old. refl; status = λ n bytes old. refl; body = λ n bytes old. refl; ordered = λ bytes old. refl }
+
+-- ---- places
+pub PlacesCut : Claims.PlacesCut frameNumbers commandNumbers
+unfolding dataOf challengeOf applicationOf handleOf
+PlacesCut =
+    record {
+      «data» = λ frame s e. (data-within frame s e, refl);
+      challenge = λ frame c s e k. (room frame c s e k .0, cut-challenge frame c s k);
+      application = λ frame c s e k. (room frame c s e k .1, cut-application frame c s k);
+      handle = λ frame p1 s e. (data-within frame s (AuthenticateExactly frame p1 s .0 e .0), refl);
+    }
+  where
+    room : (frame : List ℕ) (c : Command) (s : Says) → commandOf frame ≡ Gives c → Carries c s
+        → (commandNumbers (Gives c) .challenge + 32 ≤ length frame) × (commandNumbers (Gives c) .application + 32 ≤ length frame)
+    room frame _ _ e (register s) =
+        let t = RegisterExactly frame s .0 e in
+        let within = data-within frame s (t .0) in (omega (arith, t .3), omega (arith, t .3))
+    room frame _ _ e (authenticate p1 s) =
+        let t = AuthenticateExactly frame p1 s .0 e in
+        let within = data-within frame s (t .0) in (omega (arith, t .3), omega (arith, t .3))
+
+    cut-challenge : (frame : List ℕ) (c : Command) (s : Says) → Carries c s
+        → partOf frame (commandNumbers (Gives c) .challenge) (commandNumbers (Gives c) .challenge + 32) ≡ challengeOf frame s
+    cut-challenge frame _ _ (register s) = refl
+    cut-challenge frame _ _ (authenticate p1 s) = refl
+
+    cut-application : (frame : List ℕ) (c : Command) (s : Says) → Carries c s
+        → partOf frame (commandNumbers (Gives c) .application) (commandNumbers (Gives c) .application + 32) ≡ applicationOf frame s
+    cut-application frame _ _ (register s) = let at : s .dataAt + 32 + 32 ≡ s .dataAt + 64 = omega arith in ap (partOf frame (s .dataAt + 32)) at
+    cut-application frame _ _ (authenticate p1 s) = let at : s .dataAt + 32 + 32 ≡ s .dataAt + 64 = omega arith in ap (partOf frame (s .dataAt + 32)) at
+
+-- ---- a refusal hands back the record that was lent
+refused-record : (p : Presence) (o : Outcome Presence) (go : Presence → Told) → IsNumbered o
+    → ((q : Presence) → (b : Bool) × (go q .outcome ≡ Gives b)) → answerNo (onSettled p o go .outcome) ≤ lastRefusal → onSettled p o go .presence ≡ p
+refused-record p (R n) go h given low = refl
+refused-record p (SW n) go h given low = refl
+refused-record p (Gives q) go h given low = absurd (omega (arith, ap answerNo (given q .1)))
+
+decision-kept : (p : Presence) (t : ℕ) (a : Path′.Asked) → (o : Outcome Given) → decisionAt p t a .answer ≡ o → IsNumbered o
+    → 1 ≤ decidedNo o → decidedNo o ≤ lastRefusal → decisionAt p t a .presence ≡ p
+decision-kept p t a (R n) e h low high = Outcomes.decision-refused p t a n e
+decision-kept p t a (SW n) e h low high = absurd (omega (arith, h .0))
+decision-kept p t a (Gives (Body n)) e h low high = absurd (omega arith)
+decision-kept p t a (Gives Ordered) e h low high = absurd (omega arith)
+
+pub RefusalHandsBack : Claims.RefusalHandsBack (λ n t. stepNumbers (touchOf (presenceOf n) t)) (λ n t. stepNumbers (checkOf (presenceOf n) t)) (λ i. decisionNumbers (decidedBy i))
+unfolding touchOf checkOf
+RefusalHandsBack =
+    record {
+      grant-up = λ n t low. ap presenceNumbers (refused-record (presenceOf n) (settleOf (presenceOf n) t) _ (Outcomes.settle-said (presenceOf n) t) (λ q. (_, refl)) low) ∙ NumbersBack n;
+      consume-up = λ n t low. ap presenceNumbers (refused-record (presenceOf n) (settleOf (presenceOf n) t) _ (Outcomes.settle-said (presenceOf n) t) (λ q. (_, refl)) low) ∙ NumbersBack n;
+      decided =
+          λ i low high.
+          ap presenceNumbers (decision-kept (presenceOf (i .presence)) (i .moment) (inputsOf i) (decidedBy i .answer) refl (EveryOutcomeNumbered .decide i) low high)
+          ∙ NumbersBack (i .presence);
+    }
 
 -- ---- two results that satisfy a contract are equal
 pub ResultsDetermined : Claims.ResultsDetermined

@@ -5,11 +5,16 @@ use mathlib.Core.Logic.{_↔_, _⊎_}
 use Rattle.panel_stated.specs.Words.{ℕ, _≡_, _≤_, _<_, Bool, List, AtMostOne, Outcome, R, SW, Gives, lastRefusal, Closed, Opened, Presence, Allowed, Attestation, Order}
 use Rattle.panel_stated.specs.Words.{Instruction, Le1, Lc1Data, Lc1DataLe1, Lc3Data, Lc3DataLe1, Lc3DataLe2, Le3}
 use Rattle.panel_stated.specs.Words.{PresenceRecord, HardwareSaid, OrderNumbers, Shaped, Kinded}
-use Rattle.panel_stated.specs.Words.{readOf, strictOf, commandOf, newOf, touchOf, checkOf, askOf, finishOf, Given, Body, Ordered}
+use Rattle.panel_stated.specs.Words.{FrameSaid, CommandSaid, Wrote, Made, Stepped, Asked, DecisionSaid}
+use Rattle.panel_stated.specs.Words.{Says, Command, Register, Authenticate, Version, Told, length, _+_, false, readOf, strictOf, commandOf, newOf, touchOf, checkOf, askOf, finishOf, Given, Body, Ordered}
 use Rattle.panel_stated.specs.Exports.{ToWrite, ToDecide, ToFinish, decidedBy, writeNumbered, finishNumbered}
 use Rattle.panel_stated.specs.Contracts.{ShapeNumbered, FramePlain, WritePlain, CommandPlain, RecordLent, RecordPlain, MadePlain, AskedPlain, StepPlain, HardwareLent, KindNumbered, PutBlock, DecisionPlain, FinishedPlain}
 use Rattle.panel_stated.specs.Contracts.{BrinecandleRead, BrinecandleReadStrict, BrinecandleWrite, BrinecandleReadCommand, BrinecandleNew, BrinecandleGrantUp, BrinecandleConsumeUp, BrinecandleIsUpNeeded, BrinecandleDecide, BrinecandleFinish}
-use Rattle.panel_stated.specs.Terms.{IsNumbered, IsOfMoment, AfterWriting, AfterDeciding}
+use Rattle.octets.specs.Bytes.{partOf}
+use Rattle.apdu_stated.specs.Reading.{dataOf}
+use Rattle.command_stated.specs.Command.{challengeOf, applicationOf, handleOf}
+use Rattle.panel_stated.specs.Numbers.{presenceNumbers}
+use Rattle.panel_stated.specs.Terms.{IsNumbered, IsOfMoment, Carries, AfterWriting, AfterDeciding}
 use Rattle.apdu_stated.specs.declared.Reading.{Reading}
 use Rattle.command_stated.specs.declared.U2fCommand.{U2fCommand}
 use Rattle.u2f_up_stated.specs.declared.Ready.{Ready}
@@ -79,6 +84,13 @@ pub record RecordNumbers (lend : PresenceRecord → Presence) : Type 0 where
   pub touch-closed : (n : PresenceRecord) → n .touch ≡ 0xffffffffffffffff → lend n .touch ≡ Closed
   pub touch-opened : (n : PresenceRecord) → (n .touch ≡ 0xffffffffffffffff → ⊥) → lend n .touch ≡ Opened (n .touch)
 
+-- "An R refusal changes no buffer and no record", said of the numbers: beside a refusal's number stands the record that was lent,
+-- number by number. A check that moves the last moment all the same (`refusedMoves`) fails it, before the last moment.
+pub record RefusalHandsBack (touch check : PresenceRecord → ℕ → Stepped) (decide : ToDecide → DecisionSaid) : Type 0 where
+  pub grant-up : (n : PresenceRecord) (t : ℕ) → touch n t .answer ≤ lastRefusal → touch n t .presence ≡ n
+  pub consume-up : (n : PresenceRecord) (t : ℕ) → check n t .answer ≤ lastRefusal → check n t .presence ≡ n
+  pub decided : (i : ToDecide) → 1 ≤ decide i .answer → decide i .answer ≤ lastRefusal → decide i .presence ≡ i .presence
+
 -- ---- numbers that stand for cases
 
 -- 01, 'Eight frame shapes', the column "no"; ours: OPEN POINTS, "a shape number outside 1..8 is R5". A table that takes 0 for
@@ -122,6 +134,110 @@ OrderBack plain =
     (order : Order) (certificate : List ℕ) (signed : Bool) (signature reply : List ℕ)
     → finishNumbered (record { order = plain (Gives Ordered) order; block = order .bytes; certificate = certificate; signed = signed; signature = signature; reply = reply })
     ≡ finishOf (record { order = order; certificate = certificate; signed = signed; signature = signature; reply = reply })
+
+-- ---- what is not said is 0
+
+-- A frame's numbers, or a status word beside zeros. 01: "data comes back as a part of the caller's frame". A table that says shape 1
+-- beside a status word (`shape1BesideStatus`) fails it.
+pub record FrameNumbers (plain : Outcome Says → FrameSaid) : Type 0 where
+  pub refused : (n : ℕ) → plain (R n) ≡ record { answer = n; cla = 0; ins = 0; p1 = 0; p2 = 0; shape = 0; lc = 0; le = 0; start = 0; end = 0 }
+  pub status : (n : ℕ) → plain (SW n) ≡ record { answer = n; cla = 0; ins = 0; p1 = 0; p2 = 0; shape = 0; lc = 0; le = 0; start = 0; end = 0 }
+  pub given : (s : Says) → plain (Gives s)
+      ≡ record {
+        answer = 0x9000;
+        cla = s .header .cla;
+        ins = s .header .ins;
+        p1 = s .header .p1;
+        p2 = s .header .p2;
+        shape = s .shape;
+        lc = s .lc;
+        le = s .le;
+        start = s .dataAt;
+        end = s .dataAt + s .lc;
+      }
+
+-- A command's numbers, or a status word beside zeros. 01: "Data: challenge 32, application 32", "The key handle is handed back as
+-- the part of the frame after data[64], up to the data's end and without the Le". A table that says a Register's P1
+-- (`registerWithP1`) fails it.
+pub record CommandNumbers (plain : Outcome Command → CommandSaid) : Type 0 where
+  pub refused : (n : ℕ) → plain (R n) ≡ record { answer = n; command = 0; p1 = 0; challenge = 0; application = 0; handle = 0; «handle_end» = 0 }
+  pub status : (n : ℕ) → plain (SW n) ≡ record { answer = n; command = 0; p1 = 0; challenge = 0; application = 0; handle = 0; «handle_end» = 0 }
+  pub version : plain (Gives Version) ≡ record { answer = 0x9000; command = 3; p1 = 0; challenge = 0; application = 0; handle = 0; «handle_end» = 0 }
+  pub register : (s : Says) → plain (Gives (Register s))
+      ≡ record { answer = 0x9000; command = 1; p1 = 0; challenge = s .dataAt; application = s .dataAt + 32; handle = 0; «handle_end» = 0 }
+  pub authenticate : (p1 : ℕ) (s : Says) → plain (Gives (Authenticate p1 s))
+      ≡ record {
+        answer = 0x9000;
+        command = 2;
+        p1 = p1;
+        challenge = s .dataAt;
+        application = s .dataAt + 32;
+        handle = s .dataAt + 65;
+        «handle_end» = s .dataAt + s .lc;
+      }
+
+-- A written length, or 0 beside a refusal or a status word. A table that says a length beside a refusal (`lengthBesideRefusal`)
+-- fails it.
+pub record LengthNumbers (plain : Outcome ℕ → Wrote) : Type 0 where
+  pub refused : (n : ℕ) → plain (R n) ≡ record { answer = n; length = 0 }
+  pub status : (n : ℕ) → plain (SW n) ≡ record { answer = n; length = 0 }
+  pub given : (n : ℕ) → plain (Gives n) ≡ record { answer = 0x9000; length = n }
+
+-- What a touch, a check or an ask says: `yes` beside 9000 alone. A table that says yes beside a refusal (`yesBesideRefusal`) fails it:
+-- the firmware would take a refused touch for an accepted one.
+pub record AskedNumbers (plain : Outcome Bool → Asked) : Type 0 where
+  pub refused : (n : ℕ) → plain (R n) ≡ record { answer = n; yes = false }
+  pub status : (n : ℕ) → plain (SW n) ≡ record { answer = n; yes = false }
+  pub given : (b : Bool) → plain (Gives b) ≡ record { answer = 0x9000; yes = b }
+
+-- The same beside the record after the call. `stepYesBesideRefusal` fails it.
+pub record StepNumbers (plain : Told → Stepped) : Type 0 where
+  pub refused : (n : ℕ) (p : Presence) → plain (record { outcome = R n; presence = p }) ≡ record { answer = n; yes = false; presence = presenceNumbers p }
+  pub status : (n : ℕ) (p : Presence) → plain (record { outcome = SW n; presence = p }) ≡ record { answer = n; yes = false; presence = presenceNumbers p }
+  pub given : (b : Bool) (p : Presence) → plain (record { outcome = Gives b; presence = p }) ≡ record { answer = 0x9000; yes = b; presence = presenceNumbers p }
+
+-- 01: "a refused making hands back no record": four zeros, which no call takes, since W is 0. A making that hands back a fresh record
+-- beside its refusal (`madeBesideRefusal`) fails it.
+pub record MadeNumbers (plain : Outcome Presence → Made) : Type 0 where
+  pub refused : (n : ℕ) → plain (R n) ≡ record { answer = n; presence = record { w = 0; prompt = 0; touch = 0; last = 0 } }
+  pub status : (n : ℕ) → plain (SW n) ≡ record { answer = n; presence = record { w = 0; prompt = 0; touch = 0; last = 0 } }
+  pub given : (p : Presence) → plain (Gives p) ≡ record { answer = 0x9000; presence = presenceNumbers p }
+
+-- The numbers of a decision's order: kind 1 or 2, the number of bytes to sign, the certificate length; zeros where there is none.
+-- A table that numbers an Authenticate order 1 (`ordersAlike`) fails it.
+pub record OrderNumbersExactly (plain : Outcome Given → Order → OrderNumbers) : Type 0 where
+  pub refused : (n : ℕ) (o : Order) → plain (R n) o ≡ record { kind = 0; «to_sign» = 0; «certificate_length» = 0 }
+  pub status : (n : ℕ) (o : Order) → plain (SW n) o ≡ record { kind = 0; «to_sign» = 0; «certificate_length» = 0 }
+  pub body : (n : ℕ) (o : Order) → plain (Gives (Body n)) o ≡ record { kind = 0; «to_sign» = 0; «certificate_length» = 0 }
+  pub register : (o : Order) → o .kind ≡ Kind′.Register
+      → plain (Gives Ordered) o ≡ record { kind = 1; «to_sign» = o .«to_sign»; «certificate_length» = o .«certificate_length» }
+  pub authenticate : (o : Order) → o .kind ≡ Kind′.Authenticate
+      → plain (Gives Ordered) o ≡ record { kind = 2; «to_sign» = o .«to_sign»; «certificate_length» = o .«certificate_length» }
+
+-- 01: "the bytes to sign in a block of 385 bytes": the lent block is written for an order alone. One that is written after a status
+-- word (`blockAfterStatus`) or a refusal (`blockAfterRefusal`) fails it: an order that waits for its signature is lost.
+pub record BlockExactly (after : Outcome Given → (bytes old : List ℕ) → List ℕ) : Type 0 where
+  pub refused : (n : ℕ) (bytes old : List ℕ) → after (R n) bytes old ≡ old
+  pub status : (n : ℕ) (bytes old : List ℕ) → after (SW n) bytes old ≡ old
+  pub body : (n : ℕ) (bytes old : List ℕ) → after (Gives (Body n)) bytes old ≡ old
+  pub ordered : (bytes old : List ℕ) → after (Gives Ordered) bytes old ≡ bytes
+
+-- ---- places
+
+-- The parts cut at the exported numbers are the definitions' parts, and stand within the frame. 01: "data comes back as a part of the
+-- caller's frame, not a copy", "The key handle is handed back as the part of the frame". Places one byte on (`placesOneOn`) fail it.
+pub record PlacesCut (frames : Outcome Says → FrameSaid) (commands : Outcome Command → CommandSaid) : Type 0 where
+  pub «data» : (frame : List ℕ) (s : Says) → readOf frame ≡ Gives s
+      → (frames (Gives s) .end ≤ length frame) × (partOf frame (frames (Gives s) .start) (frames (Gives s) .end) ≡ dataOf frame s)
+  pub challenge : (frame : List ℕ) (c : Command) (s : Says) → commandOf frame ≡ Gives c → Carries c s
+      → (commands (Gives c) .challenge + 32 ≤ length frame)
+      × (partOf frame (commands (Gives c) .challenge) (commands (Gives c) .challenge + 32) ≡ challengeOf frame s)
+  pub application : (frame : List ℕ) (c : Command) (s : Says) → commandOf frame ≡ Gives c → Carries c s
+      → (commands (Gives c) .application + 32 ≤ length frame)
+      × (partOf frame (commands (Gives c) .application) (commands (Gives c) .application + 32) ≡ applicationOf frame s)
+  pub handle : (frame : List ℕ) (p1 : ℕ) (s : Says) → commandOf frame ≡ Gives (Authenticate p1 s)
+      → (commands (Gives (Authenticate p1 s)) .«handle_end» ≤ length frame)
+      × (partOf frame (commands (Gives (Authenticate p1 s)) .handle) (commands (Gives (Authenticate p1 s)) .«handle_end») ≡ handleOf frame s)
 
 -- ---- two results that satisfy a contract are equal, and so are the contents of what was lent
 pub record ResultsDetermined : Type 0 where

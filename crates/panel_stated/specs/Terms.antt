@@ -1,5 +1,5 @@
 -- Words that the claims use.
-use Rattle.panel_stated.specs.Words.{ℕ, _≤_, _<_, List, Outcome, R, SW, Gives, lastRefusal, Window, Closed, Opened, _^_, Wrote, DecisionSaid}
+use Rattle.panel_stated.specs.Words.{ℕ, _≤_, _<_, List, Outcome, R, SW, Gives, lastRefusal, Window, Closed, Opened, _^_, Wrote, DecisionSaid, Says, Command, Register, Authenticate}
 
 -- a refusal's number is one of the refusals', and a status word's, where it is not what was asked for, is above them and not 9000
 abbrev pub IsNumbered : {A : Type 0} → Outcome A → Type 0
@@ -22,3 +22,8 @@ pub record AfterDeciding : Type 0 where
   pub said : DecisionSaid
   pub reply : List ℕ
   pub block : List ℕ
+
+-- a command that carries data, and what its frame says
+pub data Carries : Command → Says → Type 0 where
+  register : (s : Says) → Carries (Register s) s
+  authenticate : (p1 : ℕ) (s : Says) → Carries (Authenticate p1 s) s
