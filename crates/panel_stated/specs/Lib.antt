@@ -4,3 +4,4 @@ pub mod Exports
 pub mod Contracts
 pub mod Terms
 pub mod Claims
+pub mod Wrong
