@@ -102,7 +102,7 @@ static void then_bytes(const uint8_t *bytes, size_t length)
 
 static void put_answer(uint16_t answer)
 {
-    if (1 <= answer && answer <= 7) {
+    if (1 <= answer && answer <= BRINECANDLE_LAST_REFUSAL) {
         put('R');
         put_number(answer);
     } else {

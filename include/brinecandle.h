@@ -34,6 +34,7 @@ extern "C" {
 
 enum {
     BRINECANDLE_ORDER = 0,
+    BRINECANDLE_LAST_REFUSAL = 7, /* refusals are 1 up to this */
     BRINECANDLE_OK = 0x9000,
     BRINECANDLE_BLOCK = 385 /* bytes of an order's block */
 };

@@ -1,12 +1,9 @@
--- What numbering needs once for every enum, and what tells outcomes apart.
+-- What other crates cite: what tells outcomes apart, and the tables' ways back.
 use Prim.Native.Nat.{ℕ}
-use mathlib.Core.Path.{_≡_, sym, ap, _∙_}
+use mathlib.Core.Path.{_≡_, sym, _∙_}
 use native.Mathlib.Omega.{arith}
 use Rattle.outcome.specs.Outcome.{Outcome, R, SW, Gives}
-
--- a map with a way back tells its arguments apart
-pub one-to-one : {A B : Type 0} (f : A → B) (g : B → A) → ((a : A) → g (f a) ≡ a) → (a b : A) → f a ≡ f b → a ≡ b
-one-to-one f g back a b e = sym (back a) ∙ ap g e ∙ back b
+pub use Rattle.outcome.proofs.Numbers.{one-to-one, statusOf, status-back, status-one-to-one, refusalOf, refusal-back, refusal-one-to-one}
 
 -- ---- an outcome's three kinds are apart, and each says its number or value
 module _ {A : Type 0} where

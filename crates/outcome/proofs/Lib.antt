@@ -1,2 +1,5 @@
+pub mod Numbers
 pub mod Laws
 pub mod Theorems
+pub mod Only
+pub mod Refuted

@@ -1,63 +1,58 @@
--- The numbers tell the cases apart: each table has a way back.
-use Prim.Native.Nat.{ℕ}
+-- The claims of specs/Claims.antt, each under its own name.
+use Prim.Native.Nat.{ℕ, zero, suc, _≤_}
 use mathlib.Core.Path.{_≡_, refl}
-use lib.Dec.{eqb}
-use Rattle.outcome.specs.Notation.{if_then_else_}
-use Rattle.outcome.specs.Outcome.{statusNo, refusalNo}
-use Rattle.outcome.specs.Claims.{StatusOneToOne, RefusalOneToOne, Determined}
-use Rattle.outcome.specs.declared.ApduStatusCode.{ApduStatusCode}
-use Rattle.outcome.specs.declared.ApduStatusCode.the-variants.{Success, WrongData, WrongLength, CondUseNotSatisfied, CommandNotAllowed, InsInvalid, ClaInvalid, InternalException}
+use native.Mathlib.Omega.{arith}
+use Rattle.outcome.specs.Outcome.{statusNo, refusalNo, lastRefusal}
+use Rattle.outcome.specs.Claims
 use Rattle.outcome.specs.declared.Refusal.{Refusal}
 use Rattle.outcome.specs.declared.Refusal.the-variants.{R1, R2, R3, R4, R5, R6, R7}
-use Rattle.outcome.proofs.Laws.{one-to-one, both-are}
+use Rattle.outcome.proofs.Laws.{both-are}
+pub use Rattle.outcome.proofs.Numbers.{statusOf, status-back, status-one-to-one, refusalOf, refusal-back, refusal-one-to-one}
 
-pub statusOf : ℕ → ApduStatusCode
-statusOf n =
-    if eqb n 0x9000 then Success
-    else if eqb n 0x6a80 then WrongData
-    else if eqb n 0x6700 then WrongLength
-    else if eqb n 0x6985 then CondUseNotSatisfied
-    else if eqb n 0x6986 then CommandNotAllowed
-    else if eqb n 0x6d00 then InsInvalid
-    else if eqb n 0x6e00 then ClaInvalid
-    else InternalException
+pub StatusNumbers : Claims.StatusNumbers statusNo
+StatusNumbers =
+    record {
+      success = refl;
+      wrong-data = refl;
+      wrong-length = refl;
+      no-touch = refl;
+      not-allowed = refl;
+      unknown-ins = refl;
+      unknown-cla = refl;
+      internal = refl;
+    }
 
-pub status-back : (s : ApduStatusCode) → statusOf (statusNo s) ≡ s
-unfolding statusOf
-status-back Success = refl
-status-back WrongData = refl
-status-back WrongLength = refl
-status-back CondUseNotSatisfied = refl
-status-back CommandNotAllowed = refl
-status-back InsInvalid = refl
-status-back ClaInvalid = refl
-status-back InternalException = refl
+pub RefusalNumbers : Claims.RefusalNumbers refusalNo
+RefusalNumbers = record { r1 = refl; r2 = refl; r3 = refl; r4 = refl; r5 = refl; r6 = refl; r7 = refl }
 
-pub status-one-to-one : StatusOneToOne
-status-one-to-one = one-to-one statusNo statusOf status-back
+pub StatusOneToOne : Claims.StatusOneToOne statusNo
+StatusOneToOne = status-one-to-one
 
-pub refusalOf : ℕ → Refusal
-refusalOf n =
-    if eqb n 1 then R1
-    else if eqb n 2 then R2
-    else if eqb n 3 then R3
-    else if eqb n 4 then R4
-    else if eqb n 5 then R5
-    else if eqb n 6 then R6
-    else R7
+pub RefusalOneToOne : Claims.RefusalOneToOne refusalNo
+RefusalOneToOne = refusal-one-to-one
 
-pub refusal-back : (r : Refusal) → refusalOf (refusalNo r) ≡ r
-unfolding refusalOf
-refusal-back R1 = refl
-refusal-back R2 = refl
-refusal-back R3 = refl
-refusal-back R4 = refl
-refusal-back R5 = refl
-refusal-back R6 = refl
-refusal-back R7 = refl
+pub RefusalRange : Claims.RefusalRange refusalNo
+RefusalRange = record { within = within; each = each }
+  where
+    within : (r : Refusal) → (1 ≤ refusalNo r) × (refusalNo r ≤ lastRefusal)
+    within R1 = (omega arith, omega arith)
+    within R2 = (omega arith, omega arith)
+    within R3 = (omega arith, omega arith)
+    within R4 = (omega arith, omega arith)
+    within R5 = (omega arith, omega arith)
+    within R6 = (omega arith, omega arith)
+    within R7 = (omega arith, omega arith)
 
-pub refusal-one-to-one : RefusalOneToOne
-refusal-one-to-one = one-to-one refusalNo refusalOf refusal-back
+    each : (n : ℕ) → 1 ≤ n → n ≤ lastRefusal → (r : Refusal) × (refusalNo r ≡ n)
+    each zero low high = absurd (omega arith)
+    each (suc zero) low high = (R1, refl)
+    each (suc (suc zero)) low high = (R2, refl)
+    each (suc (suc (suc zero))) low high = (R3, refl)
+    each (suc (suc (suc (suc zero)))) low high = (R4, refl)
+    each (suc (suc (suc (suc (suc zero))))) low high = (R5, refl)
+    each (suc (suc (suc (suc (suc (suc zero)))))) low high = (R6, refl)
+    each (suc (suc (suc (suc (suc (suc (suc zero))))))) low high = (R7, refl)
+    each (suc (suc (suc (suc (suc (suc (suc (suc n)))))))) low high = absurd (omega arith)
 
-pub determined : Determined
-determined = record { status-number = λ s a b. both-are a b; refusal-number = λ r a b. both-are a b }
+pub ResultsDetermined : Claims.ResultsDetermined
+ResultsDetermined = record { status-number = λ s a b. both-are a b; refusal-number = λ r a b. both-are a b }

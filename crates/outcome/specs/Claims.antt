@@ -1,20 +1,53 @@
--- What is promised of the numbers: they tell the cases apart. Proved in proofs/Theorems.antt.
-use Prim.Native.Nat.{ℕ}
+-- What is promised of the numbers. Proved in proofs/Theorems.antt; proofs/Only.antt has that no other tables meet it, and
+-- proofs/Refuted.antt that wrong ones do not.
+use Prim.Native.Nat.{ℕ, _≤_}
 use mathlib.Core.Path.{_≡_}
 use Rattle.outcome.specs.Notation.{AtMostOne}
-use Rattle.outcome.specs.Outcome.{statusNo, refusalNo}
+use Rattle.outcome.specs.Outcome.{lastRefusal}
+use Rattle.outcome.specs.Contracts.{StatusNumber, RefusalNumber}
 use Rattle.outcome.specs.declared.ApduStatusCode.{ApduStatusCode}
+use Rattle.outcome.specs.declared.ApduStatusCode.the-variants.{Success, WrongData, WrongLength, CondUseNotSatisfied, CommandNotAllowed, InsInvalid, ClaInvalid, InternalException}
 use Rattle.outcome.specs.declared.Refusal.{Refusal}
+use Rattle.outcome.specs.declared.Refusal.the-variants.{R1, R2, R3, R4, R5, R6, R7}
 
--- Two status words with one number are the same one. A table that sends 6700 for wrong data and for wrong length fails it.
-abbrev pub StatusOneToOne : Type 0
-StatusOneToOne = (a b : ApduStatusCode) → statusNo a ≡ statusNo b → a ≡ b
+-- Each status word has ISO 7816-4's number. A wire layer that sends 6700 for wrong data (`wrongDataAsWrongLength`) fails it, at
+-- a frame of three bytes, whose status is 6a80.
+pub record StatusNumbers (number : ApduStatusCode → ℕ) : Type 0 where
+  pub success : number Success ≡ 0x9000
+  pub wrong-data : number WrongData ≡ 0x6a80
+  pub wrong-length : number WrongLength ≡ 0x6700
+  pub no-touch : number CondUseNotSatisfied ≡ 0x6985
+  pub not-allowed : number CommandNotAllowed ≡ 0x6986
+  pub unknown-ins : number InsInvalid ≡ 0x6d00
+  pub unknown-cla : number ClaInvalid ≡ 0x6e00
+  pub internal : number InternalException ≡ 0x6f00
 
--- Two refusals with one number are the same one. A table that numbers R2 and R4 alike fails it.
-abbrev pub RefusalOneToOne : Type 0
-RefusalOneToOne = (a b : Refusal) → refusalNo a ≡ refusalNo b → a ≡ b
+-- 01, 'Refusal numbers', the column "no". A table that numbers R6 as 7 (`r6Numbered7`) fails it, at a touch window of 0.
+pub record RefusalNumbers (number : Refusal → ℕ) : Type 0 where
+  pub r1 : number R1 ≡ 1
+  pub r2 : number R2 ≡ 2
+  pub r3 : number R3 ≡ 3
+  pub r4 : number R4 ≡ 4
+  pub r5 : number R5 ≡ 5
+  pub r6 : number R6 ≡ 6
+  pub r7 : number R7 ≡ 7
 
--- Two results that satisfy a contract are equal, for each public function.
-pub record Determined : Type 0 where
-  pub status-number : (s : ApduStatusCode) → AtMostOne (λ (r : ℕ). r ≡ statusNo s)
-  pub refusal-number : (r : Refusal) → AtMostOne (λ (n : ℕ). n ≡ refusalNo r)
+-- Two status words with one number are the same one. `wrongDataAsWrongLength` fails it, and so does any table that uses a number
+-- twice.
+abbrev pub StatusOneToOne : (ApduStatusCode → ℕ) → Type 0
+StatusOneToOne number = (a b : ApduStatusCode) → number a ≡ number b → a ≡ b
+
+-- Two refusals with one number are the same one. A table that numbers R4 as R2 is numbered (`r4Numbered2`) fails it.
+abbrev pub RefusalOneToOne : (Refusal → ℕ) → Type 0
+RefusalOneToOne number = (a b : Refusal) → number a ≡ number b → a ≡ b
+
+-- The refusals' numbers are those from 1 to the last, with none left out: what the panel's answers leave to refusals is just
+-- what is used. Ours; DECISIONS, "one answer number". `r4Numbered2` fails it: no refusal is numbered 4.
+pub record RefusalRange (number : Refusal → ℕ) : Type 0 where
+  pub within : (r : Refusal) → (1 ≤ number r) × (number r ≤ lastRefusal)
+  pub each : (n : ℕ) → 1 ≤ n → n ≤ lastRefusal → (r : Refusal) × (number r ≡ n)
+
+-- 01: "Show that two results satisfying it are equal", for each public function.
+pub record ResultsDetermined : Type 0 where
+  pub status-number : (s : ApduStatusCode) → AtMostOne (StatusNumber s)
+  pub refusal-number : (r : Refusal) → AtMostOne (RefusalNumber r)

@@ -1,3 +1,5 @@
 pub mod Notation
 pub mod Outcome
+pub mod Contracts
 pub mod Claims
+pub mod Wrong

@@ -32,3 +32,8 @@ refusalNo R4 = 4  -- certificate length is not the order's
 refusalNo R5 = 5  -- shape cannot carry this data length or Le
 refusalNo R6 = 6  -- W is 0 or above 60,000, when made or in a record
 refusalNo R7 = 7  -- order not of either layout
+
+-- 01, 'Refusal numbers': R1 to R7. The last one is named here alone: the range that the panel's answers leave to refusals ends
+-- with it, in the statements and, held to this line by .ci/header, in C.
+abbrev pub lastRefusal : ℕ
+lastRefusal = 7

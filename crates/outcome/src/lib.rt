@@ -1,7 +1,6 @@
 // The words that every crate here answers with: the status words of a reply and the refusals R1 to R7, each with its
 // number. Status words go to the host. A refusal goes to the firmware: nothing was decided, and nothing was changed.
-ghost use mathlib.Core.Path.{_≡_};
-ghost use Rattle.outcome.specs.Outcome.{statusNo, refusalNo};
+ghost use Rattle.outcome.specs.Contracts.{StatusNumber, RefusalNumber};
 
 // ISO 7816-4's status words, as far as the panel answers them. The names are those of the Rust's `ApduStatusCode`.
 pub enum ApduStatusCode {
@@ -28,7 +27,7 @@ pub enum Refusal {
 
 // The status word as the number that goes out.
 pub fn status_number(status: ApduStatusCode) -> u16
-    ensures { λ r. ⌜ r ≡ statusNo status ⌝ }
+    ensures { λ r. ⌜ StatusNumber status r ⌝ }
 {
     match status {
         ApduStatusCode::Success => 0x9000,
@@ -44,7 +43,7 @@ pub fn status_number(status: ApduStatusCode) -> u16
 
 // The refusal as its number.
 pub fn refusal_number(refusal: Refusal) -> u8
-    ensures { λ r. ⌜ r ≡ refusalNo refusal ⌝ }
+    ensures { λ r. ⌜ RefusalNumber refusal r ⌝ }
 {
     match refusal {
         Refusal::R1 => 1,

@@ -11,18 +11,16 @@ use outcome::Refusal;
 pub use signing_stated::Finished;
 pub use signing_stated::Kind;
 pub use signing_stated::Order;
-
-mod fields;
-
 ghost use Prim.Native.Nat.{_+_, _-_, _≤_};
 ghost use mathlib.Core.Path.{_≡_};
 ghost use mathlib.Core.Bool.{true};
 ghost use lib.Dec.{leb};
 ghost use lib.ListN.{length};
-ghost use Rattle.octets.specs.Bytes.{byte, laid, bytes4};
+ghost use Rattle.octets.specs.Bytes.{byte, laid};
 ghost use Rattle.signing_stated.specs.Layouts.{presenceByte, registerBody, authenticateBody};
-ghost use Rattle.signing_stated.specs.Orders.{kindNo, certificateLength, blankOrder, registerOrder, authenticateOrder, isRegisterLayout, isAuthenticateLayout, isOfLayout, registerFieldsOf, authenticateFieldsOf};
-ghost use Rattle.signing_stated.specs.Finishing.{registerRoom, authenticateRoom, roomAsked, bodyOf, Finishes};
+ghost use Rattle.signing_stated.specs.Orders.{certificateLength, isOfLayout, registerFieldsOf, authenticateFieldsOf};
+ghost use Rattle.signing_stated.specs.Finishing.{roomAsked, bodyOf};
+ghost use Rattle.signing_stated.specs.Contracts.{KindNumber, Blank, RegisterOrder, AuthenticateOrder, HasRegisterRoom, HasAuthenticateRoom, Finish};
 
 // 05, public key, h and the longest signature: what a Register reply takes beside handle and certificate.
 const REGISTER_FIXED: usize = 139;
@@ -33,7 +31,7 @@ const LONGEST_SIGNATURE: usize = 72;
 
 // The kind as the INS of its command.
 pub fn kind_number(kind: Kind) -> u8
-    ensures { λ r. ⌜ r ≡ kindNo kind ⌝ }
+    ensures { λ r. ⌜ KindNumber kind r ⌝ }
 {
     match kind {
         Kind::Register => 0x01,
@@ -43,7 +41,7 @@ pub fn kind_number(kind: Kind) -> u8
 
 // What stands where there is no order: finishing it is R7.
 pub fn blank() -> Order
-    ensures { λ r. ⌜ r ≡ blankOrder ⌝ }
+    ensures { λ r. ⌜ Blank r ⌝ }
 {
     Order {
         kind: Kind::Register,
@@ -62,7 +60,7 @@ pub fn register_order(
     y: &[u8; 32],
     certificate_length: usize,
 ) -> Order
-    ensures { λ r. ⌜ r ≡ registerOrder (record { application = now (application .entry); challenge = now (challenge .entry); handle = now (handle .entry); x = now (x .entry); y = now (y .entry) }) «certificate_length» ⌝ }
+    ensures { λ r. ⌜ RegisterOrder (record { application = now (application .entry); challenge = now (challenge .entry); handle = now (handle .entry); x = now (x .entry); y = now (y .entry) }) «certificate_length» r ⌝ }
 {
     if application.len() != 32 {
         return blank();
@@ -98,7 +96,7 @@ pub fn authenticate_order(
     present: bool,
     counter: u32,
 ) -> Order
-    ensures { λ r. ⌜ r ≡ authenticateOrder (record { application = now (application .entry); presence = presenceByte present; counter = bytes4 counter; challenge = now (challenge .entry) }) ⌝ }
+    ensures { λ r. ⌜ AuthenticateOrder (record { application = now (application .entry); challenge = now (challenge .entry); present = present; counter = counter }) r ⌝ }
 {
     if application.len() != 32 {
         return blank();
@@ -119,54 +117,9 @@ pub fn authenticate_order(
     }
 }
 
-fn is_register(to_sign: usize, bytes: [u8; 385]) -> bool
-    ensures { λ r. ⌜ r ≡ isRegisterLayout «to_sign» bytes ⌝ }
-{
-    if to_sign < 130 {
-        return false;
-    }
-    if 385 < to_sign {
-        return false;
-    }
-    if bytes[0] != 0x00 {
-        return false;
-    }
-    if bytes[to_sign - 65] != 0x04 {
-        return false;
-    }
-    octets::all_zero(&bytes[to_sign..])
-}
-
-fn is_authenticate(to_sign: usize, certificate_length: usize, bytes: [u8; 385]) -> bool
-    ensures { λ r. ⌜ r ≡ isAuthenticateLayout «to_sign» «certificate_length» bytes ⌝ }
-{
-    if to_sign != 69 {
-        return false;
-    }
-    if 0x01 < bytes[32] {
-        return false;
-    }
-    if !octets::all_zero(&bytes[69..]) {
-        return false;
-    }
-    certificate_length == 0
-}
-
-// An order is whatever the caller hands in, so its layout is looked at before a byte of it is used.
-fn is_of_layout(order: Order) -> bool
-    ensures { λ r. ⌜ r ≡ isOfLayout order ⌝ }
-{
-    let kind = order.kind;
-    let bytes = order.bytes;
-    match kind {
-        Kind::Register => is_register(order.to_sign, bytes),
-        Kind::Authenticate => is_authenticate(order.to_sign, order.certificate_length, bytes),
-    }
-}
-
 // Whether a buffer of room bytes holds the longest reply to a Register. Tested by subtraction: the sum could wrap.
 pub fn has_register_room(room: usize, handle_length: usize, certificate_length: usize) -> bool
-    ensures { λ r. ⌜ r ≡ leb (registerRoom «handle_length» «certificate_length») room ⌝ }
+    ensures { λ r. ⌜ HasRegisterRoom room «handle_length» «certificate_length» r ⌝ }
 {
     if room < REGISTER_FIXED {
         return false;
@@ -180,7 +133,7 @@ pub fn has_register_room(room: usize, handle_length: usize, certificate_length: 
 
 // The same for an Authenticate.
 pub fn has_authenticate_room(room: usize) -> bool
-    ensures { λ r. ⌜ r ≡ leb authenticateRoom room ⌝ }
+    ensures { λ r. ⌜ HasAuthenticateRoom room r ⌝ }
 {
     AUTHENTICATE_ROOM <= room
 }
@@ -256,9 +209,9 @@ pub fn finish(
     signature: &[u8],
     reply: &mut [u8],
 ) -> Finished
-    ensures { λ r. ⌜ Finishes (record { order = order; certificate = now (certificate .entry); signed = signed; signature = now (signature .entry); reply = now (reply .entry) }) r (now (reply .exit)) ⌝ }
+    ensures { λ r. ⌜ Finish (record { order = order; certificate = now (certificate .entry); signed = signed; signature = now (signature .entry); reply = now (reply .entry) }) r (now (reply .exit)) ⌝ }
 {
-    if !is_of_layout(order) {
+    if !layouts::has_layout(order) {
         return Finished::Refused(Refusal::R7);
     }
     if certificate.len() != order.certificate_length {

@@ -1,24 +1,13 @@
--- Fields that fit, as lengths.
-use Prim.Native.Nat.{_≤_}
+-- Fields that fit, as lengths, and the orders that they make.
+use Prim.Native.Nat.{ℕ, _+_}
 use mathlib.Core.Bool.{true}
 use mathlib.Core.Path.{_≡_}
 use borrow.Author.Tests.{eq-eqb, le-leb, eqb-true, leb-true}
 use lib.ListN.{length}
 use Rattle.octets.proofs.Tests.{both}
-use Rattle.signing_stated.specs.Layouts.{RegisterFields, AuthenticateFields, isRegisterFit, isAuthenticateFit}
-
-pub record RegisterLengths (f : RegisterFields) : Type 0 where
-  pub application : length (f .application) ≡ 32
-  pub challenge : length (f .challenge) ≡ 32
-  pub handle : length (f .handle) ≤ 255
-  pub x : length (f .x) ≡ 32
-  pub y : length (f .y) ≡ 32
-
-pub record AuthenticateLengths (f : AuthenticateFields) : Type 0 where
-  pub application : length (f .application) ≡ 32
-  pub presence : f .presence ≤ 1
-  pub counter : length (f .counter) ≡ 4
-  pub challenge : length (f .challenge) ≡ 32
+use Rattle.signing_stated.specs.Layouts.{RegisterFields, AuthenticateFields, isRegisterFit, isAuthenticateFit, registerToSign, authenticateToSign}
+use Rattle.signing_stated.specs.Orders.{Register, Authenticate, block, registerOrderOf, authenticateOrderOf}
+pub use Rattle.signing_stated.specs.Terms.{RegisterLengths, AuthenticateLengths}
 
 pub register-fit : (f : RegisterFields) → RegisterLengths f → isRegisterFit f ≡ true
 register-fit f l =
@@ -53,3 +42,13 @@ authenticate-lengths f e =
       counter = eqb-true _ _ (q .1);
       challenge = eqb-true _ _ (p .1);
     }
+
+pub register-order-fit : (f : RegisterFields) (c : ℕ) → RegisterLengths f
+    → registerOrderOf f c ≡ record { kind = Register; «to_sign» = 130 + length (f .handle); «certificate_length» = c; bytes = block (registerToSign f) }
+unfolding registerOrderOf
+register-order-fit f c l = rw (register-fit f l)
+
+pub authenticate-order-fit : (f : AuthenticateFields) → AuthenticateLengths f
+    → authenticateOrderOf f ≡ record { kind = Authenticate; «to_sign» = 69; «certificate_length» = 0; bytes = block (authenticateToSign f) }
+unfolding authenticateOrderOf
+authenticate-order-fit f l = rw (authenticate-fit f l)

@@ -9,11 +9,11 @@ use lib.Seq.{length-take-le, take-at, drop-at, drop-cons, take-add, getD-drop, g
 use Rattle.octets.specs.Bytes.{byte, allZero}
 use Rattle.octets.proofs.Parts.{field-at, length-part, laid-zeros, all-zero-replicate, replicate-all-zero}
 use Rattle.signing_stated.specs.Layouts.{RegisterFields, AuthenticateFields, registerToSign, authenticateToSign, publicKey}
-use Rattle.signing_stated.specs.Orders.{Order, Register, Authenticate, toSign, certificateLength, block, registerFieldsOf, authenticateFieldsOf, registerOrder, authenticateOrder}
-use Rattle.signing_stated.proofs.Fit.{RegisterLengths, AuthenticateLengths}
-use Rattle.signing_stated.proofs.Judged.{RegisterShape, AuthenticateShape}
-use Rattle.signing_stated.proofs.Bodies.{part, key-at}
-use Rattle.signing_stated.proofs.Made.{register-order-fit, authenticate-order-fit}
+use Rattle.signing_stated.specs.Orders.{Order, Register, Authenticate, toSign, certificateLength, block, registerFieldsOf, authenticateFieldsOf, registerOrderOf, authenticateOrderOf}
+use Rattle.signing_stated.specs.Terms.{part, RegisterLengths, AuthenticateLengths}
+use Rattle.signing_stated.proofs.Shapes.{RegisterShape, AuthenticateShape}
+use Rattle.signing_stated.proofs.Cases.{key-at}
+use Rattle.signing_stated.proofs.Fit.{register-order-fit, authenticate-order-fit}
 
 -- a block is what was laid, then zeros
 block-is : (s : List ℕ) → length s ≤ 385 → block s ≡ s ++ replicate (385 - length s) 0
@@ -35,7 +35,7 @@ block-of b n whole h rest =
     ∙ sym (block-is (take n b) (omega (arith, length-take-le n b (omega arith))))
 
 -- where each field of a Register order stands
-record RegisterFound (a d h m u v b : List ℕ) : Type 0 where
+pub record RegisterFound (a d h m u v b : List ℕ) : Type 0 where
   pub application : part 1 32 b ≡ a
   pub challenge : part 33 32 b ≡ d
   pub handle : part 65 (length h) b ≡ h
@@ -60,7 +60,7 @@ register-found z a d h m x y rest b lz la ld lm lx ly e =
     }
 
 -- where each field of an Authenticate order stands
-record AuthenticateFound (a p c d b : List ℕ) : Type 0 where
+pub record AuthenticateFound (a p c d b : List ℕ) : Type 0 where
   pub application : part 0 32 b ≡ a
   pub presence : part 32 1 b ≡ p
   pub counter : part 33 4 b ≡ c
@@ -77,20 +77,20 @@ authenticate-found a p c d rest b la lp lc ld e =
     }
 
 -- the byte of a part of one byte
-one-byte : (b : List ℕ) (i v : ℕ) → part i 1 b ≡ v ∷ [] → byte b i ≡ v
+pub one-byte : (b : List ℕ) (i v : ℕ) → part i 1 b ≡ v ∷ [] → byte b i ≡ v
 one-byte b i v e =
     let same : i ≡ i + 0 = omega arith in
     ap (λ (n : ℕ). byte b n) same ∙ sym (getD-drop i b 0 0) ∙ sym (getD-take 1 (drop i b) 0 0 (omega arith)) ∙ ap (λ (l : List ℕ). byte l 0) e
 
-register-equal : (f g : RegisterFields) → f .application ≡ g .application → f .challenge ≡ g .challenge → f .handle ≡ g .handle
+pub register-equal : (f g : RegisterFields) → f .application ≡ g .application → f .challenge ≡ g .challenge → f .handle ≡ g .handle
     → f .x ≡ g .x → f .y ≡ g .y → f ≡ g
 register-equal f g a d h x y = λ i. record { application = a i; challenge = d i; handle = h i; x = x i; y = y i }
 
-authenticate-equal : (f g : AuthenticateFields) → f .application ≡ g .application → f .presence ≡ g .presence
+pub authenticate-equal : (f g : AuthenticateFields) → f .application ≡ g .application → f .presence ≡ g .presence
     → f .counter ≡ g .counter → f .challenge ≡ g .challenge → f ≡ g
 authenticate-equal f g a p c d = λ i. record { application = a i; presence = p i; counter = c i; challenge = d i }
 
-order-equal : (o p : Order) → o .kind ≡ p .kind → toSign o ≡ toSign p → certificateLength o ≡ certificateLength p → o .bytes ≡ p .bytes → o ≡ p
+pub order-equal : (o p : Order) → o .kind ≡ p .kind → toSign o ≡ toSign p → certificateLength o ≡ certificateLength p → o .bytes ≡ p .bytes → o ≡ p
 order-equal o p k n c b = λ i. record { kind = k i; «to_sign» = n i; «certificate_length» = c i; bytes = b i }
 
 module _ (f : RegisterFields) (l : RegisterLengths f) where
@@ -104,7 +104,7 @@ module _ (f : RegisterFields) (l : RegisterLengths f) where
   unfolding rest-of
   whole-is = block-is (registerToSign f) (omega (arith, register-to-sign-length, l .handle))
 
-  found : RegisterFound (f .application) (f .challenge) (f .handle) (0x04 ∷ []) (f .x) (f .y) (block (registerToSign f))
+  pub found : RegisterFound (f .application) (f .challenge) (f .handle) (0x04 ∷ []) (f .x) (f .y) (block (registerToSign f))
   found =
       register-found (0x00 ∷ []) (f .application) (f .challenge) (f .handle) (0x04 ∷ []) (f .x) (f .y) rest-of (block (registerToSign f)) refl
       (l .application) (l .challenge) refl (l .x) (l .y) whole-is
@@ -136,7 +136,7 @@ module _ (f : AuthenticateFields) (l : AuthenticateLengths f) where
   pub authenticate-to-sign-length : length (authenticateToSign f) ≡ 69
   authenticate-to-sign-length = simp length-append (omega (arith, l .application, l .counter, l .challenge))
 
-  found-in : AuthenticateFound (f .application) (f .presence ∷ []) (f .counter) (f .challenge) (block (authenticateToSign f))
+  pub found-in : AuthenticateFound (f .application) (f .presence ∷ []) (f .counter) (f .challenge) (block (authenticateToSign f))
   found-in =
       authenticate-found (f .application) (f .presence ∷ []) (f .counter) (f .challenge) (replicate (385 - length (authenticateToSign f)) 0)
       (block (authenticateToSign f)) (l .application) refl (l .counter) (l .challenge)
@@ -196,7 +196,7 @@ module _ (n : ℕ) (b : List ℕ) (whole : length b ≡ 385) (s : RegisterShape 
   register-block : b ≡ block (registerToSign (registerFieldsOf n b))
   register-block = block-of b n whole (s .most) (s .rest) ∙ ap block register-front
 
-  pub register-order-of : (o : Order) → o .kind ≡ Register → toSign o ≡ n → o .bytes ≡ b → o ≡ registerOrder (registerFieldsOf n b) (certificateLength o)
+  pub register-order-of : (o : Order) → o .kind ≡ Register → toSign o ≡ n → o .bytes ≡ b → o ≡ registerOrderOf (registerFieldsOf n b) (certificateLength o)
   register-order-of o k e is-b =
       let handle : length (part 65 (n - 130) b) ≡ n - 130 = length-part 65 (n - 130) b (omega (arith, s .least, s .most)) in
       order-equal o (record { kind = Register; «to_sign» = 130 + length (part 65 (n - 130) b); «certificate_length» = certificateLength o; bytes = block (registerToSign (registerFieldsOf n b)) })
@@ -221,7 +221,7 @@ module _ (b : List ℕ) (whole : length b ≡ 385) (n c : ℕ) (s : Authenticate
       }
 
   pub authenticate-order-of : (o : Order) → o .kind ≡ Authenticate → toSign o ≡ n → certificateLength o ≡ c → o .bytes ≡ b
-      → o ≡ authenticateOrder (authenticateFieldsOf b)
+      → o ≡ authenticateOrderOf (authenticateFieldsOf b)
   authenticate-order-of o k e is-c is-b =
       order-equal o (record { kind = Authenticate; «to_sign» = 69; «certificate_length» = 0; bytes = block (authenticateToSign (authenticateFieldsOf b)) })
       k (e ∙ s .long) (is-c ∙ s .no-certificate) (is-b ∙ block-of b 69 whole (omega arith) (s .rest) ∙ ap block authenticate-front)

@@ -1,9 +1,12 @@
 pub mod Fit
 pub mod Made
-pub mod Judged
-pub mod Rooms
-pub mod Bodies
-pub mod Checks
-pub mod Kept
+pub mod Shapes
 pub mod Ways
+pub mod Cases
+pub mod Kept
+pub mod Numbers
+pub mod Spelled
+pub mod Laws
 pub mod Theorems
+pub mod Only
+pub mod Refuted

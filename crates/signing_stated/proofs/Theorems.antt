@@ -1,86 +1,188 @@
--- The promises of specs/Claims.antt.
+-- The definitions meet the claims of specs/Claims.antt, each under the claim's own name.
 use Prim.Native.Nat.{ℕ, _+_, _-_, _≤_}
-use mathlib.Core.Bool.{Bool, true, false, not}
+use mathlib.Core.Bool.{Bool, true, false}
 use mathlib.Core.Path.{_≡_, refl, sym, ap, _∙_}
 use mathlib.Core.Logic.{_⊎_, inl, inr}
-use mathlib.Core.List.{List, [], _++_}
+use mathlib.Core.List.{List, [], _∷_, _++_}
 use native.Mathlib.Omega.{arith}
-use lib.ListN.{length, drop, replicate, length-replicate}
-use Rattle.outcome.specs.Notation.{if_then_else_, AtMostOne}
+use borrow.Author.Tests.{le-leb, leb-true}
+use lib.Dec.{leb}
+use lib.ListN.{length, drop, replicate, length-append, length-replicate}
 use Rattle.outcome.specs.Outcome.{Outcome, R, SW, Gives}
-use Rattle.outcome.proofs.Theorems.{status-one-to-one, refusal-one-to-one}
+use Rattle.outcome.proofs.Laws.{both-are}
+use Rattle.octets.specs.Bytes.{byte, bytes4, laid}
 use Rattle.octets.proofs.Laid.{laid-fits, length-laid}
-use Rattle.signing_stated.specs.Claims as claims
-use Rattle.signing_stated.specs.Layouts.{RegisterFields, AuthenticateFields, registerToSign, authenticateToSign, registerBody, authenticateBody, isRegisterFit, isAuthenticateFit}
-use Rattle.signing_stated.specs.Orders.{Order, Kind, Register, Authenticate, toSign, certificateLength, blankOrder, registerOrder, authenticateOrder, block, isRegisterLayout, isOfLayout, registerFieldsOf, authenticateFieldsOf, IsRegisterOrder, IsAuthenticateOrder, IsWhole, HoldsJust}
-use Rattle.signing_stated.specs.Finishing.{registerRoom, authenticateRoom, Finishing, Finished, Refused, Status, Body, finishOf, finishedOf, lengthOf, replyOf, roomAsked, bodyOf}
-use Rattle.signing_stated.proofs.Fit.{register-lengths, authenticate-lengths, register-fit, authenticate-fit}
-use Rattle.signing_stated.proofs.Made.{register-order-fit, authenticate-order-fit}
-use Rattle.signing_stated.proofs.Judged.{shape-register, shape-authenticate, register-shaped, authenticate-shaped}
-use Rattle.signing_stated.proofs.Kept.{block-front, register-to-sign-length, authenticate-to-sign-length, register-kept, authenticate-kept, register-made-shape, authenticate-made-shape, register-fields-lengths, authenticate-fields-lengths, register-order-of, authenticate-order-of}
-use Rattle.signing_stated.proofs.Checks.{comes-to-r7, comes-to-body}
-use Rattle.signing_stated.proofs.Ways.{way, told-r7, told-r3, told-body, body-within}
+use Rattle.octets.proofs.Parts.{length-part}
+use Rattle.signing_stated.specs.Claims
+use Rattle.signing_stated.specs.Layouts.{RegisterFields, AuthenticateFields, registerToSign, authenticateToSign, registerBody, authenticateBody, presenceByte, isRegisterFit, isAuthenticateFit}
+use Rattle.signing_stated.specs.Orders.{Order, Kind, Register, Authenticate, AuthenticateParts, kindNo, toSign, certificateLength, blankOrder, registerOrderOf, authenticateOrderOf, authenticateOrderFor, block, isOfLayout, registerFieldsOf, authenticateFieldsOf}
+use Rattle.signing_stated.specs.Finishing.{registerRoom, authenticateRoom, Finishing, Ended, finishOf, finishedOf, endOf, lengthOf, replyOf, roomAsked, bodyOf}
+use Rattle.signing_stated.specs.Terms.{part, RegisterLengths, AuthenticateLengths, PartsLengths, IsWhole, IsRegisterOrder, IsAuthenticateOrder, HoldsJust, RegisterShaped, AuthenticateShaped, register, authenticate}
+use Rattle.signing_stated.proofs.Fit.{register-fit, authenticate-fit, register-lengths, authenticate-lengths, register-order-fit, authenticate-order-fit}
+use Rattle.signing_stated.proofs.Shapes.{register-shaped, authenticate-shaped, zeros-from, asked-for, not-of-layout, of-no-layout}
+use Rattle.signing_stated.proofs.Kept.{block-front, register-to-sign-length, authenticate-to-sign-length, register-made-shape, authenticate-made-shape, register-fields-lengths, authenticate-fields-lengths, register-order-of, authenticate-order-of, found, found-in, one-byte}
+use Rattle.signing_stated.proofs.Ways.{comes-to-r7, comes-to-r4, comes-to-r2, comes-to-6f00, comes-to-r3, comes-to-body, way, told-r3, told-body, body-within}
+use Rattle.signing_stated.proofs.Numbers.{kind-one-to-one, finished-one-to-one}
+use Rattle.signing_stated.proofs.Spelled.{four-at, register-spelled, authenticate-spelled}
+use Rattle.signing_stated.proofs.Laws
+pub use Rattle.signing_stated.proofs.Laws.{made-of-layout, blank-refused, room-of-made, room-kept, fields-kept}
 
-pub kind-one-to-one : claims.KindOneToOne
-kind-one-to-one Register Register e = refl
-kind-one-to-one Register Authenticate e = absurd (omega arith)
-kind-one-to-one Authenticate Register e = absurd (omega arith)
-kind-one-to-one Authenticate Authenticate e = refl
+-- ---- numbers and results
+pub KindNumbers : Claims.KindNumbers kindNo
+KindNumbers = record { register = refl; authenticate = refl }
 
-pub finished-one-to-one : claims.FinishedOneToOne
-finished-one-to-one (Refused a) (Refused b) e = ap Refused (refusal-one-to-one a b (cc))
-finished-one-to-one (Refused a) (Status b) e = let z : _≡_ {A = ℕ} 0 1 = cc in absurd (omega arith)
-finished-one-to-one (Refused a) (Body b) e = let z : _≡_ {A = ℕ} 0 1 = cc in absurd (omega arith)
-finished-one-to-one (Status a) (Refused b) e = let z : _≡_ {A = ℕ} 0 1 = cc in absurd (omega arith)
-finished-one-to-one (Status a) (Status b) e = ap Status (status-one-to-one a b (cc))
-finished-one-to-one (Status a) (Body b) e = let z : _≡_ {A = ℕ} 0 1 = cc in absurd (omega arith)
-finished-one-to-one (Body a) (Refused b) e = let z : _≡_ {A = ℕ} 0 1 = cc in absurd (omega arith)
-finished-one-to-one (Body a) (Status b) e = let z : _≡_ {A = ℕ} 0 1 = cc in absurd (omega arith)
-finished-one-to-one (Body a) (Body b) e = ap Body (cc)
+pub KindOneToOne : Claims.KindOneToOne kindNo
+KindOneToOne = kind-one-to-one
 
--- a contract that says what the result equals
-the-one : {A : Type 0} (x : A) → AtMostOne (λ (r : A). r ≡ x)
-the-one x a b p q = p ∙ sym q
+pub FinishedOneToOne : Claims.FinishedOneToOne finishedOf
+FinishedOneToOne = finished-one-to-one
 
-pub kind-number-determined : claims.KindNumberDetermined
-kind-number-determined k = the-one _
+pub ResultsDetermined : Claims.ResultsDetermined
+ResultsDetermined =
+    record {
+      kind-number = λ k a b. both-are a b;
+      blank = λ a b. both-are a b;
+      register-order = λ f c a b. both-are a b;
+      authenticate-order = λ p a b. both-are a b;
+      has-layout = λ o a b. both-are a b;
+      has-register-room = λ room h c a b. both-are a b;
+      has-authenticate-room = λ room a b. both-are a b;
+      finish =
+          λ i a b p q.
+          let answers : a .0 ≡ b .0 = finished-one-to-one (a .0) (b .0) (p .says ∙ sym (q .says)) in
+          let buffers : a .1 ≡ b .1 = p .leaves ∙ sym (q .leaves) in
+          λ d. (answers d, buffers d);
+    }
 
-pub blank-determined : claims.BlankDetermined
-blank-determined = the-one _
+-- ---- orders
+block-length : (s : List ℕ) → length (block s) ≡ 385
+unfolding block
+block-length s = length-laid s (replicate 385 0) ∙ length-replicate {A = ℕ} 385 0
 
-pub register-order-determined : claims.RegisterOrderDetermined
-register-order-determined f c = the-one _
+pub BlankExactly : Claims.BlankExactly blankOrder
+unfolding blankOrder block
+BlankExactly = record { kind = refl; counts = refl; certificate = refl; zeros = refl }
 
-pub authenticate-order-determined : claims.AuthenticateOrderDetermined
-authenticate-order-determined f = the-one _
+register-unfit : (f : RegisterFields) (c : ℕ) → (RegisterLengths f → ⊥) → registerOrderOf f c ≡ blankOrder
+unfolding registerOrderOf
+register-unfit f c none = by-fit (isRegisterFit f) refl
+  where
+    by-fit : (t : Bool) → isRegisterFit f ≡ t → registerOrderOf f c ≡ blankOrder
+    by-fit true fit = absurd (none (register-lengths f fit))
+    by-fit false bad = rw bad
 
-pub register-room-determined : claims.RegisterRoomDetermined
-register-room-determined h c room = the-one _
+pub MakesRegister : Claims.MakesRegister registerOrderOf
+MakesRegister =
+    record {
+      kind = λ f c l. ap (λ (o : Order). o .kind) (register-order-fit f c l);
+      counts = λ f c l. ap toSign (register-order-fit f c l);
+      certificate = λ f c l. ap certificateLength (register-order-fit f c l);
+      whole = λ f c l. ap length (bytes-are f c l) ∙ block-length (registerToSign f);
+      first = λ f c l. ap (λ (b : List ℕ). byte b 0) (bytes-are f c l) ∙ register-made-shape f l .first;
+      application = λ f c l. ap (part 1 32) (bytes-are f c l) ∙ found f l .application;
+      challenge = λ f c l. ap (part 33 32) (bytes-are f c l) ∙ found f l .challenge;
+      handle = λ f c l. ap (part 65 (length (f .handle))) (bytes-are f c l) ∙ found f l .handle;
+      marker =
+          λ f c l.
+          ap (λ (b : List ℕ). byte b (65 + length (f .handle))) (bytes-are f c l)
+          ∙ one-byte (block (registerToSign f)) (65 + length (f .handle)) 0x04 (found f l .marker);
+      x = λ f c l. ap (part (66 + length (f .handle)) 32) (bytes-are f c l) ∙ found f l .x;
+      y = λ f c l. ap (part (98 + length (f .handle)) 32) (bytes-are f c l) ∙ found f l .y;
+      rest =
+          λ f c l i from.
+          ap (λ (b : List ℕ). byte b i) (bytes-are f c l)
+          ∙ zeros-from (block (registerToSign f)) (130 + length (f .handle)) (register-made-shape f l .rest) i from;
+      unfit = λ f c none. rw (register-unfit f c none) BlankExactly;
+    }
+  where
+    bytes-are : (f : RegisterFields) (c : ℕ) → RegisterLengths f → registerOrderOf f c .bytes ≡ block (registerToSign f)
+    bytes-are f c l = ap (λ (o : Order). o .bytes) (register-order-fit f c l)
 
-pub authenticate-room-determined : claims.AuthenticateRoomDetermined
-authenticate-room-determined room = the-one _
+-- the fields that parts stand for
+abbrev fieldsOf : AuthenticateParts → AuthenticateFields
+fieldsOf p = record { application = p .application; presence = presenceByte (p .present); counter = bytes4 (p .counter); challenge = p .challenge }
 
-pub finish-determined : claims.FinishDetermined
-finish-determined i a b p q =
-    let answers : a .0 ≡ b .0 = finished-one-to-one (a .0) (b .0) (p .says ∙ sym (q .says)) in
-    let buffers : a .1 ≡ b .1 = p .leaves ∙ sym (q .leaves) in
-    λ d. (answers d, buffers d)
+presence-small : (p : Bool) → presenceByte p ≤ 1
+presence-small true = omega arith
+presence-small false = omega arith
 
-register-made-of-layout : (f : RegisterFields) (c : ℕ) → isRegisterFit f ≡ true → isOfLayout (registerOrder f c) ≡ true
-register-made-of-layout f c fit =
-    ap isOfLayout (register-order-fit f c (register-lengths f fit))
-    ∙ shape-register _ _ (register-made-shape f (register-lengths f fit))
+pub lengths-of : (p : AuthenticateParts) → PartsLengths p → AuthenticateLengths (fieldsOf p)
+lengths-of p l = record { application = l .application; presence = presence-small (p .present); counter = refl; challenge = l .challenge }
 
-authenticate-made-of-layout : (f : AuthenticateFields) → isAuthenticateFit f ≡ true → isOfLayout (authenticateOrder f) ≡ true
-authenticate-made-of-layout f fit =
-    ap isOfLayout (authenticate-order-fit f (authenticate-lengths f fit))
-    ∙ shape-authenticate _ _ _ (authenticate-made-shape f (authenticate-lengths f fit))
+authenticate-unfit : (p : AuthenticateParts) → (PartsLengths p → ⊥) → authenticateOrderFor p ≡ blankOrder
+unfolding authenticateOrderOf
+authenticate-unfit p none = by-fit (isAuthenticateFit (fieldsOf p)) refl
+  where
+    by-fit : (t : Bool) → isAuthenticateFit (fieldsOf p) ≡ t → authenticateOrderFor p ≡ blankOrder
+    by-fit true fit =
+        let l = authenticate-lengths (fieldsOf p) fit in
+        absurd (none (record { application = l .application; challenge = l .challenge }))
+    by-fit false bad = rw bad
 
-pub made-of-layout : claims.MadeOfLayout
-made-of-layout = (register-made-of-layout, authenticate-made-of-layout)
+pub MakesAuthenticate : Claims.MakesAuthenticate authenticateOrderFor
+MakesAuthenticate =
+    record {
+      kind = λ p l. ap (λ (o : Order). o .kind) (fits p l);
+      counts = λ p l. ap toSign (fits p l);
+      certificate = λ p l. ap certificateLength (fits p l);
+      whole = λ p l. ap length (bytes-are p l) ∙ block-length (authenticateToSign (fieldsOf p));
+      application = λ p l. ap (part 0 32) (bytes-are p l) ∙ found-in (fieldsOf p) (lengths-of p l) .application;
+      present = λ p l is. presence-at p l ∙ ap presenceByte is;
+      absent = λ p l is. presence-at p l ∙ ap presenceByte is;
+      counter-1 = λ p l. ap (λ (s : List ℕ). byte s 0) (counter-at p l);
+      counter-2 = λ p l. ap (λ (s : List ℕ). byte s 1) (counter-at p l);
+      counter-3 = λ p l. ap (λ (s : List ℕ). byte s 2) (counter-at p l);
+      counter-4 = λ p l. ap (λ (s : List ℕ). byte s 3) (counter-at p l);
+      challenge = λ p l. ap (part 37 32) (bytes-are p l) ∙ found-in (fieldsOf p) (lengths-of p l) .challenge;
+      rest =
+          λ p l i from.
+          ap (λ (b : List ℕ). byte b i) (bytes-are p l)
+          ∙ zeros-from (block (authenticateToSign (fieldsOf p))) 69 (authenticate-made-shape (fieldsOf p) (lengths-of p l) .rest) i from;
+      unfit = λ p none. rw (authenticate-unfit p none) BlankExactly;
+    }
+  where
+    fits : (p : AuthenticateParts) → PartsLengths p
+        → authenticateOrderFor p ≡ record { kind = Authenticate; «to_sign» = 69; «certificate_length» = 0; bytes = block (authenticateToSign (fieldsOf p)) }
+    fits p l = authenticate-order-fit (fieldsOf p) (lengths-of p l)
 
-pub layout-exactly : claims.LayoutExactly
-layout-exactly o whole = (is-made (o .kind) refl, is-judged)
+    bytes-are : (p : AuthenticateParts) → PartsLengths p → authenticateOrderFor p .bytes ≡ block (authenticateToSign (fieldsOf p))
+    bytes-are p l = ap (λ (o : Order). o .bytes) (fits p l)
+
+    presence-at : (p : AuthenticateParts) → PartsLengths p → byte (authenticateOrderFor p .bytes) 32 ≡ presenceByte (p .present)
+    presence-at p l =
+        ap (λ (b : List ℕ). byte b 32) (bytes-are p l)
+        ∙ one-byte (block (authenticateToSign (fieldsOf p))) 32 (presenceByte (p .present)) (found-in (fieldsOf p) (lengths-of p l) .presence)
+
+    counter-at : (p : AuthenticateParts) → PartsLengths p
+        → byte (authenticateOrderFor p .bytes) 33 ∷ byte (authenticateOrderFor p .bytes) 34 ∷ byte (authenticateOrderFor p .bytes) 35 ∷ byte (authenticateOrderFor p .bytes) 36 ∷ []
+        ≡ bytes4 (p .counter)
+    counter-at p l =
+        let long : length (authenticateOrderFor p .bytes) ≡ 385 = ap length (bytes-are p l) ∙ block-length (authenticateToSign (fieldsOf p)) in
+        sym (four-at (authenticateOrderFor p .bytes) 33 (omega arith))
+        ∙ ap (part 33 4) (bytes-are p l)
+        ∙ found-in (fieldsOf p) (lengths-of p l) .counter
+
+pub BytesToSign : Claims.BytesToSign registerOrderOf authenticateOrderOf
+BytesToSign = (for-register, for-authenticate)
+  where
+    for-register : (f : RegisterFields) (c : ℕ) → isRegisterFit f ≡ true
+        → HoldsJust (registerToSign f) (130 + length (f .handle)) (registerOrderOf f c)
+    for-register f c fit =
+        let l = register-lengths f fit in
+        rw (register-order-fit f c l)
+        (refl, block-front (registerToSign f) (130 + length (f .handle)) (register-to-sign-length f l) (omega (arith, l .handle)), register-made-shape f l .rest)
+
+    for-authenticate : (f : AuthenticateFields) → isAuthenticateFit f ≡ true → HoldsJust (authenticateToSign f) 69 (authenticateOrderOf f)
+    for-authenticate f fit =
+        let l = authenticate-lengths f fit in
+        rw (authenticate-order-fit f l)
+        (refl, block-front (authenticateToSign f) 69 (authenticate-to-sign-length f l) (omega arith), authenticate-made-shape f l .rest)
+
+pub FieldsKept : Claims.FieldsKept registerFieldsOf authenticateFieldsOf
+FieldsKept = Laws.fields-kept
+
+pub LayoutExactly : Claims.LayoutExactly isOfLayout
+LayoutExactly o whole = (is-made (o .kind) refl, is-judged)
   where
     is-made : (k : Kind) → o .kind ≡ k → isOfLayout o ≡ true → IsRegisterOrder o ⊎ IsAuthenticateOrder o
     is-made Register k ok =
@@ -100,168 +202,170 @@ layout-exactly o whole = (is-made (o .kind) refl, is-judged)
         )
 
     is-judged : IsRegisterOrder o ⊎ IsAuthenticateOrder o → isOfLayout o ≡ true
-    is-judged (inl m) = ap isOfLayout (m .3) ∙ register-made-of-layout (m .0) (m .1) (m .2)
-    is-judged (inr m) = ap isOfLayout (m .2) ∙ authenticate-made-of-layout (m .0) (m .1)
+    is-judged (inl m) = ap isOfLayout (m .3) ∙ Laws.made-of-layout .0 (m .0) (m .1) (m .2)
+    is-judged (inr m) = ap isOfLayout (m .2) ∙ Laws.made-of-layout .1 (m .0) (m .1)
 
-block-length : (s : List ℕ) → length (block s) ≡ 385
-unfolding block
-block-length s = length-laid s (replicate 385 0) ∙ length-replicate {A = ℕ} 385 0
+-- ---- room
+pub RegisterRoomExactly : Claims.RegisterRoomExactly (λ room h c. leb (registerRoom h c) room)
+RegisterRoomExactly room h c = (leb-true (registerRoom h c) room, λ enough. le-leb (registerRoom h c) room enough)
 
-pick-whole : (t : Bool) (o p : Order) → IsWhole o → IsWhole p → IsWhole (if t then o else p)
-pick-whole true o p a b = a
-pick-whole false o p a b = b
+pub AuthenticateRoomExactly : Claims.AuthenticateRoomExactly (λ room. leb authenticateRoom room)
+AuthenticateRoomExactly room = (leb-true authenticateRoom room, λ enough. le-leb authenticateRoom room enough)
 
-blank-whole : IsWhole blankOrder
-unfolding blankOrder
-blank-whole = block-length []
+pub RoomAskedExactly : Claims.RoomAskedExactly roomAsked
+RoomAskedExactly o room a = asked-for o room a .1
 
-register-whole : (f : RegisterFields) (c : ℕ) → IsWhole (registerOrder f c)
-unfolding registerOrder
-register-whole f c = pick-whole (not (isRegisterFit f)) blankOrder _ blank-whole (block-length (registerToSign f))
+-- ---- finishing
+gives-length : (x : Outcome (List ℕ)) (n : ℕ) → lengthOf x ≡ Gives n → (body : List ℕ) × (x ≡ Gives body) × (n ≡ length body)
+gives-length (R m) n e = let z : _≡_ {A = ℕ} 0 1 = cc in absurd (omega arith)
+gives-length (SW m) n e = let z : _≡_ {A = ℕ} 0 1 = cc in absurd (omega arith)
+gives-length (Gives body) n e = (body, refl, cc)
 
-authenticate-whole : (f : AuthenticateFields) → IsWhole (authenticateOrder f)
-unfolding authenticateOrder
-authenticate-whole f = pick-whole (not (isAuthenticateFit f)) blankOrder _ blank-whole (block-length (authenticateToSign f))
+pub BodyWithinRoom : Claims.BodyWithinRoom endOf
+BodyWithinRoom i room n a e =
+    let given = gives-length (finishOf i) n e in
+    let told = told-body (given .0) (way i) (given .1) in
+    let within = body-within (i .order .kind) (i .order) (i .certificate) (i .signature) (told .0 .certificate) (told .0 .signature) in
+    omega (arith, within, ap length (told .1), given .2, asked-for (i .order) room a .1)
 
-pub made-whole : claims.MadeWhole
-made-whole = (blank-whole, register-whole, authenticate-whole)
+ended : (i : Finishing) (x : Outcome (List ℕ)) → finishOf i ≡ x → endOf i ≡ record { answer = lengthOf x; reply = replyOf x (i .reply) }
+ended i x e = ap (λ (y : Outcome (List ℕ)). record { answer = lengthOf y; reply = replyOf y (i .reply) }) e
 
-pub r7-exactly : claims.R7Exactly
-r7-exactly i whole = (refused, by-layout (isOfLayout (i .order)) refl)
+-- a body at the front of the buffer, by its spelling and its length
+laid-out : (body spelled old : List ℕ) (n : ℕ) → body ≡ spelled → n ≡ length body → n ≤ length old
+    → _≡_ {A = Ended} (record { answer = Gives (length body); reply = laid body old }) (record { answer = Gives n; reply = spelled ++ drop n old })
+laid-out body spelled old n is-spelled is-n fits =
+    let reply : laid body old ≡ spelled ++ drop n old =
+    laid-fits body old (omega arith) ∙ ap (λ (k : ℕ). body ++ drop k old) (sym is-n) ∙ ap (λ (s : List ℕ). s ++ drop n old) is-spelled in
+    let long : length body ≡ n = sym is-n in
+    λ d. record { answer = Gives (long d); reply = reply d }
+
+pub FinishesExactly : Claims.FinishesExactly endOf
+FinishesExactly =
+    record {
+      r7 = λ i none. ended i (R 7) (comes-to-r7 i (not-of-layout (i .order) none));
+      r4 = λ i a other. ended i (R 4) (comes-to-r4 i (asked-for (i .order) (a .0) (a .1) .0) other);
+      r2 =
+          λ i room a its short.
+          let q = asked-for (i .order) room a in
+          ended i (R 2) (comes-to-r2 i (q .0) its (omega (arith, q .1)));
+      signer-failed =
+          λ i room a its fits failed.
+          let q = asked-for (i .order) room a in
+          ended i (SW 0x6f00) (comes-to-6f00 i (q .0) its (omega (arith, q .1)) failed);
+      r3 =
+          λ i room a its fits done long.
+          let q = asked-for (i .order) room a in
+          ended i (R 3) (comes-to-r3 i (q .0) its (omega (arith, q .1)) done long);
+      register-body = register-body;
+      authenticate-body = authenticate-body;
+    }
   where
-    refused : finishOf i ≡ R 7 → IsRegisterOrder (i .order) ⊎ IsAuthenticateOrder (i .order) → ⊥
-    refused e m =
-        let z : _≡_ {A = Bool} true false = sym (layout-exactly (i .order) whole .1 m) ∙ told-r7 (way i) e in
-        let y : _≡_ {A = ℕ} 0 1 = cc in
-        omega arith
+    register-body : (i : Finishing) (h : ℕ) → IsWhole (i .order) → RegisterShaped h (i .order)
+        → length (i .certificate) ≡ certificateLength (i .order)
+        → 139 + h + length (i .certificate) ≤ length (i .reply) → i .signed ≡ true → length (i .signature) ≤ 72
+        → endOf i
+        ≡ record {
+          answer = Gives (67 + h + length (i .certificate) + length (i .signature));
+          reply =
+              0x05 ∷ 0x04 ∷ []
+              ++ part (66 + h) 64 (i .order .bytes)
+              ++ h ∷ []
+              ++ part 65 h (i .order .bytes)
+              ++ i .certificate
+              ++ i .signature
+              ++ drop (67 + h + length (i .certificate) + length (i .signature)) (i .reply);
+        }
+    register-body i h whole s its room done short =
+        let q = asked-for (i .order) _ (register h s) in
+        let fits : roomAsked (i .order) ≤ length (i .reply) = omega (arith, q .1, its) in
+        let b : List ℕ = i .order .bytes in
+        let body : List ℕ = registerBody (registerFieldsOf (130 + h) b) (i .certificate) (i .signature) in
+        let its-body : bodyOf (i .order .kind) (i .order) (i .certificate) (i .signature) ≡ body =
+        ap (λ (k : Kind). bodyOf k (i .order) (i .certificate) (i .signature)) (s .kind)
+        ∙ ap (λ (n : ℕ). registerBody (registerFieldsOf n b) (i .certificate) (i .signature)) (s .counts) in
+        let spelled = register-spelled h b (i .certificate) (i .signature) whole (s .handle) in
+        let long : 67 + h + length (i .certificate) + length (i .signature) ≡ length body =
+        sym (ap length spelled ∙ simp length-append (omega (arith, length-part (66 + h) 64 b (omega (arith, s .handle)), length-part 65 h b (omega (arith, s .handle))))) in
+        ended i (Gives body) (comes-to-body i (q .0) its fits done short ∙ ap Gives its-body)
+        ∙ laid-out body _ (i .reply) _ spelled long (omega arith)
 
-    by-layout : (t : Bool) → isOfLayout (i .order) ≡ t → (IsRegisterOrder (i .order) ⊎ IsAuthenticateOrder (i .order) → ⊥) → finishOf i ≡ R 7
-    by-layout true ok none = absurd (none (layout-exactly (i .order) whole .0 ok))
-    by-layout false bad none = comes-to-r7 i bad
+    authenticate-body : (i : Finishing) → IsWhole (i .order) → AuthenticateShaped (i .order) → length (i .certificate) ≡ 0
+        → 77 ≤ length (i .reply) → i .signed ≡ true → length (i .signature) ≤ 72
+        → endOf i
+        ≡ record {
+          answer = Gives (5 + length (i .signature));
+          reply = part 32 5 (i .order .bytes) ++ i .signature ++ drop (5 + length (i .signature)) (i .reply);
+        }
+    authenticate-body i whole s none room done short =
+        let q = asked-for (i .order) 77 (authenticate s) in
+        let fits : roomAsked (i .order) ≤ length (i .reply) = omega (arith, q .1) in
+        let its : length (i .certificate) ≡ certificateLength (i .order) = none ∙ sym (s .no-certificate) in
+        let b : List ℕ = i .order .bytes in
+        let body : List ℕ = authenticateBody (authenticateFieldsOf b) (i .signature) in
+        let its-body : bodyOf (i .order .kind) (i .order) (i .certificate) (i .signature) ≡ body =
+        ap (λ (k : Kind). bodyOf k (i .order) (i .certificate) (i .signature)) (s .kind) in
+        let spelled = authenticate-spelled b (i .signature) whole in
+        let long : 5 + length (i .signature) ≡ length body =
+        sym (ap length spelled ∙ simp length-append (omega (arith, length-part 32 5 b (omega arith)))) in
+        ended i (Gives body) (comes-to-body i (q .0) its fits done short ∙ ap Gives its-body)
+        ∙ laid-out body _ (i .reply) _ spelled long (omega arith)
 
-blank-of-neither : isOfLayout blankOrder ≡ false
-unfolding blankOrder isRegisterLayout
-blank-of-neither = refl
-
-pub blank-refused : claims.BlankRefused
-blank-refused = (blank-of-neither, λ i e. comes-to-r7 i (ap isOfLayout e ∙ blank-of-neither))
-
-pub bytes-to-sign : claims.BytesToSign
-bytes-to-sign = (for-register, for-authenticate)
-  where
-    for-register : (f : RegisterFields) (c : ℕ) → isRegisterFit f ≡ true
-        → HoldsJust (registerToSign f) (130 + length (f .handle)) (registerOrder f c)
-    for-register f c fit =
-        let l = register-lengths f fit in
-        rw (register-order-fit f c l)
-        (refl, block-front (registerToSign f) (130 + length (f .handle)) (register-to-sign-length f l) (omega (arith, l .handle)), register-made-shape f l .rest)
-
-    for-authenticate : (f : AuthenticateFields) → isAuthenticateFit f ≡ true → HoldsJust (authenticateToSign f) 69 (authenticateOrder f)
-    for-authenticate f fit =
-        let l = authenticate-lengths f fit in
-        rw (authenticate-order-fit f l)
-        (refl, block-front (authenticateToSign f) 69 (authenticate-to-sign-length f l) (omega arith), authenticate-made-shape f l .rest)
-
-pub fields-kept : claims.FieldsKept
-fields-kept = (
-  λ f c fit.
-      ap (λ (o : Order). registerFieldsOf (toSign o) (o .bytes)) (register-order-fit f c (register-lengths f fit))
-      ∙ register-kept f (register-lengths f fit),
-  λ f fit.
-      ap (λ (o : Order). authenticateFieldsOf (o .bytes)) (authenticate-order-fit f (authenticate-lengths f fit))
-      ∙ authenticate-kept f (authenticate-lengths f fit),
-)
-
-pub room-of-made : claims.RoomOfMade
-room-of-made = (
-  λ f c fit.
-      let same : 130 + length (f .handle) - 130 ≡ length (f .handle) = omega arith in
-      ap roomAsked (register-order-fit f c (register-lengths f fit)) ∙ ap (λ (h : ℕ). registerRoom h c) same,
-  λ f fit. ap roomAsked (authenticate-order-fit f (authenticate-lengths f fit)),
-)
-
-pub body-within-room : claims.BodyWithinRoom
-body-within-room i body e =
-    let told = told-body body (way i) e in
-    rw (told .1) (body-within (i .order .kind) (i .order) (i .certificate) (i .signature) (told .0 .certificate) (told .0 .signature))
-
-pub room-kept : claims.RoomKept
-room-kept i ok its room = (
-  λ e. let z = told-r3 7 (way i) e ok its room in omega arith,
-  λ e. let z = told-r3 4 (way i) e ok its room in omega arith,
-  λ e. let z = told-r3 2 (way i) e ok its room in omega arith,
+pub BlankRefused : Claims.BlankRefused blankOrder endOf
+BlankRefused = (
+  of-no-layout blankOrder (Laws.blank-refused .0),
+  λ i e. ended i (R 7) (Laws.blank-refused .1 i e),
 )
 
 -- a made order, with the certificate and the room that it was made for, passes the first three checks
-register-ready : (i : Finishing) (f : RegisterFields) → isRegisterFit f ≡ true → i .order ≡ registerOrder f (length (i .certificate))
+register-ready : (i : Finishing) (f : RegisterFields) → isRegisterFit f ≡ true → i .order ≡ registerOrderOf f (length (i .certificate))
     → registerRoom (length (f .handle)) (length (i .certificate)) ≤ length (i .reply)
     → (isOfLayout (i .order) ≡ true) × (length (i .certificate) ≡ certificateLength (i .order)) × (roomAsked (i .order) ≤ length (i .reply))
 register-ready i f fit e room =
     let c : ℕ = length (i .certificate) in
-    let asked = ap roomAsked e ∙ room-of-made .0 f c fit in (
-      ap isOfLayout e ∙ register-made-of-layout f c fit,
+    let asked = ap roomAsked e ∙ Laws.room-of-made .0 f c fit in (
+      ap isOfLayout e ∙ Laws.made-of-layout .0 f c fit,
       sym (ap certificateLength (e ∙ register-order-fit f c (register-lengths f fit))),
       rw asked room,
     )
 
-authenticate-ready : (i : Finishing) (f : AuthenticateFields) → isAuthenticateFit f ≡ true → i .order ≡ authenticateOrder f
+authenticate-ready : (i : Finishing) (f : AuthenticateFields) → isAuthenticateFit f ≡ true → i .order ≡ authenticateOrderOf f
     → length (i .certificate) ≡ 0 → authenticateRoom ≤ length (i .reply)
     → (isOfLayout (i .order) ≡ true) × (length (i .certificate) ≡ certificateLength (i .order)) × (roomAsked (i .order) ≤ length (i .reply))
 authenticate-ready i f fit e none room =
-    let asked = ap roomAsked e ∙ room-of-made .1 f fit in (
-      ap isOfLayout e ∙ authenticate-made-of-layout f fit,
+    let asked = ap roomAsked e ∙ Laws.room-of-made .1 f fit in (
+      ap isOfLayout e ∙ Laws.made-of-layout .1 f fit,
       none ∙ sym (ap certificateLength (e ∙ authenticate-order-fit f (authenticate-lengths f fit))),
       rw asked room,
     )
 
-pub made-order-kept : claims.MadeOrderKept
-made-order-kept = (
-  λ i f fit e room. let r = register-ready i f fit e room in room-kept i (r .0) (r .1) (r .2),
-  λ i f fit e none room. let r = authenticate-ready i f fit e none room in room-kept i (r .0) (r .1) (r .2),
+pub MadeOrderKept : Claims.MadeOrderKept finishOf
+MadeOrderKept = (
+  λ i f fit e room n refused. let r = register-ready i f fit e room in told-r3 n (way i) refused (r .0) (r .1) (r .2),
+  λ i f fit e none room n refused. let r = authenticate-ready i f fit e none room in told-r3 n (way i) refused (r .0) (r .1) (r .2),
 )
 
-pub body-exactly : claims.BodyExactly
-body-exactly i = (
-  λ w.
-      let p = told-body (w .0) (way i) (w .1) .0 in (p .layout, p .certificate, p .room, p .signer, p .signature),
-  λ p. (bodyOf (i .order .kind) (i .order) (i .certificate) (i .signature), comes-to-body i (p .0) (p .1) (p .2) (p .3) (p .4)),
-)
-
-pub register-round-trip : claims.RegisterRoundTrip
-register-round-trip i f fit e room done short =
+pub RegisterRoundTrip : Claims.RegisterRoundTrip finishOf
+RegisterRoundTrip i f fit e room done short =
     let l = register-lengths f fit in
     let r = register-ready i f fit e room in
     comes-to-body i (r .0) (r .1) (r .2) done short
-    ∙ ap (λ (o : Order). Gives (bodyOf (o .kind) o (i .certificate) (i .signature))) (e ∙ register-order-fit f (length (i .certificate)) l)
-    ∙ ap (λ (g : RegisterFields). Gives (registerBody g (i .certificate) (i .signature))) (register-kept f l)
+    ∙ ap (λ (o : Order). Gives (bodyOf (o .kind) o (i .certificate) (i .signature))) e
+    ∙ ap (λ (o : Order). Gives (bodyOf (o .kind) o (i .certificate) (i .signature))) (register-order-fit f (length (i .certificate)) l)
+    ∙ ap (λ (g : RegisterFields). Gives (registerBody g (i .certificate) (i .signature))) (kept-of f l)
+  where
+    kept-of : (f : RegisterFields) → RegisterLengths f → registerFieldsOf (130 + length (f .handle)) (block (registerToSign f)) ≡ f
+    kept-of f l =
+        ap (λ (o : Order). registerFieldsOf (toSign o) (o .bytes)) (sym (register-order-fit f 0 l)) ∙ Laws.fields-kept .0 f 0 (register-fit f l)
 
-pub authenticate-round-trip : claims.AuthenticateRoundTrip
-authenticate-round-trip i f fit e none room done short =
+pub AuthenticateRoundTrip : Claims.AuthenticateRoundTrip finishOf
+AuthenticateRoundTrip i f fit e none room done short =
     let l = authenticate-lengths f fit in
     let r = authenticate-ready i f fit e none room in
     comes-to-body i (r .0) (r .1) (r .2) done short
     ∙ ap (λ (o : Order). Gives (bodyOf (o .kind) o (i .certificate) (i .signature))) (e ∙ authenticate-order-fit f l)
-    ∙ ap (λ (g : AuthenticateFields). Gives (authenticateBody g (i .signature))) (authenticate-kept f l)
-
-pub other-answers-keep-reply : claims.OtherAnswersKeepReply
-other-answers-keep-reply i answer after p none = go (finishOf i) answer (p .says) (p .leaves) none
+    ∙ ap (λ (g : AuthenticateFields). Gives (authenticateBody g (i .signature))) (kept-of f l)
   where
-    go : (x : Outcome (List ℕ)) (a : Finished) → finishedOf a ≡ lengthOf x → after ≡ replyOf x (i .reply)
-        → ((n : ℕ) → a ≡ Body n → ⊥) → after ≡ i .reply
-    go (R n) a s l none = l
-    go (SW n) a s l none = l
-    go (Gives body) (Refused r) s l none = let z : _≡_ {A = ℕ} 0 1 = cc in absurd (omega arith)
-    go (Gives body) (Status w) s l none = let z : _≡_ {A = ℕ} 0 1 = cc in absurd (omega arith)
-    go (Gives body) (Body n) s l none = absurd (none n refl)
-
-pub body-at-front : claims.BodyAtFront
-body-at-front i n after p = go (finishOf i) refl (p .says) (p .leaves)
-  where
-    go : (x : Outcome (List ℕ)) → finishOf i ≡ x → Gives n ≡ lengthOf x → after ≡ replyOf x (i .reply)
-        → (body : List ℕ) × (finishOf i ≡ Gives body) × (n ≡ length body) × (after ≡ body ++ drop n (i .reply))
-    go (R m) e s l = let z : _≡_ {A = ℕ} 0 1 = cc in absurd (omega arith)
-    go (SW m) e s l = let z : _≡_ {A = ℕ} 0 1 = cc in absurd (omega arith)
-    go (Gives body) e s l =
-        let long : n ≡ length body = cc in
-        let fits : length body ≤ length (i .reply) = omega (arith, body-within-room i body e, told-body body (way i) e .0 .room) in
-        (body, e, long, l ∙ laid-fits body (i .reply) fits ∙ ap (λ (k : ℕ). body ++ drop k (i .reply)) (sym long))
+    kept-of : (f : AuthenticateFields) → AuthenticateLengths f → authenticateFieldsOf (block (authenticateToSign f)) ≡ f
+    kept-of f l =
+        ap (λ (o : Order). authenticateFieldsOf (o .bytes)) (sym (authenticate-order-fit f l)) ∙ Laws.fields-kept .1 f (authenticate-fit f l)

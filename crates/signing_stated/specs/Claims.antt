@@ -1,156 +1,209 @@
--- What is promised of orders and finishing beyond their contracts. Proved in proofs/Theorems.antt.
-use Prim.Native.Nat.{ℕ, _+_, _≤_}
-use mathlib.Core.Bool.{true, false}
+-- What is promised of orders and finishing, of any function: proofs/Theorems.antt has that the definitions meet it,
+-- proofs/Only.antt that no others meet the claims that end in 'Exactly' or begin with 'Makes', proofs/Refuted.antt that the
+-- wrong programs of specs/Wrong.antt do not.
+use Prim.Native.Nat.{ℕ, _+_, _/_, _%_, _≤_, _<_}
+use mathlib.Core.Bool.{Bool, true, false}
 use mathlib.Core.Path.{_≡_}
 use mathlib.Core.Logic.{_↔_, _⊎_}
-use mathlib.Core.List.{List, _++_}
-use lib.Dec.{leb}
+use mathlib.Core.List.{List, [], _∷_, _++_}
 use lib.ListN.{length, drop}
 use Rattle.outcome.specs.Notation.{AtMostOne}
-use Rattle.outcome.specs.Outcome.{R, Gives}
+use Rattle.outcome.specs.Outcome.{Outcome, R, SW, Gives}
+use Rattle.octets.specs.Bytes.{byte}
 use Rattle.signing_stated.specs.Layouts.{RegisterFields, AuthenticateFields, registerToSign, authenticateToSign, registerBody, authenticateBody, isRegisterFit, isAuthenticateFit}
-use Rattle.signing_stated.specs.Orders.{Kind, Order, kindNo, toSign, certificateLength, blankOrder, registerOrder, authenticateOrder, isOfLayout, registerFieldsOf, authenticateFieldsOf, IsRegisterOrder, IsAuthenticateOrder, IsWhole, HoldsJust}
-use Rattle.signing_stated.specs.Finishing.{Finishing, Finished, Body, Finishes, finishOf, finishedOf, registerRoom, authenticateRoom, roomAsked}
+use Rattle.signing_stated.specs.Orders.{Kind, Register, Authenticate, Order, AuthenticateParts, toSign, certificateLength, registerOrderOf, authenticateOrderOf}
+use Rattle.signing_stated.specs.Finishing.{Finishing, Finished, Ended}
+use Rattle.signing_stated.specs.Contracts.{KindNumber, Blank, RegisterOrder, AuthenticateOrder, HasLayout, HasRegisterRoom, HasAuthenticateRoom, Finish}
+use Rattle.signing_stated.specs.Terms.{part, RegisterLengths, PartsLengths, IsWhole, IsBlank, IsRegisterOrder, IsAuthenticateOrder, HoldsJust, RegisterShaped, AuthenticateShaped, AsksFor, OfLayout, keeping}
+
+-- ---- numbers and results
+
+-- Ours; DECISIONS, "kind numbers": the INS of the command that the order answers. A table that numbers both kinds 01
+-- (`kindsAlike`) fails it.
+pub record KindNumbers (number : Kind → ℕ) : Type 0 where
+  pub register : number Register ≡ 0x01
+  pub authenticate : number Authenticate ≡ 0x02
 
 -- The numbers tell the cases apart. 01: "a definition gives this paper's number and values for each of its cases".
--- A table that numbers both kinds 01 fails the first, one that says R4 for R2 and for R4 the second.
-abbrev pub KindOneToOne : Type 0
-KindOneToOne = (a b : Kind) → kindNo a ≡ kindNo b → a ≡ b
+-- `kindsAlike` fails the first; a view that says R4 for R2 and for R4 (`r4SaidAsR2`) the second.
+abbrev pub KindOneToOne : (Kind → ℕ) → Type 0
+KindOneToOne number = (a b : Kind) → number a ≡ number b → a ≡ b
 
-abbrev pub FinishedOneToOne : Type 0
-FinishedOneToOne = (a b : Finished) → finishedOf a ≡ finishedOf b → a ≡ b
+abbrev pub FinishedOneToOne : (Finished → Outcome ℕ) → Type 0
+FinishedOneToOne view = (a b : Finished) → view a ≡ view b → a ≡ b
 
--- Two results that meet a contract are equal. 01: "Show that two results satisfying it are equal".
--- For `finish` the result is the answer and the reply buffer together: a contract silent on the buffer fails it.
-abbrev pub KindNumberDetermined : Type 0
-KindNumberDetermined = (k : Kind) → AtMostOne (λ (r : ℕ). r ≡ kindNo k)
+-- Two results that meet a contract are equal. 01: "Show that two results satisfying it are equal". For `finish` the result is
+-- the answer and the reply buffer together: a contract silent on the buffer fails it.
+pub record ResultsDetermined : Type 0 where
+  pub kind-number : (k : Kind) → AtMostOne (KindNumber k)
+  pub blank : AtMostOne Blank
+  pub register-order : (f : RegisterFields) (c : ℕ) → AtMostOne (RegisterOrder f c)
+  pub authenticate-order : (p : AuthenticateParts) → AtMostOne (AuthenticateOrder p)
+  pub has-layout : (o : Order) → AtMostOne (HasLayout o)
+  pub has-register-room : (room h c : ℕ) → AtMostOne (HasRegisterRoom room h c)
+  pub has-authenticate-room : (room : ℕ) → AtMostOne (HasAuthenticateRoom room)
+  pub finish : (i : Finishing) → AtMostOne (λ (r : Finished × List ℕ). Finish i (r .0) (r .1))
 
-abbrev pub BlankDetermined : Type 0
-BlankDetermined = AtMostOne (λ (r : Order). r ≡ blankOrder)
+-- ---- orders
 
-abbrev pub RegisterOrderDetermined : Type 0
-RegisterOrderDetermined = (f : RegisterFields) (c : ℕ) → AtMostOne (λ (r : Order). r ≡ registerOrder f c)
+-- Ours; DECISIONS, "blank order": what stands in an answer without an order. One with a certificate length (`blankOfOne`) fails it.
+abbrev pub BlankExactly : Order → Type 0
+BlankExactly blank = IsBlank blank
 
-abbrev pub AuthenticateOrderDetermined : Type 0
-AuthenticateOrderDetermined = (f : AuthenticateFields) → AtMostOne (λ (r : Order). r ≡ authenticateOrder f)
+-- The order of a Register, byte by byte. 01: "A signing order holds its kind, the number of bytes to sign, the certificate
+-- length .., and the bytes to sign in a block of 385 bytes, zero after their end", "Register, 130 + h: 00, application,
+-- challenge, handle, public key (04, x, y)". One with the challenge first (`registerChallengeFirst`) fails it where challenge and
+-- application differ, one without the 04 (`dropsMarker`) at any fields, a block of 384 bytes (`blockOf384`) at any fields, one
+-- that takes a handle of 256 bytes (`handleOf256`) there, one that notes another certificate length (`certificateOneMore`).
+pub record MakesRegister (make : RegisterFields → ℕ → Order) : Type 0 where
+  pub kind : (f : RegisterFields) (c : ℕ) → RegisterLengths f → make f c .kind ≡ Register
+  pub counts : (f : RegisterFields) (c : ℕ) → RegisterLengths f → toSign (make f c) ≡ 130 + length (f .handle)
+  pub certificate : (f : RegisterFields) (c : ℕ) → RegisterLengths f → certificateLength (make f c) ≡ c
+  pub whole : (f : RegisterFields) (c : ℕ) → RegisterLengths f → length (make f c .bytes) ≡ 385
+  pub first : (f : RegisterFields) (c : ℕ) → RegisterLengths f → byte (make f c .bytes) 0 ≡ 0x00
+  pub application : (f : RegisterFields) (c : ℕ) → RegisterLengths f → part 1 32 (make f c .bytes) ≡ f .application
+  pub challenge : (f : RegisterFields) (c : ℕ) → RegisterLengths f → part 33 32 (make f c .bytes) ≡ f .challenge
+  pub handle : (f : RegisterFields) (c : ℕ) → RegisterLengths f → part 65 (length (f .handle)) (make f c .bytes) ≡ f .handle
+  pub marker : (f : RegisterFields) (c : ℕ) → RegisterLengths f → byte (make f c .bytes) (65 + length (f .handle)) ≡ 0x04
+  pub x : (f : RegisterFields) (c : ℕ) → RegisterLengths f → part (66 + length (f .handle)) 32 (make f c .bytes) ≡ f .x
+  pub y : (f : RegisterFields) (c : ℕ) → RegisterLengths f → part (98 + length (f .handle)) 32 (make f c .bytes) ≡ f .y
+  pub rest : (f : RegisterFields) (c : ℕ) → RegisterLengths f
+      → (i : ℕ) → 130 + length (f .handle) ≤ i → byte (make f c .bytes) i ≡ 0x00
+  -- ours: DECISIONS, "blank order": fields of other lengths make none
+  pub unfit : (f : RegisterFields) (c : ℕ) → (RegisterLengths f → ⊥) → IsBlank (make f c)
 
-abbrev pub RegisterRoomDetermined : Type 0
-RegisterRoomDetermined = (h c room : ℕ) → AtMostOne (λ r. r ≡ leb (registerRoom h c) room)
-
-abbrev pub AuthenticateRoomDetermined : Type 0
-AuthenticateRoomDetermined = (room : ℕ) → AtMostOne (λ r. r ≡ leb authenticateRoom room)
-
-abbrev pub FinishDetermined : Type 0
-FinishDetermined = (i : Finishing) → AtMostOne (λ (r : Finished × List ℕ). Finishes i (r .0) (r .1))
-
--- An order passes the layout tests exactly when fields of the right lengths make it. 01, R7: "order not of either layout".
--- Tests that do not look at the zero tail fail it, at an Authenticate order whose byte 200 is 01; tests that ask a first
--- byte 00 of an Authenticate order too fail it, at an application that begins with F0.
-abbrev pub LayoutExactly : Type 0
-LayoutExactly = (o : Order) → IsWhole o → (isOfLayout o ≡ true) ↔ (IsRegisterOrder o ⊎ IsAuthenticateOrder o)
-
--- Every order that is made here has a block of 385 bytes, the blank one too, so the claims that ask for it speak of all of
--- them. 01: "in a block of 385 bytes". An order of just its bytes to sign fails it.
-abbrev pub MadeWhole : Type 0
-MadeWhole =
-    IsWhole blankOrder
-    × ((f : RegisterFields) (c : ℕ) → IsWhole (registerOrder f c))
-    × ((f : AuthenticateFields) → IsWhole (authenticateOrder f))
-
--- R7 comes exactly for orders of neither layout. 01, 'Refusal numbers': "R7 .. exactly when".
--- A finisher that says R4 before R7 fails it, at a blank order with a certificate of one byte.
-abbrev pub R7Exactly : Type 0
-R7Exactly = (i : Finishing) → IsWhole (i .order)
-    → (finishOf i ≡ R 7) ↔ (IsRegisterOrder (i .order) ⊎ IsAuthenticateOrder (i .order) → ⊥)
-
--- Every order made from fitting fields is of its layout. 01: "A signing order holds its kind, the number of bytes to sign,
--- ..". An order that drops the 04 before x fails it, and a block of 384 bytes does at a handle of 255.
-abbrev pub MadeOfLayout : Type 0
-MadeOfLayout =
-    ((f : RegisterFields) (c : ℕ) → isRegisterFit f ≡ true → isOfLayout (registerOrder f c) ≡ true)
-    × ((f : AuthenticateFields) → isAuthenticateFit f ≡ true → isOfLayout (authenticateOrder f) ≡ true)
-
--- What stands in an answer without an order is of neither layout, and finishing it gives R7, whatever is lent beside it.
--- Ours: DECISIONS, "blank order"; 01, R7: "order not of either layout". A blank order of kind Authenticate that counts 69
--- bytes fails it: its zeros are an Authenticate order.
-abbrev pub BlankRefused : Type 0
-BlankRefused = (isOfLayout blankOrder ≡ false) × ((i : Finishing) → i .order ≡ blankOrder → finishOf i ≡ R 7)
+-- The order of an Authenticate, byte by byte. 01: "Authenticate, 69: application, presence byte (01 for P1 03, 00 for 08),
+-- counter (4, big-endian), challenge", "the certificate length (0 for Authenticate)". One with the challenge first
+-- (`authenticateChallengeFirst`) fails it, one whose presence byte is always 01 (`presenceAlways01`) where nobody touched, one that
+-- writes the counter from its low byte on (`counterLittleEndian`) at the counter 1.
+pub record MakesAuthenticate (make : AuthenticateParts → Order) : Type 0 where
+  pub kind : (p : AuthenticateParts) → PartsLengths p → make p .kind ≡ Authenticate
+  pub counts : (p : AuthenticateParts) → PartsLengths p → toSign (make p) ≡ 69
+  pub certificate : (p : AuthenticateParts) → PartsLengths p → certificateLength (make p) ≡ 0
+  pub whole : (p : AuthenticateParts) → PartsLengths p → length (make p .bytes) ≡ 385
+  pub application : (p : AuthenticateParts) → PartsLengths p → part 0 32 (make p .bytes) ≡ p .application
+  pub present : (p : AuthenticateParts) → PartsLengths p → p .present ≡ true → byte (make p .bytes) 32 ≡ 0x01
+  pub absent : (p : AuthenticateParts) → PartsLengths p → p .present ≡ false → byte (make p .bytes) 32 ≡ 0x00
+  pub counter-1 : (p : AuthenticateParts) → PartsLengths p → byte (make p .bytes) 33 ≡ p .counter / 16777216
+  pub counter-2 : (p : AuthenticateParts) → PartsLengths p → byte (make p .bytes) 34 ≡ p .counter / 65536 % 256
+  pub counter-3 : (p : AuthenticateParts) → PartsLengths p → byte (make p .bytes) 35 ≡ p .counter / 256 % 256
+  pub counter-4 : (p : AuthenticateParts) → PartsLengths p → byte (make p .bytes) 36 ≡ p .counter % 256
+  pub challenge : (p : AuthenticateParts) → PartsLengths p → part 37 32 (make p .bytes) ≡ p .challenge
+  pub rest : (p : AuthenticateParts) → PartsLengths p → (i : ℕ) → 69 ≤ i → byte (make p .bytes) i ≡ 0x00
+  pub unfit : (p : AuthenticateParts) → (PartsLengths p → ⊥) → IsBlank (make p)
 
 -- The bytes to sign of a made order are the layout's, no more and no fewer, and zeros follow. 01: "Register, 130 + h",
--- "Authenticate, 69", "zero after their end". An order that counts 129 + h loses the last byte of y.
-abbrev pub BytesToSign : Type 0
-BytesToSign =
-    ((f : RegisterFields) (c : ℕ) → isRegisterFit f ≡ true → HoldsJust (registerToSign f) (130 + length (f .handle)) (registerOrder f c))
-    × ((f : AuthenticateFields) → isAuthenticateFit f ≡ true → HoldsJust (authenticateToSign f) 69 (authenticateOrder f))
+-- "Authenticate, 69", "zero after their end". An order that counts 129 + h (`countsOneLess`) loses the last byte of y.
+abbrev pub BytesToSign : (RegisterFields → ℕ → Order) → (AuthenticateFields → Order) → Type 0
+BytesToSign register authenticate =
+    ((f : RegisterFields) (c : ℕ) → isRegisterFit f ≡ true → HoldsJust (registerToSign f) (130 + length (f .handle)) (register f c))
+    × ((f : AuthenticateFields) → isAuthenticateFit f ≡ true → HoldsJust (authenticateToSign f) 69 (authenticate f))
 
 -- The fields that went into an order are read back from it. 01: "00, application, challenge, handle, public key (04, x, y)"
--- has one reading. One that takes the challenge for the application, or a handle one byte short, fails it.
-abbrev pub FieldsKept : Type 0
-FieldsKept =
-    ((f : RegisterFields) (c : ℕ) → isRegisterFit f ≡ true
-    → registerFieldsOf (toSign (registerOrder f c)) (registerOrder f c .bytes) ≡ f)
-    × ((f : AuthenticateFields) → isAuthenticateFit f ≡ true → authenticateFieldsOf (authenticateOrder f .bytes) ≡ f)
+-- has one reading. A reading that takes the challenge for the application (`readsChallengeFirst`) fails it.
+abbrev pub FieldsKept : ((size : ℕ) (bytes : List ℕ) → RegisterFields) → ((bytes : List ℕ) → AuthenticateFields) → Type 0
+FieldsKept register authenticate =
+    ((f : RegisterFields) (c : ℕ) → isRegisterFit f ≡ true → register (toSign (registerOrderOf f c)) (registerOrderOf f c .bytes) ≡ f)
+    × ((f : AuthenticateFields) → isAuthenticateFit f ≡ true → authenticate (authenticateOrderOf f .bytes) ≡ f)
 
--- The room that a made order asks for. 01: "R2 (139 + h + c, or 77)". At h 64 and c 300 it is 503.
-abbrev pub RoomOfMade : Type 0
-RoomOfMade =
-    ((f : RegisterFields) (c : ℕ) → isRegisterFit f ≡ true → roomAsked (registerOrder f c) ≡ registerRoom (length (f .handle)) c)
-    × ((f : AuthenticateFields) → isAuthenticateFit f ≡ true → roomAsked (authenticateOrder f) ≡ authenticateRoom)
+-- An order passes the layout tests exactly when fields of the right lengths make it. 01, R7: "order not of either layout".
+-- A test that does not look at the zero tail (`testsNoTail`) fails it, at an Authenticate order whose byte 200 is 01; one
+-- that asks a first byte 00 of an Authenticate order too (`testsFirstByte`) at an application that begins with F0.
+abbrev pub LayoutExactly : (Order → Bool) → Type 0
+LayoutExactly test = (o : Order) → IsWhole o → (test o ≡ true) ↔ (IsRegisterOrder o ⊎ IsAuthenticateOrder o)
 
--- 01: "A body never exceeds the room asked for". A room of 138 + h + c fails it, at a signature of 72 bytes.
-abbrev pub BodyWithinRoom : Type 0
-BodyWithinRoom = (i : Finishing) (body : List ℕ) → finishOf i ≡ Gives body → length body ≤ roomAsked (i .order)
+-- ---- room
 
--- finishing gives none of R7, R4 and R2: the room that was asked for was not asked for in vain
-abbrev pub NotAskedInVain : Finishing → Type 0
-NotAskedInVain i = (finishOf i ≡ R 7 → ⊥) × (finishOf i ≡ R 4 → ⊥) × (finishOf i ≡ R 2 → ⊥)
+-- 01: "R2 (139 + h + c, or 77)", "as whole numbers, never wrapped". At h 64 and c 300 it is 503 bytes: a test that is content with
+-- one byte less (`room138`) or wants one more (`room140`) fails the first, one at 76 (`room76`) or 78 (`room78`) the second.
+abbrev pub RegisterRoomExactly : ((room h c : ℕ) → Bool) → Type 0
+RegisterRoomExactly has = (room h c : ℕ) → (has room h c ≡ true) ↔ (139 + h + c ≤ room)
 
--- So it is once the layout is right, the certificate is the order's and the room is there. 01, 'Mistakes a quick port
--- makes': "R2 found after the touch is spent or the counter taken". A finisher that wants room for 73 signature bytes fails
--- it, at h 64, c 300 and a buffer of 503.
-abbrev pub RoomKept : Type 0
-RoomKept = (i : Finishing) → isOfLayout (i .order) ≡ true → length (i .certificate) ≡ certificateLength (i .order)
-    → roomAsked (i .order) ≤ length (i .reply) → NotAskedInVain i
+abbrev pub AuthenticateRoomExactly : ((room : ℕ) → Bool) → Type 0
+AuthenticateRoomExactly has = (room : ℕ) → (has room ≡ true) ↔ (77 ≤ room)
 
--- So it is for a made order, finished with the certificate and the room that it was made for. An order that notes c + 1
--- as its certificate length fails it, with R4, at any certificate.
-abbrev pub MadeOrderKept : Type 0
-MadeOrderKept =
-    ((i : Finishing) (f : RegisterFields) → isRegisterFit f ≡ true → i .order ≡ registerOrder f (length (i .certificate))
-    → registerRoom (length (f .handle)) (length (i .certificate)) ≤ length (i .reply) → NotAskedInVain i)
-    × ((i : Finishing) (f : AuthenticateFields) → isAuthenticateFit f ≡ true → i .order ≡ authenticateOrder f
-    → length (i .certificate) ≡ 0 → authenticateRoom ≤ length (i .reply) → NotAskedInVain i)
+-- The room that an order of its layout asks for. A made order's handle is read off its length: one that takes the length
+-- itself for h (`lengthForHandle`) fails it.
+abbrev pub RoomAskedExactly : (Order → ℕ) → Type 0
+RoomAskedExactly asked = (o : Order) (room : ℕ) → AsksFor o room → asked o ≡ room
 
--- A body comes exactly when every check passes. 01: "Checks: R7, R4, R2 .., signer failed 6f00, R3". A finisher that
--- refuses a signature of 72 bytes, or an empty one, fails it.
-abbrev pub BodyExactly : Type 0
-BodyExactly = (i : Finishing)
-    → ((body : List ℕ) × (finishOf i ≡ Gives body))
-    ↔ ((isOfLayout (i .order) ≡ true) × (length (i .certificate) ≡ certificateLength (i .order))
-    × (roomAsked (i .order) ≤ length (i .reply)) × (i .signed ≡ true) × (length (i .signature) ≤ 72))
+-- 01: "A body never exceeds the room asked for". A finisher that takes a signature of 73 bytes (`overlongBody`) fails it.
+abbrev pub BodyWithinRoom : (Finishing → Ended) → Type 0
+BodyWithinRoom finish = (i : Finishing) (room n : ℕ) → AsksFor (i .order) room → finish i .answer ≡ Gives n → n ≤ room
+
+-- ---- finishing
+
+-- What finishing answers, and the reply buffer after it, on any order: each check once those before it have passed. 01: "Checks:
+-- R7, R4, R2 (139 + h + c, or 77), signer failed 6f00, R3", "Bodies, status 9000: Register 05, public key, h in one byte, handle,
+-- certificate, signature; Authenticate presence byte, counter, signature", "An R refusal changes no buffer", "a status word other
+-- than 9000 change[s] no reply buffer", "A 9000 body fills the front of the buffer; the rest stays". Each neighbouring pair of
+-- checks swapped fails it (`certificateBeforeLayout`, `roomBeforeCertificate`, `signerBeforeRoom`, `signatureBeforeSigner`), and
+-- so do `certificateNotCompared`, `tailNotLookedAt`, `markerOfAnotherByte`, `firstByteOfBoth`, `wantsRoom140`, `refuses72`,
+-- `takes73`, `bodyOf04`, `writesNothing`, `lengthInvented` and `clearsReply`.
+pub record FinishesExactly (finish : Finishing → Ended) : Type 0 where
+  pub r7 : (i : Finishing) → (OfLayout (i .order) → ⊥) → finish i ≡ keeping (R 7) i
+  pub r4 : (i : Finishing) → OfLayout (i .order)
+      → (length (i .certificate) ≡ certificateLength (i .order) → ⊥) → finish i ≡ keeping (R 4) i
+  pub r2 : (i : Finishing) (room : ℕ) → AsksFor (i .order) room → length (i .certificate) ≡ certificateLength (i .order)
+      → length (i .reply) < room → finish i ≡ keeping (R 2) i
+  pub signer-failed : (i : Finishing) (room : ℕ) → AsksFor (i .order) room
+      → length (i .certificate) ≡ certificateLength (i .order) → room ≤ length (i .reply)
+      → i .signed ≡ false → finish i ≡ keeping (SW 0x6f00) i
+  pub r3 : (i : Finishing) (room : ℕ) → AsksFor (i .order) room → length (i .certificate) ≡ certificateLength (i .order)
+      → room ≤ length (i .reply) → i .signed ≡ true → 72 < length (i .signature) → finish i ≡ keeping (R 3) i
+  pub register-body : (i : Finishing) (h : ℕ) → IsWhole (i .order) → RegisterShaped h (i .order)
+      → length (i .certificate) ≡ certificateLength (i .order)
+      → 139 + h + length (i .certificate) ≤ length (i .reply) → i .signed ≡ true → length (i .signature) ≤ 72
+      → finish i
+      ≡ record {
+        answer = Gives (67 + h + length (i .certificate) + length (i .signature));
+        reply =
+            0x05 ∷ 0x04 ∷ []
+            ++ part (66 + h) 64 (i .order .bytes)  -- x and y
+            ++ h ∷ []
+            ++ part 65 h (i .order .bytes)  -- the handle
+            ++ i .certificate
+            ++ i .signature
+            ++ drop (67 + h + length (i .certificate) + length (i .signature)) (i .reply);
+      }
+  pub authenticate-body : (i : Finishing) → IsWhole (i .order) → AuthenticateShaped (i .order) → length (i .certificate) ≡ 0
+      → 77 ≤ length (i .reply) → i .signed ≡ true → length (i .signature) ≤ 72
+      → finish i
+      ≡ record {
+        answer = Gives (5 + length (i .signature));
+        reply =
+            part 32 5 (i .order .bytes)  -- presence byte and counter
+            ++ i .signature
+            ++ drop (5 + length (i .signature)) (i .reply);
+      }
+
+-- What stands in an answer without an order is of neither layout, and finishing it gives R7, whatever is lent beside it.
+-- Ours; DECISIONS, "blank order"; 01, R7: "order not of either layout". A blank order of kind Authenticate that
+-- counts 69 bytes (`blankOf69`) fails it: its zeros are an Authenticate order.
+abbrev pub BlankRefused : Order → (Finishing → Ended) → Type 0
+BlankRefused blank finish = (OfLayout blank → ⊥) × ((i : Finishing) → i .order ≡ blank → finish i ≡ keeping (R 7) i)
+
+-- A made order, finished with the certificate and the room that it was made for, gives none of R7, R4 and R2. 01, 'Mistakes a
+-- quick port makes': "R2 found after the touch is spent or the counter taken". A finisher that wants room for 73 signature bytes
+-- (`asksAgain`) fails it, at a buffer of just the room that was asked for.
+abbrev pub MadeOrderKept : (Finishing → Outcome (List ℕ)) → Type 0
+MadeOrderKept finish =
+    ((i : Finishing) (f : RegisterFields) → isRegisterFit f ≡ true → i .order ≡ registerOrderOf f (length (i .certificate))
+    → 139 + length (f .handle) + length (i .certificate) ≤ length (i .reply) → (n : ℕ) → finish i ≡ R n → n ≡ 3)
+    × ((i : Finishing) (f : AuthenticateFields) → isAuthenticateFit f ≡ true → i .order ≡ authenticateOrderOf f
+    → length (i .certificate) ≡ 0 → 77 ≤ length (i .reply) → (n : ℕ) → finish i ≡ R n → n ≡ 3)
 
 -- A finished reply's fields are those that went into the order, beside the certificate and the signature that were lent.
--- 01: "Bodies, status 9000: ..". A finisher that sends the challenge for the handle fails it.
-abbrev pub RegisterRoundTrip : Type 0
-RegisterRoundTrip = (i : Finishing) (f : RegisterFields) → isRegisterFit f ≡ true
-    → i .order ≡ registerOrder f (length (i .certificate)) → registerRoom (length (f .handle)) (length (i .certificate)) ≤ length (i .reply)
+-- 01: "Bodies, status 9000: ..". A finisher that sends the challenge for the handle (`sendsChallenge`) fails the first, one that
+-- leaves the counter out (`leavesCounterOut`) the second.
+abbrev pub RegisterRoundTrip : (Finishing → Outcome (List ℕ)) → Type 0
+RegisterRoundTrip finish = (i : Finishing) (f : RegisterFields) → isRegisterFit f ≡ true
+    → i .order ≡ registerOrderOf f (length (i .certificate)) → 139 + length (f .handle) + length (i .certificate) ≤ length (i .reply)
     → i .signed ≡ true → length (i .signature) ≤ 72
-    → finishOf i ≡ Gives (registerBody f (i .certificate) (i .signature))
+    → finish i ≡ Gives (registerBody f (i .certificate) (i .signature))
 
-abbrev pub AuthenticateRoundTrip : Type 0
-AuthenticateRoundTrip = (i : Finishing) (f : AuthenticateFields) → isAuthenticateFit f ≡ true
-    → i .order ≡ authenticateOrder f → length (i .certificate) ≡ 0 → authenticateRoom ≤ length (i .reply)
+abbrev pub AuthenticateRoundTrip : (Finishing → Outcome (List ℕ)) → Type 0
+AuthenticateRoundTrip finish = (i : Finishing) (f : AuthenticateFields) → isAuthenticateFit f ≡ true
+    → i .order ≡ authenticateOrderOf f → length (i .certificate) ≡ 0 → 77 ≤ length (i .reply)
     → i .signed ≡ true → length (i .signature) ≤ 72
-    → finishOf i ≡ Gives (authenticateBody f (i .signature))
-
--- Without a body the reply buffer stays as it was. 01: "An R refusal changes no buffer", "a status word other than 9000
--- change[s] no reply buffer". A finisher that writes the fields before it looks at the signature fails it.
-abbrev pub OtherAnswersKeepReply : Type 0
-OtherAnswersKeepReply = (i : Finishing) (answer : Finished) (after : List ℕ) → Finishes i answer after
-    → ((n : ℕ) → answer ≡ Body n → ⊥) → after ≡ i .reply
-
--- 01: "A 9000 body fills the front of the buffer; the rest stays"; the answer's number is the body's length. A finisher
--- that writes nothing fails it, and so does one that gives an invented length.
-abbrev pub BodyAtFront : Type 0
-BodyAtFront = (i : Finishing) (n : ℕ) (after : List ℕ) → Finishes i (Body n) after
-    → (body : List ℕ) × (finishOf i ≡ Gives body) × (n ≡ length body) × (after ≡ body ++ drop n (i .reply))
+    → finish i ≡ Gives (authenticateBody f (i .signature))

@@ -2,7 +2,6 @@
 -- 'Refusal numbers': "A 9000 body fills the front of the buffer; the rest stays".
 use Prim.Native.Nat.{ℕ, _+_, _-_}
 use mathlib.Core.Bool.{Bool, not}
-use mathlib.Core.Path.{_≡_}
 use mathlib.Core.List.{List}
 use lib.Dec.{eqb, ltb}
 use lib.ListN.{length}
@@ -70,7 +69,10 @@ replyOf (R n) old = old
 replyOf (SW n) old = old
 replyOf (Gives body) old = laid body old
 
--- what is promised of `finish`: its answer, and the reply buffer after the call
-pub record Finishes (i : Finishing) (answer : Finished) (after : List ℕ) : Type 0 where
-  pub says : finishedOf answer ≡ lengthOf (finishOf i)
-  pub leaves : after ≡ replyOf (finishOf i) (i .reply)
+-- what finishing comes to: its answer, and the reply buffer after the call
+pub record Ended : Type 0 where
+  pub answer : Outcome ℕ
+  pub reply : List ℕ
+
+abbrev pub endOf : Finishing → Ended
+endOf i = record { answer = lengthOf (finishOf i); reply = replyOf (finishOf i) (i .reply) }

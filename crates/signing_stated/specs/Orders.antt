@@ -2,15 +2,14 @@
 -- Authenticate), and the bytes to sign in a block of 385 bytes, zero after their end". Covered: the order that given
 -- fields make; the layout tests behind R7 ('Refusal numbers'); and the fields that an order of its layout holds.
 use Prim.Native.Nat.{ℕ, _+_, _-_}
-use mathlib.Core.Bool.{Bool, true, not, _&&_}
-use mathlib.Core.Path.{_≡_}
+use mathlib.Core.Bool.{Bool, not, _&&_}
 use mathlib.Core.List.{List, []}
 use lib.Dec.{eqb, leb}
 use lib.ListN.{length, take, drop, replicate}
 use Rattle.outcome.specs.Notation.{if_then_else_}
-use Rattle.octets.specs.Bytes.{byte, laid, allZero}
+use Rattle.octets.specs.Bytes.{byte, laid, allZero, bytes4}
 pub use Rattle.signing_stated.specs.Words.{Kind, Register, Authenticate, Order}
-use Rattle.signing_stated.specs.Layouts.{RegisterFields, AuthenticateFields, registerToSign, authenticateToSign, isRegisterFit, isAuthenticateFit}
+use Rattle.signing_stated.specs.Layouts.{RegisterFields, AuthenticateFields, registerToSign, authenticateToSign, presenceByte, isRegisterFit, isAuthenticateFit}
 
 -- ours: DECISIONS, "kind numbers": the INS of the command that the order answers
 abbrev pub kindNo : Kind → ℕ
@@ -33,8 +32,8 @@ unfoldable pub blankOrder : Order
 blankOrder = record { kind = Register; «to_sign» = 0; «certificate_length» = 0; bytes = block [] }
 
 -- 01: "Register, 130 + h". Ours: DECISIONS, "blank order": fields that the layout has no room for make no order
-unfoldable pub registerOrder : RegisterFields → ℕ → Order
-registerOrder f certificate =
+unfoldable pub registerOrderOf : RegisterFields → ℕ → Order
+registerOrderOf f certificate =
     if not (isRegisterFit f) then blankOrder
     else record {
       kind = Register;
@@ -44,8 +43,8 @@ registerOrder f certificate =
     }
 
 -- 01: "Authenticate, 69", "the certificate length (0 for Authenticate)"
-unfoldable pub authenticateOrder : AuthenticateFields → Order
-authenticateOrder f =
+unfoldable pub authenticateOrderOf : AuthenticateFields → Order
+authenticateOrderOf f =
     if not (isAuthenticateFit f) then blankOrder
     else record {
       kind = Authenticate;
@@ -99,17 +98,27 @@ authenticateFieldsOf bytes =
       challenge = take 32 (drop 37 bytes);
     }
 
--- an order of a layout: one that fields of the right lengths make
-abbrev pub IsRegisterOrder : Order → Type 0
-IsRegisterOrder o = (f : RegisterFields) × (c : ℕ) × (isRegisterFit f ≡ true) × (o ≡ registerOrder f c)
+-- what an Authenticate order is made of, as the decision has it: whether somebody touched, and the counter as a number
+pub record AuthenticateParts : Type 0 where
+  pub application : List ℕ
+  pub challenge : List ℕ
+  pub present : Bool
+  pub counter : ℕ
 
-abbrev pub IsAuthenticateOrder : Order → Type 0
-IsAuthenticateOrder o = (f : AuthenticateFields) × (isAuthenticateFit f ≡ true) × (o ≡ authenticateOrder f)
+-- 01: "presence byte (01 for P1 03, 00 for 08), counter (4, big-endian)"
+abbrev pub authenticateOrderFor : AuthenticateParts → Order
+authenticateOrderFor p =
+    authenticateOrderOf
+    (record {
+      application = p .application;
+      presence = presenceByte (p .present);
+      counter = bytes4 (p .counter);
+      challenge = p .challenge;
+    })
 
--- every order in memory has a block of 385 bytes; a definition has to say so
-abbrev pub IsWhole : Order → Type 0
-IsWhole o = length (o .bytes) ≡ 385
+-- the names that other crates still use
+abbrev pub registerOrder : RegisterFields → ℕ → Order
+registerOrder = registerOrderOf
 
--- `HoldsJust s n o`: the order o has n bytes to sign, they are s, and zeros follow
-abbrev pub HoldsJust : List ℕ → ℕ → Order → Type 0
-HoldsJust s n o = (toSign o ≡ n) × (take n (o .bytes) ≡ s) × (allZero (drop n (o .bytes)) ≡ true)
+abbrev pub authenticateOrder : AuthenticateFields → Order
+authenticateOrder = authenticateOrderOf

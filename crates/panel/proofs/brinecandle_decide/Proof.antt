@@ -1,14 +1,14 @@
 -- `brinecandle_decide` meets its contract.
 use borrow.Author.Needs.{needs}
-use Rattle.panel.proofs.OrderCases
+use Rattle.panel_stated.proofs.Cases
 use Rattle.panel.proofs.brinecandle_decide.Statement.{statement}
 use Rattle.panel.proofs.brinecandle_decide.Tie as tie
 
-lent-requires : tie.Need-lent-requires
-lent-requires c κs = search needs
+record-lent-requires : tie.Need-record-lent-requires
+record-lent-requires c κs = search needs
 
-hardware-of-requires : tie.Need-hardware-of-requires
-hardware-of-requires c κs = search needs
+hardware-lent-requires : tie.Need-hardware-lent-requires
+hardware-lent-requires c κs = search needs
 
 decide-requires : tie.Need-decide-requires
 decide-requires c κs = search needs
@@ -16,23 +16,23 @@ decide-requires c κs = search needs
 put-block-requires : tie.Need-put-block-requires
 put-block-requires c κs = search needs
 
-decision-said-requires : tie.Need-decision-said-requires
-decision-said-requires c κs = search needs
+decision-plain-requires : tie.Need-decision-plain-requires
+decision-plain-requires c κs = search needs
 
 same-length : tie.Need-same-length
 same-length c = search needs
 
 returns : tie.Need-returns
-returns c = (search (needs, OrderCases.decide-answer), search (needs, OrderCases.decide-reply), search (needs, OrderCases.decide-block))
+returns c = (search (needs, Cases.decide-answer), search (needs, Cases.decide-reply), search (needs, Cases.decide-block))
 
 pub brinecandle-decide-spec : {M : Type 1} → statement M
 brinecandle-decide-spec =
     tie.close
     (tie.spec
-    lent-requires
-    hardware-of-requires
+    record-lent-requires
+    hardware-lent-requires
     decide-requires
     put-block-requires
-    decision-said-requires
+    decision-plain-requires
     same-length
     returns)

@@ -1,4 +1,4 @@
-use Rattle.signing_stated.proofs.Made.{authenticate-application-unfit, authenticate-challenge-unfit, authenticate-made}
+use Rattle.signing_stated.proofs.Cases.{authenticate-application-unfit, authenticate-challenge-unfit, authenticate-made}
 use borrow.Author.Needs.{needs}
 use Rattle.signing.proofs.authenticate_order.Statement.{statement}
 use Rattle.signing.proofs.authenticate_order.Tie as tie

@@ -1,10 +1,10 @@
-use Rattle.signing_stated.proofs.Checks.{of-layout, enough, answers-r7, answers-r4, answers-r2, answers-6f00, answers-r3, answers-body}
+use Rattle.signing_stated.proofs.Cases.{of-layout, enough, answers-r7, answers-r4, answers-r2, answers-6f00, answers-r3, answers-body}
 use borrow.Author.Needs.{needs}
 use Rattle.signing.proofs.finish.Statement.{statement}
 use Rattle.signing.proofs.finish.Tie as tie
 
-is-of-layout-requires : tie.Need-is-of-layout-requires
-is-of-layout-requires c κs = search needs
+has-layout-requires : tie.Need-has-layout-requires
+has-layout-requires c κs = search needs
 
 returns : tie.Need-returns
 returns c = search (needs, answers-r7)
@@ -37,7 +37,7 @@ pub finish-spec : {M : Type 1} → statement M
 finish-spec =
     tie.close
     (tie.spec
-    is-of-layout-requires
+    has-layout-requires
     returns
     returns-2
     has-room-requires

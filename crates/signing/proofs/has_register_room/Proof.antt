@@ -1,5 +1,5 @@
 use borrow.Author.Needs.{needs}
-use Rattle.signing_stated.proofs.Rooms.{no-room, no-handle-room, certificate-room}
+use Rattle.signing_stated.proofs.Cases.{no-room, no-handle-room, certificate-room}
 use Rattle.signing.proofs.has_register_room.Statement.{statement}
 use Rattle.signing.proofs.has_register_room.Tie as tie
 

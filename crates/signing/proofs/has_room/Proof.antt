@@ -1,4 +1,4 @@
-use Rattle.signing_stated.proofs.Rooms.{register-least, register-room, authenticate-room}
+use Rattle.signing_stated.proofs.Cases.{register-least, register-room, authenticate-room}
 use borrow.Author.Needs.{needs}
 use Rattle.signing.proofs.has_room.Statement.{statement}
 use Rattle.signing.proofs.has_room.Tie as tie

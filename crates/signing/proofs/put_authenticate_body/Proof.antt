@@ -1,4 +1,4 @@
-use Rattle.signing_stated.proofs.Bodies.{authenticate-written, authenticate-body-length}
+use Rattle.signing_stated.proofs.Cases.{authenticate-written, authenticate-body-length}
 use borrow.Author.Needs.{needs}
 use Rattle.signing.proofs.put_authenticate_body.Statement.{statement}
 use Rattle.signing.proofs.put_authenticate_body.Tie as tie

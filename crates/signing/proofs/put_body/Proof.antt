@@ -1,5 +1,4 @@
-use Rattle.signing_stated.proofs.Rooms.{register-least, register-most, register-marker, register-body-fits, authenticate-body-fits}
-use Rattle.signing_stated.proofs.Bodies.{register-length-said, register-put, authenticate-length-said, authenticate-put}
+use Rattle.signing_stated.proofs.Cases.{register-least, register-most, register-marker, register-body-fits, authenticate-body-fits, register-length-said, register-put, authenticate-length-said, authenticate-put}
 use borrow.Author.Needs.{needs}
 use Rattle.signing.proofs.put_body.Statement.{statement}
 use Rattle.signing.proofs.put_body.Tie as tie

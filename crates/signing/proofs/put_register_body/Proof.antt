@@ -1,4 +1,4 @@
-use Rattle.signing_stated.proofs.Bodies.{register-written, register-body-length}
+use Rattle.signing_stated.proofs.Cases.{register-written, register-body-length}
 use borrow.Author.Needs.{needs}
 use Rattle.signing.proofs.put_register_body.Statement.{statement}
 use Rattle.signing.proofs.put_register_body.Tie as tie

@@ -1,4 +1,4 @@
-use Rattle.signing_stated.proofs.Made.{register-application-unfit, register-challenge-unfit, register-handle-unfit, register-made}
+use Rattle.signing_stated.proofs.Cases.{register-application-unfit, register-challenge-unfit, register-handle-unfit, register-made}
 use borrow.Author.Needs.{needs}
 use Rattle.signing.proofs.register_order.Statement.{statement}
 use Rattle.signing.proofs.register_order.Tie as tie

@@ -1,5 +1,0 @@
-pub mod FrameCases
-pub mod RecordCases
-pub mod OrderCases
-pub mod Said
-pub mod Theorems

@@ -1,4 +1,0 @@
-pub mod Words
-pub mod Numbers
-pub mod Exports
-pub mod Claims

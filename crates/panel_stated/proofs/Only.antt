@@ -1,0 +1,118 @@
+-- Only the definitions meet the claims: two functions that meet one agree on every input.
+use Prim.Native.Nat.{zero, suc}
+use mathlib.Core.Bool.{Bool}
+use mathlib.Core.Path.{_≡_, refl, sym, _∙_}
+use mathlib.Core.Logic.{inl, inr}
+use native.Mathlib.Omega.{arith}
+use native.Mathlib.Decide.{ℕ-discrete}
+use Rattle.outcome.specs.Notation.{Determines, Determines2, Determines3}
+use Rattle.outcome.specs.Outcome.{Outcome, R, SW, Gives}
+use Rattle.command_stated.specs.Command.{Register, Authenticate, Version}
+use Rattle.u2f_up_stated.specs.declared.Presence.{Presence}
+use Rattle.ctap1_stated.specs.Words.{Body, Ordered}
+use Rattle.signing_stated.specs.declared.Kind.{Kind}
+use Rattle.signing_stated.specs.declared.Kind.the-variants as Kind′
+use Rattle.panel_stated.specs.Words.{PresenceRecord}
+use Rattle.panel_stated.specs.Claims
+
+-- ---- numbers that stand for cases
+pub ShapeNumbers : Determines Claims.ShapeNumbers
+ShapeNumbers f g p q zero = p .none 0 (inl refl) ∙ sym (q .none 0 (inl refl))
+ShapeNumbers f g p q (suc zero) = p .instruction ∙ sym (q .instruction)
+ShapeNumbers f g p q (suc (suc zero)) = p .le1 ∙ sym (q .le1)
+ShapeNumbers f g p q (suc (suc (suc zero))) = p .lc1-data ∙ sym (q .lc1-data)
+ShapeNumbers f g p q (suc (suc (suc (suc zero)))) = p .lc1-data-le1 ∙ sym (q .lc1-data-le1)
+ShapeNumbers f g p q (suc (suc (suc (suc (suc zero))))) = p .lc3-data ∙ sym (q .lc3-data)
+ShapeNumbers f g p q (suc (suc (suc (suc (suc (suc zero)))))) = p .lc3-data-le1 ∙ sym (q .lc3-data-le1)
+ShapeNumbers f g p q (suc (suc (suc (suc (suc (suc (suc zero))))))) = p .lc3-data-le2 ∙ sym (q .lc3-data-le2)
+ShapeNumbers f g p q (suc (suc (suc (suc (suc (suc (suc (suc zero)))))))) = p .le3 ∙ sym (q .le3)
+ShapeNumbers f g p q (suc (suc (suc (suc (suc (suc (suc (suc (suc n))))))))) = p .none (suc (suc (suc (suc (suc (suc (suc (suc (suc n))))))))) (inr (omega arith)) ∙ sym (q .none (suc (suc (suc (suc (suc (suc (suc (suc (suc n))))))))) (inr (omega arith)))
+
+pub KindNumbers : Determines Claims.KindNumbers
+KindNumbers f g p q zero = p .none 0 (inl refl) ∙ sym (q .none 0 (inl refl))
+KindNumbers f g p q (suc zero) = p .register ∙ sym (q .register)
+KindNumbers f g p q (suc (suc zero)) = p .authenticate ∙ sym (q .authenticate)
+KindNumbers f g p q (suc (suc (suc n))) = p .none (suc (suc (suc n))) (inr (omega arith)) ∙ sym (q .none (suc (suc (suc n))) (inr (omega arith)))
+
+pub AllowedNumbers : Determines Claims.AllowedNumbers
+AllowedNumbers f g p q zero = p .refused ∙ sym (q .refused)
+AllowedNumbers f g p q (suc zero) = p .granted ∙ sym (q .granted)
+AllowedNumbers f g p q (suc (suc n)) = p .failed (suc (suc n)) (omega arith) ∙ sym (q .failed (suc (suc n)) (omega arith))
+
+pub AttestationNumbers : Determines Claims.AttestationNumbers
+AttestationNumbers f g p q zero = p .missing ∙ sym (q .missing)
+AttestationNumbers f g p q (suc zero) = p .present ∙ sym (q .present)
+AttestationNumbers f g p q (suc (suc n)) = p .failed (suc (suc n)) (omega arith) ∙ sym (q .failed (suc (suc n)) (omega arith))
+
+-- ---- records
+presence-equal : (a b : Presence) → a .w ≡ b .w → a .prompt ≡ b .prompt → a .touch ≡ b .touch → a .last ≡ b .last → a ≡ b
+presence-equal a b w p t l = λ d. record { w = w d; prompt = p d; touch = t d; last = l d }
+
+pub RecordNumbers : Determines Claims.RecordNumbers
+RecordNumbers f g p q n =
+    presence-equal (f n) (g n) (p .w n ∙ sym (q .w n)) (by-prompt (ℕ-discrete (n .prompt) 0xffffffffffffffff)) (by-touch (ℕ-discrete (n .touch) 0xffffffffffffffff)) (p .last n ∙ sym (q .last n))
+  where
+    by-prompt : Dec (n .prompt ≡ 0xffffffffffffffff) → f n .prompt ≡ g n .prompt
+    by-prompt (yes e) = p .prompt-closed n e ∙ sym (q .prompt-closed n e)
+    by-prompt (no e) = p .prompt-opened n e ∙ sym (q .prompt-opened n e)
+
+    by-touch : Dec (n .touch ≡ 0xffffffffffffffff) → f n .touch ≡ g n .touch
+    by-touch (yes e) = p .touch-closed n e ∙ sym (q .touch-closed n e)
+    by-touch (no e) = p .touch-opened n e ∙ sym (q .touch-opened n e)
+
+-- a plain form that numbers go through unchanged is the way back of what they stand for
+pub NumbersBack : (lend : PresenceRecord → Presence) (f g : Presence → PresenceRecord) → Claims.NumbersBack lend f → Claims.NumbersBack lend g
+    → (n : PresenceRecord) → f (lend n) ≡ g (lend n)
+NumbersBack lend f g p q n = p n ∙ sym (q n)
+
+-- ---- what is not said is 0
+pub FrameNumbers : Determines Claims.FrameNumbers
+FrameNumbers f g p q (R n) = p .refused n ∙ sym (q .refused n)
+FrameNumbers f g p q (SW n) = p .status n ∙ sym (q .status n)
+FrameNumbers f g p q (Gives s) = p .given s ∙ sym (q .given s)
+
+pub CommandNumbers : Determines Claims.CommandNumbers
+CommandNumbers f g p q (R n) = p .refused n ∙ sym (q .refused n)
+CommandNumbers f g p q (SW n) = p .status n ∙ sym (q .status n)
+CommandNumbers f g p q (Gives Version) = p .version ∙ sym (q .version)
+CommandNumbers f g p q (Gives (Register s)) = p .register s ∙ sym (q .register s)
+CommandNumbers f g p q (Gives (Authenticate p1 s)) = p .authenticate p1 s ∙ sym (q .authenticate p1 s)
+
+pub LengthNumbers : Determines Claims.LengthNumbers
+LengthNumbers f g p q (R n) = p .refused n ∙ sym (q .refused n)
+LengthNumbers f g p q (SW n) = p .status n ∙ sym (q .status n)
+LengthNumbers f g p q (Gives n) = p .given n ∙ sym (q .given n)
+
+pub AskedNumbers : Determines Claims.AskedNumbers
+AskedNumbers f g p q (R n) = p .refused n ∙ sym (q .refused n)
+AskedNumbers f g p q (SW n) = p .status n ∙ sym (q .status n)
+AskedNumbers f g p q (Gives b) = p .given b ∙ sym (q .given b)
+
+pub StepNumbers : Determines Claims.StepNumbers
+StepNumbers f g p q told = by-outcome (told .outcome) (told .presence)
+  where
+    by-outcome : (o : Outcome Bool) (r : Presence) → f (record { outcome = o; presence = r }) ≡ g (record { outcome = o; presence = r })
+    by-outcome (R n) r = p .refused n r ∙ sym (q .refused n r)
+    by-outcome (SW n) r = p .status n r ∙ sym (q .status n r)
+    by-outcome (Gives b) r = p .given b r ∙ sym (q .given b r)
+
+pub MadeNumbers : Determines Claims.MadeNumbers
+MadeNumbers f g p q (R n) = p .refused n ∙ sym (q .refused n)
+MadeNumbers f g p q (SW n) = p .status n ∙ sym (q .status n)
+MadeNumbers f g p q (Gives r) = p .given r ∙ sym (q .given r)
+
+pub OrderNumbersExactly : Determines2 Claims.OrderNumbersExactly
+OrderNumbersExactly f g p q (R n) o = p .refused n o ∙ sym (q .refused n o)
+OrderNumbersExactly f g p q (SW n) o = p .status n o ∙ sym (q .status n o)
+OrderNumbersExactly f g p q (Gives (Body n)) o = p .body n o ∙ sym (q .body n o)
+OrderNumbersExactly f g p q (Gives Ordered) o = by-kind (o .kind) refl
+  where
+    by-kind : (k : Kind) → o .kind ≡ k → f (Gives Ordered) o ≡ g (Gives Ordered) o
+    by-kind Kind′.Register e = p .register o e ∙ sym (q .register o e)
+    by-kind Kind′.Authenticate e = p .authenticate o e ∙ sym (q .authenticate o e)
+
+pub BlockExactly : Determines3 Claims.BlockExactly
+BlockExactly f g p q (R n) bytes old = p .refused n bytes old ∙ sym (q .refused n bytes old)
+BlockExactly f g p q (SW n) bytes old = p .status n bytes old ∙ sym (q .status n bytes old)
+BlockExactly f g p q (Gives (Body n)) bytes old = p .body n bytes old ∙ sym (q .body n bytes old)
+BlockExactly f g p q (Gives Ordered) bytes old = p .ordered bytes old ∙ sym (q .ordered bytes old)

@@ -1,0 +1,212 @@
+-- The numbers that outcomes have: a refusal's is one of the refusals', a status word's from 6000 up to 9000. By the checks of each
+-- definition.
+use Prim.Native.Nat.{ℕ, _≤_, _<_}
+use mathlib.Core.Bool.{Bool, true, false, not}
+use mathlib.Core.List.{List}
+use native.Mathlib.Omega.{arith}
+use lib.Dec.{ltb, eqb}
+use lib.ListN.{length, drop}
+use Rattle.outcome.specs.Notation.{if_then_else_}
+use Rattle.outcome.specs.Outcome.{Outcome, R, SW, Gives}
+use Rattle.apdu_stated.specs.Answers.{Says}
+use Rattle.apdu_stated.specs.Reading.{readOf, sayOf, lengthsOf, strictOf, strictly}
+use Rattle.apdu_stated.specs.Table.{canCarry}
+use Rattle.apdu_stated.specs.Writing.{Parts, frameOf, writeOf}
+use Rattle.apdu_stated.specs.declared.Lengths.{Lengths}
+use Rattle.apdu_stated.specs.declared.Lengths.the-variants as Lengths′
+use Rattle.command_stated.specs.Command.{Command, Register, Authenticate, Version, isControl, registerOf, authenticateOf, versionOf, byInstruction, onReading, commandOf}
+use Rattle.u2f_up_stated.specs.Moments.{isR6, isR1, onSettled, Told, newOf, settleOf, checkedOf, touchOf, checkOf, askOf}
+use Rattle.u2f_up_stated.specs.declared.Presence.{Presence}
+use Rattle.signing_stated.specs.Orders.{isOfLayout, certificateLength}
+use Rattle.signing_stated.specs.Finishing.{Finishing, finishOf, roomAsked, registerRoom, authenticateRoom}
+use Rattle.ctap1_stated.specs.declared.Allowed.{Allowed}
+use Rattle.ctap1_stated.specs.declared.Allowed.the-variants as Allowed′
+use Rattle.panel_stated.specs.Terms.{IsNumbered}
+use mathlib.Core.Path.{_≡_, refl, sym}
+use Rattle.outcome.proofs.Laws.{r-sw, r-gives}
+use Rattle.ctap1_stated.specs.Decision as Decision′
+use Rattle.ctap1_stated.specs.Path as Path′
+use Rattle.ctap1_stated.specs.Path.{Ending, Internal, WrongData, Orders, Path, NoRoom, Status, SixBytes, Signs, Touch, loginPath, versionPath, registerPath, commandPath, allowedPath, pathOf, ended, along, onMoment, decisionAt}
+
+-- both branches of a test
+either : {A : Type 0} (P : A → Type 0) (b : Bool) (x y : A) → P x → P y → P (if b then x else y)
+either P true x y p q = p
+either P false x y p q = q
+
+module _ {A : Type 0} where
+  test : (b : Bool) (x y : Outcome A) → IsNumbered x → IsNumbered y → IsNumbered (if b then x else y)
+  test b x y = either IsNumbered b x y
+
+-- ---- frames
+say-said : (frame : List ℕ) (l : Lengths) → IsNumbered (sayOf frame l)
+unfolding sayOf
+say-said frame (Lengths′.Found s lc le) = tt
+say-said frame Lengths′.Missing = (omega arith, omega arith)
+say-said frame Lengths′.Surplus = (omega arith, omega arith)
+
+pub read-said : (frame : List ℕ) → IsNumbered (readOf frame)
+unfolding readOf
+read-said frame = test (ltb (length frame) 4) _ _ (omega arith, omega arith) (say-said frame (lengthsOf (drop 4 frame)))
+
+strictly-said : (o : Outcome Says) → IsNumbered o → IsNumbered (strictly o)
+unfolding strictly
+strictly-said (R n) h = h
+strictly-said (SW n) h = h
+strictly-said (Gives says) h = test (eqb (says .shape) 6) _ _ (omega arith, omega arith) tt
+
+pub strict-said : (frame : List ℕ) → IsNumbered (strictOf frame)
+unfolding strictOf
+strict-said frame = strictly-said (readOf frame) (read-said frame)
+
+pub write-said : (w : Parts) (room : ℕ) → IsNumbered (writeOf w room)
+unfolding writeOf
+write-said w room =
+    test (not (canCarry (w .shape) (length (w .content)) (w .le))) _ _ (omega arith, omega arith)
+    (test (ltb room (length (frameOf w))) _ _ (omega arith, omega arith) tt)
+
+-- ---- commands
+instruction-said : (frame : List ℕ) (said : Says) → IsNumbered (byInstruction frame said)
+unfolding byInstruction registerOf authenticateOf versionOf
+instruction-said frame said =
+    test (not (eqb (said .header .cla) 0x00)) _ _ (omega arith, omega arith)
+    (test (eqb (said .header .ins) 0x01) _ _ (test (not (eqb (said .lc) 64)) _ _ (omega arith, omega arith) tt)
+    (test (eqb (said .header .ins) 0x02) _ _
+    (test (ltb (said .lc) 65) _ _ (omega arith, omega arith)
+    (test (not (eqb (said .lc) _)) _ _ (omega arith, omega arith)
+    (test (not (isControl (said .header .p1))) _ _ (omega arith, omega arith) tt)))
+    (test (eqb (said .header .ins) 0x03) _ _ (test (not (eqb (said .lc) 0)) _ _ (omega arith, omega arith) tt)
+    (omega arith, omega arith))))
+
+reading-said : (frame : List ℕ) (o : Outcome Says) → IsNumbered o → IsNumbered (onReading frame o)
+unfolding onReading
+reading-said frame (R n) h = h
+reading-said frame (SW n) h = h
+reading-said frame (Gives said) h = instruction-said frame said
+
+pub command-said : (frame : List ℕ) → IsNumbered (commandOf frame)
+unfolding commandOf
+command-said frame = reading-said frame (readOf frame) (read-said frame)
+
+-- ---- presence
+pub new-said : (w : ℕ) → IsNumbered (newOf w)
+unfolding newOf
+new-said w = test (isR6 w) _ _ (omega arith, omega arith) tt
+
+pub settle-said : (p : Presence) (t : ℕ) → IsNumbered (settleOf p t)
+unfolding settleOf
+settle-said p t = test (isR6 (p .w)) _ _ (omega arith, omega arith) (test (isR1 (p .last) t) _ _ (omega arith, omega arith) tt)
+
+on-settled : (p : Presence) (o : Outcome Presence) (go : Presence → Told) → IsNumbered o → ((q : Presence) → IsNumbered (go q .outcome)) → IsNumbered (onSettled p o go .outcome)
+on-settled p (R n) go h k = h
+on-settled p (SW n) go h k = h
+on-settled p (Gives q) go h k = k q
+
+module _ (p : Presence) (t : ℕ) where
+  pub touch-said : IsNumbered (touchOf p t .outcome)
+  unfolding touchOf
+  touch-said = on-settled p (settleOf p t) _ (settle-said p t) (λ q. tt)
+
+  pub check-said : IsNumbered (checkOf p t .outcome)
+  unfolding checkOf
+  check-said = on-settled p (settleOf p t) _ (settle-said p t) (λ q. tt)
+
+  pub ask-said : IsNumbered (askOf p t .outcome)
+  unfolding askOf
+  ask-said = on-settled p (settleOf p t) _ (settle-said p t) (λ q. tt)
+
+-- ---- the decision
+abbrev OfPath : Path → Type 0
+OfPath NoRoom = Unit {0}
+OfPath (Status n) = (0x6000 ≤ n) × (n < 0x9000)
+OfPath SixBytes = Unit {0}
+OfPath (Signs e) = Unit {0}
+OfPath (Touch e) = Unit {0}
+
+module _ (a : Path′.Asked) where
+  login-path : (p1 : ℕ) (said : Says) → OfPath (loginPath (a .frame) (a .hardware) (a .room) p1 said)
+  unfolding loginPath
+  login-path p1 said =
+      either OfPath (not (a .hardware .good)) _ _ (omega arith, omega arith)
+      (either OfPath (eqb p1 0x07) _ _ (omega arith, omega arith)
+      (either OfPath (ltb (a .room) authenticateRoom) _ _ tt (either OfPath (eqb p1 0x03) _ _ tt tt)))
+
+  command-path : (o : Outcome Command) → IsNumbered o → OfPath (commandPath a o)
+  unfolding commandPath versionPath registerPath
+  command-path (R n) h = tt
+  command-path (SW n) h = h
+  command-path (Gives Version) h = either OfPath (ltb (a .room) 6) _ _ tt tt
+  command-path (Gives (Register said)) h =
+      either OfPath (ltb (a .room) (registerRoom (length (a .newHandle)) (length (a .certificate)))) _ _ tt tt
+  command-path (Gives (Authenticate p1 said)) h = login-path p1 said
+
+  allowed-path : (k : Allowed) → OfPath (allowedPath k a)
+  unfolding allowedPath
+  allowed-path Allowed′.Failed = (omega arith, omega arith)
+  allowed-path Allowed′.No = (omega arith, omega arith)
+  allowed-path Allowed′.Yes = command-path (commandOf (a .frame)) (command-said (a .frame))
+
+  path-numbered : OfPath (pathOf a)
+  unfolding pathOf
+  path-numbered = allowed-path (a .hardware .allowed)
+
+ended-numbered : (e : Ending) (p : Presence) → IsNumbered (ended e p .answer)
+ended-numbered Internal p = (omega arith, omega arith)
+ended-numbered WrongData p = (omega arith, omega arith)
+ended-numbered (Orders o taken) p = tt
+
+touch-numbered : (yes : Bool) (e : Ending) (p : Presence) → IsNumbered ((if not yes then Decision′.answer 0x6985 p else ended e p) .answer)
+touch-numbered true e p = ended-numbered e p
+touch-numbered false e p = (omega arith, omega arith)
+
+along-numbered : (path : Path) → OfPath path → (kept settled : Presence) (t : ℕ) → IsNumbered (along path kept settled t .answer)
+along-numbered NoRoom h kept settled t = (omega arith, omega arith)
+along-numbered (Status n) h kept settled t = h
+along-numbered SixBytes h kept settled t = tt
+along-numbered (Signs e) h kept settled t = ended-numbered e settled
+along-numbered (Touch e) h kept settled t = touch-numbered (checkedOf settled t .yes) e (checkedOf settled t .presence)
+
+pub decision-said : (p : Presence) (t : ℕ) (a : Path′.Asked) → IsNumbered (decisionAt p t a .answer)
+unfolding decisionAt
+decision-said p t a = by-moment (settleOf p t) (settle-said p t)
+  where
+    by-moment : (o : Outcome Presence) → IsNumbered o → IsNumbered (onMoment p t (pathOf a) o .answer)
+    by-moment (R n) h = h
+    by-moment (SW n) h = h
+    by-moment (Gives settled) h = along-numbered (pathOf a) (path-numbered a) p settled t
+
+-- a refused decision hands back the record that it was lent
+ended-refused : (e : Ending) (p : Presence) (k : ℕ) → ended e p .answer ≡ R k → ⊥
+ended-refused Internal p k e = r-sw _ _ (sym e)
+ended-refused WrongData p k e = r-sw _ _ (sym e)
+ended-refused (Orders o taken) p k e = r-gives _ _ (sym e)
+
+touch-refused : (yes : Bool) (e : Ending) (p : Presence) (k : ℕ) → (if not yes then Decision′.answer 0x6985 p else ended e p) .answer ≡ R k → ⊥
+touch-refused true e p k z = ended-refused e p k z
+touch-refused false e p k z = r-sw _ _ (sym z)
+
+along-refused : (path : Path) (kept settled : Presence) (t k : ℕ) → along path kept settled t .answer ≡ R k → along path kept settled t .presence ≡ kept
+along-refused NoRoom kept settled t k e = refl
+along-refused (Status n) kept settled t k e = absurd (r-sw _ _ (sym e))
+along-refused SixBytes kept settled t k e = absurd (r-gives _ _ (sym e))
+along-refused (Signs x) kept settled t k e = absurd (ended-refused x settled k e)
+along-refused (Touch x) kept settled t k e = absurd (touch-refused (checkedOf settled t .yes) x (checkedOf settled t .presence) k e)
+
+pub decision-refused : (p : Presence) (t : ℕ) (a : Path′.Asked) (k : ℕ) → decisionAt p t a .answer ≡ R k → decisionAt p t a .presence ≡ p
+unfolding decisionAt
+decision-refused p t a k = by-moment (settleOf p t)
+  where
+    by-moment : (o : Outcome Presence) → onMoment p t (pathOf a) o .answer ≡ R k → onMoment p t (pathOf a) o .presence ≡ p
+    by-moment (R n) e = refl
+    by-moment (SW n) e = refl
+    by-moment (Gives settled) e = along-refused (pathOf a) p settled t k e
+
+-- ---- finishing
+pub finish-said : (i : Finishing) → IsNumbered (finishOf i)
+unfolding finishOf
+finish-said i =
+    let o = i .order in
+    test (not (isOfLayout o)) _ _ (omega arith, omega arith)
+    (test (not (eqb (length (i .certificate)) (certificateLength o))) _ _ (omega arith, omega arith)
+    (test (ltb (length (i .reply)) (roomAsked o)) _ _ (omega arith, omega arith)
+    (test (not (i .signed)) _ _ (omega arith, omega arith)
+    (test (ltb 72 (length (i .signature))) _ _ (omega arith, omega arith) tt))))

@@ -1,0 +1,128 @@
+-- The claims are false of the wrong programs of specs/Wrong.antt, each at an input where it bites.
+use Prim.Native.Nat.{ℕ, _≤_}
+use mathlib.Core.Bool.{Bool, true, false}
+use mathlib.Core.Path.{_≡_, refl, ap}
+use mathlib.Core.Logic.{inl, inr}
+use mathlib.Core.List.{List, [], _∷_}
+use native.Mathlib.Omega.{arith}
+use lib.ListN.{length, replicate}
+use Rattle.outcome.specs.Outcome.{Outcome, R, SW, Gives}
+use Rattle.apdu_stated.specs.Answers.{Says}
+use Rattle.apdu_stated.specs.Reading.{readOf, lengthsOf, sayOf}
+use Rattle.u2f_up_stated.specs.Moments.{fresh}
+use Rattle.u2f_up_stated.specs.declared.Window.the-variants.{Closed, Opened}
+use Rattle.u2f_up_stated.specs.declared.Presence.{Presence}
+use Rattle.ctap1_stated.specs.Words.{Ordered}
+use Rattle.ctap1_stated.specs.declared.Allowed.the-variants as Allowed′
+use Rattle.ctap1_stated.specs.declared.Attestation.the-variants as Attestation′
+use Rattle.signing_stated.specs.Orders.{isAuthenticateLayout}
+use Rattle.signing_stated.specs.Finishing.{finishOf}
+use Rattle.signing_stated.specs.declared.Kind.the-variants as Kind′
+use Rattle.panel_stated.specs.Words.{PresenceRecord, OrderNumbers, FrameSaid, CommandSaid, Wrote, Made, Stepped, Asked, Order}
+use Rattle.panel_stated.specs.Numbers.{presenceNumbers, kindOf}
+use Rattle.panel_stated.specs.Exports.{decisionNumbers, decidedBy, commandNumbers}
+use Rattle.panel_stated.specs.Claims
+use Rattle.panel_stated.specs.Wrong
+use Rattle.panel_stated.specs.declared.Kinded.the-variants as Kinded′
+
+-- ---- answers
+pub statusAs9000 : Claims.AnswerTells Wrong.statusAs9000 → ⊥
+statusAs9000 p =
+    let x = p .given (SW 0x6a80) (omega arith, omega arith) .0 refl in let e : SW 0x6a80 ≡ Gives (x .0) = x .1 in let z : _≡_ {A = ℕ} 0 1 = cc in omega arith
+
+pub orderNumbered2 : Claims.DecisionTells Wrong.orderNumbered2 → ⊥
+orderNumbered2 p = let e : _≡_ {A = ℕ} 2 0 = p .ordered (Gives Ordered) tt .1 refl in omega arith
+
+-- ---- records
+abbrev oneOpened : PresenceRecord
+oneOpened = record { w = 5000; prompt = 0xffffffffffffffff; touch = 7; last = 9 }
+
+pub windowsSwapped : Claims.NumbersBack Wrong.windowsSwapped presenceNumbers → ⊥
+windowsSwapped p = let e : _≡_ {A = ℕ} 7 0xffffffffffffffff = ap (λ (n : PresenceRecord). n .prompt) (p oneOpened) in omega arith
+
+pub swappedBothWays : Claims.RecordNumbers Wrong.swappedBothWays → ⊥
+swappedBothWays p =
+    let e : Opened 7 ≡ Closed = p .prompt-closed oneOpened refl in let z : _≡_ {A = ℕ} 0 1 = cc in omega arith
+
+-- a prompt opened at moment 0
+abbrev promptedAt0 : Presence
+promptedAt0 = record { w = 5000; prompt = Opened 0; touch = Closed; last = 0 }
+
+pub closedIs0 : Claims.RecordsBack Wrong.closedIs0 Wrong.closedAs0 → ⊥
+closedIs0 p =
+    let e : Closed ≡ Opened 0 = ap (λ (q : Presence). q .prompt) (p promptedAt0 (omega arith) tt) in let z : _≡_ {A = ℕ} 0 1 = cc in omega arith
+
+pub refusedMoves : Claims.RefusalHandsBack Wrong.refusedMoves Wrong.refusedMoves (λ i. decisionNumbers (decidedBy i)) → ⊥
+refusedMoves p = let e : _≡_ {A = ℕ} 8 9 = ap (λ (n : PresenceRecord). n .last) (p .grant-up oneOpened 8 (omega arith)) in omega arith
+
+-- ---- numbers that stand for cases
+pub shape0Accepted : Claims.ShapeNumbers Wrong.shape0Accepted → ⊥
+shape0Accepted p = let e = p .none 0 (inl refl) in let z : _≡_ {A = ℕ} 0 1 = cc e in omega arith
+
+pub kindsAlike : Claims.KindNumbers Wrong.kindsAlike → ⊥
+kindsAlike p =
+    let e : Kinded′.As Kind′.Register ≡ Kinded′.As Kind′.Authenticate = p .authenticate in let z : _≡_ {A = ℕ} 0 1 = cc in omega arith
+
+pub unknownIsAuthenticate : Claims.KindNumbers Wrong.unknownIsAuthenticate → ⊥
+unknownIsAuthenticate p =
+    let e : Kinded′.As Kind′.Authenticate ≡ Kinded′.Nothing = p .none 3 (inr (omega arith)) in let z : _≡_ {A = ℕ} 0 1 = cc in omega arith
+
+pub unknownIsAllowed : Claims.AllowedNumbers Wrong.unknownIsAllowed → ⊥
+unknownIsAllowed p = let e : Allowed′.Yes ≡ Allowed′.Failed = p .failed 3 (omega arith) in let z : _≡_ {A = ℕ} 0 1 = cc in omega arith
+
+pub unknownIsPresent : Claims.AttestationNumbers Wrong.unknownIsPresent → ⊥
+unknownIsPresent p =
+    let e : Attestation′.Present ≡ Attestation′.Failed = p .failed 3 (omega arith) in let z : _≡_ {A = ℕ} 0 1 = cc in omega arith
+
+-- an Authenticate order of zeros
+abbrev login : Order
+login = record { kind = Kind′.Authenticate; «to_sign» = 69; «certificate_length» = 0; bytes = replicate 385 0 }
+
+abbrev isR7 : Outcome (List ℕ) → ℕ
+isR7 (R n) = n
+isR7 (SW n) = n
+isR7 (Gives body) = 0x9000
+
+pub certificateLengthAsToSign : Claims.OrderBack Wrong.certificateLengthAsToSign → ⊥
+unfolding finishOf isAuthenticateLayout kindOf
+certificateLengthAsToSign p =
+    let e : _≡_ {A = ℕ} 7 0x9000 = ap isR7 (p login [] true [] (replicate 77 0)) in omega arith
+
+-- ---- what is not said is 0
+pub shape1BesideStatus : Claims.FrameNumbers Wrong.shape1BesideStatus → ⊥
+shape1BesideStatus p = let e : _≡_ {A = ℕ} 1 0 = ap (λ (f : FrameSaid). f .shape) (p .status 0x6700) in omega arith
+
+abbrev registering : Says
+registering = record { header = record { cla = 0; ins = 1; p1 = 3; p2 = 0 }; shape = 3; dataAt = 5; lc = 64; le = 0 }
+
+pub registerWithP1 : Claims.CommandNumbers Wrong.registerWithP1 → ⊥
+registerWithP1 p = let e : _≡_ {A = ℕ} 3 0 = ap (λ (c : CommandSaid). c .p1) (p .register registering) in omega arith
+
+pub lengthBesideRefusal : Claims.LengthNumbers Wrong.lengthBesideRefusal → ⊥
+lengthBesideRefusal p = let e : _≡_ {A = ℕ} 1 0 = ap (λ (w : Wrote). w .length) (p .refused 2) in omega arith
+
+pub yesBesideRefusal : Claims.AskedNumbers Wrong.yesBesideRefusal → ⊥
+yesBesideRefusal p = let e : _≡_ {A = Bool} true false = ap (λ (a : Asked). a .yes) (p .refused 1) in let z : _≡_ {A = ℕ} 0 1 = cc in omega arith
+
+pub stepYesBesideRefusal : Claims.StepNumbers Wrong.stepYesBesideRefusal → ⊥
+stepYesBesideRefusal p =
+    let e : _≡_ {A = Bool} true false = ap (λ (s : Stepped). s .yes) (p .refused 1 (fresh 5000)) in let z : _≡_ {A = ℕ} 0 1 = cc in omega arith
+
+pub madeBesideRefusal : Claims.MadeNumbers Wrong.madeBesideRefusal → ⊥
+madeBesideRefusal p = let e : _≡_ {A = ℕ} 1 0 = ap (λ (m : Made). m .presence .w) (p .refused 6) in omega arith
+
+pub ordersAlike : Claims.OrderNumbersExactly Wrong.ordersAlike → ⊥
+ordersAlike p = let e : _≡_ {A = ℕ} 1 2 = ap (λ (n : OrderNumbers). n .kind) (p .authenticate login refl) in omega arith
+
+pub blockAfterStatus : Claims.BlockExactly Wrong.blockAfterStatus → ⊥
+blockAfterStatus p = let e : _≡_ {A = ℕ} 0 1 = ap length (p .status 0x6985 [] (1 ∷ [])) in omega arith
+
+pub blockAfterRefusal : Claims.BlockExactly Wrong.blockAfterRefusal → ⊥
+blockAfterRefusal p = let e : _≡_ {A = ℕ} 0 1 = ap length (p .refused 2 [] (1 ∷ [])) in omega arith
+
+-- ---- places: a frame of four bytes, whose data ends with it
+pub placesOneOn : Claims.PlacesCut Wrong.placesOneOn commandNumbers → ⊥
+unfolding readOf lengthsOf sayOf
+placesOneOn p =
+    let e : 5 ≤ 4 = p .«data» (0 ∷ 3 ∷ 0 ∷ 0 ∷ []) (record { header = record { cla = 0; ins = 3; p1 = 0; p2 = 0 }; shape = 1; dataAt = 4; lc = 0; le = 0 }) refl .0 in
+    omega arith

@@ -1,0 +1,324 @@
+-- The definitions meet the claims of specs/Claims.antt, each under the claim's own name.
+use Prim.Native.Nat.{ℕ, _≤_, _<_, _^_, _+_}
+use mathlib.Core.Path.{_≡_, refl, ap, sym, _∙_}
+use mathlib.Core.Logic.{_↔_, _⊎_, inl, inr}
+use native.Mathlib.Omega.{arith}
+use native.Mathlib.Decide.{ℕ-discrete}
+use borrow.Author.Tests.{eq-eqb, ne-eqb}
+use lib.ListN.{length}
+use Rattle.outcome.specs.Outcome.{Outcome, R, SW, Gives, lastRefusal}
+use Rattle.outcome.proofs.Laws.{sw-gives, r-gives, r-sw, both-are}
+use Rattle.apdu_stated.specs.Writing.{partsOf}
+use Rattle.u2f_up_stated.specs.declared.Window.{Window}
+use Rattle.u2f_up_stated.specs.declared.Window.the-variants.{Closed, Opened}
+use Rattle.signing_stated.specs.Orders.{kindNo}
+use Rattle.ctap1_stated.specs.Words.{Given, Body, Ordered}
+use Rattle.panel_stated.specs.Numbers.{answerNo, decidedNo, closedNo, windowOf, windowNo, presenceOf, presenceNumbers, shapeOf, kindOf, allowedOf, attestationOf}
+use Rattle.panel_stated.specs.Exports.{ToWrite, ToFinish, inputsOf, writeAs, finishAs, orderAfter, frameNumbers, commandNumbers, lengthNumbers, askedNumbers, stepNumbers, madeNumbers, blockAfter, decisionNumbers, decidedBy}
+use Rattle.panel_stated.specs.Claims
+use Rattle.panel_stated.specs.Terms.{IsNumbered, IsOfMoment, AfterWriting, AfterDeciding, Carries, register, authenticate}
+use Rattle.panel_stated.specs.declared.Shaped.{Shaped}
+use Rattle.panel_stated.specs.declared.Shaped.the-variants as Shaped′
+use Rattle.panel_stated.specs.declared.Kinded.{Kinded}
+use Rattle.panel_stated.specs.declared.Kinded.the-variants as Kinded′
+use Rattle.panel_stated.proofs.Cases
+use Rattle.panel_stated.proofs.Outcomes
+use mathlib.Core.Bool.{Bool}
+use mathlib.Core.List.{List}
+use Rattle.octets.specs.Bytes.{partOf}
+use Rattle.apdu_stated.specs.Answers.{Says}
+use Rattle.apdu_stated.specs.Reading.{dataOf}
+use Rattle.apdu_stated.proofs.Frames.{data-within}
+use Rattle.command_stated.specs.Command.{Command, commandOf, challengeOf, applicationOf, handleOf}
+use Rattle.command_stated.proofs.Theorems.{RegisterExactly, AuthenticateExactly}
+use Rattle.u2f_up_stated.specs.Moments.{Told, settleOf, onSettled, touchOf, checkOf}
+use Rattle.u2f_up_stated.specs.declared.Presence.{Presence}
+use Rattle.ctap1_stated.specs.Path as Path′
+use Rattle.ctap1_stated.specs.Path.{decisionAt}
+use Rattle.panel_stated.specs.Words.{Kind, Order, OrderNumbers}
+
+-- ---- one answer number says which answer it is
+pub EveryOutcomeNumbered : Claims.EveryOutcomeNumbered
+EveryOutcomeNumbered =
+    record {
+      read = Outcomes.read-said;
+      read-strict = Outcomes.strict-said;
+      read-command = Outcomes.command-said;
+      write = λ w. write (shapeOf (w .shape)) w;
+      new = Outcomes.new-said;
+      grant-up = Outcomes.touch-said;
+      consume-up = Outcomes.check-said;
+      is-up-needed = Outcomes.ask-said;
+      decide = λ i. Outcomes.decision-said (presenceOf (i .presence)) (i .moment) (inputsOf i);
+      finish = λ i. finish (kindOf (i .order .kind)) i;
+    }
+  where
+    write : (s : Shaped) (w : ToWrite) → IsNumbered (writeAs s w)
+    write (Shaped′.As s) w = Outcomes.write-said (partsOf (w .header) s (w .content) (w .le)) (length (w .out))
+    write Shaped′.Nothing w = (omega arith, omega arith)
+
+    finish : (k : Kinded) (i : ToFinish) → IsNumbered (finishAs k i)
+    finish (Kinded′.As k) i = Outcomes.finish-said _
+    finish Kinded′.Nothing i = (omega arith, omega arith)
+
+pub AnswerTells : Claims.AnswerTells answerNo
+AnswerTells = record { given = given; refused = refused; status = status }
+  where
+    given : (o : Outcome Bool) → IsNumbered o → (answerNo o ≡ 0x9000) ↔ ((a : Bool) × (o ≡ Gives a))
+    given (R n) h = (λ e. absurd (omega (arith, e, h .1)), λ x. absurd (r-gives _ _ (x .1)))
+    given (SW n) h = (λ e. absurd (omega (arith, e, h .1)), λ x. absurd (sw-gives _ _ (x .1)))
+    given (Gives a) h = (λ e. (a, refl), λ x. refl)
+
+    refused : (o : Outcome Bool) → IsNumbered o → (n : ℕ) → n ≤ lastRefusal → (answerNo o ≡ n) ↔ (o ≡ R n)
+    refused (R m) h n low = (λ e. ap R e, λ e. cc)
+    refused (SW m) h n low = (λ e. absurd (omega (arith, e, h .0, low)), λ e. absurd (r-sw _ _ (sym e)))
+    refused (Gives a) h n low = (λ e. absurd (omega (arith, e, low)), λ e. absurd (r-gives _ _ (sym e)))
+
+    status : (o : Outcome Bool) → IsNumbered o → (n : ℕ) → 0x6000 ≤ n → n < 0x9000 → (answerNo o ≡ n) ↔ (o ≡ SW n)
+    status (R m) h n low high = (λ e. absurd (omega (arith, e, h .1, low)), λ e. absurd (r-sw _ _ e))
+    status (SW m) h n low high = (λ e. ap SW e, λ e. cc)
+    status (Gives a) h n low high = (λ e. absurd (omega (arith, e, high)), λ e. absurd (sw-gives _ _ (sym e)))
+
+pub DecisionTells : Claims.DecisionTells decidedNo
+DecisionTells = record { ordered = ordered; body = body; refused = refusal; status = status }
+  where
+    body-order : (n : ℕ) → _≡_ {A = Outcome Given} (Gives (Body n)) (Gives Ordered) → ⊥
+    body-order n e = let z : _≡_ {A = ℕ} 0 1 = cc in omega arith
+
+    ordered : (o : Outcome Given) → IsNumbered o → (decidedNo o ≡ 0) ↔ (o ≡ Gives Ordered)
+    ordered (R n) h = (λ e. absurd (omega (arith, e, h .0)), λ e. absurd (r-gives _ _ e))
+    ordered (SW n) h = (λ e. absurd (omega (arith, e, h .0)), λ e. absurd (sw-gives _ _ e))
+    ordered (Gives (Body n)) h = (λ e. absurd (omega (arith, e)), λ e. absurd (body-order n e))
+    ordered (Gives Ordered) h = (λ e. refl, λ e. refl)
+
+    body : (o : Outcome Given) → IsNumbered o → (decidedNo o ≡ 0x9000) ↔ ((n : ℕ) × (o ≡ Gives (Body n)))
+    body (R n) h = (λ e. absurd (omega (arith, e, h .1)), λ x. absurd (r-gives _ _ (x .1)))
+    body (SW n) h = (λ e. absurd (omega (arith, e, h .1)), λ x. absurd (sw-gives _ _ (x .1)))
+    body (Gives (Body n)) h = (λ e. (n, refl), λ x. refl)
+    body (Gives Ordered) h = (λ e. absurd (omega (arith, e)), λ x. absurd (body-order (x .0) (sym (x .1))))
+
+    refusal : (o : Outcome Given) → IsNumbered o → (n : ℕ) → 1 ≤ n → n ≤ lastRefusal → (decidedNo o ≡ n) ↔ (o ≡ R n)
+    refusal (R m) h n low high = (λ e. ap R e, λ e. cc)
+    refusal (SW m) h n low high = (λ e. absurd (omega (arith, e, h .0, high)), λ e. absurd (r-sw _ _ (sym e)))
+    refusal (Gives (Body m)) h n low high = (λ e. absurd (omega (arith, e, high)), λ e. absurd (r-gives _ _ (sym e)))
+    refusal (Gives Ordered) h n low high = (λ e. absurd (omega (arith, e, low)), λ e. absurd (r-gives _ _ (sym e)))
+
+    status : (o : Outcome Given) → IsNumbered o → (n : ℕ) → 0x6000 ≤ n → n < 0x9000 → (decidedNo o ≡ n) ↔ (o ≡ SW n)
+    status (R m) h n low high = (λ e. absurd (omega (arith, e, h .1, low)), λ e. absurd (r-sw _ _ e))
+    status (SW m) h n low high = (λ e. ap SW e, λ e. cc)
+    status (Gives (Body m)) h n low high = (λ e. absurd (omega (arith, e, high)), λ e. absurd (sw-gives _ _ (sym e)))
+    status (Gives Ordered) h n low high = (λ e. absurd (omega (arith, e, low)), λ e. absurd (sw-gives _ _ (sym e)))
+
+-- ---- records
+number-back : (n : ℕ) → windowNo (windowOf n) ≡ n
+number-back n = go (ℕ-discrete n closedNo)
+  where
+    go : Dec (n ≡ closedNo) → windowNo (windowOf n) ≡ n
+    go (yes e) = rw (eq-eqb n closedNo e) (sym e)
+    go (no d) = rw (ne-eqb n closedNo d) refl
+
+window-back : (w : Window) → IsOfMoment w → windowOf (windowNo w) ≡ w
+window-back Closed h = refl
+window-back (Opened m) h = rw (ne-eqb m closedNo (λ e. below m h e)) refl
+  where
+    below : (m : ℕ) → m < 2 ^ 48 → m ≡ closedNo → ⊥
+    below m h e = omega arith
+
+pub NumbersBack : Claims.NumbersBack presenceOf presenceNumbers
+NumbersBack n = rw (number-back (n .prompt), number-back (n .touch)) refl
+
+pub RecordsBack : Claims.RecordsBack presenceOf presenceNumbers
+RecordsBack p prompt touch = rw (window-back (p .prompt) prompt, window-back (p .touch) touch) refl
+
+window-closed : (n : ℕ) → n ≡ closedNo → windowOf n ≡ Closed
+window-closed n e = rw (eq-eqb n closedNo e)
+
+window-opened : (n : ℕ) → (n ≡ closedNo → ⊥) → windowOf n ≡ Opened n
+window-opened n e = rw (ne-eqb n closedNo e)
+
+pub RecordNumbers : Claims.RecordNumbers presenceOf
+RecordNumbers =
+    record {
+      w = λ n. refl;
+      last = λ n. refl;
+      prompt-closed = λ n. window-closed (n .prompt);
+      prompt-opened = λ n. window-opened (n .prompt);
+      touch-closed = λ n. window-closed (n .touch);
+      touch-opened = λ n. window-opened (n .touch);
+    }
+
+-- ---- numbers that stand for cases
+no-shape-at : (n : ℕ) → (n ≡ 0) ⊎ (9 ≤ n) → Shaped′.Nothing ≡ shapeOf n
+no-shape-at n (inl z) = Cases.no-shape n (λ y. omega arith) (λ y. omega arith) (λ y. omega arith) (λ y. omega arith) (λ y. omega arith) (λ y. omega arith) (λ y. omega arith) (λ y. omega arith)
+no-shape-at n (inr h) = Cases.no-shape n (λ y. omega arith) (λ y. omega arith) (λ y. omega arith) (λ y. omega arith) (λ y. omega arith) (λ y. omega arith) (λ y. omega arith) (λ y. omega arith)
+
+no-kind-at : (n : ℕ) → (n ≡ 0) ⊎ (3 ≤ n) → Kinded′.Nothing ≡ kindOf n
+no-kind-at n (inl z) = Cases.no-kind n (λ y. omega arith) (λ y. omega arith)
+no-kind-at n (inr h) = Cases.no-kind n (λ y. omega arith) (λ y. omega arith)
+
+pub ShapeNumbers : Claims.ShapeNumbers shapeOf
+unfolding shapeOf
+ShapeNumbers =
+    record {
+      instruction = refl;
+      le1 = refl;
+      lc1-data = refl;
+      lc1-data-le1 = refl;
+      lc3-data = refl;
+      lc3-data-le1 = refl;
+      lc3-data-le2 = refl;
+      le3 = refl;
+      none = λ n out. sym (no-shape-at n out);
+    }
+
+pub KindNumbers : Claims.KindNumbers kindOf
+unfolding kindOf
+KindNumbers = record { register = refl; authenticate = refl; none = λ n out. sym (no-kind-at n out) }
+
+pub AllowedNumbers : Claims.AllowedNumbers allowedOf
+unfolding allowedOf
+AllowedNumbers =
+    record { refused = refl; granted = refl; failed = λ n from. sym (Cases.allowed-failed n (λ e. omega arith) (λ e. omega arith)) }
+
+pub AttestationNumbers : Claims.AttestationNumbers attestationOf
+unfolding attestationOf
+AttestationNumbers =
+    record { missing = refl; present = refl; failed = λ n from. sym (Cases.attestation-failed n (λ e. omega arith) (λ e. omega arith)) }
+
+pub OrderBack : Claims.OrderBack orderAfter
+OrderBack order certificate signed signature reply = rw (sym (Cases.kinded (order .kind) (kindNo (order .kind)) refl)) refl
+
+-- ---- what is not said is 0
+pub FrameNumbers : Claims.FrameNumbers frameNumbers
+FrameNumbers = record { refused = λ n. refl; status = λ n. refl; given = λ s. refl }
+
+pub CommandNumbers : Claims.CommandNumbers commandNumbers
+CommandNumbers =
+    record {
+      refused = λ n. refl;
+      status = λ n. refl;
+      version = refl;
+      register = λ s. refl;
+      authenticate = λ p1 s. refl;
+    }
+
+pub LengthNumbers : Claims.LengthNumbers lengthNumbers
+LengthNumbers = record { refused = λ n. refl; status = λ n. refl; given = λ n. refl }
+
+pub AskedNumbers : Claims.AskedNumbers askedNumbers
+AskedNumbers = record { refused = λ n. refl; status = λ n. refl; given = λ b. refl }
+
+pub StepNumbers : Claims.StepNumbers stepNumbers
+StepNumbers = record { refused = λ n p. refl; status = λ n p. refl; given = λ b p. refl }
+
+pub MadeNumbers : Claims.MadeNumbers madeNumbers
+MadeNumbers = record { refused = λ n. refl; status = λ n. refl; given = λ p. refl }
+
+pub OrderNumbersExactly : Claims.OrderNumbersExactly orderAfter
+OrderNumbersExactly =
+    record {
+      refused = λ n o. refl;
+      status = λ n o. refl;
+      body = λ n o. refl;
+      register = λ o k. ap (numbered o) k;
+      authenticate = λ o k. ap (numbered o) k;
+    }
+  where
+    numbered : Order → Kind → OrderNumbers
+    numbered o k = record { kind = kindNo k; «to_sign» = o .«to_sign»; «certificate_length» = o .«certificate_length» }
+
+pub BlockExactly : Claims.BlockExactly blockAfter
+BlockExactly =
+    record { refused = λ n bytes old. refl; status = λ n bytes old. refl; body = λ n bytes old. refl; ordered = λ bytes old. refl }
+
+-- ---- places
+pub PlacesCut : Claims.PlacesCut frameNumbers commandNumbers
+unfolding dataOf challengeOf applicationOf handleOf
+PlacesCut =
+    record {
+      «data» = λ frame s e. (data-within frame s e, refl);
+      challenge = λ frame c s e k. (room frame c s e k .0, cut-challenge frame c s k);
+      application = λ frame c s e k. (room frame c s e k .1, cut-application frame c s k);
+      handle = λ frame p1 s e. (data-within frame s (AuthenticateExactly frame p1 s .0 e .0), refl);
+    }
+  where
+    room : (frame : List ℕ) (c : Command) (s : Says) → commandOf frame ≡ Gives c → Carries c s
+        → (commandNumbers (Gives c) .challenge + 32 ≤ length frame) × (commandNumbers (Gives c) .application + 32 ≤ length frame)
+    room frame _ _ e (register s) =
+        let t = RegisterExactly frame s .0 e in
+        let within = data-within frame s (t .0) in (omega (arith, t .3), omega (arith, t .3))
+    room frame _ _ e (authenticate p1 s) =
+        let t = AuthenticateExactly frame p1 s .0 e in
+        let within = data-within frame s (t .0) in (omega (arith, t .3), omega (arith, t .3))
+
+    cut-challenge : (frame : List ℕ) (c : Command) (s : Says) → Carries c s
+        → partOf frame (commandNumbers (Gives c) .challenge) (commandNumbers (Gives c) .challenge + 32) ≡ challengeOf frame s
+    cut-challenge frame _ _ (register s) = refl
+    cut-challenge frame _ _ (authenticate p1 s) = refl
+
+    cut-application : (frame : List ℕ) (c : Command) (s : Says) → Carries c s
+        → partOf frame (commandNumbers (Gives c) .application) (commandNumbers (Gives c) .application + 32) ≡ applicationOf frame s
+    cut-application frame _ _ (register s) = let at : s .dataAt + 32 + 32 ≡ s .dataAt + 64 = omega arith in ap (partOf frame (s .dataAt + 32)) at
+    cut-application frame _ _ (authenticate p1 s) = let at : s .dataAt + 32 + 32 ≡ s .dataAt + 64 = omega arith in ap (partOf frame (s .dataAt + 32)) at
+
+-- ---- a refusal hands back the record that was lent
+refused-record : (p : Presence) (o : Outcome Presence) (go : Presence → Told) → IsNumbered o
+    → ((q : Presence) → (b : Bool) × (go q .outcome ≡ Gives b)) → answerNo (onSettled p o go .outcome) ≤ lastRefusal → onSettled p o go .presence ≡ p
+refused-record p (R n) go h given low = refl
+refused-record p (SW n) go h given low = refl
+refused-record p (Gives q) go h given low = absurd (omega (arith, ap answerNo (given q .1)))
+
+decision-kept : (p : Presence) (t : ℕ) (a : Path′.Asked) → (o : Outcome Given) → decisionAt p t a .answer ≡ o → IsNumbered o
+    → 1 ≤ decidedNo o → decidedNo o ≤ lastRefusal → decisionAt p t a .presence ≡ p
+decision-kept p t a (R n) e h low high = Outcomes.decision-refused p t a n e
+decision-kept p t a (SW n) e h low high = absurd (omega (arith, h .0))
+decision-kept p t a (Gives (Body n)) e h low high = absurd (omega arith)
+decision-kept p t a (Gives Ordered) e h low high = absurd (omega arith)
+
+pub RefusalHandsBack : Claims.RefusalHandsBack (λ n t. stepNumbers (touchOf (presenceOf n) t)) (λ n t. stepNumbers (checkOf (presenceOf n) t)) (λ i. decisionNumbers (decidedBy i))
+unfolding touchOf checkOf
+RefusalHandsBack =
+    record {
+      grant-up = λ n t low. ap presenceNumbers (refused-record (presenceOf n) (settleOf (presenceOf n) t) _ (Outcomes.settle-said (presenceOf n) t) (λ q. (_, refl)) low) ∙ NumbersBack n;
+      consume-up = λ n t low. ap presenceNumbers (refused-record (presenceOf n) (settleOf (presenceOf n) t) _ (Outcomes.settle-said (presenceOf n) t) (λ q. (_, refl)) low) ∙ NumbersBack n;
+      decided =
+          λ i low high.
+          ap presenceNumbers (decision-kept (presenceOf (i .presence)) (i .moment) (inputsOf i) (decidedBy i .answer) refl (EveryOutcomeNumbered .decide i) low high)
+          ∙ NumbersBack (i .presence);
+    }
+
+-- ---- two results that satisfy a contract are equal
+pub ResultsDetermined : Claims.ResultsDetermined
+ResultsDetermined =
+    record {
+      shape-numbered = λ n a b. both-are a b;
+      frame-plain = λ reading a b. both-are a b;
+      write-plain = λ w a b p q. written a b (both-are _ _ (p .0) (q .0)) (both-are _ _ (p .1) (q .1));
+      command-plain = λ read a b. both-are a b;
+      record-lent = λ n a b. both-are a b;
+      record-plain = λ p a b. both-are a b;
+      made-plain = λ ready a b. both-are a b;
+      asked-plain = λ answer a b. both-are a b;
+      step-plain = λ step a b. both-are a b;
+      hardware-lent = λ said a b. both-are a b;
+      kind-numbered = λ n a b. both-are a b;
+      put-block = λ answer bytes old a b. both-are a b;
+      decision-plain = λ decision a b. both-are a b;
+      finished-plain = λ finished a b. both-are a b;
+      brinecandle-read = λ frame a b. both-are a b;
+      brinecandle-read-strict = λ frame a b. both-are a b;
+      brinecandle-write = λ w a b p q. written a b (both-are _ _ (p .0) (q .0)) (both-are _ _ (p .1) (q .1));
+      brinecandle-read-command = λ frame a b. both-are a b;
+      brinecandle-new = λ w a b. both-are a b;
+      brinecandle-grant-up = λ n t a b. both-are a b;
+      brinecandle-consume-up = λ n t a b. both-are a b;
+      brinecandle-is-up-needed = λ n t a b. both-are a b;
+      brinecandle-decide = λ i a b p q. decided a b (both-are _ _ (p .0) (q .0)) (both-are _ _ (p .1) (q .1)) (both-are _ _ (p .2) (q .2));
+      brinecandle-finish = λ i a b p q. written a b (both-are _ _ (p .0) (q .0)) (both-are _ _ (p .1) (q .1));
+    }
+  where
+    written : (a b : AfterWriting) → a .said ≡ b .said → a .buffer ≡ b .buffer → a ≡ b
+    written a b e f = λ d. record { said = e d; buffer = f d }
+
+    decided : (a b : AfterDeciding) → a .said ≡ b .said → a .reply ≡ b .reply → a .block ≡ b .block → a ≡ b
+    decided a b e f g = λ d. record { said = e d; reply = f d; block = g d }

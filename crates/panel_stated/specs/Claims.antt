@@ -1,0 +1,267 @@
+-- What is promised of the numbers that cross to C, of any function: proofs/Theorems.antt has that the definitions meet it,
+-- proofs/Only.antt that no others meet the claims named '..Numbers', proofs/Refuted.antt that the wrong programs of
+-- specs/Wrong.antt do not.
+use mathlib.Core.Logic.{_↔_, _⊎_}
+use Rattle.panel_stated.specs.Words.{ℕ, _≡_, _≤_, _<_, Bool, List, AtMostOne, Outcome, R, SW, Gives, lastRefusal, Closed, Opened, Presence, Allowed, Attestation, Order}
+use Rattle.panel_stated.specs.Words.{Instruction, Le1, Lc1Data, Lc1DataLe1, Lc3Data, Lc3DataLe1, Lc3DataLe2, Le3}
+use Rattle.panel_stated.specs.Words.{PresenceRecord, HardwareSaid, OrderNumbers, Shaped, Kinded}
+use Rattle.panel_stated.specs.Words.{FrameSaid, CommandSaid, Wrote, Made, Stepped, Asked, DecisionSaid}
+use Rattle.panel_stated.specs.Words.{Says, Command, Register, Authenticate, Version, Told, length, _+_, false, readOf, strictOf, commandOf, newOf, touchOf, checkOf, askOf, finishOf, Given, Body, Ordered}
+use Rattle.panel_stated.specs.Exports.{ToWrite, ToDecide, ToFinish, decidedBy, writeNumbered, finishNumbered}
+use Rattle.panel_stated.specs.Contracts.{ShapeNumbered, FramePlain, WritePlain, CommandPlain, RecordLent, RecordPlain, MadePlain, AskedPlain, StepPlain, HardwareLent, KindNumbered, PutBlock, DecisionPlain, FinishedPlain}
+use Rattle.panel_stated.specs.Contracts.{BrinecandleRead, BrinecandleReadStrict, BrinecandleWrite, BrinecandleReadCommand, BrinecandleNew, BrinecandleGrantUp, BrinecandleConsumeUp, BrinecandleIsUpNeeded, BrinecandleDecide, BrinecandleFinish}
+use Rattle.octets.specs.Bytes.{partOf}
+use Rattle.apdu_stated.specs.Reading.{dataOf}
+use Rattle.command_stated.specs.Command.{challengeOf, applicationOf, handleOf}
+use Rattle.panel_stated.specs.Numbers.{presenceNumbers}
+use Rattle.panel_stated.specs.Terms.{IsNumbered, IsOfMoment, Carries, AfterWriting, AfterDeciding}
+use Rattle.apdu_stated.specs.declared.Reading.{Reading}
+use Rattle.command_stated.specs.declared.U2fCommand.{U2fCommand}
+use Rattle.u2f_up_stated.specs.declared.Ready.{Ready}
+use Rattle.u2f_up_stated.specs.declared.Answer.{Answer}
+use Rattle.u2f_up_stated.specs.declared.Step.{Step}
+use Rattle.ctap1_stated.specs.declared.Allowed.the-variants as Allowed′
+use Rattle.ctap1_stated.specs.declared.Attestation.the-variants as Attestation′
+use Rattle.ctap1_stated.specs.declared.Decided.{Decided}
+use Rattle.ctap1_stated.specs.declared.Decision.{Decision}
+use Rattle.signing_stated.specs.declared.Finished.{Finished}
+use Rattle.signing_stated.specs.declared.Kind.the-variants as Kind′
+use Rattle.panel_stated.specs.declared.Shaped.the-variants as Shaped′
+use Rattle.panel_stated.specs.declared.Kinded.the-variants as Kinded′
+
+-- ---- one answer number says which answer it is
+
+-- Every outcome behind an export has a number of its own kind: a refusal one of the refusals', a status word one from 6000 up to
+-- 9000. A status word 7, which C could not tell from R7, fails it.
+pub record EveryOutcomeNumbered : Type 0 where
+  pub read : (frame : List ℕ) → IsNumbered (readOf frame)
+  pub read-strict : (frame : List ℕ) → IsNumbered (strictOf frame)
+  pub read-command : (frame : List ℕ) → IsNumbered (commandOf frame)
+  pub write : (w : ToWrite) → IsNumbered (writeNumbered w)
+  pub new : (w : ℕ) → IsNumbered (newOf w)
+  pub grant-up : (p : Presence) (t : ℕ) → IsNumbered (touchOf p t .outcome)
+  pub consume-up : (p : Presence) (t : ℕ) → IsNumbered (checkOf p t .outcome)
+  pub is-up-needed : (p : Presence) (t : ℕ) → IsNumbered (askOf p t .outcome)
+  pub decide : (i : ToDecide) → IsNumbered (decidedBy i .answer)
+  pub finish : (i : ToFinish) → IsNumbered (finishNumbered i)
+
+-- So the number 9000 is exactly what was asked for, a refusal's number exactly that refusal, and a status word's exactly that
+-- status word. 01: "a definition gives this paper's number and values for each of its cases". A table that gives 9000 for a
+-- status word (`statusAs9000`) fails it, at a frame of three bytes.
+pub record AnswerTells (number : Outcome Bool → ℕ) : Type 0 where
+  pub given : (o : Outcome Bool) → IsNumbered o → (number o ≡ 0x9000) ↔ ((a : Bool) × (o ≡ Gives a))
+  pub refused : (o : Outcome Bool) → IsNumbered o → (n : ℕ) → n ≤ lastRefusal → (number o ≡ n) ↔ (o ≡ R n)
+  pub status : (o : Outcome Bool) → IsNumbered o → (n : ℕ) → 0x6000 ≤ n → n < 0x9000 → (number o ≡ n) ↔ (o ≡ SW n)
+
+-- Of a decision, 0 is exactly an order, 9000 exactly a body, a refusal's number exactly that refusal, a status word's exactly
+-- that. A table that numbers an order as R2 (`orderNumbered2`) fails it: the firmware would take the order for a refusal.
+pub record DecisionTells (number : Outcome Given → ℕ) : Type 0 where
+  pub ordered : (o : Outcome Given) → IsNumbered o → (number o ≡ 0) ↔ (o ≡ Gives Ordered)
+  pub body : (o : Outcome Given) → IsNumbered o → (number o ≡ 0x9000) ↔ ((n : ℕ) × (o ≡ Gives (Body n)))
+  pub refused : (o : Outcome Given) → IsNumbered o → (n : ℕ) → 1 ≤ n → n ≤ lastRefusal → (number o ≡ n) ↔ (o ≡ R n)
+  pub status : (o : Outcome Given) → IsNumbered o → (n : ℕ) → 0x6000 ≤ n → n < 0x9000 → (number o ≡ n) ↔ (o ≡ SW n)
+
+-- ---- records
+
+-- The numbers of a record come back as they were lent; two that stand for one record are the same numbers. Windows that change
+-- places on their way in (`windowsSwapped`) fail it, at a record with one window closed.
+abbrev pub NumbersBack : (PresenceRecord → Presence) → (Presence → PresenceRecord) → Type 0
+NumbersBack lend plain = (n : PresenceRecord) → plain (lend n) ≡ n
+
+-- A record whose windows were opened at moments goes out and comes back whole: the closed number is the number of no moment. Ours;
+-- DECISIONS, "a window as one number". Closed windows numbered 0 on both ways (`closedIs0`) fail it: a window opened at moment 0
+-- is lost.
+abbrev pub RecordsBack : (PresenceRecord → Presence) → (Presence → PresenceRecord) → Type 0
+RecordsBack lend plain = (p : Presence) → IsOfMoment (p .prompt) → IsOfMoment (p .touch) → lend (plain p) ≡ p
+
+-- What the four numbers stand for. Ours; DECISIONS, "a window as one number". Windows that change places on both ways
+-- (`swappedBothWays`) fail it.
+pub record RecordNumbers (lend : PresenceRecord → Presence) : Type 0 where
+  pub w : (n : PresenceRecord) → lend n .w ≡ n .w
+  pub last : (n : PresenceRecord) → lend n .last ≡ n .last
+  pub prompt-closed : (n : PresenceRecord) → n .prompt ≡ 0xffffffffffffffff → lend n .prompt ≡ Closed
+  pub prompt-opened : (n : PresenceRecord) → (n .prompt ≡ 0xffffffffffffffff → ⊥) → lend n .prompt ≡ Opened (n .prompt)
+  pub touch-closed : (n : PresenceRecord) → n .touch ≡ 0xffffffffffffffff → lend n .touch ≡ Closed
+  pub touch-opened : (n : PresenceRecord) → (n .touch ≡ 0xffffffffffffffff → ⊥) → lend n .touch ≡ Opened (n .touch)
+
+-- "An R refusal changes no buffer and no record", said of the numbers: beside a refusal's number stands the record that was lent,
+-- number by number. A check that moves the last moment all the same (`refusedMoves`) fails it, before the last moment.
+pub record RefusalHandsBack (touch check : PresenceRecord → ℕ → Stepped) (decide : ToDecide → DecisionSaid) : Type 0 where
+  pub grant-up : (n : PresenceRecord) (t : ℕ) → touch n t .answer ≤ lastRefusal → touch n t .presence ≡ n
+  pub consume-up : (n : PresenceRecord) (t : ℕ) → check n t .answer ≤ lastRefusal → check n t .presence ≡ n
+  pub decided : (i : ToDecide) → 1 ≤ decide i .answer → decide i .answer ≤ lastRefusal → decide i .presence ≡ i .presence
+
+-- ---- numbers that stand for cases
+
+-- 01, 'Eight frame shapes', the column "no"; ours: OPEN POINTS, "a shape number outside 1..8 is R5". A table that takes 0 for
+-- Instruction (`shape0Accepted`) fails it.
+pub record ShapeNumbers (shape : ℕ → Shaped) : Type 0 where
+  pub instruction : shape 1 ≡ Shaped′.As Instruction
+  pub le1 : shape 2 ≡ Shaped′.As Le1
+  pub lc1-data : shape 3 ≡ Shaped′.As Lc1Data
+  pub lc1-data-le1 : shape 4 ≡ Shaped′.As Lc1DataLe1
+  pub lc3-data : shape 5 ≡ Shaped′.As Lc3Data
+  pub lc3-data-le1 : shape 6 ≡ Shaped′.As Lc3DataLe1
+  pub lc3-data-le2 : shape 7 ≡ Shaped′.As Lc3DataLe2
+  pub le3 : shape 8 ≡ Shaped′.As Le3
+  pub none : (n : ℕ) → (n ≡ 0) ⊎ (9 ≤ n) → shape n ≡ Shaped′.Nothing
+
+-- Ours: OPEN POINTS, "Over plain numbers any other kind is R7". A table that takes 2 for a Register (`kindsAlike`) fails it, and
+-- one that takes 3 and above for an Authenticate (`unknownIsAuthenticate`).
+pub record KindNumbers (kind : ℕ → Kinded) : Type 0 where
+  pub register : kind 1 ≡ Kinded′.As Kind′.Register
+  pub authenticate : kind 2 ≡ Kinded′.As Kind′.Authenticate
+  pub none : (n : ℕ) → (n ≡ 0) ⊎ (3 ≤ n) → kind n ≡ Kinded′.Nothing
+
+-- 01, The decision: "whether CTAP1 is allowed (yes, no, failed)": 1, 0, and every other number. A table that takes an unknown
+-- number for yes (`unknownIsAllowed`) fails it.
+pub record AllowedNumbers (allowed : ℕ → Allowed) : Type 0 where
+  pub refused : allowed 0 ≡ Allowed′.No
+  pub granted : allowed 1 ≡ Allowed′.Yes
+  pub failed : (n : ℕ) → 2 ≤ n → allowed n ≡ Allowed′.Failed
+
+-- 01, The decision, 5: "the attestation is missing or failed": 0, every number from 2 on; present is 1. A table that takes an
+-- unknown number for present (`unknownIsPresent`) fails it.
+pub record AttestationNumbers (attestation : ℕ → Attestation) : Type 0 where
+  pub missing : attestation 0 ≡ Attestation′.Missing
+  pub present : attestation 1 ≡ Attestation′.Present
+  pub failed : (n : ℕ) → 2 ≤ n → attestation n ≡ Attestation′.Failed
+
+-- An order that went out as numbers and block is finished as that order. A certificate length that goes out as the number of
+-- bytes to sign (`certificateLengthAsToSign`) fails it.
+abbrev pub OrderBack : (Outcome Given → Order → OrderNumbers) → Type 0
+OrderBack plain =
+    (order : Order) (certificate : List ℕ) (signed : Bool) (signature reply : List ℕ)
+    → finishNumbered (record { order = plain (Gives Ordered) order; block = order .bytes; certificate = certificate; signed = signed; signature = signature; reply = reply })
+    ≡ finishOf (record { order = order; certificate = certificate; signed = signed; signature = signature; reply = reply })
+
+-- ---- what is not said is 0
+
+-- A frame's numbers, or a status word beside zeros. 01: "data comes back as a part of the caller's frame". A table that says shape 1
+-- beside a status word (`shape1BesideStatus`) fails it.
+pub record FrameNumbers (plain : Outcome Says → FrameSaid) : Type 0 where
+  pub refused : (n : ℕ) → plain (R n) ≡ record { answer = n; cla = 0; ins = 0; p1 = 0; p2 = 0; shape = 0; lc = 0; le = 0; start = 0; end = 0 }
+  pub status : (n : ℕ) → plain (SW n) ≡ record { answer = n; cla = 0; ins = 0; p1 = 0; p2 = 0; shape = 0; lc = 0; le = 0; start = 0; end = 0 }
+  pub given : (s : Says) → plain (Gives s)
+      ≡ record {
+        answer = 0x9000;
+        cla = s .header .cla;
+        ins = s .header .ins;
+        p1 = s .header .p1;
+        p2 = s .header .p2;
+        shape = s .shape;
+        lc = s .lc;
+        le = s .le;
+        start = s .dataAt;
+        end = s .dataAt + s .lc;
+      }
+
+-- A command's numbers, or a status word beside zeros. 01: "Data: challenge 32, application 32", "The key handle is handed back as
+-- the part of the frame after data[64], up to the data's end and without the Le". A table that says a Register's P1
+-- (`registerWithP1`) fails it.
+pub record CommandNumbers (plain : Outcome Command → CommandSaid) : Type 0 where
+  pub refused : (n : ℕ) → plain (R n) ≡ record { answer = n; command = 0; p1 = 0; challenge = 0; application = 0; handle = 0; «handle_end» = 0 }
+  pub status : (n : ℕ) → plain (SW n) ≡ record { answer = n; command = 0; p1 = 0; challenge = 0; application = 0; handle = 0; «handle_end» = 0 }
+  pub version : plain (Gives Version) ≡ record { answer = 0x9000; command = 3; p1 = 0; challenge = 0; application = 0; handle = 0; «handle_end» = 0 }
+  pub register : (s : Says) → plain (Gives (Register s))
+      ≡ record { answer = 0x9000; command = 1; p1 = 0; challenge = s .dataAt; application = s .dataAt + 32; handle = 0; «handle_end» = 0 }
+  pub authenticate : (p1 : ℕ) (s : Says) → plain (Gives (Authenticate p1 s))
+      ≡ record {
+        answer = 0x9000;
+        command = 2;
+        p1 = p1;
+        challenge = s .dataAt;
+        application = s .dataAt + 32;
+        handle = s .dataAt + 65;
+        «handle_end» = s .dataAt + s .lc;
+      }
+
+-- A written length, or 0 beside a refusal or a status word. A table that says a length beside a refusal (`lengthBesideRefusal`)
+-- fails it.
+pub record LengthNumbers (plain : Outcome ℕ → Wrote) : Type 0 where
+  pub refused : (n : ℕ) → plain (R n) ≡ record { answer = n; length = 0 }
+  pub status : (n : ℕ) → plain (SW n) ≡ record { answer = n; length = 0 }
+  pub given : (n : ℕ) → plain (Gives n) ≡ record { answer = 0x9000; length = n }
+
+-- What a touch, a check or an ask says: `yes` beside 9000 alone. A table that says yes beside a refusal (`yesBesideRefusal`) fails it:
+-- the firmware would take a refused touch for an accepted one.
+pub record AskedNumbers (plain : Outcome Bool → Asked) : Type 0 where
+  pub refused : (n : ℕ) → plain (R n) ≡ record { answer = n; yes = false }
+  pub status : (n : ℕ) → plain (SW n) ≡ record { answer = n; yes = false }
+  pub given : (b : Bool) → plain (Gives b) ≡ record { answer = 0x9000; yes = b }
+
+-- The same beside the record after the call. `stepYesBesideRefusal` fails it.
+pub record StepNumbers (plain : Told → Stepped) : Type 0 where
+  pub refused : (n : ℕ) (p : Presence) → plain (record { outcome = R n; presence = p }) ≡ record { answer = n; yes = false; presence = presenceNumbers p }
+  pub status : (n : ℕ) (p : Presence) → plain (record { outcome = SW n; presence = p }) ≡ record { answer = n; yes = false; presence = presenceNumbers p }
+  pub given : (b : Bool) (p : Presence) → plain (record { outcome = Gives b; presence = p }) ≡ record { answer = 0x9000; yes = b; presence = presenceNumbers p }
+
+-- 01: "a refused making hands back no record": four zeros, which no call takes, since W is 0. A making that hands back a fresh record
+-- beside its refusal (`madeBesideRefusal`) fails it.
+pub record MadeNumbers (plain : Outcome Presence → Made) : Type 0 where
+  pub refused : (n : ℕ) → plain (R n) ≡ record { answer = n; presence = record { w = 0; prompt = 0; touch = 0; last = 0 } }
+  pub status : (n : ℕ) → plain (SW n) ≡ record { answer = n; presence = record { w = 0; prompt = 0; touch = 0; last = 0 } }
+  pub given : (p : Presence) → plain (Gives p) ≡ record { answer = 0x9000; presence = presenceNumbers p }
+
+-- The numbers of a decision's order: kind 1 or 2, the number of bytes to sign, the certificate length; zeros where there is none.
+-- A table that numbers an Authenticate order 1 (`ordersAlike`) fails it.
+pub record OrderNumbersExactly (plain : Outcome Given → Order → OrderNumbers) : Type 0 where
+  pub refused : (n : ℕ) (o : Order) → plain (R n) o ≡ record { kind = 0; «to_sign» = 0; «certificate_length» = 0 }
+  pub status : (n : ℕ) (o : Order) → plain (SW n) o ≡ record { kind = 0; «to_sign» = 0; «certificate_length» = 0 }
+  pub body : (n : ℕ) (o : Order) → plain (Gives (Body n)) o ≡ record { kind = 0; «to_sign» = 0; «certificate_length» = 0 }
+  pub register : (o : Order) → o .kind ≡ Kind′.Register
+      → plain (Gives Ordered) o ≡ record { kind = 1; «to_sign» = o .«to_sign»; «certificate_length» = o .«certificate_length» }
+  pub authenticate : (o : Order) → o .kind ≡ Kind′.Authenticate
+      → plain (Gives Ordered) o ≡ record { kind = 2; «to_sign» = o .«to_sign»; «certificate_length» = o .«certificate_length» }
+
+-- 01: "the bytes to sign in a block of 385 bytes": the lent block is written for an order alone. One that is written after a status
+-- word (`blockAfterStatus`) or a refusal (`blockAfterRefusal`) fails it: an order that waits for its signature is lost.
+pub record BlockExactly (after : Outcome Given → (bytes old : List ℕ) → List ℕ) : Type 0 where
+  pub refused : (n : ℕ) (bytes old : List ℕ) → after (R n) bytes old ≡ old
+  pub status : (n : ℕ) (bytes old : List ℕ) → after (SW n) bytes old ≡ old
+  pub body : (n : ℕ) (bytes old : List ℕ) → after (Gives (Body n)) bytes old ≡ old
+  pub ordered : (bytes old : List ℕ) → after (Gives Ordered) bytes old ≡ bytes
+
+-- ---- places
+
+-- The parts cut at the exported numbers are the definitions' parts, and stand within the frame. 01: "data comes back as a part of the
+-- caller's frame, not a copy", "The key handle is handed back as the part of the frame". Places one byte on (`placesOneOn`) fail it.
+pub record PlacesCut (frames : Outcome Says → FrameSaid) (commands : Outcome Command → CommandSaid) : Type 0 where
+  pub «data» : (frame : List ℕ) (s : Says) → readOf frame ≡ Gives s
+      → (frames (Gives s) .end ≤ length frame) × (partOf frame (frames (Gives s) .start) (frames (Gives s) .end) ≡ dataOf frame s)
+  pub challenge : (frame : List ℕ) (c : Command) (s : Says) → commandOf frame ≡ Gives c → Carries c s
+      → (commands (Gives c) .challenge + 32 ≤ length frame)
+      × (partOf frame (commands (Gives c) .challenge) (commands (Gives c) .challenge + 32) ≡ challengeOf frame s)
+  pub application : (frame : List ℕ) (c : Command) (s : Says) → commandOf frame ≡ Gives c → Carries c s
+      → (commands (Gives c) .application + 32 ≤ length frame)
+      × (partOf frame (commands (Gives c) .application) (commands (Gives c) .application + 32) ≡ applicationOf frame s)
+  pub handle : (frame : List ℕ) (p1 : ℕ) (s : Says) → commandOf frame ≡ Gives (Authenticate p1 s)
+      → (commands (Gives (Authenticate p1 s)) .«handle_end» ≤ length frame)
+      × (partOf frame (commands (Gives (Authenticate p1 s)) .handle) (commands (Gives (Authenticate p1 s)) .«handle_end») ≡ handleOf frame s)
+
+-- ---- two results that satisfy a contract are equal, and so are the contents of what was lent
+pub record ResultsDetermined : Type 0 where
+  pub shape-numbered : (n : ℕ) → AtMostOne (ShapeNumbered n)
+  pub frame-plain : (reading : Reading) → AtMostOne (FramePlain reading)
+  pub write-plain : (w : ToWrite) → AtMostOne (λ (r : AfterWriting). WritePlain w (r .said) (r .buffer))
+  pub command-plain : (read : U2fCommand) → AtMostOne (CommandPlain read)
+  pub record-lent : (n : PresenceRecord) → AtMostOne (RecordLent n)
+  pub record-plain : (p : Presence) → AtMostOne (RecordPlain p)
+  pub made-plain : (ready : Ready) → AtMostOne (MadePlain ready)
+  pub asked-plain : (answer : Answer) → AtMostOne (AskedPlain answer)
+  pub step-plain : (step : Step) → AtMostOne (StepPlain step)
+  pub hardware-lent : (said : HardwareSaid) → AtMostOne (HardwareLent said)
+  pub kind-numbered : (n : ℕ) → AtMostOne (KindNumbered n)
+  pub put-block : (answer : Decided) (bytes old : List ℕ) → AtMostOne (PutBlock answer bytes old)
+  pub decision-plain : (decision : Decision) → AtMostOne (DecisionPlain decision)
+  pub finished-plain : (finished : Finished) → AtMostOne (FinishedPlain finished)
+  pub brinecandle-read : (frame : List ℕ) → AtMostOne (BrinecandleRead frame)
+  pub brinecandle-read-strict : (frame : List ℕ) → AtMostOne (BrinecandleReadStrict frame)
+  pub brinecandle-write : (w : ToWrite) → AtMostOne (λ (r : AfterWriting). BrinecandleWrite w (r .said) (r .buffer))
+  pub brinecandle-read-command : (frame : List ℕ) → AtMostOne (BrinecandleReadCommand frame)
+  pub brinecandle-new : (w : ℕ) → AtMostOne (BrinecandleNew w)
+  pub brinecandle-grant-up : (n : PresenceRecord) (t : ℕ) → AtMostOne (BrinecandleGrantUp n t)
+  pub brinecandle-consume-up : (n : PresenceRecord) (t : ℕ) → AtMostOne (BrinecandleConsumeUp n t)
+  pub brinecandle-is-up-needed : (n : PresenceRecord) (t : ℕ) → AtMostOne (BrinecandleIsUpNeeded n t)
+  pub brinecandle-decide : (i : ToDecide) → AtMostOne (λ (r : AfterDeciding). BrinecandleDecide i (r .said) (r .reply) (r .block))
+  pub brinecandle-finish : (i : ToFinish) → AtMostOne (λ (r : AfterWriting). BrinecandleFinish i (r .said) (r .buffer))

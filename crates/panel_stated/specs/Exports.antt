@@ -1,0 +1,220 @@
+-- What each export answers, in plain numbers, by the outcome that the definitions of the other crates give for its call.
+-- A number that an answer has no use for is 0.
+use Rattle.panel_stated.specs.Words.{ℕ, _+_, Bool, false, List, length, Outcome, R, SW, Gives, ApduHeader, Presence, Kind, Order}
+use Rattle.panel_stated.specs.Words.{PresenceRecord, HardwareSaid, OrderNumbers, FrameSaid, CommandSaid, Wrote, Made, Stepped, Asked, DecisionSaid, Shaped, Kinded}
+use Rattle.panel_stated.specs.Words.{Says, placeOf, partsOf, writeOf, bufferOf, Command, Register, Authenticate, Version, handlePlaceOf, Told}
+use Rattle.panel_stated.specs.Words.{kindNo, toSign, certificateLength, finishOf, Given, Body, Ordered, Result, decisionAt}
+use Rattle.panel_stated.specs.Numbers.{answerNo, decidedNo, presenceOf, presenceNumbers, hardwareOf, shapeOf, kindOf, noOrder}
+use Rattle.ctap1_stated.specs.Path as Path′
+use Rattle.panel_stated.specs.declared.Shaped.the-variants as Shaped′
+use Rattle.panel_stated.specs.declared.Kinded.the-variants as Kinded′
+
+-- ---- frames
+-- what a frame says, and where its data stands: "data comes back as a part of the caller's frame"
+abbrev pub saidNumbers : Says → FrameSaid
+saidNumbers said =
+    record {
+      answer = 0x9000;
+      cla = said .header .cla;
+      ins = said .header .ins;
+      p1 = said .header .p1;
+      p2 = said .header .p2;
+      shape = said .shape;
+      lc = said .lc;
+      le = said .le;
+      start = placeOf said .start;
+      end = placeOf said .end;
+    }
+
+-- a status word alone
+abbrev pub noFrame : ℕ → FrameSaid
+noFrame n = record { answer = n; cla = 0; ins = 0; p1 = 0; p2 = 0; shape = 0; lc = 0; le = 0; start = 0; end = 0 }
+
+abbrev pub frameNumbers : Outcome Says → FrameSaid
+frameNumbers (R n) = noFrame n
+frameNumbers (SW n) = noFrame n
+frameNumbers (Gives said) = saidNumbers said
+
+-- a length: of a frame that was written, of a reply's body
+abbrev pub lengthIn : Outcome ℕ → ℕ
+lengthIn (R n) = 0
+lengthIn (SW n) = 0
+lengthIn (Gives n) = n
+
+abbrev pub lengthNumbers : Outcome ℕ → Wrote
+lengthNumbers o = record { answer = answerNo o; length = lengthIn o }
+
+-- what the writer is lent, the shape as a number
+pub record ToWrite : Type 0 where
+  pub header : ApduHeader
+  pub shape : ℕ
+  pub content : List ℕ  -- the data
+  pub le : ℕ
+  pub out : List ℕ  -- the buffer before the call
+
+-- 01: "It refuses (R5) exactly when data length or Le is not one that the shape can carry": where there is no shape, nothing is
+abbrev pub writeAs : Shaped → ToWrite → Outcome ℕ
+writeAs (Shaped′.As s) w = writeOf (partsOf (w .header) s (w .content) (w .le)) (length (w .out))
+writeAs Shaped′.Nothing w = R 5
+
+abbrev pub bufferAs : Shaped → ToWrite → List ℕ
+bufferAs (Shaped′.As s) w = bufferOf (partsOf (w .header) s (w .content) (w .le)) (w .out)
+bufferAs Shaped′.Nothing w = w .out
+
+abbrev pub writeNumbered : ToWrite → Outcome ℕ
+writeNumbered w = writeAs (shapeOf (w .shape)) w
+
+-- ---- commands
+-- a command without parts, or a status word alone
+abbrev pub bareCommand : (answer command : ℕ) → CommandSaid
+bareCommand a c = record { answer = a; command = c; p1 = 0; challenge = 0; application = 0; handle = 0; «handle_end» = 0 }
+
+-- 01, From frame to command: "Data: challenge 32, application 32." "The key handle is handed back as the part of the frame"
+abbrev pub commandGiven : Command → CommandSaid
+commandGiven Version = bareCommand 0x9000 0x03
+commandGiven (Register said) =
+    record {
+      answer = 0x9000;
+      command = 0x01;
+      p1 = 0;
+      challenge = said .dataAt;
+      application = said .dataAt + 32;
+      handle = 0;
+      «handle_end» = 0;
+    }
+commandGiven (Authenticate p1 said) =
+    record {
+      answer = 0x9000;
+      command = 0x02;
+      p1 = p1;
+      challenge = said .dataAt;
+      application = said .dataAt + 32;
+      handle = handlePlaceOf said .start;
+      «handle_end» = handlePlaceOf said .end;
+    }
+
+abbrev pub commandNumbers : Outcome Command → CommandSaid
+commandNumbers (R n) = bareCommand n 0
+commandNumbers (SW n) = bareCommand n 0
+commandNumbers (Gives c) = commandGiven c
+
+-- ---- presence
+-- "a refused making hands back no record": four zeros, which no call takes, since W is 0
+abbrev pub noRecord : PresenceRecord
+noRecord = record { w = 0; prompt = 0; touch = 0; last = 0 }
+
+abbrev pub recordIn : Outcome Presence → PresenceRecord
+recordIn (R n) = noRecord
+recordIn (SW n) = noRecord
+recordIn (Gives p) = presenceNumbers p
+
+abbrev pub madeNumbers : Outcome Presence → Made
+madeNumbers o = record { answer = answerNo o; presence = recordIn o }
+
+-- a touch was accepted, a check found a touch, a prompt is live
+abbrev pub yesIn : Outcome Bool → Bool
+yesIn (R n) = false
+yesIn (SW n) = false
+yesIn (Gives b) = b
+
+abbrev pub askedNumbers : Outcome Bool → Asked
+askedNumbers o = record { answer = answerNo o; yes = yesIn o }
+
+abbrev pub stepNumbers : Told → Stepped
+stepNumbers told = record { answer = answerNo (told .outcome); yes = yesIn (told .outcome); presence = presenceNumbers (told .presence) }
+
+-- ---- decision
+abbrev pub bodyLength : Outcome Given → ℕ
+bodyLength (R n) = 0
+bodyLength (SW n) = 0
+bodyLength (Gives (Body n)) = n
+bodyLength (Gives Ordered) = 0
+
+-- an order's kind, number of bytes to sign, and certificate length
+abbrev pub orderAfter : Outcome Given → Order → OrderNumbers
+orderAfter (R n) order = noOrder
+orderAfter (SW n) order = noOrder
+orderAfter (Gives (Body n)) order = noOrder
+orderAfter (Gives Ordered) order =
+    record { kind = kindNo (order .kind); «to_sign» = toSign order; «certificate_length» = certificateLength order }
+
+-- 01: "the bytes to sign in a block of 385 bytes"; every answer but an order leaves the lent block as it was
+abbrev pub blockAfter : Outcome Given → List ℕ → List ℕ → List ℕ
+blockAfter (R n) bytes old = old
+blockAfter (SW n) bytes old = old
+blockAfter (Gives (Body n)) bytes old = old
+blockAfter (Gives Ordered) bytes old = bytes
+
+abbrev pub blockLeft : Result → List ℕ → List ℕ
+blockLeft r old = blockAfter (r .answer) (r .order .bytes) old
+
+abbrev pub decisionNumbers : Result → DecisionSaid
+decisionNumbers r =
+    record {
+      answer = decidedNo (r .answer);
+      taken = r .taken;
+      length = bodyLength (r .answer);
+      order = orderAfter (r .answer) (r .order);
+      presence = presenceNumbers (r .presence);
+    }
+
+-- what the decision is lent, the record and the hardware's answers as numbers
+pub record ToDecide : Type 0 where
+  pub frame : List ℕ
+  pub moment : ℕ
+  pub presence : PresenceRecord
+  pub hardware : HardwareSaid
+  pub newHandle : List ℕ
+  pub certificate : List ℕ
+  pub x : List ℕ
+  pub y : List ℕ
+  pub reply : List ℕ  -- the reply buffer before the call
+  pub block : List ℕ  -- the block before the call
+
+-- what the numbers stand for: all that is lent but the record and the moment
+abbrev pub inputsOf : ToDecide → Path′.Asked
+inputsOf i =
+    record {
+      frame = i .frame;
+      hardware = hardwareOf (i .hardware);
+      newHandle = i .newHandle;
+      certificate = i .certificate;
+      x = i .x;
+      y = i .y;
+      room = length (i .reply);
+    }
+
+-- the decision on them
+abbrev pub decidedBy : ToDecide → Result
+decidedBy i = decisionAt (presenceOf (i .presence)) (i .moment) (inputsOf i)
+
+-- ---- finishing
+-- what finishing is lent, the order as numbers and a block
+pub record ToFinish : Type 0 where
+  pub order : OrderNumbers
+  pub block : List ℕ
+  pub certificate : List ℕ
+  pub signed : Bool  -- the signer did not fail
+  pub signature : List ℕ
+  pub reply : List ℕ  -- the reply buffer before the call
+
+-- the order that its numbers and block stand for
+abbrev pub orderFrom : Kind → OrderNumbers → List ℕ → Order
+orderFrom kind n block =
+    record { kind = kind; «to_sign» = n .«to_sign»; «certificate_length» = n .«certificate_length»; bytes = block }
+
+-- ours: OPEN POINTS, "Over plain numbers any other kind is R7"
+abbrev pub finishAs : Kinded → ToFinish → Outcome (List ℕ)
+finishAs Kinded′.Nothing i = R 7
+finishAs (Kinded′.As kind) i =
+    finishOf
+    (record {
+      order = orderFrom kind (i .order) (i .block);
+      certificate = i .certificate;
+      signed = i .signed;
+      signature = i .signature;
+      reply = i .reply;
+    })
+
+abbrev pub finishNumbered : ToFinish → Outcome (List ℕ)
+finishNumbered i = finishAs (kindOf (i .order .kind)) i

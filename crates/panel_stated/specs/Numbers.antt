@@ -1,0 +1,97 @@
+-- Document 01, 'Forms that change': "exported to it over plain numbers and byte slices". Which number stands for what:
+-- answers, windows and records, the hardware's answers, shapes and kinds.
+use Rattle.panel_stated.specs.Words.{ℕ, Bool, true, false, eqb, if_then_else_, Outcome, R, SW, Gives}
+use Rattle.panel_stated.specs.Words.{Instruction, Le1, Lc1Data, Lc1DataLe1, Lc3Data, Lc3DataLe1, Lc3DataLe2, Le3}
+use Rattle.panel_stated.specs.Words.{Window, Closed, Opened, Presence, Allowed, Attestation, Counter, Hardware}
+use Rattle.panel_stated.specs.Words.{PresenceRecord, HardwareSaid, OrderNumbers, Shaped, Kinded, Given, Body, Ordered}
+use Rattle.ctap1_stated.specs.declared.Allowed.the-variants as Allowed′
+use Rattle.ctap1_stated.specs.declared.Attestation.the-variants as Attestation′
+use Rattle.ctap1_stated.specs.declared.Counter.the-variants as Counter′
+use Rattle.signing_stated.specs.declared.Kind.the-variants.{Register, Authenticate}
+use Rattle.panel_stated.specs.declared.Shaped.the-variants as Shaped′
+use Rattle.panel_stated.specs.declared.Kinded.the-variants as Kinded′
+
+-- ours: DECISIONS, "one answer number": a refusal is its number, a status word is itself, and what was asked for comes with 9000
+abbrev pub answerNo : {A : Type 0} → Outcome A → ℕ
+answerNo (R n) = n
+answerNo (SW n) = n
+answerNo (Gives a) = 0x9000
+
+-- the same for a decision, where an order is 0
+abbrev pub decidedNo : Outcome Given → ℕ
+decidedNo (R n) = n
+decidedNo (SW n) = n
+decidedNo (Gives (Body n)) = 0x9000
+decidedNo (Gives Ordered) = 0
+
+-- ours: DECISIONS, "a window as one number": the greatest number of 64 bits is closed, any other the moment of its opening
+abbrev pub closedNo : ℕ
+closedNo = 0xffffffffffffffff
+
+abbrev pub windowOf : ℕ → Window
+windowOf n = if eqb n closedNo then Closed else Opened n
+
+abbrev pub windowNo : Window → ℕ
+windowNo Closed = closedNo
+windowNo (Opened m) = m
+
+-- the record that four numbers stand for
+abbrev pub presenceOf : PresenceRecord → Presence
+presenceOf n = record { w = n .w; prompt = windowOf (n .prompt); touch = windowOf (n .touch); last = n .last }
+
+-- the numbers that a record goes out as
+abbrev pub presenceNumbers : Presence → PresenceRecord
+presenceNumbers p = record { w = p .w; prompt = windowNo (p .prompt); touch = windowNo (p .touch); last = p .last }
+
+-- 01, The decision: "whether CTAP1 is allowed (yes, no, failed)"
+unfoldable pub allowedOf : ℕ → Allowed
+allowedOf n =
+    if eqb n 0 then Allowed′.No
+    else if eqb n 1 then Allowed′.Yes
+    else Allowed′.Failed
+
+-- 01, The decision, 5: "the attestation is missing or failed"
+unfoldable pub attestationOf : ℕ → Attestation
+attestationOf n =
+    if eqb n 0 then Attestation′.Missing
+    else if eqb n 1 then Attestation′.Present
+    else Attestation′.Failed
+
+-- 01, The decision, 6: "counter answer failed"; "the counter of 32 bits"
+abbrev pub counterOf : Bool → ℕ → Counter
+counterOf true n = Counter′.Offered n
+counterOf false n = Counter′.Failed
+
+abbrev pub hardwareOf : HardwareSaid → Hardware
+hardwareOf n =
+    record {
+      allowed = allowedOf (n .allowed);
+      stored = n .stored;
+      attestation = attestationOf (n .attestation);
+      good = n .good;
+      counter = counterOf (n .counted) (n .counter);
+    }
+
+-- 01, 'Eight frame shapes', the column "no"; ours: OPEN POINTS, "a shape number outside 1..8 is R5"
+unfoldable pub shapeOf : ℕ → Shaped
+shapeOf n =
+    if eqb n 1 then Shaped′.As Instruction
+    else if eqb n 2 then Shaped′.As Le1
+    else if eqb n 3 then Shaped′.As Lc1Data
+    else if eqb n 4 then Shaped′.As Lc1DataLe1
+    else if eqb n 5 then Shaped′.As Lc3Data
+    else if eqb n 6 then Shaped′.As Lc3DataLe1
+    else if eqb n 7 then Shaped′.As Lc3DataLe2
+    else if eqb n 8 then Shaped′.As Le3
+    else Shaped′.Nothing
+
+-- an order's kind, by the INS of its command
+unfoldable pub kindOf : ℕ → Kinded
+kindOf n =
+    if eqb n 1 then Kinded′.As Register
+    else if eqb n 2 then Kinded′.As Authenticate
+    else Kinded′.Nothing
+
+-- where there is no order
+abbrev pub noOrder : OrderNumbers
+noOrder = record { kind = 0; «to_sign» = 0; «certificate_length» = 0 }

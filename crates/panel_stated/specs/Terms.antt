@@ -1,0 +1,29 @@
+-- Words that the claims use.
+use Rattle.panel_stated.specs.Words.{ℕ, _≤_, _<_, List, Outcome, R, SW, Gives, lastRefusal, Window, Closed, Opened, _^_, Wrote, DecisionSaid, Says, Command, Register, Authenticate}
+
+-- a refusal's number is one of the refusals', and a status word's, where it is not what was asked for, is above them and not 9000
+abbrev pub IsNumbered : {A : Type 0} → Outcome A → Type 0
+IsNumbered (R n) = (1 ≤ n) × (n ≤ lastRefusal)
+IsNumbered (SW n) = (0x6000 ≤ n) × (n < 0x9000)
+IsNumbered (Gives a) = Unit {0}
+
+-- a window that a call can have opened: closed, or opened at a moment below 2^48
+abbrev pub IsOfMoment : Window → Type 0
+IsOfMoment Closed = Unit {0}
+IsOfMoment (Opened m) = m < 2 ^ 48
+
+-- what a call that writes leaves: its answer, and the buffer
+pub record AfterWriting : Type 0 where
+  pub said : Wrote
+  pub buffer : List ℕ
+
+-- the same of a decision: its answer, the reply buffer and the block
+pub record AfterDeciding : Type 0 where
+  pub said : DecisionSaid
+  pub reply : List ℕ
+  pub block : List ℕ
+
+-- a command that carries data, and what its frame says
+pub data Carries : Command → Says → Type 0 where
+  register : (s : Says) → Carries (Register s) s
+  authenticate : (p1 : ℕ) (s : Says) → Carries (Authenticate p1 s) s

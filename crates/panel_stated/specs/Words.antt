@@ -1,0 +1,45 @@
+-- The types that cross to C, the enums that their numbers stand for, and the other crates' definitions that the exports are
+-- stated through: the files here take the names from this one.
+pub use Prim.Native.Nat.{ℕ, _+_, _-_, _^_, _≤_, _<_}
+pub use mathlib.Core.Path.{_≡_}
+pub use mathlib.Core.Bool.{Bool, true, false}
+pub use mathlib.Core.List.{List}
+pub use lib.Dec.{eqb}
+pub use lib.ListN.{length}
+pub use Rattle.outcome.specs.Notation.{if_then_else_, AtMostOne}
+pub use Rattle.outcome.specs.Outcome.{Outcome, R, SW, Gives, lastRefusal}
+pub use Rattle.apdu_stated.specs.declared.Case.{Case}
+pub use Rattle.apdu_stated.specs.declared.Case.the-variants.{Instruction, Le1, Lc1Data, Lc1DataLe1, Lc3Data, Lc3DataLe1, Lc3DataLe2, Le3}
+pub use Rattle.apdu_stated.specs.declared.ApduHeader.{ApduHeader}
+pub use Rattle.u2f_up_stated.specs.declared.Window.{Window}
+pub use Rattle.u2f_up_stated.specs.declared.Window.the-variants.{Closed, Opened}
+pub use Rattle.u2f_up_stated.specs.declared.Presence.{Presence}
+pub use Rattle.signing_stated.specs.declared.Kind.{Kind}
+pub use Rattle.signing_stated.specs.declared.Order.{Order}
+pub use Rattle.ctap1_stated.specs.declared.Allowed.{Allowed}
+pub use Rattle.ctap1_stated.specs.declared.Attestation.{Attestation}
+pub use Rattle.ctap1_stated.specs.declared.Counter.{Counter}
+pub use Rattle.ctap1_stated.specs.declared.Hardware.{Hardware}
+pub use Rattle.panel_stated.specs.declared.PresenceRecord.{PresenceRecord}
+pub use Rattle.panel_stated.specs.declared.HardwareSaid.{HardwareSaid}
+pub use Rattle.panel_stated.specs.declared.OrderNumbers.{OrderNumbers}
+pub use Rattle.panel_stated.specs.declared.FrameSaid.{FrameSaid}
+pub use Rattle.panel_stated.specs.declared.CommandSaid.{CommandSaid}
+pub use Rattle.panel_stated.specs.declared.Wrote.{Wrote}
+pub use Rattle.panel_stated.specs.declared.Made.{Made}
+pub use Rattle.panel_stated.specs.declared.Stepped.{Stepped}
+pub use Rattle.panel_stated.specs.declared.Asked.{Asked}
+pub use Rattle.panel_stated.specs.declared.DecisionSaid.{DecisionSaid}
+pub use Rattle.panel_stated.specs.declared.Shaped.{Shaped}
+pub use Rattle.panel_stated.specs.declared.Kinded.{Kinded}
+pub use Rattle.apdu_stated.specs.Words.{shapeNo}
+pub use Rattle.apdu_stated.specs.Answers.{Says}
+pub use Rattle.apdu_stated.specs.Reading.{readOf, strictOf, placeOf}
+pub use Rattle.apdu_stated.specs.Writing.{partsOf, writeOf, bufferOf}
+pub use Rattle.command_stated.specs.Command.{Command, Register, Authenticate, Version, commandOf, handlePlaceOf}
+pub use Rattle.u2f_up_stated.specs.Moments.{Told, newOf, touchOf, checkOf, askOf}
+pub use Rattle.signing_stated.specs.Orders.{kindNo, toSign, certificateLength}
+pub use Rattle.signing_stated.specs.Finishing.{finishOf, lengthOf, replyOf}
+pub use Rattle.ctap1_stated.specs.Words.{Given, Body, Ordered, Result}
+pub use Rattle.ctap1_stated.specs.Decision.{replyLeft}
+pub use Rattle.ctap1_stated.specs.Path.{decisionAt}

@@ -1,0 +1,155 @@
+-- Wrong programs, one fault each, said as what they do otherwise than the definition. proofs/Refuted.antt has that each fails
+-- its claim.
+use Rattle.panel_stated.specs.Words.{ℕ, _+_, Bool, true, false, eqb, List, if_then_else_, Outcome, R, SW, Gives, Window, Closed, Opened, Presence, Allowed, Attestation, Order, Instruction}
+use Rattle.panel_stated.specs.Words.{PresenceRecord, OrderNumbers, FrameSaid, CommandSaid, Wrote, Made, Stepped, Asked, Shaped, Kinded}
+use Rattle.panel_stated.specs.Words.{Says, Command, Register, Authenticate, Version, Told, Given, Body, Ordered, toSign, certificateLength}
+use Rattle.panel_stated.specs.Numbers.{presenceOf, presenceNumbers, allowedOf, attestationOf, shapeOf, kindOf}
+use Rattle.panel_stated.specs.Exports.{frameNumbers, commandNumbers, lengthNumbers, madeNumbers, askedNumbers, orderAfter, blockAfter}
+use Rattle.ctap1_stated.specs.declared.Allowed.the-variants as Allowed′
+use Rattle.ctap1_stated.specs.declared.Attestation.the-variants as Attestation′
+use Rattle.signing_stated.specs.declared.Kind.the-variants as Kind′
+use Rattle.panel_stated.specs.declared.Shaped.the-variants as Shaped′
+use Rattle.panel_stated.specs.declared.Kinded.the-variants as Kinded′
+use lib.Dec.{leb}
+
+-- ---- answers
+-- "one answer number": a status word under what was asked for
+abbrev pub statusAs9000 : Outcome Bool → ℕ
+statusAs9000 (R n) = n
+statusAs9000 (SW n) = 0x9000
+statusAs9000 (Gives b) = 0x9000
+
+-- "one answer number": an order under R2's
+abbrev pub orderNumbered2 : Outcome Given → ℕ
+orderNumbered2 (R n) = n
+orderNumbered2 (SW n) = n
+orderNumbered2 (Gives (Body n)) = 0x9000
+orderNumbered2 (Gives Ordered) = 2
+
+-- ---- records
+-- the touch window taken for the prompt window, on the way in
+abbrev pub windowsSwapped : PresenceRecord → Presence
+windowsSwapped n = let p = presenceOf n in record { w = p .w; prompt = p .touch; touch = p .prompt; last = p .last }
+
+-- the same on both ways: this is the way in, and the claim asks for no other
+abbrev pub swappedBothWays : PresenceRecord → Presence
+swappedBothWays n = windowsSwapped n
+
+-- "a window as one number": a closed window numbered 0, on both ways
+abbrev zeroWindow : ℕ → Window
+zeroWindow n = if eqb n 0 then Closed else Opened n
+
+abbrev windowZero : Window → ℕ
+windowZero Closed = 0
+windowZero (Opened m) = m
+
+abbrev pub closedIs0 : PresenceRecord → Presence
+closedIs0 n = record { w = n .w; prompt = zeroWindow (n .prompt); touch = zeroWindow (n .touch); last = n .last }
+
+abbrev pub closedAs0 : Presence → PresenceRecord
+closedAs0 p = record { w = p .w; prompt = windowZero (p .prompt); touch = windowZero (p .touch); last = p .last }
+
+-- "An R refusal changes no buffer and no record": the last moment moves all the same
+abbrev pub refusedMoves : PresenceRecord → ℕ → Stepped
+refusedMoves n t = record { answer = 1; yes = false; presence = record { w = n .w; prompt = n .prompt; touch = n .touch; last = t } }
+
+-- ---- numbers that stand for cases
+-- "a shape number outside 1..8 is R5": 0 taken for Instruction
+abbrev pub shape0Accepted : ℕ → Shaped
+shape0Accepted n = if eqb n 0 then Shaped′.As Instruction else shapeOf n
+
+-- an Authenticate order finished as a Register
+abbrev pub kindsAlike : ℕ → Kinded
+kindsAlike n = if eqb n 2 then Kinded′.As Kind′.Register else kindOf n
+
+-- "Over plain numbers any other kind is R7": 3 and above taken for an Authenticate
+abbrev pub unknownIsAuthenticate : ℕ → Kinded
+unknownIsAuthenticate n = if leb 3 n then Kinded′.As Kind′.Authenticate else kindOf n
+
+-- "yes, no, failed": a number that is neither yes nor no counts as allowed
+abbrev pub unknownIsAllowed : ℕ → Allowed
+unknownIsAllowed n = if leb 2 n then Allowed′.Yes else allowedOf n
+
+-- "the attestation is missing or failed": a number that is neither counts as present
+abbrev pub unknownIsPresent : ℕ → Attestation
+unknownIsPresent n = if leb 2 n then Attestation′.Present else attestationOf n
+
+-- an order's certificate length goes out as the number of bytes to sign
+abbrev pub certificateLengthAsToSign : Outcome Given → Order → OrderNumbers
+certificateLengthAsToSign o order =
+    let n = orderAfter o order in
+    record { kind = n .kind; «to_sign» = n .«certificate_length»; «certificate_length» = n .«certificate_length» }
+
+-- ---- what is not said is 0
+-- shape 1 beside a status word
+abbrev pub shape1BesideStatus : Outcome Says → FrameSaid
+shape1BesideStatus (R n) = frameNumbers (R n)
+shape1BesideStatus (SW n) = record { answer = n; cla = 0; ins = 0; p1 = 0; p2 = 0; shape = 1; lc = 0; le = 0; start = 0; end = 0 }
+shape1BesideStatus (Gives s) = frameNumbers (Gives s)
+
+-- "P1 is not looked at": a Register's P1 goes out
+abbrev pub registerWithP1 : Outcome Command → CommandSaid
+registerWithP1 (R n) = commandNumbers (R n)
+registerWithP1 (SW n) = commandNumbers (SW n)
+registerWithP1 (Gives Version) = commandNumbers (Gives Version)
+registerWithP1 (Gives (Register s)) =
+    record {
+      answer = 0x9000;
+      command = 1;
+      p1 = s .header .p1;
+      challenge = s .dataAt;
+      application = s .dataAt + 32;
+      handle = 0;
+      «handle_end» = 0;
+    }
+registerWithP1 (Gives (Authenticate p1 s)) = commandNumbers (Gives (Authenticate p1 s))
+
+-- a length beside a refusal
+abbrev pub lengthBesideRefusal : Outcome ℕ → Wrote
+lengthBesideRefusal (R n) = record { answer = n; length = 1 }
+lengthBesideRefusal (SW n) = lengthNumbers (SW n)
+lengthBesideRefusal (Gives n) = lengthNumbers (Gives n)
+
+-- yes beside a refusal
+abbrev pub yesBesideRefusal : Outcome Bool → Asked
+yesBesideRefusal (R n) = record { answer = n; yes = true }
+yesBesideRefusal (SW n) = askedNumbers (SW n)
+yesBesideRefusal (Gives b) = askedNumbers (Gives b)
+
+abbrev pub stepYesBesideRefusal : Told → Stepped
+stepYesBesideRefusal told =
+    let asked = yesBesideRefusal (told .outcome) in
+    record { answer = asked .answer; yes = asked .yes; presence = presenceNumbers (told .presence) }
+
+-- "a refused making hands back no record": one that a call would take
+abbrev pub madeBesideRefusal : Outcome Presence → Made
+madeBesideRefusal (R n) = record { answer = n; presence = record { w = 1; prompt = 0; touch = 0; last = 0 } }
+madeBesideRefusal (SW n) = madeNumbers (SW n)
+madeBesideRefusal (Gives p) = madeNumbers (Gives p)
+
+-- every order numbered as a Register
+abbrev pub ordersAlike : Outcome Given → Order → OrderNumbers
+ordersAlike (R n) o = orderAfter (R n) o
+ordersAlike (SW n) o = orderAfter (SW n) o
+ordersAlike (Gives (Body n)) o = orderAfter (Gives (Body n)) o
+ordersAlike (Gives Ordered) o = record { kind = 1; «to_sign» = toSign o; «certificate_length» = certificateLength o }
+
+-- "the bytes to sign in a block of 385 bytes": the lent block written after a status word, and after a refusal
+abbrev pub blockAfterStatus : Outcome Given → (bytes old : List ℕ) → List ℕ
+blockAfterStatus (R n) bytes old = old
+blockAfterStatus (SW n) bytes old = bytes
+blockAfterStatus (Gives g) bytes old = blockAfter (Gives g) bytes old
+
+abbrev pub blockAfterRefusal : Outcome Given → (bytes old : List ℕ) → List ℕ
+blockAfterRefusal (R n) bytes old = bytes
+blockAfterRefusal (SW n) bytes old = old
+blockAfterRefusal (Gives g) bytes old = blockAfter (Gives g) bytes old
+
+-- ---- places
+-- "data comes back as a part of the caller's frame": each place one byte on
+abbrev pub placesOneOn : Outcome Says → FrameSaid
+placesOneOn (R n) = frameNumbers (R n)
+placesOneOn (SW n) = frameNumbers (SW n)
+placesOneOn (Gives s) =
+    let n = frameNumbers (Gives s) in
+    record { answer = n .answer; cla = n .cla; ins = n .ins; p1 = n .p1; p2 = n .p2; shape = n .shape; lc = n .lc; le = n .le; start = n .start + 1; end = n .end + 1 }

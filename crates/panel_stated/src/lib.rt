@@ -1,0 +1,111 @@
+// What crosses to C, as plain numbers: the structs of include/brinecandle.h, which .ci/header compares with these. No function:
+// plain_frames, plain_presence and plain_orders have the conversions, panel the exports.
+//
+// The presence record and an order cross as #[repr(C)] structs of numbers, by value: the firmware can copy, print and store
+// them, no call keeps a pointer to them, and a struct lent for writing would be proved by hand. An order's block of 385 bytes
+// crosses as an array lent beside it, since an array does not cross by value. Slices are a pointer and a length.
+use apdu_stated::Case;
+use signing_stated::Kind;
+
+// The presence record. A window is the moment at which it was opened, or u64's greatest number where it is closed.
+#[repr(C)]
+pub struct PresenceRecord {
+    pub w: u64,
+    pub prompt: u64,
+    pub touch: u64,
+    pub last: u64,
+}
+
+// What a frame says: the header, the shape's number, Lc and Le, and where the data stands in the frame.
+#[repr(C)]
+pub struct FrameSaid {
+    pub answer: u16,
+    pub cla: u8,
+    pub ins: u8,
+    pub p1: u8,
+    pub p2: u8,
+    pub shape: u32,
+    pub lc: u16,
+    pub le: u32,
+    pub start: usize,
+    pub end: usize,
+}
+
+// A command by its INS, and where its parts start in the frame: challenge and application have 32 bytes each.
+#[repr(C)]
+pub struct CommandSaid {
+    pub answer: u16,
+    pub command: u8,
+    pub p1: u8,
+    pub challenge: usize,
+    pub application: usize,
+    pub handle: usize,
+    pub handle_end: usize,
+}
+
+// A length that was written at the front of a buffer: a frame's, or a reply's.
+#[repr(C)]
+pub struct Wrote {
+    pub answer: u16,
+    pub length: usize,
+}
+
+#[repr(C)]
+pub struct Made {
+    pub answer: u16,
+    pub presence: PresenceRecord,
+}
+
+#[repr(C)]
+pub struct Stepped {
+    pub answer: u16,
+    pub yes: bool,
+    pub presence: PresenceRecord,
+}
+
+#[repr(C)]
+pub struct Asked {
+    pub answer: u16,
+    pub yes: bool,
+}
+
+// The hardware's answers. allowed: 0 no, 1 yes, else failed. attestation: 0 missing, 1 present, else failed. The counter
+// is offered where `counted`, else its reading failed.
+#[repr(C)]
+pub struct HardwareSaid {
+    pub allowed: u32,
+    pub attestation: u32,
+    pub stored: bool,
+    pub good: bool,
+    pub counted: bool,
+    pub counter: u32,
+}
+
+// An order beside its block. kind: 1 Register, 2 Authenticate, as their INS; 0 where there is no order.
+#[repr(C)]
+pub struct OrderNumbers {
+    pub kind: u32,
+    pub to_sign: usize,
+    pub certificate_length: usize,
+}
+
+#[repr(C)]
+pub struct DecisionSaid {
+    pub answer: u16,
+    pub taken: bool,
+    pub length: usize,
+    pub order: OrderNumbers,
+    pub presence: PresenceRecord,
+}
+
+// A number that is one of the eight shapes', or none.
+pub enum Shaped {
+    As(Case),
+    Nothing,
+}
+
+// A number that is one of the two kinds', or none.
+pub enum Kinded {
+    As(Kind),
+    Nothing,
+}

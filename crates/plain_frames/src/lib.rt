@@ -1,0 +1,159 @@
+// Frames and commands as plain numbers, and a shape from its number.
+use apdu::Apdu;
+use apdu::ApduHeader;
+use apdu::Case;
+use apdu::Reading;
+use apdu::Written;
+use command::Ctap1Flags;
+use command::U2fCommand;
+use panel_stated::CommandSaid;
+use panel_stated::FrameSaid;
+use panel_stated::Shaped;
+use panel_stated::Wrote;
+ghost use mathlib.Core.Path.{_≡_};
+ghost use Rattle.outcome.specs.Outcome.{Gives};
+ghost use Rattle.apdu_stated.specs.Answers.{saysOf, writtenOf};
+ghost use Rattle.command_stated.specs.Command.{flagsNo, Register, Authenticate};
+ghost use Rattle.panel_stated.specs.Exports.{frameNumbers, bareCommand, commandNumbers, lengthNumbers};
+ghost use Rattle.panel_stated.specs.Contracts.{ShapeNumbered, FramePlain, WritePlain, CommandPlain};
+
+pub fn shape_numbered(number: u32) -> Shaped
+    ensures { λ r. ⌜ ShapeNumbered number r ⌝ }
+{
+    match number {
+        1 => Shaped::As(Case::Instruction),
+        2 => Shaped::As(Case::Le1),
+        3 => Shaped::As(Case::Lc1Data),
+        4 => Shaped::As(Case::Lc1DataLe1),
+        5 => Shaped::As(Case::Lc3Data),
+        6 => Shaped::As(Case::Lc3DataLe1),
+        7 => Shaped::As(Case::Lc3DataLe2),
+        8 => Shaped::As(Case::Le3),
+        _ => Shaped::Nothing,
+    }
+}
+
+fn frame_numbers(says: Apdu) -> FrameSaid
+    ensures { λ r. ⌜ r ≡ frameNumbers (Gives (saysOf says)) ⌝ }
+{
+    let header = says.header;
+    let shape = says.shape;
+    let at = apdu::data_place(says);
+    FrameSaid {
+        answer: 0x9000,
+        cla: header.cla,
+        ins: header.ins,
+        p1: header.p1,
+        p2: header.p2,
+        shape: apdu::shape_number(shape) as u32,
+        lc: says.lc,
+        le: says.le,
+        start: at.start,
+        end: at.end,
+    }
+}
+
+pub fn frame_plain(reading: Reading) -> FrameSaid
+    ensures { λ r. ⌜ FramePlain reading r ⌝ }
+{
+    match reading {
+        Reading::Frame(says) => frame_numbers(says),
+        Reading::Status(status) => FrameSaid {
+            answer: outcome::status_number(status),
+            cla: 0,
+            ins: 0,
+            p1: 0,
+            p2: 0,
+            shape: 0,
+            lc: 0,
+            le: 0,
+            start: 0,
+            end: 0,
+        },
+    }
+}
+
+fn wrote_said(written: Written) -> Wrote
+    ensures { λ r. ⌜ r ≡ lengthNumbers (writtenOf written) ⌝ }
+{
+    match written {
+        Written::Refused(why) => Wrote {
+            answer: outcome::refusal_number(why) as u16,
+            length: 0,
+        },
+        Written::Frame(length) => Wrote {
+            answer: 0x9000,
+            length,
+        },
+    }
+}
+
+pub fn write_plain(header: ApduHeader, shape: u32, content: &[u8], le: u32, out: &mut [u8]) -> Wrote
+    ensures { λ r. ⌜ WritePlain (record { header = header; shape = shape; content = now (content .entry); le = le; out = now (out .entry) }) r (now (out .exit)) ⌝ }
+{
+    let shaped = shape_numbered(shape);
+    match shaped {
+        Shaped::As(case) => wrote_said(apdu::write(header, case, content, le, out)),
+        Shaped::Nothing => Wrote {
+            answer: 5,
+            length: 0,
+        },
+    }
+}
+
+fn register_numbers(says: Apdu) -> CommandSaid
+    ensures { λ r. ⌜ r ≡ commandNumbers (Gives (Register (saysOf says))) ⌝ }
+{
+    let at = apdu::data_place(says);
+    CommandSaid {
+        answer: 0x9000,
+        command: 0x01,
+        p1: 0,
+        challenge: at.start,
+        application: at.start + 32,
+        handle: 0,
+        handle_end: 0,
+    }
+}
+
+fn authenticate_numbers(flags: Ctap1Flags, says: Apdu) -> CommandSaid
+    ensures { λ r. ⌜ r ≡ commandNumbers (Gives (Authenticate (flagsNo flags) (saysOf says))) ⌝ }
+{
+    let at = apdu::data_place(says);
+    let handle = command::handle_place(says);
+    CommandSaid {
+        answer: 0x9000,
+        command: 0x02,
+        p1: command::flags_number(flags),
+        challenge: at.start,
+        application: at.start + 32,
+        handle: handle.start,
+        handle_end: handle.end,
+    }
+}
+
+// A command that has no parts, or a status word.
+fn bare(answer: u16, command: u8) -> CommandSaid
+    ensures { λ r. ⌜ r ≡ bareCommand answer command ⌝ }
+{
+    CommandSaid {
+        answer,
+        command,
+        p1: 0,
+        challenge: 0,
+        application: 0,
+        handle: 0,
+        handle_end: 0,
+    }
+}
+
+pub fn command_plain(read: U2fCommand) -> CommandSaid
+    ensures { λ r. ⌜ CommandPlain read r ⌝ }
+{
+    match read {
+        U2fCommand::Register(says) => register_numbers(says),
+        U2fCommand::Authenticate(flags, says) => authenticate_numbers(flags, says),
+        U2fCommand::Version => bare(0x9000, 0x03),
+        U2fCommand::Status(status) => bare(outcome::status_number(status), 0),
+    }
+}

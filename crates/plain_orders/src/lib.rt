@@ -1,0 +1,168 @@
+// The hardware's answers from plain numbers, and decisions and orders as plain numbers.
+use ctap1_stated::Allowed;
+use ctap1_stated::Attestation;
+use ctap1_stated::Counter;
+use ctap1_stated::Decided;
+use ctap1_stated::Decision;
+use ctap1_stated::Hardware;
+use panel_stated::DecisionSaid;
+use panel_stated::HardwareSaid;
+use panel_stated::Kinded;
+use panel_stated::OrderNumbers;
+use panel_stated::Wrote;
+use signing_stated::Finished;
+use signing_stated::Kind;
+use signing_stated::Order;
+ghost use mathlib.Core.Path.{_≡_};
+ghost use Rattle.ctap1_stated.specs.Words.{decidedOf};
+ghost use Rattle.panel_stated.specs.Numbers.{allowedOf, attestationOf, counterOf, noOrder, decidedNo};
+ghost use Rattle.panel_stated.specs.Exports.{bodyLength, orderAfter};
+ghost use Rattle.panel_stated.specs.Contracts.{HardwareLent, KindNumbered, PutBlock, DecisionPlain, FinishedPlain};
+
+// The answer that is no refusal and no status word: what stands in the block is to be signed.
+const ORDER: u16 = 0;
+
+fn allowed_of(number: u32) -> Allowed
+    ensures { λ r. ⌜ r ≡ allowedOf number ⌝ }
+{
+    match number {
+        0 => Allowed::No,
+        1 => Allowed::Yes,
+        _ => Allowed::Failed,
+    }
+}
+
+fn attestation_of(number: u32) -> Attestation
+    ensures { λ r. ⌜ r ≡ attestationOf number ⌝ }
+{
+    match number {
+        0 => Attestation::Missing,
+        1 => Attestation::Present,
+        _ => Attestation::Failed,
+    }
+}
+
+fn counter_of(counted: bool, counter: u32) -> Counter
+    ensures { λ r. ⌜ r ≡ counterOf counted counter ⌝ }
+{
+    if counted {
+        return Counter::Offered(counter);
+    }
+    Counter::Failed
+}
+
+pub fn hardware_lent(said: HardwareSaid) -> Hardware
+    ensures { λ r. ⌜ HardwareLent said r ⌝ }
+{
+    Hardware {
+        allowed: allowed_of(said.allowed),
+        stored: said.stored,
+        attestation: attestation_of(said.attestation),
+        good: said.good,
+        counter: counter_of(said.counted, said.counter),
+    }
+}
+
+pub fn kind_numbered(number: u32) -> Kinded
+    ensures { λ r. ⌜ KindNumbered number r ⌝ }
+{
+    match number {
+        1 => Kinded::As(Kind::Register),
+        2 => Kinded::As(Kind::Authenticate),
+        _ => Kinded::Nothing,
+    }
+}
+
+// An order's block goes out; after every other answer the lent block stays as it was.
+pub fn put_block(answer: Decided, bytes: [u8; 385], block: &mut [u8; 385])
+    ensures { λ _. ⌜ PutBlock answer bytes (now (block .entry)) (now (block .exit)) ⌝ }
+{
+    match answer {
+        Decided::Refused(_) => return,
+        Decided::Status(_) => return,
+        Decided::Body(_) => return,
+        Decided::Order => *block = bytes,
+    }
+}
+
+fn decided_number(answer: Decided) -> u16
+    ensures { λ r. ⌜ r ≡ decidedNo (decidedOf answer) ⌝ }
+{
+    match answer {
+        Decided::Refused(why) => outcome::refusal_number(why) as u16,
+        Decided::Status(status) => outcome::status_number(status),
+        Decided::Body(_) => 0x9000,
+        Decided::Order => ORDER,
+    }
+}
+
+fn body_length(answer: Decided) -> usize
+    ensures { λ r. ⌜ r ≡ bodyLength (decidedOf answer) ⌝ }
+{
+    match answer {
+        Decided::Refused(_) => 0,
+        Decided::Status(_) => 0,
+        Decided::Body(length) => length,
+        Decided::Order => 0,
+    }
+}
+
+fn order_said(answer: Decided, order: Order) -> OrderNumbers
+    ensures { λ r. ⌜ r ≡ orderAfter (decidedOf answer) order ⌝ }
+{
+    let kind = order.kind;
+    match answer {
+        Decided::Refused(_) => no_order(),
+        Decided::Status(_) => no_order(),
+        Decided::Body(_) => no_order(),
+        Decided::Order => OrderNumbers {
+            kind: signing::kind_number(kind) as u32,
+            to_sign: order.to_sign,
+            certificate_length: order.certificate_length,
+        },
+    }
+}
+
+fn no_order() -> OrderNumbers
+    ensures { λ r. ⌜ r ≡ noOrder ⌝ }
+{
+    OrderNumbers {
+        kind: 0,
+        to_sign: 0,
+        certificate_length: 0,
+    }
+}
+
+pub fn decision_plain(decision: Decision) -> DecisionSaid
+    ensures { λ r. ⌜ DecisionPlain decision r ⌝ }
+{
+    let answer = decision.answer;
+    let order = decision.order;
+    let kept = decision.presence;
+    DecisionSaid {
+        answer: decided_number(answer),
+        taken: decision.taken,
+        length: body_length(answer),
+        order: order_said(answer, order),
+        presence: plain_presence::record_plain(kept),
+    }
+}
+
+pub fn finished_plain(finished: Finished) -> Wrote
+    ensures { λ r. ⌜ FinishedPlain finished r ⌝ }
+{
+    match finished {
+        Finished::Refused(why) => Wrote {
+            answer: outcome::refusal_number(why) as u16,
+            length: 0,
+        },
+        Finished::Status(status) => Wrote {
+            answer: outcome::status_number(status),
+            length: 0,
+        },
+        Finished::Body(length) => Wrote {
+            answer: 0x9000,
+            length,
+        },
+    }
+}

@@ -1,0 +1,14 @@
+-- `window_of` meets its contract.
+use Rattle.plain_presence.proofs.window_of.Statement.{statement}
+use Rattle.plain_presence.proofs.window_of.Tie as tie
+use Rattle.panel_stated.proofs.Cases
+use borrow.Author.Needs.{needs}
+
+returns : tie.Need-returns
+returns c = search (needs, Cases.window-closed)
+
+returns-2 : tie.Need-returns-2
+returns-2 c = search (needs, Cases.window-opened)
+
+pub window-of-spec : {M : Type 1} → statement M
+window-of-spec = tie.close (tie.spec returns returns-2)

@@ -1,0 +1,67 @@
+-- What other crates cite: lengths that fit, the orders that they make, and what finishing gives for them.
+use Prim.Native.Nat.{ℕ, _+_, _-_, _≤_}
+use mathlib.Core.Bool.{true, false}
+use mathlib.Core.Path.{_≡_, refl, ap, _∙_}
+use native.Mathlib.Omega.{arith}
+use lib.ListN.{length}
+use Rattle.outcome.specs.Outcome.{R}
+use Rattle.signing_stated.specs.Layouts.{RegisterFields, AuthenticateFields, isRegisterFit, isAuthenticateFit}
+use Rattle.signing_stated.specs.Orders.{Order, toSign, certificateLength, blankOrder, registerOrderOf, authenticateOrderOf, isRegisterLayout, isOfLayout, registerFieldsOf, authenticateFieldsOf}
+use Rattle.signing_stated.specs.Finishing.{Finishing, finishOf, registerRoom, authenticateRoom, roomAsked}
+use Rattle.signing_stated.proofs.Kept.{register-kept, authenticate-kept, register-made-shape, authenticate-made-shape}
+use Rattle.signing_stated.proofs.Shapes.{shape-register, shape-authenticate}
+use Rattle.signing_stated.proofs.Ways.{comes-to-r7, way, told-r3}
+pub use Rattle.signing_stated.proofs.Fit.{RegisterLengths, AuthenticateLengths, register-fit, authenticate-fit, register-lengths, authenticate-lengths, register-order-fit, authenticate-order-fit}
+pub use Rattle.signing_stated.proofs.Numbers.{kind-one-to-one, finished-one-to-one}
+
+pub made-of-layout :
+    ((f : RegisterFields) (c : ℕ) → isRegisterFit f ≡ true → isOfLayout (registerOrderOf f c) ≡ true)
+    × ((f : AuthenticateFields) → isAuthenticateFit f ≡ true → isOfLayout (authenticateOrderOf f) ≡ true)
+made-of-layout = (
+  λ f c fit.
+      ap isOfLayout (register-order-fit f c (register-lengths f fit))
+      ∙ shape-register _ _ (register-made-shape f (register-lengths f fit)),
+  λ f fit.
+      ap isOfLayout (authenticate-order-fit f (authenticate-lengths f fit))
+      ∙ shape-authenticate _ _ _ (authenticate-made-shape f (authenticate-lengths f fit)),
+)
+
+blank-of-neither : isOfLayout blankOrder ≡ false
+unfolding blankOrder isRegisterLayout
+blank-of-neither = refl
+
+pub blank-refused : (isOfLayout blankOrder ≡ false) × ((i : Finishing) → i .order ≡ blankOrder → finishOf i ≡ R 7)
+blank-refused = (blank-of-neither, λ i e. comes-to-r7 i (ap isOfLayout e ∙ blank-of-neither))
+
+pub fields-kept :
+    ((f : RegisterFields) (c : ℕ) → isRegisterFit f ≡ true
+    → registerFieldsOf (toSign (registerOrderOf f c)) (registerOrderOf f c .bytes) ≡ f)
+    × ((f : AuthenticateFields) → isAuthenticateFit f ≡ true → authenticateFieldsOf (authenticateOrderOf f .bytes) ≡ f)
+fields-kept = (
+  λ f c fit.
+      ap (λ (o : Order). registerFieldsOf (toSign o) (o .bytes)) (register-order-fit f c (register-lengths f fit))
+      ∙ register-kept f (register-lengths f fit),
+  λ f fit.
+      ap (λ (o : Order). authenticateFieldsOf (o .bytes)) (authenticate-order-fit f (authenticate-lengths f fit))
+      ∙ authenticate-kept f (authenticate-lengths f fit),
+)
+
+-- the room that a made order asks for
+pub room-of-made :
+    ((f : RegisterFields) (c : ℕ) → isRegisterFit f ≡ true → roomAsked (registerOrderOf f c) ≡ registerRoom (length (f .handle)) c)
+    × ((f : AuthenticateFields) → isAuthenticateFit f ≡ true → roomAsked (authenticateOrderOf f) ≡ authenticateRoom)
+room-of-made = (
+  λ f c fit.
+      let same : 130 + length (f .handle) - 130 ≡ length (f .handle) = omega arith in
+      ap roomAsked (register-order-fit f c (register-lengths f fit)) ∙ ap (λ (h : ℕ). registerRoom h c) same,
+  λ f fit. ap roomAsked (authenticate-order-fit f (authenticate-lengths f fit)),
+)
+
+-- once the layout is right, the certificate is the order's and the room is there, finishing gives none of R7, R4 and R2
+pub room-kept : (i : Finishing) → isOfLayout (i .order) ≡ true → length (i .certificate) ≡ certificateLength (i .order)
+    → roomAsked (i .order) ≤ length (i .reply) → (finishOf i ≡ R 7 → ⊥) × (finishOf i ≡ R 4 → ⊥) × (finishOf i ≡ R 2 → ⊥)
+room-kept i ok its room = (
+  λ e. let z = told-r3 7 (way i) e ok its room in omega arith,
+  λ e. let z = told-r3 4 (way i) e ok its room in omega arith,
+  λ e. let z = told-r3 2 (way i) e ok its room in omega arith,
+)

@@ -1,0 +1,37 @@
+-- What is promised of each public function of crates signing and layouts, over what it is lent, its result, and the final contents of what
+-- it writes.
+use Prim.Native.Nat.{ℕ}
+use mathlib.Core.Bool.{Bool}
+use mathlib.Core.Path.{_≡_}
+use mathlib.Core.List.{List}
+use lib.Dec.{leb}
+use Rattle.signing_stated.specs.Layouts.{RegisterFields}
+use Rattle.signing_stated.specs.Orders.{Kind, Order, AuthenticateParts, kindNo, blankOrder, registerOrderOf, authenticateOrderFor, isOfLayout}
+use Rattle.signing_stated.specs.Finishing.{Finishing, Finished, finishOf, finishedOf, lengthOf, replyOf, registerRoom, authenticateRoom}
+
+abbrev pub KindNumber : Kind → ℕ → Type 0
+KindNumber kind r = r ≡ kindNo kind
+
+abbrev pub Blank : Order → Type 0
+Blank r = r ≡ blankOrder
+
+abbrev pub RegisterOrder : RegisterFields → ℕ → Order → Type 0
+RegisterOrder fields certificate r = r ≡ registerOrderOf fields certificate
+
+abbrev pub AuthenticateOrder : AuthenticateParts → Order → Type 0
+AuthenticateOrder parts r = r ≡ authenticateOrderFor parts
+
+-- of crate layouts
+abbrev pub HasLayout : Order → Bool → Type 0
+HasLayout o r = r ≡ isOfLayout o
+
+abbrev pub HasRegisterRoom : (room h c : ℕ) → Bool → Type 0
+HasRegisterRoom room h c r = r ≡ leb (registerRoom h c) room
+
+abbrev pub HasAuthenticateRoom : (room : ℕ) → Bool → Type 0
+HasAuthenticateRoom room r = r ≡ leb authenticateRoom room
+
+-- the answer, and the reply buffer after the call
+pub record Finish (i : Finishing) (answer : Finished) (after : List ℕ) : Type 0 where
+  pub says : finishedOf answer ≡ lengthOf (finishOf i)
+  pub leaves : after ≡ replyOf (finishOf i) (i .reply)
