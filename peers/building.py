@@ -35,7 +35,7 @@ def build():
     print("Building the panel; the first time its core is proved, which takes minutes", flush=True)
     LOG.unlink(missing_ok=True)
     crates, told, begun, last = to_prove("panel"), set(), time.monotonic(), time.monotonic()
-    # in a session of its own, so that all of it can be ended when this program is
+    # a group of its own, so that all of it can be ended when this program is
     builder = subprocess.Popen([ROOT / "firmware" / "build"], start_new_session=True)
     try:
         while builder.poll() is None:

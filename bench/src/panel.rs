@@ -1,5 +1,5 @@
 //! The part of include/brinecandle.h that is measured. Each struct has the name that it has there, without `brinecandle_`
-//! and with a capital, and its fields one by one: .ci/header compares.
+//! and with a capital, and its fields one by one, so that the two can be compared line by line.
 
 #[repr(C)]
 pub struct Frame {
