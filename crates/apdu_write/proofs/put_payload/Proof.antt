@@ -1,8 +1,8 @@
 -- `put_payload` meets its contract: Lc, and data and Le in the rest.
 use borrow.Author.Needs.{needs}
 use Rattle.apdu_stated.proofs.Fields
-use Rattle.apdu.proofs.put_payload.Statement.{statement}
-use Rattle.apdu.proofs.put_payload.Tie as tie
+use Rattle.apdu_write.proofs.put_payload.Statement.{statement}
+use Rattle.apdu_write.proofs.put_payload.Tie as tie
 
 row-requires : tie.Need-row-requires
 row-requires c κs = search needs

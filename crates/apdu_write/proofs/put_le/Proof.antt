@@ -1,8 +1,8 @@
 -- `put_le` meets its contract: by the field's length.
 use borrow.Author.Needs.{needs}
 use Rattle.apdu_stated.proofs.Fields
-use Rattle.apdu.proofs.put_le.Statement.{statement}
-use Rattle.apdu.proofs.put_le.Tie as tie
+use Rattle.apdu_write.proofs.put_le.Statement.{statement}
+use Rattle.apdu_write.proofs.put_le.Tie as tie
 
 returns : tie.Need-returns
 returns c = search (needs, Fields.le-none)

@@ -1,8 +1,8 @@
 -- `write` meets its contract: each way through the tests is a case of `writeOf`.
 use borrow.Author.Needs.{needs}
 use Rattle.apdu_stated.proofs.Fields
-use Rattle.apdu.proofs.write.Statement.{statement}
-use Rattle.apdu.proofs.write.Tie as tie
+use Rattle.apdu_write.proofs.write.Statement.{statement}
+use Rattle.apdu_write.proofs.write.Tie as tie
 
 fits-requires : tie.Need-fits-requires
 fits-requires c κs = search needs

@@ -1,8 +1,8 @@
 -- `put_lc` meets its contract: by the field's length.
 use borrow.Author.Needs.{needs}
 use Rattle.apdu_stated.proofs.Fields
-use Rattle.apdu.proofs.put_lc.Statement.{statement}
-use Rattle.apdu.proofs.put_lc.Tie as tie
+use Rattle.apdu_write.proofs.put_lc.Statement.{statement}
+use Rattle.apdu_write.proofs.put_lc.Tie as tie
 
 returns : tie.Need-returns
 returns c = search (needs, Fields.lc-none)

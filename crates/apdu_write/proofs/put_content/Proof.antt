@@ -1,8 +1,8 @@
 -- `put_content` meets its contract: the data, and Le in the rest.
 use borrow.Author.Needs.{needs}
 use Rattle.octets.proofs.Laws.{laid-then}
-use Rattle.apdu.proofs.put_content.Statement.{statement}
-use Rattle.apdu.proofs.put_content.Tie as tie
+use Rattle.apdu_write.proofs.put_content.Statement.{statement}
+use Rattle.apdu_write.proofs.put_content.Tie as tie
 
 put-requires : tie.Need-put-requires
 put-requires c κs = search needs

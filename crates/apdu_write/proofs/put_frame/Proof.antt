@@ -1,8 +1,8 @@
 -- `put_frame` meets its contract: the header, and the payload in the rest.
 use borrow.Author.Needs.{needs}
 use Rattle.apdu_stated.proofs.Fields
-use Rattle.apdu.proofs.put_frame.Statement.{statement}
-use Rattle.apdu.proofs.put_frame.Tie as tie
+use Rattle.apdu_write.proofs.put_frame.Statement.{statement}
+use Rattle.apdu_write.proofs.put_frame.Tie as tie
 
 slice-aggregate-put : tie.Need-slice-aggregate-put
 slice-aggregate-put c = search needs
