@@ -13,7 +13,7 @@ use Rattle.apdu_stated.specs.Answers.{Says}
 use Rattle.apdu_stated.specs.Reading.{readOf, sayOf, lengthsOf, shortOf, extendedOf, afterData, dataOf}
 use Rattle.command_stated.specs.Command.{Command, Register, Authenticate, Version, commandOf, onReading, byInstruction, registerOf, authenticateOf, versionOf, applicationOf, challengeOf}
 use Rattle.u2f_up_stated.specs.Moments.{Told, fresh, settleOf, grantedOf, checkedOf, touchOf, checkOf}
-use Rattle.u2f_up_stated.specs.History.{Mark, lastMoment, latest, isPromptStanding, unspent, foretold}
+use Rattle.u2f_up_stated.specs.History.{TouchAccepted, TouchIgnored, TouchFound, NoTouchFound, lastMoment, latest, isPromptStanding, unspent, foretold}
 use Rattle.u2f_up_stated.specs.Runs.{after, history, doneBy}
 use Rattle.u2f_up_stated.specs.Terms.{Passes, HasTouch}
 use Rattle.u2f_up_stated.specs.declared.Presence.{Presence}
@@ -313,23 +313,26 @@ statusLeaves d =
     let z : _≡_ {A = ℕ} 0 7 = rw none-read at (ap (λ (s : Told). s .presence .last) (d (fresh 1000) (DecideAt 7 (lent [] works [] 0)))) in
     omega arith
 
-yes-same : {a b : Bool} → _≡_ {A = Outcome Bool} (Gives a) (Gives b) → a ≡ b
-yes-same e = cc
+found-not : TouchFound ≡ NoTouchFound → ⊥
+found-not e = let z : _≡_ {A = ℕ} 0 1 = cc in omega arith
+
+accepted-not : TouchAccepted ≡ TouchIgnored → ⊥
+accepted-not e = let z : _≡_ {A = ℕ} 0 1 = cc in omega arith
 
 -- a check-only at 0 is said to prompt; the touch at 1 is not accepted
 pub checkOnlyAsCheck : Claims.Demand3OfThePanel Wrong.checkOnlyAsCheck → ⊥
 unfolding decisionOf pathOf allowedPath commandPath versionPath registerPath loginPath registerEnding countedEnding settleOf checkedOf after history foretold isPromptStanding latest lastMoment touchOf grantedOf commandOf onReading byInstruction authenticateOf readOf sayOf lengthsOf shortOf extendedOf afterData dataOf partOf
 checkOnlyAsCheck d =
-    false≢true (yes-same (d 1000 (omega arith) (omega arith) (DecideAt 0 (lent (signFrame 0x07) works [] 0) ∷ []) .foretells (TouchAt 1)))
+    accepted-not (sym (d 1000 (omega arith) (omega arith) (DecideAt 0 (lent (signFrame 0x07) works [] 0) ∷ []) .foretells (TouchAt 1)))
 
 -- P1 03 at 0 is said not to prompt; the touch at 1 is accepted
 pub touchAsOther : Claims.Demand3OfThePanel Wrong.touchAsOther → ⊥
 unfolding decisionOf pathOf allowedPath commandPath versionPath registerPath loginPath registerEnding countedEnding settleOf checkedOf after history foretold isPromptStanding latest lastMoment touchOf grantedOf commandOf onReading byInstruction authenticateOf readOf sayOf lengthsOf shortOf extendedOf afterData dataOf partOf
 touchAsOther d =
-    true≢false (yes-same (d 1000 (omega arith) (omega arith) (DecideAt 0 (lent (signFrame 0x03) works [] 77) ∷ []) .foretells (TouchAt 1)))
+    accepted-not ((d 1000 (omega arith) (omega arith) (DecideAt 0 (lent (signFrame 0x03) works [] 77) ∷ []) .foretells (TouchAt 1)))
 
 -- a Register that is not stored, with the touch at 1
 pub ordersAloneSpend : Claims.Demand3OfThePanel Wrong.ordersAloneSpend → ⊥
 unfolding decisionOf pathOf allowedPath commandPath versionPath registerPath loginPath registerEnding countedEnding settleOf checkedOf after history foretold unspent lastMoment touchOf checkOf grantedOf
 ordersAloneSpend d =
-    false≢true (yes-same (rw register-read at (d 1000 (omega arith) (omega arith) (TouchAt 1 ∷ CheckAt 0 ∷ []) .foretells (DecideAt 2 (lent registerFrame notStored [] 139)))))
+    found-not (sym (rw register-read at (d 1000 (omega arith) (omega arith) (TouchAt 1 ∷ CheckAt 0 ∷ []) .foretells (DecideAt 2 (lent registerFrame notStored [] 139)))))

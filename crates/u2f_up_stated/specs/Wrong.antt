@@ -2,7 +2,7 @@
 use mathlib.Core.List.{List, [], _∷_}
 use Rattle.u2f_up_stated.specs.Words.{ℕ, _+_, _^_, Bool, true, false, _||_, eqb, ltb, leb, if_then_else_, Outcome, R, Gives, Window, Closed, Opened, Presence, Finding}
 use Rattle.u2f_up_stated.specs.Moments.{fresh, Told, isLive, isPrompting, isR6, isR1, movedTo, settleOf, gave, refused, touchOpened, touchClosed, promptOpened, onSettled, grantedOf, checkedOf, touchOf, checkOf, askOf}
-use Rattle.u2f_up_stated.specs.History.{Role, Touching, Checking, Asking, Settling, Short, Call, Event}
+use Rattle.u2f_up_stated.specs.History.{Role, Touching, Checking, Asking, Settling, Short, Call, Event, TouchAccepted, TouchFound, NoTouchFound}
 use Rattle.u2f_up_stated.specs.Runs.{Caller, doneBy}
 
 -- ---- makers of records: "a touch window W of 1..60,000"
@@ -175,8 +175,8 @@ shortMoves = record { asCall = λ c. c; does = λ p c. shortDoes (c .role) p (c 
 -- and at 3 spend it
 abbrev pub servedTwice : List Event
 servedTwice =
-    record { call = record { role = Checking; moment = 3 }; outcome = Gives true }
-    ∷ record { call = record { role = Checking; moment = 2 }; outcome = Gives true }
-    ∷ record { call = record { role = Touching; moment = 1 }; outcome = Gives true }
-    ∷ record { call = record { role = Checking; moment = 0 }; outcome = Gives false }
+    record { call = record { role = Checking; moment = 3 }; came = TouchFound }
+    ∷ record { call = record { role = Checking; moment = 2 }; came = TouchFound }
+    ∷ record { call = record { role = Touching; moment = 1 }; came = TouchAccepted }
+    ∷ record { call = record { role = Checking; moment = 0 }; came = NoTouchFound }
     ∷ []
