@@ -1,9 +1,9 @@
 -- Each wrong program of specs/Wrong.antt, and the claim that is false of it, at one input or at a run of a few calls.
 use Prim.Native.Nat.{ℕ, _+_, _^_, _<_, _≤_}
 use mathlib.Core.Path.{_≡_, refl, ap, sym, _∙_}
-use mathlib.Core.Bool.{Bool, true, false, true≢false, false≢true}
+use mathlib.Core.Bool.{true, false, true≢false, false≢true}
 use mathlib.Core.List.{List, [], _∷_, _++_}
-use mathlib.Core.Logic.{_⊎_, inl, inr, ⊎-elim}
+use mathlib.Core.Logic.{_⊎_, inr, ⊎-elim}
 use native.Mathlib.Omega.{arith}
 use lib.ListN.{length, replicate}
 use Rattle.outcome.specs.Outcome.{Outcome, R, SW, Gives}
@@ -11,15 +11,14 @@ use Rattle.outcome.proofs.Laws.{sw-same, sw-gives, r-gives, r-sw}
 use Rattle.octets.specs.Bytes.{partOf, byte}
 use Rattle.apdu_stated.specs.Answers.{Says}
 use Rattle.apdu_stated.specs.Reading.{readOf, sayOf, lengthsOf, shortOf, extendedOf, afterData, dataOf}
-use Rattle.command_stated.specs.Command.{Command, Register, Authenticate, Version, commandOf, onReading, byInstruction, registerOf, authenticateOf, versionOf, applicationOf, challengeOf}
+use Rattle.command_stated.specs.Command.{Register, Authenticate, Version, commandOf, onReading, byInstruction, registerOf, authenticateOf, versionOf, applicationOf, challengeOf}
 use Rattle.u2f_up_stated.specs.Moments.{Told, fresh, settleOf, grantedOf, checkedOf, touchOf, checkOf}
 use Rattle.u2f_up_stated.specs.History.{TouchAccepted, TouchIgnored, TouchFound, NoTouchFound, lastMoment, latest, isPromptStanding, unspent, foretold}
 use Rattle.u2f_up_stated.specs.Runs.{after, history, doneBy}
 use Rattle.u2f_up_stated.specs.Terms.{Passes, HasTouch}
 use Rattle.u2f_up_stated.specs.declared.Presence.{Presence}
-use Rattle.u2f_up_stated.specs.declared.Window.{Window}
 use Rattle.u2f_up_stated.specs.declared.Window.the-variants.{Closed, Opened}
-use Rattle.ctap1_stated.specs.Words.{Order, Inputs, Given, Body, Ordered, Result, Hardware, Allowed, Attestation, Counter}
+use Rattle.ctap1_stated.specs.Words.{Order, Inputs, Given, Ordered, Result, Hardware}
 use Rattle.ctap1_stated.specs.Path.{registerOrdered, enrolmentOrder, authenticateOrdered, registerEnding, countedEnding, loginPath, registerPath, versionPath, commandPath, allowedPath, pathOf}
 use Rattle.signing_stated.specs.Orders.{kindNo, certificateLength, isOfLayout, blankOrder, registerOrder, authenticateOrder, block}
 use Rattle.signing_stated.specs.Finishing.{finishOf, roomAsked}

@@ -6,31 +6,27 @@ use mathlib.Core.Logic.{_↔_, _⊎_, inl, inr}
 use mathlib.Core.List.{List, [], _∷_, _++_}
 use mathlib.Core.Option.{Option, some}
 use native.Mathlib.Omega.{arith}
-use borrow.Author.Tests.{eqb-true, eq-eqb}
-use lib.Dec.{eqb}
 use lib.ListN.{length, drop}
-use Rattle.outcome.specs.Notation.{if_then_else_}
-use Rattle.outcome.specs.Outcome.{Outcome, R, SW, Gives}
+use Rattle.outcome.specs.Outcome.{Outcome, R, Gives}
 use Rattle.outcome.proofs.Laws.{gives-same, sw-gives, r-gives, r-sw, both-are}
 use Rattle.octets.specs.Bytes.{byte}
 use Rattle.octets.proofs.Laid.{laid-fits}
 use Rattle.apdu_stated.specs.Answers.{Says}
-use Rattle.command_stated.specs.Command.{Command, Version, Register, Authenticate, commandOf}
+use Rattle.command_stated.specs.Command.{Command, Register, Authenticate, commandOf}
 use Rattle.u2f_up_stated.specs.Moments.{movedTo, touchClosed}
 use Rattle.u2f_up_stated.specs.History.{Role, Mark, Checking, TouchFound, isTouchFound, isNamed, heldAt, serverOf, servers}
 use Rattle.u2f_up_stated.specs.Runs.{after, comesTo, cameOf, history}
-use Rattle.u2f_up_stated.specs.Terms.{Passes, HasTouch}
+use Rattle.u2f_up_stated.specs.Terms.{HasTouch}
 use Rattle.u2f_up_stated.specs.declared.Presence.{Presence}
 use Rattle.u2f_up_stated.proofs.Laws.{demand-3, servers-next, named-later, named-counts, count, length-those}
 use Rattle.signing_stated.specs.Orders.{kindNo, certificateLength, blankOrder, isOfLayout}
-use Rattle.signing_stated.specs.Finishing.{Finishing, finishOf, roomAsked}
+use Rattle.signing_stated.specs.Finishing.{roomAsked}
 use Rattle.ctap1_stated.specs.Words.{Inputs, Given, Body, Ordered, Result, Allowed, Decision}
-use Rattle.ctap1_stated.specs.Path.{roleOf, registerOrdered, authenticateOrdered}
+use Rattle.ctap1_stated.specs.Path.{roleOf}
 use Rattle.ctap1_stated.specs.Decision.{statusResult, versionBytes, decisionOf, replyLeft}
 use Rattle.ctap1_stated.specs.Calls.{PanelCall, DecideAt, panelCalls, seen}
-use Rattle.ctap1_stated.specs.Terms.{AreBlocks, SaysPresent, OrdersPresent, Comes, Registering, Signing, checkOnlyAnswer}
+use Rattle.ctap1_stated.specs.Terms.{AreBlocks, SaysPresent, OrdersPresent, checkOnlyAnswer}
 use Rattle.ctap1_stated.specs.Table
-use Rattle.ctap1_stated.specs.Table.{Answers}
 use Rattle.ctap1_stated.specs.Claims
 use Rattle.ctap1_stated.specs.declared.Allowed.the-variants as Allowed′
 use Rattle.ctap1_stated.specs.declared.Counter.the-variants as Counter′

@@ -1,8 +1,8 @@
 -- Wrong programs, each with one fault. proofs/Refuted.antt shows of each that a claim is false of it.
-use Rattle.ctap1_stated.specs.Words.{ℕ, _+_, Bool, true, false, not, List, [], _∷_, _++_, ltb, eqb, length, drop, if_then_else_, Outcome, R, SW, Gives}
+use Rattle.ctap1_stated.specs.Words.{ℕ, _+_, Bool, true, false, not, List, [], _∷_, ltb, eqb, length, if_then_else_, Outcome, R, SW, Gives}
 use Rattle.ctap1_stated.specs.Words.{Presence, Order, Inputs, Allowed, Attestation, Counter, Given, Body, Ordered, Result, isPresent}
-use Rattle.ctap1_stated.specs.Path.{Ending, Internal, WrongData, Orders, Path, NoRoom, Status, SixBytes, Signs, Touch, registerOrdered, authenticateOrdered, registerEnding, countedEnding, registerPath, authenticatePath, commandPath, pathOf, roleOf, roleOfPath}
-use Rattle.ctap1_stated.specs.Decision.{refusalResult, statusResult, ended, touchChecked, along, onMoment, decisionOf, replyLeft}
+use Rattle.ctap1_stated.specs.Path.{Ending, Internal, WrongData, Orders, Path, NoRoom, Status, SixBytes, Signs, Touch, registerOrdered, registerEnding, countedEnding, registerPath, authenticatePath, commandPath, pathOf}
+use Rattle.ctap1_stated.specs.Decision.{refusalResult, statusResult, ended, along, onMoment, decisionOf}
 use Rattle.ctap1_stated.specs.Calls.{PanelCall, TouchAt, CheckAt, AskAt, DecideAt, callOf, panelDoes, toldBy}
 use Rattle.ctap1_stated.specs.Terms.{Decider}
 use Rattle.ctap1_stated.specs.declared.Allowed.the-variants as Allowed′
@@ -11,8 +11,8 @@ use Rattle.ctap1_stated.specs.declared.Counter.the-variants as Counter�
 use Rattle.octets.specs.Bytes.{laid, bytes4}
 use Rattle.apdu_stated.specs.Answers.{Says}
 use Rattle.command_stated.specs.Command.{Command, Register, Authenticate, Version, commandOf, challengeOf, applicationOf}
-use Rattle.u2f_up_stated.specs.Moments.{Told, settleOf, checkedOf, movedTo, touchClosed, promptOpened}
-use Rattle.u2f_up_stated.specs.History.{Role, Touching, Checking, Asking, Settling, Short, Call}
+use Rattle.u2f_up_stated.specs.Moments.{Told, settleOf, checkedOf, touchClosed, promptOpened}
+use Rattle.u2f_up_stated.specs.History.{Role, Checking, Settling, Short, Call}
 use Rattle.u2f_up_stated.specs.Runs.{Caller}
 use Rattle.u2f_up_stated.specs.declared.Finding.{Finding}
 use Rattle.signing_stated.specs.Orders.{blankOrder, registerOrder, authenticateOrder}

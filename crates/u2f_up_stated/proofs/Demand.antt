@@ -12,7 +12,7 @@ use Rattle.outcome.specs.Outcome.{Outcome, R, Gives}
 use Rattle.u2f_up_stated.specs.Words.{Presence, Opened}
 use Rattle.u2f_up_stated.specs.Moments.{Told, isLive, isR6, isR1, movedTo, settleOf, grantedOf, checkedOf}
 use Rattle.u2f_up_stated.specs.History.{Role, Touching, Checking, Asking, Settling, Short, RefusedBy, TouchAccepted, TouchIgnored, TouchFound, NoTouchFound, PromptStands, NoPromptStands, Event, Mark, marked, those, isYoung, isOld, heldAt, lastMoment, unspent, isPromptStanding, unrefused, foretold, serverOf}
-use Rattle.u2f_up_stated.specs.Runs.{Caller, Keeps, after, next, comesTo, cameOf, history, doneBy}
+use Rattle.u2f_up_stated.specs.Runs.{Caller, Keeps, after, comesTo, cameOf, history, doneBy}
 use Rattle.u2f_up_stated.proofs.Roles.{done-refused, done-touching, done-checking, done-asking, done-settling, done-short}
 use Rattle.u2f_up_stated.proofs.Lists.{stay-old, left-old}
 use Rattle.u2f_up_stated.proofs.Runs.{promptOf, heldOf, recordOf, not-before, Sorted, Effect, still, moved, touched, spent, prompted, Follows, follows, settles-r1, settles}

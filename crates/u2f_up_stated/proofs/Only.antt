@@ -1,10 +1,10 @@
 -- Only the definition meets each claim: two functions that meet it agree on every input.
 use Prim.Native.Nat.{ℕ, _<_, _≤_}
-use mathlib.Core.Path.{_≡_, refl, sym, ap, ap₂, _∙_}
+use mathlib.Core.Path.{_≡_, refl, sym, ap₂, _∙_}
 use mathlib.Core.Bool.{Bool}
 use mathlib.Core.List.{List, [], _∷_}
 use Rattle.outcome.specs.Notation.{Determines, Determines2}
-use Rattle.u2f_up_stated.specs.Words.{Outcome, R, Gives, Presence}
+use Rattle.u2f_up_stated.specs.Words.{Outcome, R, Presence}
 use Rattle.u2f_up_stated.specs.Moments.{Told}
 use Rattle.u2f_up_stated.specs.History.{Call, Came, Event, foretold}
 use Rattle.u2f_up_stated.specs.Runs.{Caller, history}

@@ -1,13 +1,13 @@
 -- Each wrong program of specs/Wrong.antt, and the claim that is false of it, at one input or at a run of a few calls.
-use Prim.Native.Nat.{ℕ, _+_, _^_, _<_, _≤_}
-use mathlib.Core.Path.{_≡_, refl, sym, ap, _∙_}
+use Prim.Native.Nat.{ℕ, _^_, _<_, _≤_}
+use mathlib.Core.Path.{_≡_, refl, sym, ap}
 use mathlib.Core.Bool.{Bool, true, false, true≢false, false≢true}
-use mathlib.Core.List.{List, [], _∷_}
+use mathlib.Core.List.{[], _∷_}
 use mathlib.Core.Logic.{_⊎_, inl, inr, ⊎-elim}
 use native.Mathlib.Omega.{arith}
 use Rattle.outcome.proofs.Laws.{r-gives}
-use Rattle.u2f_up_stated.specs.Words.{Outcome, R, Gives, Window, Closed, Opened, Presence, Finding}
-use Rattle.u2f_up_stated.specs.Moments.{Told, fresh, settleOf, grantedOf, checkedOf, touchOf, checkOf, askOf}
+use Rattle.u2f_up_stated.specs.Words.{Outcome, R, Gives, Closed, Opened, Presence, Finding}
+use Rattle.u2f_up_stated.specs.Moments.{Told, fresh, settleOf, grantedOf, checkedOf, checkOf}
 use Rattle.u2f_up_stated.specs.History.{Touching, Checking, Short, TouchAccepted, TouchIgnored, TouchFound, NoTouchFound, Call, lastMoment, latest, isPromptStanding, unspent, servers, foretold}
 use Rattle.u2f_up_stated.specs.Runs.{after, history, doneBy}
 use Rattle.u2f_up_stated.specs.Terms.{BadWindow, BadMoment, Passes, HasTouch, HasPrompt, ServesOnce}

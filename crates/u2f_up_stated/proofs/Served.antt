@@ -4,16 +4,16 @@ use Prim.Native.Nat.{ℕ, suc, _+_, _<_, _≤_}
 use mathlib.Core.Path.{_≡_, refl, sym, ap, _∙_}
 use mathlib.Core.Bool.{Bool, true, false, true≢false}
 use mathlib.Core.List.{List, [], _∷_, _++_}
-use mathlib.Core.Option.{Option, none, some}
+use mathlib.Core.Option.{Option, some}
 use native.Mathlib.Omega.{arith}
-use lib.Dec.{eqb, ltb}
+use lib.Dec.{eqb}
 use lib.ListN.{length}
-use borrow.Author.Tests.{eqb-true, eq-eqb, eqb-false}
+use borrow.Author.Tests.{eqb-true, eq-eqb}
 use Rattle.outcome.specs.Notation.{if_then_else_}
 use Rattle.u2f_up_stated.specs.Words.{Window, Closed, Opened}
 use Rattle.u2f_up_stated.specs.Moments.{isLive}
 use Rattle.u2f_up_stated.specs.Terms.{ServesOnce}
-use Rattle.u2f_up_stated.specs.History.{Event, Mark, marked, isAccepted, isSpending, latest, unspent, heldAt, serverOf, servers, isNamed}
+use Rattle.u2f_up_stated.specs.History.{Event, Mark, marked, isAccepted, isSpending, unspent, heldAt, serverOf, servers, isNamed}
 use Rattle.u2f_up_stated.specs.Runs.{Caller, comesTo, history}
 use Rattle.u2f_up_stated.proofs.Lists.{count, length-those}
 use Rattle.u2f_up_stated.proofs.Runs.{heldOf, Sorted, Effect, still, moved, touched, spent, prompted}

@@ -1,7 +1,7 @@
 -- Wrong programs, each with one fault. proofs/Refuted.antt shows of each that a claim is false of it.
 use mathlib.Core.List.{List, [], _∷_}
 use Rattle.u2f_up_stated.specs.Words.{ℕ, _+_, _^_, Bool, true, false, _||_, eqb, ltb, leb, if_then_else_, Outcome, R, Gives, Window, Closed, Opened, Presence, Finding}
-use Rattle.u2f_up_stated.specs.Moments.{fresh, Told, isLive, isPrompting, isR6, isR1, movedTo, settleOf, gave, refused, touchOpened, touchClosed, promptOpened, onSettled, grantedOf, checkedOf, touchOf, checkOf, askOf}
+use Rattle.u2f_up_stated.specs.Moments.{fresh, Told, isLive, isPrompting, isR6, isR1, movedTo, settleOf, gave, refused, touchOpened, touchClosed, promptOpened, onSettled, grantedOf, checkedOf}
 use Rattle.u2f_up_stated.specs.History.{Role, Touching, Checking, Asking, Settling, Short, Call, Event, TouchAccepted, TouchFound, NoTouchFound}
 use Rattle.u2f_up_stated.specs.Runs.{Caller, doneBy}
 
