@@ -72,7 +72,7 @@ window9999 = touching (grantedWithin 9999)
 abbrev pub window10001 : Presence → ℕ → Told
 window10001 = touching (grantedWithin 10001)
 
--- "Otherwise nothing but the last moment moves": an unaccepted touch leaves even that
+-- "Otherwise nothing but the last moment moves": a touch leaves even that
 abbrev pub leavesTheMoment : Presence → ℕ → Told
 leavesTheMoment p t = onSettled p (settleOf p t) (λ q. gave (grantedOf p t))
 
