@@ -1,9 +1,8 @@
 -- The decision's path, check by check, as the code meets it. It mentions no function.
-use Prim.Native.Nat.{ℕ, _+_, _<_, _≤_}
-use mathlib.Core.Path.{_≡_, refl, ap, sym, _∙_}
+use Prim.Native.Nat.{ℕ, _<_, _≤_}
+use mathlib.Core.Path.{_≡_, sym, _∙_}
 use mathlib.Core.Bool.{Bool, true, false, not}
 use mathlib.Core.List.{List}
-use native.Mathlib.Omega.{arith}
 use borrow.Author.Tests.{lt-ltb, le-ltb, leb-true, leb-false, eq-eqb, ne-eqb, not-true, not-false}
 use lib.Dec.{leb, ltb}
 use lib.ListN.{length}
@@ -15,7 +14,7 @@ use Rattle.u2f_up_stated.specs.Moments.{checkedOf}
 use Rattle.u2f_up_stated.specs.declared.Presence.{Presence}
 use Rattle.u2f_up_stated.specs.declared.Finding.{Finding}
 use Rattle.signing_stated.specs.Layouts.{presenceByte}
-use Rattle.signing_stated.specs.Orders.{blankOrder, registerOrder, authenticateOrder}
+use Rattle.signing_stated.specs.Orders.{registerOrder, authenticateOrder}
 use Rattle.signing_stated.specs.declared.Order.{Order}
 use Rattle.signing_stated.specs.Finishing.{registerRoom, authenticateRoom}
 use Rattle.ctap1_stated.specs.Words.{Inputs, Enrolment, Hardware, isPresent, Given, Result, Counter}

@@ -9,7 +9,7 @@ use borrow.Author.Tests.{eqb-true}
 use lib.Dec.{eqb}
 use lib.ListN.{length, take, drop}
 use lib.Seq.{getD-drop, getD-take}
-use Rattle.outcome.specs.Outcome.{Outcome, R, SW, Gives}
+use Rattle.outcome.specs.Outcome.{Outcome, R, Gives}
 use Rattle.outcome.proofs.Laws.{r-gives, r-sw}
 use Rattle.octets.specs.Bytes.{bytes4, byte}
 use Rattle.apdu_stated.specs.Answers.{Says}

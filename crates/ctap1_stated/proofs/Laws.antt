@@ -1,6 +1,6 @@
 -- What other crates cite.
 use Prim.Native.Nat.{ℕ}
-use mathlib.Core.Path.{_≡_, refl}
+use mathlib.Core.Path.{_≡_}
 use Rattle.outcome.specs.Outcome.{Outcome, R, SW, Gives}
 use Rattle.command_stated.specs.Command.{commandOf}
 use Rattle.u2f_up_stated.specs.declared.Presence.{Presence}

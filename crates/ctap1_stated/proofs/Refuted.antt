@@ -1,9 +1,9 @@
 -- Each wrong program of specs/Wrong.antt, and the claim that is false of it, at one input or at a run of a few calls.
 use Prim.Native.Nat.{ℕ, _+_, _^_, _<_, _≤_}
 use mathlib.Core.Path.{_≡_, refl, ap, sym, _∙_}
-use mathlib.Core.Bool.{Bool, true, false, true≢false, false≢true}
+use mathlib.Core.Bool.{true, false, true≢false, false≢true}
 use mathlib.Core.List.{List, [], _∷_, _++_}
-use mathlib.Core.Logic.{_⊎_, inl, inr, ⊎-elim}
+use mathlib.Core.Logic.{_⊎_, inr, ⊎-elim}
 use native.Mathlib.Omega.{arith}
 use lib.ListN.{length, replicate}
 use Rattle.outcome.specs.Outcome.{Outcome, R, SW, Gives}
@@ -11,15 +11,14 @@ use Rattle.outcome.proofs.Laws.{sw-same, sw-gives, r-gives, r-sw}
 use Rattle.octets.specs.Bytes.{partOf, byte}
 use Rattle.apdu_stated.specs.Answers.{Says}
 use Rattle.apdu_stated.specs.Reading.{readOf, sayOf, lengthsOf, shortOf, extendedOf, afterData, dataOf}
-use Rattle.command_stated.specs.Command.{Command, Register, Authenticate, Version, commandOf, onReading, byInstruction, registerOf, authenticateOf, versionOf, applicationOf, challengeOf}
+use Rattle.command_stated.specs.Command.{Register, Authenticate, Version, commandOf, onReading, byInstruction, registerOf, authenticateOf, versionOf, applicationOf, challengeOf}
 use Rattle.u2f_up_stated.specs.Moments.{Told, fresh, settleOf, grantedOf, checkedOf, touchOf, checkOf}
-use Rattle.u2f_up_stated.specs.History.{Mark, lastMoment, latest, isPromptStanding, unspent, foretold}
+use Rattle.u2f_up_stated.specs.History.{TouchAccepted, TouchIgnored, TouchFound, NoTouchFound, lastMoment, latest, isPromptStanding, unspent, foretold}
 use Rattle.u2f_up_stated.specs.Runs.{after, history, doneBy}
 use Rattle.u2f_up_stated.specs.Terms.{Passes, HasTouch}
 use Rattle.u2f_up_stated.specs.declared.Presence.{Presence}
-use Rattle.u2f_up_stated.specs.declared.Window.{Window}
 use Rattle.u2f_up_stated.specs.declared.Window.the-variants.{Closed, Opened}
-use Rattle.ctap1_stated.specs.Words.{Order, Inputs, Given, Body, Ordered, Result, Hardware, Allowed, Attestation, Counter}
+use Rattle.ctap1_stated.specs.Words.{Order, Inputs, Given, Ordered, Result, Hardware}
 use Rattle.ctap1_stated.specs.Path.{registerOrdered, enrolmentOrder, authenticateOrdered, registerEnding, countedEnding, loginPath, registerPath, versionPath, commandPath, allowedPath, pathOf}
 use Rattle.signing_stated.specs.Orders.{kindNo, certificateLength, isOfLayout, blankOrder, registerOrder, authenticateOrder, block}
 use Rattle.signing_stated.specs.Finishing.{finishOf, roomAsked}
@@ -313,23 +312,26 @@ statusLeaves d =
     let z : _≡_ {A = ℕ} 0 7 = rw none-read at (ap (λ (s : Told). s .presence .last) (d (fresh 1000) (DecideAt 7 (lent [] works [] 0)))) in
     omega arith
 
-yes-same : {a b : Bool} → _≡_ {A = Outcome Bool} (Gives a) (Gives b) → a ≡ b
-yes-same e = cc
+found-not : TouchFound ≡ NoTouchFound → ⊥
+found-not e = let z : _≡_ {A = ℕ} 0 1 = cc in omega arith
+
+accepted-not : TouchAccepted ≡ TouchIgnored → ⊥
+accepted-not e = let z : _≡_ {A = ℕ} 0 1 = cc in omega arith
 
 -- a check-only at 0 is said to prompt; the touch at 1 is not accepted
 pub checkOnlyAsCheck : Claims.Demand3OfThePanel Wrong.checkOnlyAsCheck → ⊥
 unfolding decisionOf pathOf allowedPath commandPath versionPath registerPath loginPath registerEnding countedEnding settleOf checkedOf after history foretold isPromptStanding latest lastMoment touchOf grantedOf commandOf onReading byInstruction authenticateOf readOf sayOf lengthsOf shortOf extendedOf afterData dataOf partOf
 checkOnlyAsCheck d =
-    false≢true (yes-same (d 1000 (omega arith) (omega arith) (DecideAt 0 (lent (signFrame 0x07) works [] 0) ∷ []) .foretells (TouchAt 1)))
+    accepted-not (sym (d 1000 (omega arith) (omega arith) (DecideAt 0 (lent (signFrame 0x07) works [] 0) ∷ []) .foretells (TouchAt 1)))
 
 -- P1 03 at 0 is said not to prompt; the touch at 1 is accepted
 pub touchAsOther : Claims.Demand3OfThePanel Wrong.touchAsOther → ⊥
 unfolding decisionOf pathOf allowedPath commandPath versionPath registerPath loginPath registerEnding countedEnding settleOf checkedOf after history foretold isPromptStanding latest lastMoment touchOf grantedOf commandOf onReading byInstruction authenticateOf readOf sayOf lengthsOf shortOf extendedOf afterData dataOf partOf
 touchAsOther d =
-    true≢false (yes-same (d 1000 (omega arith) (omega arith) (DecideAt 0 (lent (signFrame 0x03) works [] 77) ∷ []) .foretells (TouchAt 1)))
+    accepted-not ((d 1000 (omega arith) (omega arith) (DecideAt 0 (lent (signFrame 0x03) works [] 77) ∷ []) .foretells (TouchAt 1)))
 
 -- a Register that is not stored, with the touch at 1
 pub ordersAloneSpend : Claims.Demand3OfThePanel Wrong.ordersAloneSpend → ⊥
 unfolding decisionOf pathOf allowedPath commandPath versionPath registerPath loginPath registerEnding countedEnding settleOf checkedOf after history foretold unspent lastMoment touchOf checkOf grantedOf
 ordersAloneSpend d =
-    false≢true (yes-same (rw register-read at (d 1000 (omega arith) (omega arith) (TouchAt 1 ∷ CheckAt 0 ∷ []) .foretells (DecideAt 2 (lent registerFrame notStored [] 139)))))
+    found-not (sym (rw register-read at (d 1000 (omega arith) (omega arith) (TouchAt 1 ∷ CheckAt 0 ∷ []) .foretells (DecideAt 2 (lent registerFrame notStored [] 139)))))

@@ -6,31 +6,27 @@ use mathlib.Core.Logic.{_↔_, _⊎_, inl, inr}
 use mathlib.Core.List.{List, [], _∷_, _++_}
 use mathlib.Core.Option.{Option, some}
 use native.Mathlib.Omega.{arith}
-use borrow.Author.Tests.{eqb-true, eq-eqb}
-use lib.Dec.{eqb}
 use lib.ListN.{length, drop}
-use Rattle.outcome.specs.Notation.{if_then_else_}
-use Rattle.outcome.specs.Outcome.{Outcome, R, SW, Gives}
+use Rattle.outcome.specs.Outcome.{Outcome, R, Gives}
 use Rattle.outcome.proofs.Laws.{gives-same, sw-gives, r-gives, r-sw, both-are}
 use Rattle.octets.specs.Bytes.{byte}
 use Rattle.octets.proofs.Laid.{laid-fits}
 use Rattle.apdu_stated.specs.Answers.{Says}
-use Rattle.command_stated.specs.Command.{Command, Version, Register, Authenticate, commandOf}
+use Rattle.command_stated.specs.Command.{Command, Register, Authenticate, commandOf}
 use Rattle.u2f_up_stated.specs.Moments.{movedTo, touchClosed}
-use Rattle.u2f_up_stated.specs.History.{Role, Mark, Checking, isSpending, isNamed, heldAt, serverOf, servers}
-use Rattle.u2f_up_stated.specs.Runs.{after, next, history}
-use Rattle.u2f_up_stated.specs.Terms.{Passes, HasTouch}
+use Rattle.u2f_up_stated.specs.History.{Role, Mark, Checking, TouchFound, isTouchFound, isNamed, heldAt, serverOf, servers}
+use Rattle.u2f_up_stated.specs.Runs.{after, comesTo, cameOf, history}
+use Rattle.u2f_up_stated.specs.Terms.{HasTouch}
 use Rattle.u2f_up_stated.specs.declared.Presence.{Presence}
 use Rattle.u2f_up_stated.proofs.Laws.{demand-3, servers-next, named-later, named-counts, count, length-those}
 use Rattle.signing_stated.specs.Orders.{kindNo, certificateLength, blankOrder, isOfLayout}
-use Rattle.signing_stated.specs.Finishing.{Finishing, finishOf, roomAsked}
+use Rattle.signing_stated.specs.Finishing.{roomAsked}
 use Rattle.ctap1_stated.specs.Words.{Inputs, Given, Body, Ordered, Result, Allowed, Decision}
-use Rattle.ctap1_stated.specs.Path.{roleOf, registerOrdered, authenticateOrdered}
+use Rattle.ctap1_stated.specs.Path.{roleOf}
 use Rattle.ctap1_stated.specs.Decision.{statusResult, versionBytes, decisionOf, replyLeft}
 use Rattle.ctap1_stated.specs.Calls.{PanelCall, DecideAt, panelCalls, seen}
-use Rattle.ctap1_stated.specs.Terms.{AreBlocks, SaysPresent, OrdersPresent, Comes, Registering, Signing, checkOnlyAnswer}
+use Rattle.ctap1_stated.specs.Terms.{AreBlocks, SaysPresent, OrdersPresent, checkOnlyAnswer}
 use Rattle.ctap1_stated.specs.Table
-use Rattle.ctap1_stated.specs.Table.{Answers}
 use Rattle.ctap1_stated.specs.Claims
 use Rattle.ctap1_stated.specs.declared.Allowed.the-variants as Allowed′
 use Rattle.ctap1_stated.specs.declared.Counter.the-variants as Counter′
@@ -230,20 +226,20 @@ module _ (w : ℕ) (least : 0 < w) (most : w ≤ 60000) (earlier : List PanelCal
   unfolding now
   spending = seen-spending now t a (decisionOf now t a) (way now t a) (o .0) (o .1)
 
-  found : next panelCalls w earlier (DecideAt t a) ≡ Gives true
+  checked : (k : Role) (o : Outcome Given) → k ≡ Checking → seen Checking o ≡ Gives true → cameOf k (seen k o) ≡ TouchFound
+  checked k o e f = rw (e, f)
+
+  found : comesTo panelCalls w earlier (DecideAt t a) ≡ TouchFound
   unfolding now
-  found = rw (spending .0) (spending .1)
+  found = checked (roleOf a) (decisionOf now t a .answer) (spending .0) (spending .1)
 
   own : (k : Mark) × (serverOf (history panelCalls w earlier) ≡ some k) × (heldAt w (history panelCalls w earlier) t ≡ k ∷ [])
-  own = demand-3 panelCalls panel-keeps w least most earlier .serves (DecideAt t a) (spending .0) found
-
-  spends : (k : Role) (o : Outcome Bool) → k ≡ Checking → o ≡ Gives true → isSpending (record { call = record { role = k; moment = t }; outcome = o }) ≡ true
-  spends k o e f = rw (e, f)
+  own = demand-3 panelCalls panel-keeps w least most earlier .serves (DecideAt t a) found
 
   -- the call names its touch
   named : (k : Mark) → serverOf (history panelCalls w earlier) ≡ some k → servers (history panelCalls w (DecideAt t a ∷ earlier)) ≡ some k ∷ servers (history panelCalls w earlier)
   unfolding history
-  named k e = servers-next _ (history panelCalls w earlier) true (spends _ _ (spending .0) found) ∙ ap (λ (j : Option Mark). j ∷ servers (history panelCalls w earlier)) e
+  named k e = servers-next _ (history panelCalls w earlier) true (ap isTouchFound found) ∙ ap (λ (j : Option Mark). j ∷ servers (history panelCalls w earlier)) e
 
 pub OrdersHaveTheirTouch : Claims.OrdersHaveTheirTouch decisionOf
 OrdersHaveTheirTouch = record { own = own; apart = apart }

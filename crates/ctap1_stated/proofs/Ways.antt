@@ -1,9 +1,8 @@
 -- Every row of the table is what the definition says, and what the definition says is a row; and the few ways that the claims on
 -- orders, counter and reply tell apart.
-use Prim.Native.Nat.{ℕ, _+_, _<_, _≤_}
-use mathlib.Core.Path.{_≡_, refl, ap, sym, _∙_}
+use Prim.Native.Nat.{ℕ, _≤_}
+use mathlib.Core.Path.{_≡_, refl, ap, _∙_}
 use mathlib.Core.Bool.{Bool, true, false, not}
-use native.Mathlib.Omega.{arith}
 use borrow.Author.Tests.{lt-ltb, le-ltb, ltb-true, ltb-false, eqb-true, eqb-false, ne-eqb, not-true, not-false}
 use lib.Dec.{ltb, eqb}
 use lib.ListN.{length}
@@ -11,13 +10,13 @@ use Rattle.outcome.specs.Notation.{if_then_else_}
 use Rattle.outcome.specs.Outcome.{Outcome, R, SW, Gives}
 use Rattle.apdu_stated.specs.Answers.{Says}
 use Rattle.command_stated.specs.Command.{Command, Register, Authenticate, Version, commandOf}
-use Rattle.u2f_up_stated.specs.Moments.{movedTo, touchClosed, promptOpened, settleOf, checkedOf}
+use Rattle.u2f_up_stated.specs.Moments.{movedTo, touchClosed, promptOpened}
 use Rattle.u2f_up_stated.specs.History.{Checking}
 use Rattle.u2f_up_stated.specs.Terms.{BadWindow, BadMoment, Passes, HasTouch}
 use Rattle.u2f_up_stated.specs.declared.Presence.{Presence}
 use Rattle.u2f_up_stated.proofs.Laws.{bad-window, bad-moment, has-touch, settle-r6, settle-r1, settle-moves, checked-live, checked-dead}
-use Rattle.ctap1_stated.specs.Words.{Inputs, Result, Ordered, Allowed, Attestation, Counter, isPresent}
-use Rattle.ctap1_stated.specs.Path.{Ending, Internal, WrongData, Orders, Path, NoRoom, Status, SixBytes, Signs, Touch, registerOrdered, authenticateOrdered, enrolmentOrder, registerEnding, countedEnding, loginPath, registerPath, versionPath, authenticatePath, commandPath, allowedPath, pathOf, roleOf}
+use Rattle.ctap1_stated.specs.Words.{Inputs, Result, Allowed, Attestation, Counter, isPresent}
+use Rattle.ctap1_stated.specs.Path.{Ending, Internal, Orders, Path, Touch, registerOrdered, authenticateOrdered, enrolmentOrder, registerEnding, countedEnding, loginPath, registerPath, versionPath, authenticatePath, commandPath, allowedPath, pathOf, roleOf}
 use Rattle.ctap1_stated.specs.Decision.{refusalResult, statusResult, bodyResult, orderResult, ended, along, decisionOf}
 use Rattle.ctap1_stated.specs.Terms.{Comes, roomOfRegister, Registering, Signing}
 use Rattle.ctap1_stated.specs.Table

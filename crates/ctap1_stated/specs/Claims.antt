@@ -6,7 +6,7 @@ use mathlib.Core.Option.{some}
 use Rattle.ctap1_stated.specs.Words.{AtMostOne, R, SW, Gives, [], _∷_, _++_, drop, ℕ, _+_, _*_, _<_, _≤_, _≡_, true, false, List, length, Presence, Decision, Decided, Inputs, Body, Ordered, Result, decidedOf}
 use Rattle.ctap1_stated.specs.Calls.{PanelCall, DecideAt, callsWith}
 use Rattle.ctap1_stated.specs.Contracts.{Decide}
-use Rattle.ctap1_stated.specs.Terms.{Decider, AreBlocks, result, movedAt, spentAt, Comes, SaysPresent, OrdersPresent, checkOnlyAnswer}
+use Rattle.ctap1_stated.specs.Terms.{Decider, AreBlocks, result, movedAt, spentAt, Comes, OrdersPresent, checkOnlyAnswer}
 use Rattle.ctap1_stated.specs.Table.{Answers}
 use Rattle.ctap1_stated.specs.declared.Counter.the-variants as Counter′
 use Rattle.octets.specs.Bytes.{byte}

@@ -1,6 +1,6 @@
 -- Document 01, 'The decision', with the record: R6 and R1, then along the path, with the touch check and its 6985 said once; and
 -- 'Refusal numbers' as far as they speak of the decision.
-use Rattle.ctap1_stated.specs.Words.{ℕ, Bool, true, false, not, List, [], _∷_, Presence, Order}
+use Rattle.ctap1_stated.specs.Words.{ℕ, Bool, false, not, List, [], _∷_, Presence, Order}
 use Rattle.ctap1_stated.specs.Words.{if_then_else_, Outcome, R, SW, Gives, Inputs, Given, Body, Ordered, Result}
 use Rattle.ctap1_stated.specs.Path.{Ending, Internal, WrongData, Orders, Path, NoRoom, Status, SixBytes, Signs, Touch, pathOf}
 use Rattle.octets.specs.Bytes.{laid}

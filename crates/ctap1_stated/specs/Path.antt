@@ -68,9 +68,6 @@ unfoldable pub countedEnding : List ℕ → Says → Bool → Counter → Ending
 countedEnding frame said present Counter′.Failed = WrongData
 countedEnding frame said present (Counter′.Offered n) = Orders (signingOrder frame said present n) true
 
-abbrev pub authenticateEnding : Inputs → Says → Bool → Counter → Ending
-authenticateEnding a said present c = countedEnding (a .frame) said present c
-
 -- 6. "handle not good gives 6a80; P1 07 gives 6985; buffer under 77 gives R2; for P1 03 touch check"
 unfoldable pub loginPath : List ℕ → Hardware → (room : ℕ) → ℕ → Says → Path
 loginPath frame hardware room p1 said =

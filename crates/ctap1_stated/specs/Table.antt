@@ -1,6 +1,6 @@
 -- Document 01, 'The decision', as one table, with no word of ours for a path: each row with its conditions, in the document's
 -- order, and the whole result: answer, record, order, whether the counter was taken.
-use Rattle.ctap1_stated.specs.Words.{ℕ, _<_, _≤_, _≡_, Bool, true, false, R, SW, Gives, Body, Ordered, length, Presence, Inputs, Result}
+use Rattle.ctap1_stated.specs.Words.{ℕ, _<_, _≤_, _≡_, true, false, R, SW, Gives, Body, Ordered, length, Presence, Inputs, Result}
 use Rattle.ctap1_stated.specs.Terms.{result, movedAt, spentAt, promptedAt, orderOfRegister, orderOfAuthenticate, Comes, roomOfRegister, Registering, Signing}
 use Rattle.ctap1_stated.specs.declared.Allowed.the-variants as Allowed′
 use Rattle.ctap1_stated.specs.declared.Attestation.the-variants as Attestation′

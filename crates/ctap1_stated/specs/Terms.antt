@@ -1,12 +1,12 @@
 -- Words that only the claims use: conditions, and records and orders spelled out.
 use mathlib.Core.Logic.{_⊎_}
-use Rattle.ctap1_stated.specs.Words.{if_then_else_, Outcome, Gives, ℕ, _+_, _<_, _≤_, _≡_, Bool, true, false, length, Presence, Order, Inputs, Given, Ordered, Result, Allowed}
+use Rattle.ctap1_stated.specs.Words.{if_then_else_, Outcome, Gives, ℕ, _+_, _≤_, _≡_, Bool, true, length, Presence, Order, Inputs, Given, Ordered, Result, Allowed}
 use Rattle.ctap1_stated.specs.declared.Allowed.the-variants as Allowed′
 use Rattle.octets.specs.Bytes.{byte, bytes4}
 use Rattle.apdu_stated.specs.Answers.{Says}
-use Rattle.command_stated.specs.Command.{Command, Register, Authenticate, Version, commandOf, challengeOf, applicationOf}
+use Rattle.command_stated.specs.Command.{Command, Register, Authenticate, commandOf, challengeOf, applicationOf}
 use Rattle.u2f_up_stated.specs.declared.Window.the-variants.{Closed, Opened}
-use Rattle.u2f_up_stated.specs.Terms.{Passes, HasTouch}
+use Rattle.u2f_up_stated.specs.Terms.{Passes}
 use Rattle.signing_stated.specs.Orders.{kindNo, registerOrder, authenticateOrder}
 
 -- what decides: of the record, the moment and all that is lent

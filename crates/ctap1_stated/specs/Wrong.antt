@@ -1,8 +1,8 @@
 -- Wrong programs, each with one fault. proofs/Refuted.antt shows of each that a claim is false of it.
-use Rattle.ctap1_stated.specs.Words.{ℕ, _+_, Bool, true, false, not, List, [], _∷_, _++_, ltb, eqb, length, drop, if_then_else_, Outcome, R, SW, Gives}
+use Rattle.ctap1_stated.specs.Words.{ℕ, _+_, Bool, true, false, not, List, [], _∷_, ltb, eqb, length, if_then_else_, Outcome, R, SW, Gives}
 use Rattle.ctap1_stated.specs.Words.{Presence, Order, Inputs, Allowed, Attestation, Counter, Given, Body, Ordered, Result, isPresent}
-use Rattle.ctap1_stated.specs.Path.{Ending, Internal, WrongData, Orders, Path, NoRoom, Status, SixBytes, Signs, Touch, registerOrdered, authenticateOrdered, registerEnding, countedEnding, registerPath, authenticatePath, commandPath, pathOf, roleOf, roleOfPath}
-use Rattle.ctap1_stated.specs.Decision.{refusalResult, statusResult, ended, touchChecked, along, onMoment, decisionOf, replyLeft}
+use Rattle.ctap1_stated.specs.Path.{Ending, Internal, WrongData, Orders, Path, NoRoom, Status, SixBytes, Signs, Touch, registerOrdered, registerEnding, countedEnding, registerPath, authenticatePath, commandPath, pathOf}
+use Rattle.ctap1_stated.specs.Decision.{refusalResult, statusResult, ended, along, onMoment, decisionOf}
 use Rattle.ctap1_stated.specs.Calls.{PanelCall, TouchAt, CheckAt, AskAt, DecideAt, callOf, panelDoes, toldBy}
 use Rattle.ctap1_stated.specs.Terms.{Decider}
 use Rattle.ctap1_stated.specs.declared.Allowed.the-variants as Allowed′
@@ -11,18 +11,18 @@ use Rattle.ctap1_stated.specs.declared.Counter.the-variants as Counter�
 use Rattle.octets.specs.Bytes.{laid, bytes4}
 use Rattle.apdu_stated.specs.Answers.{Says}
 use Rattle.command_stated.specs.Command.{Command, Register, Authenticate, Version, commandOf, challengeOf, applicationOf}
-use Rattle.u2f_up_stated.specs.Moments.{Told, settleOf, checkedOf, movedTo, touchClosed, promptOpened}
-use Rattle.u2f_up_stated.specs.History.{Role, Touching, Checking, Asking, Settling, Short, Call}
+use Rattle.u2f_up_stated.specs.Moments.{Told, settleOf, checkedOf, touchClosed, promptOpened}
+use Rattle.u2f_up_stated.specs.History.{Role, Checking, Settling, Short, Call}
 use Rattle.u2f_up_stated.specs.Runs.{Caller}
 use Rattle.u2f_up_stated.specs.declared.Finding.{Finding}
 use Rattle.signing_stated.specs.Orders.{blankOrder, registerOrder, authenticateOrder}
 
 -- ---- another path
-abbrev pub decideBy : (Inputs → Path) → Decider
+abbrev decideBy : (Inputs → Path) → Decider
 decideBy path p t a = onMoment p t (path a) (settleOf p t)
 
 -- "2. failed gives 6f00, no gives 6986. 3. the frame's status": the frame's status first
-abbrev pub onFrame : Inputs → Outcome Command → Path
+abbrev onFrame : Inputs → Outcome Command → Path
 onFrame a (R n) = pathOf a
 onFrame a (SW n) = Status n
 onFrame a (Gives c) = pathOf a
@@ -31,7 +31,7 @@ abbrev pub frameFirst : Decider
 frameFirst = decideBy (λ a. onFrame a (commandOf (a .frame)))
 
 -- "failed gives 6f00, no gives 6986": the other way round
-abbrev pub onSwapped : Inputs → Allowed → Path
+abbrev onSwapped : Inputs → Allowed → Path
 onSwapped a Allowed′.Failed = Status 0x6986
 onSwapped a Allowed′.No = Status 0x6f00
 onSwapped a Allowed′.Yes = pathOf a
@@ -39,23 +39,23 @@ onSwapped a Allowed′.Yes = pathOf a
 abbrev pub noAndFailed : Decider
 noAndFailed = decideBy (λ a. onSwapped a (a .hardware .allowed))
 
-abbrev pub ifAllowed : Allowed → Path → Path
+abbrev ifAllowed : Allowed → Path → Path
 ifAllowed Allowed′.Failed x = Status 0x6f00
 ifAllowed Allowed′.No x = Status 0x6986
 ifAllowed Allowed′.Yes x = x
 
 -- another Register
-abbrev pub registerOr : (Inputs → Says → Path) → Inputs → Outcome Command → Path
+abbrev registerOr : (Inputs → Says → Path) → Inputs → Outcome Command → Path
 registerOr path a (R n) = commandPath a (R n)
 registerOr path a (SW n) = commandPath a (SW n)
 registerOr path a (Gives Version) = commandPath a (Gives Version)
 registerOr path a (Gives (Register said)) = path a said
 registerOr path a (Gives (Authenticate p1 said)) = commandPath a (Gives (Authenticate p1 said))
 
-abbrev pub registerAs : (Inputs → Says → Path) → Decider
+abbrev registerAs : (Inputs → Says → Path) → Decider
 registerAs path = decideBy (λ a. ifAllowed (a .hardware .allowed) (registerOr path a (commandOf (a .frame))))
 
-abbrev pub registerWithin : ℕ → Inputs → Says → Path
+abbrev registerWithin : ℕ → Inputs → Says → Path
 registerWithin least a said = if ltb (a .room) (least + length (a .newHandle) + length (a .certificate)) then NoRoom else Touch (registerEnding a said)
 
 -- "R2 if the buffer is shorter than 139 + h + c": one less, one more
@@ -69,7 +69,7 @@ room140 = registerAs (registerWithin 140)
 abbrev pub storeFirst : Decider
 storeFirst = registerAs (λ a said. if not (a .hardware .stored) then Status 0x6f00 else registerPath a said)
 
-abbrev pub registerEnds : (longest : ℕ) → (Attestation → Bool) → (Inputs → Says → Order) → Inputs → Says → Path
+abbrev registerEnds : (longest : ℕ) → (Attestation → Bool) → (Inputs → Says → Order) → Inputs → Says → Path
 registerEnds longest attested order a said =
     if ltb (a .room) (139 + length (a .newHandle) + length (a .certificate)) then NoRoom
     else Touch
@@ -83,7 +83,7 @@ abbrev pub handle256 : Decider
 handle256 = registerAs (registerEnds 256 isPresent registerOrdered)
 
 -- "the attestation is missing or failed": a missing one is taken
-abbrev pub isNotFailed : Attestation → Bool
+abbrev isNotFailed : Attestation → Bool
 isNotFailed Attestation′.Present = true
 isNotFailed Attestation′.Missing = true
 isNotFailed Attestation′.Failed = false
@@ -92,7 +92,7 @@ abbrev pub missingTaken : Decider
 missingTaken = registerAs (registerEnds 255 isNotFailed registerOrdered)
 
 -- "the certificate length": one more
-abbrev pub longerOrder : Inputs → Says → Order
+abbrev longerOrder : Inputs → Says → Order
 longerOrder a said =
     registerOrder
     (record { application = applicationOf (a .frame) said; challenge = challengeOf (a .frame) said; handle = a .newHandle; x = a .x; y = a .y })
@@ -102,14 +102,14 @@ abbrev pub certificateMore : Decider
 certificateMore = registerAs (registerEnds 255 isPresent longerOrder)
 
 -- another Authenticate
-abbrev pub authenticateOr : (Inputs → ℕ → Says → Path) → Inputs → Outcome Command → Path
+abbrev authenticateOr : (Inputs → ℕ → Says → Path) → Inputs → Outcome Command → Path
 authenticateOr path a (R n) = commandPath a (R n)
 authenticateOr path a (SW n) = commandPath a (SW n)
 authenticateOr path a (Gives Version) = commandPath a (Gives Version)
 authenticateOr path a (Gives (Register said)) = commandPath a (Gives (Register said))
 authenticateOr path a (Gives (Authenticate p1 said)) = path a p1 said
 
-abbrev pub authenticateAs : (Inputs → ℕ → Says → Path) → Decider
+abbrev authenticateAs : (Inputs → ℕ → Says → Path) → Decider
 authenticateAs path = decideBy (λ a. ifAllowed (a .hardware .allowed) (authenticateOr path a (commandOf (a .frame))))
 
 -- "handle not good gives 6a80; P1 07 gives 6985": P1 07 first
@@ -120,7 +120,7 @@ checkOnlyFirst = authenticateAs (λ a p1 said. if eqb p1 0x07 then Status 0x6985
 abbrev pub roomFirst : Decider
 roomFirst = authenticateAs (λ a p1 said. if ltb (a .room) 77 then NoRoom else authenticatePath a p1 said)
 
-abbrev pub authenticateEnds : (least : ℕ) → (Inputs → Says → Ending) → Inputs → ℕ → Says → Path
+abbrev authenticateEnds : (least : ℕ) → (Inputs → Says → Ending) → Inputs → ℕ → Says → Path
 authenticateEnds least ends08 a p1 said =
     if not (a .hardware .good) then Status 0x6a80
     else if eqb p1 0x07 then Status 0x6985
@@ -140,7 +140,7 @@ abbrev pub present08 : Decider
 present08 = authenticateAs (authenticateEnds 77 (λ a said. countedEnding (a .frame) said true (a .hardware .counter)))
 
 -- "application, presence byte .., counter .., challenge": the challenge first
-abbrev pub turnedEnding : List ℕ → Says → Counter → Ending
+abbrev turnedEnding : List ℕ → Says → Counter → Ending
 turnedEnding frame said Counter′.Failed = WrongData
 turnedEnding frame said (Counter′.Offered n) = Orders (authenticateOrder (record { application = challengeOf frame said; presence = 0x00; counter = bytes4 n; challenge = applicationOf frame said })) true
 
@@ -152,7 +152,7 @@ abbrev pub touchOf08 : Decider
 touchOf08 = authenticateAs (λ a p1 said. if not (a .hardware .good) then Status 0x6a80 else if eqb p1 0x07 then Status 0x6985 else if ltb (a .room) 77 then NoRoom else if eqb p1 0x08 then Touch (countedEnding (a .frame) said true (a .hardware .counter)) else Signs (countedEnding (a .frame) said false (a .hardware .counter)))
 
 -- "for P1 03 touch check, 6985": from P1 03 straight to the counter
-abbrev pub straightened : Path → Path
+abbrev straightened : Path → Path
 straightened NoRoom = NoRoom
 straightened (Status n) = Status n
 straightened SixBytes = SixBytes
@@ -166,7 +166,7 @@ abbrev pub straight : Decider
 straight = decideBy (λ a. straightened (pathOf a))
 
 -- "the offered counter is reported as taken": it is not
-abbrev pub untaken : Path → Path
+abbrev untaken : Path → Path
 untaken NoRoom = NoRoom
 untaken (Status n) = Status n
 untaken SixBytes = SixBytes
@@ -179,15 +179,15 @@ abbrev pub notTaken : Decider
 notTaken = decideBy (λ a. untaken (pathOf a))
 
 -- ---- another walk along the path
-abbrev pub onWalk : (Path → Presence → Presence → ℕ → Result) → Presence → ℕ → Path → Outcome Presence → Result
+abbrev onWalk : (Path → Presence → Presence → ℕ → Result) → Presence → ℕ → Path → Outcome Presence → Result
 onWalk walk p t path (R n) = refusalResult n p
 onWalk walk p t path (SW n) = statusResult n p
 onWalk walk p t path (Gives settled) = walk path p settled t
 
-abbrev pub decideAlong : (Path → Presence → Presence → ℕ → Result) → Decider
+abbrev decideAlong : (Path → Presence → Presence → ℕ → Result) → Decider
 decideAlong walk p t a = onWalk walk p t (pathOf a) (settleOf p t)
 
-abbrev pub shortAs : (Presence → Presence → ℕ → Result) → Path → Presence → Presence → ℕ → Result
+abbrev shortAs : (Presence → Presence → ℕ → Result) → Path → Presence → Presence → ℕ → Result
 shortAs short NoRoom kept settled t = short kept settled t
 shortAs short (Status n) kept settled t = along (Status n) kept settled t
 shortAs short SixBytes kept settled t = along SixBytes kept settled t
@@ -208,7 +208,7 @@ r2Takes = decideAlong (shortAs (λ kept settled t. record { answer = R 2; presen
 abbrev pub r2Moves : Decider
 r2Moves = decideAlong (shortAs (λ kept settled t. refusalResult 2 settled))
 
-abbrev pub statusAs : (ℕ → Presence → Presence → ℕ → Result) → Path → Presence → Presence → ℕ → Result
+abbrev statusAs : (ℕ → Presence → Presence → ℕ → Result) → Path → Presence → Presence → ℕ → Result
 statusAs status NoRoom kept settled t = along NoRoom kept settled t
 statusAs status (Status n) kept settled t = status n kept settled t
 statusAs status SixBytes kept settled t = along SixBytes kept settled t
@@ -226,7 +226,7 @@ checkOnlyPrompts = decideAlong (statusAs (λ n kept settled t. statusResult n (i
 abbrev pub checkOnlySpends : Decider
 checkOnlySpends = decideAlong (statusAs (λ n kept settled t. statusResult n (if eqb n 0x6985 then touchClosed settled else settled)))
 
-abbrev pub touchAs : (Finding → Presence → Ending → Result) → Path → Presence → Presence → ℕ → Result
+abbrev touchAs : (Finding → Presence → Ending → Result) → Path → Presence → Presence → ℕ → Result
 touchAs touch NoRoom kept settled t = along NoRoom kept settled t
 touchAs touch (Status n) kept settled t = along (Status n) kept settled t
 touchAs touch SixBytes kept settled t = along SixBytes kept settled t
@@ -238,7 +238,7 @@ abbrev pub takesAt6985 : Decider
 takesAt6985 = decideAlong (touchAs (λ f settled e. if not (f .yes) then record { answer = SW 0x6985; presence = f .presence; order = blankOrder; taken = true } else ended e (f .presence)))
 
 -- what stands in an answer without an order is blank: here the order stands beside the 6985
-abbrev pub orderIn : Ending → Order
+abbrev orderIn : Ending → Order
 orderIn Internal = blankOrder
 orderIn WrongData = blankOrder
 orderIn (Orders o taken) = o
@@ -256,7 +256,7 @@ touchTurned = decideAlong (touchAs (λ f settled e. if f .yes then statusResult 
 
 -- ---- another reply
 -- "the six bytes 55 32 46 5F 56 32": U2F_V1
-abbrev pub replyAs : (List ℕ → List ℕ) → Outcome Given → List ℕ → List ℕ
+abbrev replyAs : (List ℕ → List ℕ) → Outcome Given → List ℕ → List ℕ
 replyAs body (R n) old = old
 replyAs body (SW n) old = old
 replyAs body (Gives (Body n)) old = body old
@@ -270,23 +270,23 @@ abbrev pub clearsRest : Result → List ℕ → List ℕ
 clearsRest r old = replyAs (λ (l : List ℕ). 0x55 ∷ 0x32 ∷ 0x46 ∷ 0x5F ∷ 0x56 ∷ 0x32 ∷ []) (r .answer) old
 
 -- ---- another role in the history
-abbrev pub rolesBy : (Path → Role) → PanelCall → Call
+abbrev rolesBy : (Path → Role) → PanelCall → Call
 rolesBy role (TouchAt t) = callOf (TouchAt t)
 rolesBy role (CheckAt t) = callOf (CheckAt t)
 rolesBy role (AskAt t) = callOf (AskAt t)
 rolesBy role (DecideAt t a) = record { role = role (pathOf a); moment = t }
 
-abbrev pub doesBy : (Path → Result → Told) → Presence → PanelCall → Told
+abbrev doesBy : (Path → Result → Told) → Presence → PanelCall → Told
 doesBy told p (TouchAt t) = panelDoes decisionOf p (TouchAt t)
 doesBy told p (CheckAt t) = panelDoes decisionOf p (CheckAt t)
 doesBy told p (AskAt t) = panelDoes decisionOf p (AskAt t)
 doesBy told p (DecideAt t a) = told (pathOf a) (decisionOf p t a)
 
-abbrev pub callsBy : (Path → Role) → Caller PanelCall
+abbrev callsBy : (Path → Role) → Caller PanelCall
 callsBy role = record { asCall = rolesBy role; does = doesBy (λ x r. toldBy (role x) r) }
 
 -- "never a 6985 from P1 07": it is taken for a prompting refusal
-abbrev pub roleOf07 : Path → Role
+abbrev roleOf07 : Path → Role
 roleOf07 NoRoom = Short
 roleOf07 (Status n) = if eqb n 0x6985 then Checking else Settling
 roleOf07 SixBytes = Settling
@@ -297,7 +297,7 @@ abbrev pub checkOnlyAsCheck : Caller PanelCall
 checkOnlyAsCheck = callsBy roleOf07
 
 -- "a 6985 from Register or from P1 03": it is taken for an answer without the touch check
-abbrev pub roleOfTouch : Path → Role
+abbrev roleOfTouch : Path → Role
 roleOfTouch NoRoom = Short
 roleOfTouch (Status n) = Settling
 roleOfTouch SixBytes = Settling
@@ -308,7 +308,7 @@ abbrev pub touchAsOther : Caller PanelCall
 touchAsOther = callsBy roleOfTouch
 
 -- "A call spends a touch if the check succeeds, also when a later step answers 6f00 or 6a80": seen to spend by orders alone
-abbrev pub orderSeen : Outcome Given → Outcome Bool
+abbrev orderSeen : Outcome Given → Outcome Bool
 orderSeen (R n) = R n
 orderSeen (SW n) = Gives false
 orderSeen (Gives g) = Gives true

@@ -11,8 +11,8 @@ use Rattle.outcome.specs.Notation.{if_then_else_}
 use Rattle.outcome.specs.Outcome.{Outcome, R, Gives}
 use Rattle.u2f_up_stated.specs.Words.{Presence, Opened}
 use Rattle.u2f_up_stated.specs.Moments.{Told, isLive, isR6, isR1, movedTo, settleOf, grantedOf, checkedOf}
-use Rattle.u2f_up_stated.specs.History.{Role, Touching, Checking, Asking, Settling, Short, Event, Mark, marked, those, isYoung, isOld, heldAt, lastMoment, unspent, isPromptStanding, unrefused, foretold, serverOf}
-use Rattle.u2f_up_stated.specs.Runs.{Caller, Keeps, after, next, history, doneBy}
+use Rattle.u2f_up_stated.specs.History.{Role, Touching, Checking, Asking, Settling, Short, RefusedBy, TouchAccepted, TouchIgnored, TouchFound, NoTouchFound, PromptStands, NoPromptStands, Event, Mark, marked, those, isYoung, isOld, heldAt, lastMoment, unspent, isPromptStanding, unrefused, foretold, serverOf}
+use Rattle.u2f_up_stated.specs.Runs.{Caller, Keeps, after, comesTo, cameOf, history, doneBy}
 use Rattle.u2f_up_stated.proofs.Roles.{done-refused, done-touching, done-checking, done-asking, done-settling, done-short}
 use Rattle.u2f_up_stated.proofs.Lists.{stay-old, left-old}
 use Rattle.u2f_up_stated.proofs.Runs.{promptOf, heldOf, recordOf, not-before, Sorted, Effect, still, moved, touched, spent, prompted, Follows, follows, settles-r1, settles}
@@ -55,21 +55,21 @@ module _ (w : ℕ) (h : List Event) (t : ℕ) (within : isR6 w ≡ false) where
   outcome-given e Short = ap outcome (done-short p t (movedTo p t) e)
 
   module _ (i : Inv w h) (g : Agrees h) where
-    gives-foretold : lastMoment h ≤ t → (k : Role) → gives k ≡ unrefused w h k t
+    gives-foretold : lastMoment h ≤ t → (k : Role) → cameOf k (gives k) ≡ unrefused w h k t
     unfolding isPromptStanding
-    gives-foretold late Touching = ap {B = Outcome Bool} Gives (g .agrees t)
-    gives-foretold late Checking = ap {B = Outcome Bool} Gives (live-any w t (unspent w h) (heldOf h) (held-now w h t late i))
-    gives-foretold late Asking = ap {B = Outcome Bool} Gives (g .agrees t)
+    gives-foretold late Touching = ap (λ (b : Bool). if b then TouchAccepted else TouchIgnored) (g .agrees t)
+    gives-foretold late Checking = ap (λ (b : Bool). if b then TouchFound else NoTouchFound) (live-any w t (unspent w h) (heldOf h) (held-now w h t late i))
+    gives-foretold late Asking = ap (λ (b : Bool). if b then PromptStands else NoPromptStands) (g .agrees t)
     gives-foretold late Settling = refl
     gives-foretold late Short = refl
 
-    pub outcome-foretold : (k : Role) → doneBy k p t .outcome ≡ foretold w h (record { role = k; moment = t })
+    pub outcome-foretold : (k : Role) → cameOf k (doneBy k p t .outcome) ≡ foretold w h (record { role = k; moment = t })
     unfolding foretold
     outcome-foretold k = go (isR1 (lastMoment h) t) refl
       where
-        go : (b : Bool) → isR1 (lastMoment h) t ≡ b → doneBy k p t .outcome ≡ (if b then R 1 else unrefused w h k t)
-        go true e = ap outcome (done-refused p t 1 (settles-r1 w h t within e) k)
-        go false e = outcome-given (settles w h t within e) k ∙ gives-foretold (not-before (lastMoment h) t e) k
+        go : (b : Bool) → isR1 (lastMoment h) t ≡ b → cameOf k (doneBy k p t .outcome) ≡ (if b then RefusedBy 1 else unrefused w h k t)
+        go true e = ap (λ (s : Told). cameOf k (s .outcome)) (done-refused p t 1 (settles-r1 w h t within e) k)
+        go false e = ap (cameOf k) (outcome-given (settles w h t within e) k) ∙ gives-foretold (not-before (lastMoment h) t e) k
 
 -- a touch that is live after an event, and is not that event, was live before it
 module _ (w : ℕ) (h : List Event) (e : Event) (k : Mark) (t : ℕ) where
@@ -117,7 +117,7 @@ module _ {D : Type 0} (𝒞 : Caller D) (keeping : Keeps 𝒞) (w : ℕ) (within
   exact [] = refl
   exact (d ∷ ds) = step-follows ds d (exact ds) .exact
 
-  effect : (ds : List D) (d : D) → Effect w (past ds) (record { call = 𝒞 .asCall d; outcome = next 𝒞 w ds d })
+  effect : (ds : List D) (d : D) → Effect w (past ds) (record { call = 𝒞 .asCall d; came = comesTo 𝒞 w ds d })
   effect ds d = step-follows ds d (exact ds) .effect
 
   -- what holds at first and is kept by every event holds of every run
@@ -141,12 +141,12 @@ module _ {D : Type 0} (𝒞 : Caller D) (keeping : Keeps 𝒞) (w : ℕ) (within
   pub owned : (ds : List D) → Owned w (past ds)
   owned = along (Owned w) (owned-at-first w) (λ h e x o. owned-next w h e o x)
 
-  pub serves : (ds : List D) (d : D) → 𝒞 .asCall d .role ≡ Checking → next 𝒞 w ds d ≡ Gives true
+  pub serves : (ds : List D) (d : D) → comesTo 𝒞 w ds d ≡ TouchFound
       → (k : Mark) × (serverOf (past ds) ≡ some k) × (heldAt w (past ds) (𝒞 .asCall d .moment) ≡ k ∷ [])
-  serves ds d r y = Served.serves w (past ds) _ (owned ds) (invariant ds) (effect ds d) (rw (r, y))
+  serves ds d y = Served.serves w (past ds) _ (owned ds) (invariant ds) (effect ds d) (rw y)
 
-  pub foretells : (ds : List D) (d : D) → next 𝒞 w ds d ≡ foretold w (past ds) (𝒞 .asCall d)
-  foretells ds d = ap outcome (step ds d (exact ds)) ∙ outcome-foretold w (past ds) (𝒞 .asCall d .moment) within (invariant ds) (agreeing ds) (𝒞 .asCall d .role)
+  pub foretells : (ds : List D) (d : D) → comesTo 𝒞 w ds d ≡ foretold w (past ds) (𝒞 .asCall d)
+  foretells ds d = ap (λ (s : Told). cameOf (𝒞 .asCall d .role) (s .outcome)) (step ds d (exact ds)) ∙ outcome-foretold w (past ds) (𝒞 .asCall d .moment) within (invariant ds) (agreeing ds) (𝒞 .asCall d .role)
 
   pub one-held-at : (ds : List D) (t : ℕ) → lastMoment (past ds) ≤ t → length (heldAt w (past ds) t) ≤ 1
   one-held-at ds t late = at-most-one w t (unspent w (past ds)) (heldOf (past ds)) (held-now w (past ds) t late (invariant ds))

@@ -9,9 +9,9 @@ use native.Mathlib.Omega.{arith}
 use lib.Dec.{ltb, leb}
 use lib.ListN.{length}
 use borrow.Author.Tests.{ltb-true, leb-true, lt-ltb}
-use Rattle.outcome.specs.Outcome.{Outcome, R, Gives}
+use Rattle.outcome.specs.Notation.{if_then_else_}
 use Rattle.u2f_up_stated.specs.Moments.{isR1}
-use Rattle.u2f_up_stated.specs.History.{Role, Touching, Checking, Asking, Settling, Short, Event, Mark, isAny, heldAt, lastMoment, isPromptStanding, latest, isAccepted, isPromptingRefusal, isAfter, isStandingBy, unrefused, foretold}
+use Rattle.u2f_up_stated.specs.History.{Role, Touching, Checking, Asking, Settling, Short, Came, RefusedBy, TouchAccepted, TouchIgnored, TouchFound, NoTouchFound, PromptStands, NoPromptStands, Event, Mark, isAny, heldAt, lastMoment, isPromptStanding, latest, isAccepted, isPromptingRefusal, isAfter, isStandingBy, unrefused, foretold}
 use Rattle.u2f_up_stated.specs.Terms.{RefusedAt}
 use Rattle.u2f_up_stated.proofs.Cases.{r1-beyond}
 
@@ -19,11 +19,42 @@ both : (a b : Bool) → a && b ≡ true → (a ≡ true) × (b ≡ true)
 both true b e = (refl, e)
 both false b e = absurd (false≢true e)
 
-is-given : (a b : Bool) → _≡_ {A = Outcome Bool} (Gives a) (Gives b) → a ≡ b
-is-given a b e = cc
+-- two cases, neither of them a refusal
+module _ (y n : Came) (refusal-y : (m : ℕ) → RefusedBy m ≡ y → ⊥) (refusal-n : (m : ℕ) → RefusedBy m ≡ n → ⊥) (apart : n ≡ y → ⊥) where
+  pub no-refusal : (m : ℕ) (b : Bool) → (if b then y else n) ≡ RefusedBy m → ⊥
+  no-refusal m true e = refusal-y m (sym e)
+  no-refusal m false e = refusal-n m (sym e)
 
-no-refusal : (n : ℕ) (b : Bool) → _≡_ {A = Outcome Bool} (R n) (Gives b) → ⊥
-no-refusal n b e = let z : _≡_ {A = ℕ} 0 1 = cc in omega arith
+  pub is-yes : (b : Bool) → (if b then y else n) ≡ y → b ≡ true
+  is-yes true e = refl
+  is-yes false e = absurd (apart e)
+
+accepted-refusal : (m : ℕ) → RefusedBy m ≡ TouchAccepted → ⊥
+accepted-refusal m e = let z : _≡_ {A = ℕ} 0 1 = cc in omega arith
+
+ignored-refusal : (m : ℕ) → RefusedBy m ≡ TouchIgnored → ⊥
+ignored-refusal m e = let z : _≡_ {A = ℕ} 0 1 = cc in omega arith
+
+ignored-accepted : TouchIgnored ≡ TouchAccepted → ⊥
+ignored-accepted e = let z : _≡_ {A = ℕ} 0 1 = cc in omega arith
+
+found-refusal : (m : ℕ) → RefusedBy m ≡ TouchFound → ⊥
+found-refusal m e = let z : _≡_ {A = ℕ} 0 1 = cc in omega arith
+
+not-found-refusal : (m : ℕ) → RefusedBy m ≡ NoTouchFound → ⊥
+not-found-refusal m e = let z : _≡_ {A = ℕ} 0 1 = cc in omega arith
+
+not-found-found : NoTouchFound ≡ TouchFound → ⊥
+not-found-found e = let z : _≡_ {A = ℕ} 0 1 = cc in omega arith
+
+stands-refusal : (m : ℕ) → RefusedBy m ≡ PromptStands → ⊥
+stands-refusal m e = let z : _≡_ {A = ℕ} 0 1 = cc in omega arith
+
+stands-not-refusal : (m : ℕ) → RefusedBy m ≡ NoPromptStands → ⊥
+stands-not-refusal m e = let z : _≡_ {A = ℕ} 0 1 = cc in omega arith
+
+stands-not-stands : NoPromptStands ≡ PromptStands → ⊥
+stands-not-stands e = let z : _≡_ {A = ℕ} 0 1 = cc in omega arith
 
 r1-back : (last t : ℕ) → t < last → isR1 last t ≡ true
 r1-back last t h = rw (lt-ltb t last h) (or-true (leb (2 ^ 48) t))
@@ -43,9 +74,9 @@ module _ (h : List Event) (t : ℕ) where
   passed : isR1 (lastMoment h) t ≡ false → RefusedAt h t → ⊥
   passed e r = true≢false (sym (refused-r1 r) ∙ e)
 
-module _ (w : ℕ) (h : List Event) (t : ℕ) (o : Outcome Bool) where
+module _ (w : ℕ) (h : List Event) (t : ℕ) (o : Came) where
   -- a foretold outcome, by whether the moment passes
-  foretold-r1 : (k : Role) → o ≡ foretold w h (record { role = k; moment = t }) → isR1 (lastMoment h) t ≡ true → o ≡ R 1
+  foretold-r1 : (k : Role) → o ≡ foretold w h (record { role = k; moment = t }) → isR1 (lastMoment h) t ≡ true → o ≡ RefusedBy 1
   unfolding foretold
   foretold-r1 k f e = f ∙ rw e
 
@@ -54,38 +85,39 @@ module _ (w : ℕ) (h : List Event) (t : ℕ) (o : Outcome Bool) where
   foretold-given k f e = f ∙ rw e
 
   -- R1, and never R6
-  unrefused-no-r : (n : ℕ) → (2 ≡ n → ⊥) → (k : Role) → unrefused w h k t ≡ R n → ⊥
-  unrefused-no-r n d Touching e = no-refusal n _ (sym e)
-  unrefused-no-r n d Checking e = no-refusal n _ (sym e)
-  unrefused-no-r n d Asking e = no-refusal n _ (sym e)
-  unrefused-no-r n d Settling e = no-refusal n _ (sym e)
+  unrefused-no-r : (n : ℕ) → (2 ≡ n → ⊥) → (k : Role) → unrefused w h k t ≡ RefusedBy n → ⊥
+  unrefused-no-r n d Touching e = no-refusal TouchAccepted TouchIgnored accepted-refusal ignored-refusal ignored-accepted n (isPromptStanding h t) e
+  unrefused-no-r n d Checking e = no-refusal TouchFound NoTouchFound found-refusal not-found-refusal not-found-found n (isAny (heldAt w h t)) e
+  unrefused-no-r n d Asking e = no-refusal PromptStands NoPromptStands stands-refusal stands-not-refusal stands-not-stands n (isPromptStanding h t) e
+  unrefused-no-r n d Settling e = let z : _≡_ {A = ℕ} 0 1 = cc in omega arith
   unrefused-no-r n d Short e = d (cc)
 
-  pub refuses : (k : Role) → o ≡ foretold w h (record { role = k; moment = t }) → (o ≡ R 1) ↔ RefusedAt h t
+  pub refuses : (k : Role) → o ≡ foretold w h (record { role = k; moment = t }) → (o ≡ RefusedBy 1) ↔ RefusedAt h t
   refuses k f = (go (isR1 (lastMoment h) t) refl, λ r. foretold-r1 k f (refused-r1 h t r))
     where
-      go : (b : Bool) → isR1 (lastMoment h) t ≡ b → o ≡ R 1 → RefusedAt h t
+      go : (b : Bool) → isR1 (lastMoment h) t ≡ b → o ≡ RefusedBy 1 → RefusedAt h t
       go true e q = r1-refused h t e
       go false e q = absurd (unrefused-no-r 1 (omega arith) k (sym (foretold-given k f e) ∙ q))
 
-  pub refuses-no-window : (k : Role) → o ≡ foretold w h (record { role = k; moment = t }) → o ≡ R 6 → ⊥
+  pub refuses-no-window : (k : Role) → o ≡ foretold w h (record { role = k; moment = t }) → o ≡ RefusedBy 6 → ⊥
   refuses-no-window k f = go (isR1 (lastMoment h) t) refl
     where
-      go : (b : Bool) → isR1 (lastMoment h) t ≡ b → o ≡ R 6 → ⊥
+      go : (b : Bool) → isR1 (lastMoment h) t ≡ b → o ≡ RefusedBy 6 → ⊥
       go true e q = let r = foretold-r1 k f e in let z : _≡_ {A = ℕ} 1 6 = cc in omega arith
       go false e q = unrefused-no-r 6 (omega arith) k (sym (foretold-given k f e) ∙ q)
 
   -- yes: the moment passes, and what was asked is so
-  yes : (k : Role) (b : Bool) → unrefused w h k t ≡ Gives b → o ≡ foretold w h (record { role = k; moment = t }) → (o ≡ Gives true) ↔ ((RefusedAt h t → ⊥) × (b ≡ true))
-  yes k b u f = (go (isR1 (lastMoment h) t) refl, back (isR1 (lastMoment h) t) refl)
+  yes : (k : Role) (b : Bool) (y n : Came) → ((m : ℕ) → RefusedBy m ≡ y → ⊥) → ((m : ℕ) → RefusedBy m ≡ n → ⊥) → (n ≡ y → ⊥) → unrefused w h k t ≡ (if b then y else n)
+      → o ≡ foretold w h (record { role = k; moment = t }) → (o ≡ y) ↔ ((RefusedAt h t → ⊥) × (b ≡ true))
+  yes k b y n ry rn apart u f = (go (isR1 (lastMoment h) t) refl, back (isR1 (lastMoment h) t) refl)
     where
-      go : (c : Bool) → isR1 (lastMoment h) t ≡ c → o ≡ Gives true → (RefusedAt h t → ⊥) × (b ≡ true)
-      go true e q = absurd (no-refusal 1 true (sym (foretold-r1 k f e) ∙ q))
-      go false e q = (passed h t e, is-given b true (sym u ∙ sym (foretold-given k f e) ∙ q))
+      go : (c : Bool) → isR1 (lastMoment h) t ≡ c → o ≡ y → (RefusedAt h t → ⊥) × (b ≡ true)
+      go true e q = absurd (ry 1 (sym (foretold-r1 k f e) ∙ q))
+      go false e q = (passed h t e, is-yes y n ry rn apart b (sym u ∙ sym (foretold-given k f e) ∙ q))
 
-      back : (c : Bool) → isR1 (lastMoment h) t ≡ c → (RefusedAt h t → ⊥) × (b ≡ true) → o ≡ Gives true
+      back : (c : Bool) → isR1 (lastMoment h) t ≡ c → (RefusedAt h t → ⊥) × (b ≡ true) → o ≡ y
       back true e q = absurd (q .0 (r1-refused h t e))
-      back false e q = foretold-given k f e ∙ u ∙ ap {B = Outcome Bool} Gives (q .1)
+      back false e q = foretold-given k f e ∙ u ∙ ap (λ (c : Bool). if c then y else n) (q .1)
 
 -- a standing prompt, in the document's words
 abbrev Standing : List Event → ℕ → Type 0
@@ -108,14 +140,14 @@ only [] b = (λ e. absurd (false≢true e), λ s. let z : _≡_ {A = ℕ} 0 1 = 
 only (k ∷ []) b = (λ e. (k, refl), λ s. refl)
 only (k ∷ (j ∷ ks)) b = (λ e. absurd (omega arith), λ s. refl)
 
-module _ (w : ℕ) (h : List Event) (t : ℕ) (o : Outcome Bool) where
-  pub accepts : o ≡ foretold w h (record { role = Touching; moment = t }) → (o ≡ Gives true) ↔ ((RefusedAt h t → ⊥) × Standing h t)
-  accepts f = let y = yes w h t o Touching (isPromptStanding h t) refl f in
+module _ (w : ℕ) (h : List Event) (t : ℕ) (o : Came) where
+  pub accepts : o ≡ foretold w h (record { role = Touching; moment = t }) → (o ≡ TouchAccepted) ↔ ((RefusedAt h t → ⊥) × Standing h t)
+  accepts f = let y = yes w h t o Touching (isPromptStanding h t) TouchAccepted TouchIgnored accepted-refusal ignored-refusal ignored-accepted refl f in
       (λ q. (y .0 q .0, standing h t .0 (y .0 q .1)), λ s. y .1 (s .0, standing h t .1 (s .1)))
 
   pub finds : (lastMoment h ≤ t → length (heldAt w h t) ≤ 1) → o ≡ foretold w h (record { role = Checking; moment = t })
-      → (o ≡ Gives true) ↔ ((RefusedAt h t → ⊥) × ((k : Mark) × (heldAt w h t ≡ k ∷ [])))
-  finds one f = let y = yes w h t o Checking (isAny (heldAt w h t)) refl f in (
+      → (o ≡ TouchFound) ↔ ((RefusedAt h t → ⊥) × ((k : Mark) × (heldAt w h t ≡ k ∷ [])))
+  finds one f = let y = yes w h t o Checking (isAny (heldAt w h t)) TouchFound NoTouchFound found-refusal not-found-refusal not-found-found refl f in (
     λ q. (y .0 q .0, only (heldAt w h t) (one (late (y .0 q .0))) .0 (y .0 q .1)),
     λ s. y .1 (s .0, only (heldAt w h t) (one (late (s .0))) .1 (s .1)),
   )

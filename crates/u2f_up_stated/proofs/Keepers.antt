@@ -9,7 +9,7 @@ use borrow.Author.Tests.{le-ltb}
 use Rattle.u2f_up_stated.specs.Words.{Opened}
 use Rattle.u2f_up_stated.specs.Moments.{isR6}
 use Rattle.u2f_up_stated.specs.History.{Role, Touching, Checking, Mark, lastMoment, heldAt, foretold}
-use Rattle.u2f_up_stated.specs.Runs.{Caller, Keeps, after, next, history}
+use Rattle.u2f_up_stated.specs.Runs.{Caller, Keeps, after, comesTo, history}
 use Rattle.u2f_up_stated.specs.Demand.{RunMeets}
 use Rattle.u2f_up_stated.specs.Claims.{Demand3}
 use Rattle.u2f_up_stated.proofs.Cases.{r6-above}
@@ -20,7 +20,7 @@ use Rattle.u2f_up_stated.proofs.Served as Served
 
 module _ {D : Type 0} (𝒞 : Caller D) (keeping : Keeps 𝒞) (w : ℕ) (within : isR6 w ≡ false) (ds : List D) where
   -- what is foretold of a call of a given role
-  foretold-as : (d : D) (k : Role) → 𝒞 .asCall d .role ≡ k → next 𝒞 w ds d ≡ foretold w (history 𝒞 w ds) (record { role = k; moment = 𝒞 .asCall d .moment })
+  foretold-as : (d : D) (k : Role) → 𝒞 .asCall d .role ≡ k → comesTo 𝒞 w ds d ≡ foretold w (history 𝒞 w ds) (record { role = k; moment = 𝒞 .asCall d .moment })
   foretold-as d k e = Demand.foretells 𝒞 keeping w within ds d ∙ ap (λ j. foretold w (history 𝒞 w ds) (record { role = j; moment = 𝒞 .asCall d .moment })) e
 
   holds : (k : Mark) (t : ℕ) → lastMoment (history 𝒞 w ds) ≤ t → heldAt w (history 𝒞 w ds) t ≡ k ∷ []
@@ -30,10 +30,10 @@ module _ {D : Type 0} (𝒞 : Caller D) (keeping : Keeps 𝒞) (w : ℕ) (within
   met : RunMeets 𝒞 w ds
   met = record {
     foretells = Demand.foretells 𝒞 keeping w within ds;
-    refuses = λ d. Exactly.refuses w (history 𝒞 w ds) (𝒞 .asCall d .moment) (next 𝒞 w ds d) (𝒞 .asCall d .role) (foretold-as d (𝒞 .asCall d .role) refl);
-    refuses-no-window = λ d. Exactly.refuses-no-window w (history 𝒞 w ds) (𝒞 .asCall d .moment) (next 𝒞 w ds d) (𝒞 .asCall d .role) (foretold-as d (𝒞 .asCall d .role) refl);
-    accepts = λ d e. Exactly.accepts w (history 𝒞 w ds) (𝒞 .asCall d .moment) (next 𝒞 w ds d) (foretold-as d Touching e);
-    finds = λ d e. Exactly.finds w (history 𝒞 w ds) (𝒞 .asCall d .moment) (next 𝒞 w ds d) (Demand.one-held-at 𝒞 keeping w within ds (𝒞 .asCall d .moment)) (foretold-as d Checking e);
+    refuses = λ d. Exactly.refuses w (history 𝒞 w ds) (𝒞 .asCall d .moment) (comesTo 𝒞 w ds d) (𝒞 .asCall d .role) (foretold-as d (𝒞 .asCall d .role) refl);
+    refuses-no-window = λ d. Exactly.refuses-no-window w (history 𝒞 w ds) (𝒞 .asCall d .moment) (comesTo 𝒞 w ds d) (𝒞 .asCall d .role) (foretold-as d (𝒞 .asCall d .role) refl);
+    accepts = λ d e. Exactly.accepts w (history 𝒞 w ds) (𝒞 .asCall d .moment) (comesTo 𝒞 w ds d) (foretold-as d Touching e);
+    finds = λ d e. Exactly.finds w (history 𝒞 w ds) (𝒞 .asCall d .moment) (comesTo 𝒞 w ds d) (Demand.one-held-at 𝒞 keeping w within ds (𝒞 .asCall d .moment)) (foretold-as d Checking e);
     holds = holds;
     serves = Demand.serves 𝒞 keeping w within ds;
     once = Served.serves-once w (history 𝒞 w ds) (Demand.owned 𝒞 keeping w within ds);

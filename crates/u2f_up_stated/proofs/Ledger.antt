@@ -6,7 +6,7 @@ use mathlib.Core.List.{List, [], _∷_}
 use native.Mathlib.Omega.{arith}
 use lib.ListN.{length, length-append}
 use Rattle.outcome.specs.Notation.{if_then_else_}
-use Rattle.u2f_up_stated.specs.History.{Event, Mark, marked, those, isAccepted, isSpending, isYoung, isAny, heldAt, lapsed, lastMoment, unspent, accepted, served, spenders}
+use Rattle.u2f_up_stated.specs.History.{Event, Mark, those, isSpending, isYoung, isAny, heldAt, lapsed, lastMoment, unspent, accepted, served, spenders}
 use Rattle.u2f_up_stated.proofs.Lists.{count, count-append, count-split, count-all, length-those}
 use Rattle.u2f_up_stated.proofs.Runs.{heldOf, Sorted, Effect, still, moved, touched, spent, prompted}
 use Rattle.u2f_up_stated.proofs.Touches.{Inv, held-now, accepted-next, served-next, unspent-next, live-any, at-most-one}

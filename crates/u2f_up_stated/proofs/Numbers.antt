@@ -1,5 +1,4 @@
 -- The numbers tell the answers apart: each view has a way back.
-use Prim.Native.Nat.{ℕ}
 use mathlib.Core.Path.{_≡_, refl, ap}
 use mathlib.Core.Bool.{Bool, true, false}
 use Rattle.outcome.specs.Outcome.{Outcome, R, SW, Gives}

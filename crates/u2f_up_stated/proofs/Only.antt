@@ -1,12 +1,12 @@
 -- Only the definition meets each claim: two functions that meet it agree on every input.
 use Prim.Native.Nat.{ℕ, _<_, _≤_}
-use mathlib.Core.Path.{_≡_, refl, sym, ap, ap₂, _∙_}
+use mathlib.Core.Path.{_≡_, refl, sym, ap₂, _∙_}
 use mathlib.Core.Bool.{Bool}
 use mathlib.Core.List.{List, [], _∷_}
 use Rattle.outcome.specs.Notation.{Determines, Determines2}
-use Rattle.u2f_up_stated.specs.Words.{Outcome, R, Gives, Presence}
+use Rattle.u2f_up_stated.specs.Words.{Outcome, R, Presence}
 use Rattle.u2f_up_stated.specs.Moments.{Told}
-use Rattle.u2f_up_stated.specs.History.{Call, Event, foretold}
+use Rattle.u2f_up_stated.specs.History.{Call, Came, Event, foretold}
 use Rattle.u2f_up_stated.specs.Runs.{Caller, history}
 use Rattle.u2f_up_stated.specs.Terms.{BadWindow, BadMoment, Passes, HasPrompt, HasTouch, SettlesFirst}
 use Rattle.u2f_up_stated.specs.Claims
@@ -80,4 +80,4 @@ Demand3 𝒜 ℬ a b alike w least most [] = refl
 Demand3 𝒜 ℬ a b alike w least most (d ∷ ds) =
     let so-far = Demand3 𝒜 ℬ a b alike w least most ds in
     let next-same = a w least most ds .foretells d ∙ ap₂ (foretold w) so-far (alike d) ∙ sym (b w least most ds .foretells d) in
-    ap₂ (λ (e : Event) (h : List Event). e ∷ h) (ap₂ (λ (c : Call) (o : Outcome Bool). record { call = c; outcome = o }) (alike d) next-same) so-far
+    ap₂ (λ (e : Event) (h : List Event). e ∷ h) (ap₂ (λ (c : Call) (o : Came). record { call = c; came = o }) (alike d) next-same) so-far

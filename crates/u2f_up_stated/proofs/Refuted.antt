@@ -1,14 +1,14 @@
 -- Each wrong program of specs/Wrong.antt, and the claim that is false of it, at one input or at a run of a few calls.
-use Prim.Native.Nat.{ℕ, _+_, _^_, _<_, _≤_}
-use mathlib.Core.Path.{_≡_, refl, sym, ap, _∙_}
+use Prim.Native.Nat.{ℕ, _^_, _<_, _≤_}
+use mathlib.Core.Path.{_≡_, refl, sym, ap}
 use mathlib.Core.Bool.{Bool, true, false, true≢false, false≢true}
-use mathlib.Core.List.{List, [], _∷_}
+use mathlib.Core.List.{[], _∷_}
 use mathlib.Core.Logic.{_⊎_, inl, inr, ⊎-elim}
 use native.Mathlib.Omega.{arith}
 use Rattle.outcome.proofs.Laws.{r-gives}
-use Rattle.u2f_up_stated.specs.Words.{Outcome, R, Gives, Window, Closed, Opened, Presence, Finding}
-use Rattle.u2f_up_stated.specs.Moments.{Told, fresh, settleOf, grantedOf, checkedOf, touchOf, checkOf, askOf}
-use Rattle.u2f_up_stated.specs.History.{Touching, Checking, Short, Call, lastMoment, latest, isPromptStanding, unspent, servers, foretold}
+use Rattle.u2f_up_stated.specs.Words.{Outcome, R, Gives, Closed, Opened, Presence, Finding}
+use Rattle.u2f_up_stated.specs.Moments.{Told, fresh, settleOf, grantedOf, checkedOf, checkOf}
+use Rattle.u2f_up_stated.specs.History.{Touching, Checking, Short, TouchAccepted, TouchIgnored, TouchFound, NoTouchFound, Call, lastMoment, latest, isPromptStanding, unspent, servers, foretold}
 use Rattle.u2f_up_stated.specs.Runs.{after, history, doneBy}
 use Rattle.u2f_up_stated.specs.Terms.{BadWindow, BadMoment, Passes, HasTouch, HasPrompt, ServesOnce}
 use Rattle.u2f_up_stated.specs.Claims
@@ -127,6 +127,12 @@ unfolding settleOf
 askMoves d = let z : _≡_ {A = ℕ} 7 0 = ap (λ (s : Told). s .presence .last) (d .live asked 7 (passes asked 7 (omega arith) (omega arith) (omega arith) (omega arith)) (0, refl, omega arith)) in omega arith
 
 -- ---- runs, newest call first
+found-not : TouchFound ≡ NoTouchFound → ⊥
+found-not e = let z : _≡_ {A = ℕ} 0 1 = cc in omega arith
+
+accepted-not : TouchAccepted ≡ TouchIgnored → ⊥
+accepted-not e = let z : _≡_ {A = ℕ} 0 1 = cc in omega arith
+
 abbrev touch : ℕ → Call
 touch t = record { role = Touching; moment = t }
 
@@ -141,12 +147,12 @@ keepsSpent d = let z : 2 ≤ 1 = d 100 (omega arith) (omega arith) (check 3 ∷ 
 -- the check after an accepted touch finds nothing
 pub opensNothing : Claims.Demand3 Wrong.opensNothing → ⊥
 unfolding after history foretold unspent lastMoment checkedOf settleOf
-opensNothing d = false≢true (yes-same (d 100 (omega arith) (omega arith) (touch 1 ∷ check 0 ∷ []) .foretells (check 2)))
+opensNothing d = found-not (sym (d 100 (omega arith) (omega arith) (touch 1 ∷ check 0 ∷ []) .foretells (check 2)))
 
 -- the second touch after one prompt is accepted
 pub keepsPrompt : Claims.Demand3 Wrong.keepsPrompt → ⊥
 unfolding after history foretold isPromptStanding latest lastMoment checkedOf settleOf
-keepsPrompt d = true≢false (yes-same (d 100 (omega arith) (omega arith) (touch 1 ∷ check 0 ∷ []) .foretells (touch 2)))
+keepsPrompt d = accepted-not ((d 100 (omega arith) (omega arith) (touch 1 ∷ check 0 ∷ []) .foretells (touch 2)))
 
 -- the touch at 5 is held, and the window says 0
 pub opensAtPrompt : Claims.Demand3 Wrong.opensAtPrompt → ⊥
@@ -158,7 +164,7 @@ opensAtPrompt d =
 -- the first touch is found, the second is accepted and not found
 pub firstOnly : Claims.Demand3 Wrong.firstOnly → ⊥
 unfolding after history foretold unspent lastMoment settleOf
-firstOnly d = false≢true (yes-same (d 100 (omega arith) (omega arith) (touch 4 ∷ check 3 ∷ check 2 ∷ touch 1 ∷ check 0 ∷ []) .foretells (check 5)))
+firstOnly d = found-not (sym (d 100 (omega arith) (omega arith) (touch 4 ∷ check 3 ∷ check 2 ∷ touch 1 ∷ check 0 ∷ []) .foretells (check 5)))
 
 pub refusesAll : Claims.Demand3 Wrong.refusesAll → ⊥
 unfolding after history lastMoment

@@ -1,4 +1,4 @@
--- Laws for a crate above whose calls settle the moment first and then perhaps check: what each kind does to the record, by
+-- Laws for a crate above whose calls settle the moment first and then perhaps check: what each role does to the record, by
 -- what settling gave. With them it shows `Keeps` of its own calls, and has demand 3 of their runs.
 use Prim.Native.Nat.{ℕ}
 use mathlib.Core.Path.{_≡_, refl}
@@ -10,7 +10,7 @@ use Rattle.u2f_up_stated.specs.History.{Role, Touching, Checking, Asking
 use Rattle.u2f_up_stated.specs.Runs.{doneBy}
 
 module _ (p : Presence) (t : ℕ) where
-  -- a refused moment refuses a call of any kind, and moves nothing
+  -- a refused moment refuses a call of any role, and moves nothing
   pub done-refused : (n : ℕ) → settleOf p t ≡ R n → (k : Role) → doneBy k p t ≡ refused n p
   unfolding doneBy touchOf checkOf askOf
   done-refused n e Touching = rw e

@@ -10,7 +10,7 @@ use Rattle.outcome.specs.Outcome.{Outcome, R, Gives}
 use Rattle.u2f_up_stated.specs.Words.{Presence, Window, Closed, Opened}
 use Rattle.u2f_up_stated.specs.Moments.{Told, isLive, isR6, isR1, movedTo, settleOf, grantedOf, checkedOf, gave, refused}
 use Rattle.u2f_up_stated.specs.History.{Role, Touching, Checking, Asking, Settling, Short, Event, isAccepted, isSpending, isPromptingRefusal, isMoving, lastMoment}
-use Rattle.u2f_up_stated.specs.Runs.{doneBy}
+use Rattle.u2f_up_stated.specs.Runs.{doneBy, cameOf}
 use Rattle.u2f_up_stated.proofs.Cases.{settle-r1, settled}
 use Rattle.u2f_up_stated.proofs.Roles.{done-refused, done-touching, done-checking, done-asking, done-settling, done-short}
 
@@ -59,7 +59,7 @@ not-before last t e = ltb-false t last (right (leb (2 ^ 48) t) (ltb t last) e)
 
 module _ (w : ℕ) (h : List Event) (t : ℕ) where
   abbrev at : Role → Outcome Bool → Event
-  at k o = record { call = record { role = k; moment = t }; outcome = o }
+  at k o = record { call = record { role = k; moment = t }; came = cameOf k o }
 
   abbrev p : Presence
   p = recordOf w h
@@ -90,7 +90,8 @@ module _ (w : ℕ) (h : List Event) (t : ℕ) where
 
     asking : (b : Bool) → Follows Asking (record { outcome = Gives b; presence = p })
     unfolding promptOf heldOf lastMoment
-    asking b = record { effect = still (sorted _); exact = refl }
+    asking true = record { effect = still (sorted _); exact = refl }
+    asking false = record { effect = still (sorted _); exact = refl }
 
     settling : Follows Settling (record { outcome = Gives true; presence = movedTo p t })
     unfolding promptOf heldOf lastMoment

@@ -4,17 +4,17 @@ use Prim.Native.Nat.{ℕ, suc, _+_, _<_, _≤_}
 use mathlib.Core.Path.{_≡_, refl, sym, ap, _∙_}
 use mathlib.Core.Bool.{Bool, true, false, true≢false}
 use mathlib.Core.List.{List, [], _∷_, _++_}
-use mathlib.Core.Option.{Option, none, some}
+use mathlib.Core.Option.{Option, some}
 use native.Mathlib.Omega.{arith}
-use lib.Dec.{eqb, ltb}
+use lib.Dec.{eqb}
 use lib.ListN.{length}
-use borrow.Author.Tests.{eqb-true, eq-eqb, eqb-false}
+use borrow.Author.Tests.{eqb-true, eq-eqb}
 use Rattle.outcome.specs.Notation.{if_then_else_}
 use Rattle.u2f_up_stated.specs.Words.{Window, Closed, Opened}
 use Rattle.u2f_up_stated.specs.Moments.{isLive}
 use Rattle.u2f_up_stated.specs.Terms.{ServesOnce}
-use Rattle.u2f_up_stated.specs.History.{Event, Mark, marked, isAccepted, isSpending, latest, unspent, heldAt, serverOf, servers, isNamed}
-use Rattle.u2f_up_stated.specs.Runs.{Caller, next, history}
+use Rattle.u2f_up_stated.specs.History.{Event, Mark, marked, isAccepted, isSpending, unspent, heldAt, serverOf, servers, isNamed}
+use Rattle.u2f_up_stated.specs.Runs.{Caller, comesTo, history}
 use Rattle.u2f_up_stated.proofs.Lists.{count, length-those}
 use Rattle.u2f_up_stated.proofs.Runs.{heldOf, Sorted, Effect, still, moved, touched, spent, prompted}
 use Rattle.u2f_up_stated.proofs.Touches.{Inv, Held, held-next, unspent-next, held-now, window-young}
@@ -115,7 +115,7 @@ serves-once w h o n = omega (arith, length-those (isNamed n) (servers h), o .onc
 pub named-later : {D : Type 0} (𝒞 : Caller D) (w n : ℕ) (later ds : List D) → count (isNamed n) (servers (history 𝒞 w ds)) ≤ count (isNamed n) (servers (history 𝒞 w (later ++ ds)))
 unfolding history servers
 named-later 𝒞 w n [] ds = omega arith
-named-later 𝒞 w n (d ∷ later) ds = go (isSpending (record { call = 𝒞 .asCall d; outcome = next 𝒞 w (later ++ ds) d })) (named-later 𝒞 w n later ds)
+named-later 𝒞 w n (d ∷ later) ds = go (isSpending (record { call = 𝒞 .asCall d; came = comesTo 𝒞 w (later ++ ds) d })) (named-later 𝒞 w n later ds)
   where
     go : (s : Bool) → count (isNamed n) (servers (history 𝒞 w ds)) ≤ count (isNamed n) (servers (history 𝒞 w (later ++ ds)))
         → count (isNamed n) (servers (history 𝒞 w ds)) ≤ count (isNamed n) (if s then serverOf (history 𝒞 w (later ++ ds)) ∷ servers (history 𝒞 w (later ++ ds)) else servers (history 𝒞 w (later ++ ds)))

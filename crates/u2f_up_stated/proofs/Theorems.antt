@@ -1,13 +1,11 @@
 -- The claims of specs/Claims.antt, each under its own name.
 use Prim.Native.Nat.{ℕ}
 use mathlib.Core.Path.{_≡_, refl, sym, ap, ap₂, _∙_}
-use mathlib.Core.Bool.{Bool, true, false}
-use mathlib.Core.Logic.{inl}
 use Rattle.outcome.specs.Notation.{if_then_else_}
 use Rattle.outcome.proofs.Laws.{r-gives, both-are}
-use Rattle.u2f_up_stated.specs.Words.{Outcome, R, Gives, Closed, Presence}
+use Rattle.u2f_up_stated.specs.Words.{Outcome, R, Gives, Presence}
 use Rattle.u2f_up_stated.specs.Answers.{Answer, Step}
-use Rattle.u2f_up_stated.specs.Moments.{Told, isR6, fresh, isPrompting, newOf, settleOf, grantedOf, checkedOf, gave, touchOf, checkOf, askOf}
+use Rattle.u2f_up_stated.specs.Moments.{isR6, fresh, isPrompting, newOf, settleOf, grantedOf, checkedOf, gave, touchOf, checkOf, askOf}
 use Rattle.u2f_up_stated.specs.Runs.{own}
 use Rattle.u2f_up_stated.specs.Terms.{BadWindow, BadMoment}
 use Rattle.u2f_up_stated.specs.Claims

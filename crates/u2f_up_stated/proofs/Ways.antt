@@ -1,13 +1,12 @@
 -- Every way through settling, and whether a window is live: the claims' conditions against the definitions' tests.
 use Prim.Native.Nat.{ℕ, _+_, _^_, _<_, _≤_}
-use mathlib.Core.Path.{_≡_, refl, sym, ap, _∙_}
+use mathlib.Core.Path.{_≡_, refl, sym, _∙_}
 use mathlib.Core.Bool.{Bool, true, false, or-true}
 use mathlib.Core.Logic.{_⊎_, inl, inr, ⊎-elim}
 use native.Mathlib.Omega.{arith}
 use native.Mathlib.Decide.{ℕ-discrete, decLt, decLe}
-use lib.Dec.{ltb, leb, eqb}
+use lib.Dec.{leb, eqb}
 use borrow.Author.Tests.{lt-ltb, le-ltb, le-leb, lt-leb, eq-eqb, ne-eqb}
-use Rattle.outcome.specs.Notation.{if_then_else_}
 use Rattle.outcome.proofs.Laws.{r-gives, r-sw, sw-gives}
 use Rattle.u2f_up_stated.specs.Words.{Outcome, R, SW, Gives, Window, Closed, Opened, Presence}
 use Rattle.u2f_up_stated.specs.Moments.{Told, isLive, isR6, isR1, movedTo, touchClosed, promptOpened, settleOf, checkedOf, onSettled}

@@ -4,7 +4,7 @@
 use mathlib.Core.List.{List, [], _∷_, _++_}
 use mathlib.Core.Option.{Option, none, some}
 use lib.ListN.{length}
-use Rattle.u2f_up_stated.specs.Words.{ℕ, _+_, Bool, true, false, not, _&&_, ltb, eqb, if_then_else_, Outcome, R, SW, Gives}
+use Rattle.u2f_up_stated.specs.Words.{ℕ, _+_, Bool, true, false, not, _&&_, ltb, eqb, if_then_else_}
 use Rattle.u2f_up_stated.specs.Moments.{isR1}
 
 -- What a call is to the record. It follows from the call's own inputs, never from the record.
@@ -19,62 +19,77 @@ pub record Call : Type 0 where
   pub role : Role
   pub moment : ℕ
 
--- A call and what came of it. A call that reached the touch check has Gives true where the check succeeded.
+-- What came of a call, as its history tells it.
+pub data Came : Type 0 where
+  RefusedBy : ℕ → Came  -- an R refusal
+  TouchAccepted : Came  -- a touch
+  TouchIgnored : Came
+  TouchFound : Came  -- a call that reaches the touch check: a touch was found, and is spent
+  NoTouchFound : Came  -- none was: a prompting refusal
+  PromptStands : Came  -- an ask
+  NoPromptStands : Came
+  Passed : Came  -- a decision that is answered before the touch check
+
+-- A call and what came of it.
 pub record Event : Type 0 where
   pub call : Call
-  pub outcome : Outcome Bool
+  pub came : Came
 
-abbrev pub isTouching : Role → Bool
-isTouching Touching = true
-isTouching Checking = false
-isTouching Asking = false
-isTouching Settling = false
-isTouching Short = false
+abbrev pub isTouchAccepted : Came → Bool
+isTouchAccepted (RefusedBy n) = false
+isTouchAccepted TouchAccepted = true
+isTouchAccepted TouchIgnored = false
+isTouchAccepted TouchFound = false
+isTouchAccepted NoTouchFound = false
+isTouchAccepted PromptStands = false
+isTouchAccepted NoPromptStands = false
+isTouchAccepted Passed = false
 
-abbrev pub isChecking : Role → Bool
-isChecking Touching = false
-isChecking Checking = true
-isChecking Asking = false
-isChecking Settling = false
-isChecking Short = false
+abbrev pub isTouchFound : Came → Bool
+isTouchFound (RefusedBy n) = false
+isTouchFound TouchAccepted = false
+isTouchFound TouchIgnored = false
+isTouchFound TouchFound = true
+isTouchFound NoTouchFound = false
+isTouchFound PromptStands = false
+isTouchFound NoPromptStands = false
+isTouchFound Passed = false
 
-abbrev pub isAsking : Role → Bool
-isAsking Touching = false
-isAsking Checking = false
-isAsking Asking = true
-isAsking Settling = false
-isAsking Short = false
+abbrev pub isNoTouchFound : Came → Bool
+isNoTouchFound (RefusedBy n) = false
+isNoTouchFound TouchAccepted = false
+isNoTouchFound TouchIgnored = false
+isNoTouchFound TouchFound = false
+isNoTouchFound NoTouchFound = true
+isNoTouchFound PromptStands = false
+isNoTouchFound NoPromptStands = false
+isNoTouchFound Passed = false
 
-abbrev pub isGiven : Outcome Bool → Bool
-isGiven (R n) = false
-isGiven (SW n) = false
-isGiven (Gives b) = true
-
-abbrev pub isYes : Outcome Bool → Bool
-isYes (R n) = false
-isYes (SW n) = false
-isYes (Gives b) = b
-
-abbrev pub isNo : Outcome Bool → Bool
-isNo (R n) = false
-isNo (SW n) = false
-isNo (Gives b) = not b
+-- 01, Refusal numbers: "Without an R refusal, each touch, direct check and decision sets the last moment to t"; an ask does not
+abbrev pub isTimed : Came → Bool
+isTimed (RefusedBy n) = false
+isTimed TouchAccepted = true
+isTimed TouchIgnored = true
+isTimed TouchFound = true
+isTimed NoTouchFound = true
+isTimed PromptStands = false
+isTimed NoPromptStands = false
+isTimed Passed = true
 
 -- 01, Moments and touches: "A touch at t is accepted"
 abbrev pub isAccepted : Event → Bool
-isAccepted e = isTouching (e .call .role) && isYes (e .outcome)
+isAccepted e = isTouchAccepted (e .came)
 
 -- 01, Moments and touches: "a prompting refusal is a touch check that finds no live touch"
 abbrev pub isPromptingRefusal : Event → Bool
-isPromptingRefusal e = isChecking (e .call .role) && isNo (e .outcome)
+isPromptingRefusal e = isNoTouchFound (e .came)
 
 -- 01, Moments and touches: "A call spends a touch if the check succeeds"
 abbrev pub isSpending : Event → Bool
-isSpending e = isChecking (e .call .role) && isYes (e .outcome)
+isSpending e = isTouchFound (e .came)
 
--- 01, Refusal numbers: "Without an R refusal, each touch, direct check and decision sets the last moment to t"
 abbrev pub isMoving : Event → Bool
-isMoving e = not (isAsking (e .call .role)) && isGiven (e .outcome)
+isMoving e = isTimed (e .came)
 
 -- The last moment of a history, 0 in a new one.
 unfoldable pub lastMoment : List Event → ℕ
@@ -171,15 +186,15 @@ isAny [] = false
 isAny (k ∷ ks) = true
 
 -- What a history says of its next call, once the call's moment has passed R1.
-abbrev pub unrefused : ℕ → List Event → Role → ℕ → Outcome Bool
-unrefused w past Touching t = Gives (isPromptStanding past t)  -- accepted, or not
-unrefused w past Checking t = Gives (isAny (heldAt w past t))  -- finds a touch, or prompts
-unrefused w past Asking t = Gives (isPromptStanding past t)
-unrefused w past Settling t = Gives true
-unrefused w past Short t = R 2
+abbrev pub unrefused : ℕ → List Event → Role → ℕ → Came
+unrefused w past Touching t = if isPromptStanding past t then TouchAccepted else TouchIgnored
+unrefused w past Checking t = if isAny (heldAt w past t) then TouchFound else NoTouchFound
+unrefused w past Asking t = if isPromptStanding past t then PromptStands else NoPromptStands
+unrefused w past Settling t = Passed
+unrefused w past Short t = RefusedBy 2
 
 -- 01, Refusal numbers, R1: "moment 2^48 or more, or before the record's last moment"
-unfoldable pub foretold : ℕ → List Event → Call → Outcome Bool
+unfoldable pub foretold : ℕ → List Event → Call → Came
 foretold w past c =
-    if isR1 (lastMoment past) (c .moment) then R 1
+    if isR1 (lastMoment past) (c .moment) then RefusedBy 1
     else unrefused w past (c .role) (c .moment)

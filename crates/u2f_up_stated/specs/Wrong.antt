@@ -1,8 +1,8 @@
 -- Wrong programs, each with one fault. proofs/Refuted.antt shows of each that a claim is false of it.
 use mathlib.Core.List.{List, [], _∷_}
 use Rattle.u2f_up_stated.specs.Words.{ℕ, _+_, _^_, Bool, true, false, _||_, eqb, ltb, leb, if_then_else_, Outcome, R, Gives, Window, Closed, Opened, Presence, Finding}
-use Rattle.u2f_up_stated.specs.Moments.{fresh, Told, isLive, isPrompting, isR6, isR1, movedTo, settleOf, gave, refused, touchOpened, touchClosed, promptOpened, onSettled, grantedOf, checkedOf, touchOf, checkOf, askOf}
-use Rattle.u2f_up_stated.specs.History.{Role, Touching, Checking, Asking, Settling, Short, Call, Event}
+use Rattle.u2f_up_stated.specs.Moments.{fresh, Told, isLive, isPrompting, isR6, isR1, movedTo, settleOf, gave, refused, touchOpened, touchClosed, promptOpened, onSettled, grantedOf, checkedOf}
+use Rattle.u2f_up_stated.specs.History.{Role, Touching, Checking, Asking, Settling, Short, Call, Event, TouchAccepted, TouchFound, NoTouchFound}
 use Rattle.u2f_up_stated.specs.Runs.{Caller, doneBy}
 
 -- ---- makers of records: "a touch window W of 1..60,000"
@@ -48,11 +48,11 @@ goesBack p t =
     else Gives (movedTo p t)
 
 -- ---- touches: what is found on a settled record
-abbrev pub touching : (Presence → ℕ → Finding) → Presence → ℕ → Told
+abbrev touching : (Presence → ℕ → Finding) → Presence → ℕ → Told
 touching grants p t = onSettled p (settleOf p t) (λ q. gave (grants q t))
 
 -- "then the prompt closes and a touch window opens": a touch window that is live already stays as it is
-abbrev pub keepsOlder : Presence → ℕ → Finding
+abbrev keepsOlder : Presence → ℕ → Finding
 keepsOlder p t =
     if isPrompting p t then record { yes = true; presence = record { w = p .w; prompt = Closed; touch = if isLive (p .touch) (p .w) t then p .touch else Opened t; last = p .last } }
     else record { yes = false; presence = p }
@@ -61,7 +61,7 @@ abbrev pub leavesOlder : Presence → ℕ → Told
 leavesOlder = touching keepsOlder
 
 -- "The prompt window is 10,000": a moment less, a moment more
-abbrev pub grantedWithin : ℕ → Presence → ℕ → Finding
+abbrev grantedWithin : ℕ → Presence → ℕ → Finding
 grantedWithin d p t =
     if isLive (p .prompt) d t then record { yes = true; presence = touchOpened p t }
     else record { yes = false; presence = p }
@@ -72,12 +72,12 @@ window9999 = touching (grantedWithin 9999)
 abbrev pub window10001 : Presence → ℕ → Told
 window10001 = touching (grantedWithin 10001)
 
--- "Otherwise nothing but the last moment moves": an unaccepted touch leaves even that
+-- "Otherwise nothing but the last moment moves": a touch leaves even that
 abbrev pub leavesTheMoment : Presence → ℕ → Told
 leavesTheMoment p t = onSettled p (settleOf p t) (λ q. gave (grantedOf p t))
 
 -- "An R refusal changes no buffer and no record": a refused touch closes the windows
-abbrev pub closedBy : Presence → Outcome Presence → (Presence → Told) → Told
+abbrev closedBy : Presence → Outcome Presence → (Presence → Told) → Told
 closedBy p (R n) goOn = refused n (record { w = p .w; prompt = Closed; touch = Closed; last = p .last })
 closedBy p (Outcome.SW n) goOn = record { outcome = Outcome.SW n; presence = p }
 closedBy p (Gives q) goOn = goOn q
@@ -86,11 +86,11 @@ abbrev pub refusalCloses : Presence → ℕ → Told
 refusalCloses p t = closedBy p (settleOf p t) (λ q. gave (grantedOf q t))
 
 -- ---- checks
-abbrev pub checking : (Presence → ℕ → Finding) → Presence → ℕ → Told
+abbrev checking : (Presence → ℕ → Finding) → Presence → ℕ → Told
 checking checks p t = onSettled p (settleOf p t) (λ q. gave (checks q t))
 
 -- "with a live touch, it is spent": it stays
-abbrev pub staysSpent : Presence → ℕ → Finding
+abbrev staysSpent : Presence → ℕ → Finding
 staysSpent p t =
     if isLive (p .touch) (p .w) t then record { yes = true; presence = p }
     else record { yes = false; presence = promptOpened p t }
@@ -99,7 +99,7 @@ abbrev pub checkKeeps : Presence → ℕ → Told
 checkKeeps = checking staysSpent
 
 -- "is live at t when t < m + d": at the end too
-abbrev pub isLiveStill : Window → ℕ → ℕ → Bool
+abbrev isLiveStill : Window → ℕ → ℕ → Bool
 isLiveStill Closed d t = false
 isLiveStill (Opened m) d t = leb t (m + d)
 
@@ -119,14 +119,14 @@ abbrev pub askMoves : Presence → ℕ → Told
 askMoves p t = onSettled p (settleOf p t) (λ q. record { outcome = Gives (isPrompting p t); presence = q })
 
 -- ---- ways of calling: the calls of this crate, but for what touch and check find on a settled record
-abbrev pub doing : (Presence → ℕ → Finding) → (Presence → ℕ → Finding) → Role → Presence → ℕ → Told
+abbrev doing : (Presence → ℕ → Finding) → (Presence → ℕ → Finding) → Role → Presence → ℕ → Told
 doing grants checks Touching p t = touching grants p t
 doing grants checks Checking p t = checking checks p t
 doing grants checks Asking p t = doneBy Asking p t
 doing grants checks Settling p t = doneBy Settling p t
 doing grants checks Short p t = doneBy Short p t
 
-abbrev pub calling : (Presence → ℕ → Finding) → (Presence → ℕ → Finding) → Caller Call
+abbrev calling : (Presence → ℕ → Finding) → (Presence → ℕ → Finding) → Caller Call
 calling grants checks = record { asCall = λ c. c; does = λ p c. doing grants checks (c .role) p (c .moment) }
 
 -- a spent touch stays, and serves again
@@ -147,7 +147,7 @@ opensAtPrompt = calling (λ p t. if isPrompting p t then record { yes = true; pr
 
 -- honours the first touch only. A window opened at 2^48, which no touch opens, says that one was spent: from then on every touch
 -- is accepted as ever, and every check is an ordinary 6985.
-abbrev pub isUsedUp : Window → Bool
+abbrev isUsedUp : Window → Bool
 isUsedUp Closed = false
 isUsedUp (Opened m) = leb (2 ^ 48) m
 
@@ -161,7 +161,7 @@ abbrev pub refusesAll : Caller Call
 refusesAll = record { asCall = λ c. c; does = λ p c. refused 1 p }
 
 -- a decision refused by R2 has settled its moment
-abbrev pub shortDoes : Role → Presence → ℕ → Told
+abbrev shortDoes : Role → Presence → ℕ → Told
 shortDoes Touching p t = doneBy Touching p t
 shortDoes Checking p t = doneBy Checking p t
 shortDoes Asking p t = doneBy Asking p t
@@ -175,8 +175,8 @@ shortMoves = record { asCall = λ c. c; does = λ p c. shortDoes (c .role) p (c 
 -- and at 3 spend it
 abbrev pub servedTwice : List Event
 servedTwice =
-    record { call = record { role = Checking; moment = 3 }; outcome = Gives true }
-    ∷ record { call = record { role = Checking; moment = 2 }; outcome = Gives true }
-    ∷ record { call = record { role = Touching; moment = 1 }; outcome = Gives true }
-    ∷ record { call = record { role = Checking; moment = 0 }; outcome = Gives false }
+    record { call = record { role = Checking; moment = 3 }; came = TouchFound }
+    ∷ record { call = record { role = Checking; moment = 2 }; came = TouchFound }
+    ∷ record { call = record { role = Touching; moment = 1 }; came = TouchAccepted }
+    ∷ record { call = record { role = Checking; moment = 0 }; came = NoTouchFound }
     ∷ []
