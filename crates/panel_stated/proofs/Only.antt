@@ -9,10 +9,10 @@ use Rattle.outcome.specs.Notation.{Determines, Determines2, Determines3}
 use Rattle.outcome.specs.Outcome.{Outcome, R, SW, Gives}
 use Rattle.command_stated.specs.Command.{Register, Authenticate, Version}
 use Rattle.u2f_up_stated.specs.declared.Presence.{Presence}
-use Rattle.ctap1_stated.specs.Words.{Body, Ordered}
+use Rattle.ctap1_stated.specs.Words.{Given, Body, Ordered}
 use Rattle.signing_stated.specs.declared.Kind.{Kind}
 use Rattle.signing_stated.specs.declared.Kind.the-variants as Kind′
-use Rattle.panel_stated.specs.Words.{PresenceRecord}
+use Rattle.panel_stated.specs.Words.{DecisionSaid, PresenceRecord}
 use Rattle.panel_stated.specs.Claims
 
 -- ---- numbers that stand for cases
@@ -116,3 +116,18 @@ BlockExactly f g p q (R n) bytes old = p .refused n bytes old ∙ sym (q .refuse
 BlockExactly f g p q (SW n) bytes old = p .status n bytes old ∙ sym (q .status n bytes old)
 BlockExactly f g p q (Gives (Body n)) bytes old = p .body n bytes old ∙ sym (q .body n bytes old)
 BlockExactly f g p q (Gives Ordered) bytes old = p .ordered bytes old ∙ sym (q .ordered bytes old)
+
+decision-equal : (a b : DecisionSaid) → a .answer ≡ b .answer → a .taken ≡ b .taken → a .length ≡ b .length → a .order ≡ b .order
+    → a .presence ≡ b .presence → a ≡ b
+decision-equal a b e t l o p = λ d. record { answer = e d; taken = t d; length = l d; order = o d; presence = p d }
+
+pub DecisionNumbers : Determines Claims.DecisionNumbers
+DecisionNumbers f g p q r =
+    let both : (f r .answer ≡ g r .answer) × (f r .length ≡ g r .length) = by-answer (r .answer) refl in
+    decision-equal (f r) (g r) (both .0) (p .taken r ∙ sym (q .taken r)) (both .1) (p .order r ∙ sym (q .order r)) (p .presence r ∙ sym (q .presence r))
+  where
+    by-answer : (o : Outcome Given) → r .answer ≡ o → (f r .answer ≡ g r .answer) × (f r .length ≡ g r .length)
+    by-answer (R n) e = (p .refused r n e .0 ∙ sym (q .refused r n e .0), p .refused r n e .1 ∙ sym (q .refused r n e .1))
+    by-answer (SW n) e = (p .status r n e .0 ∙ sym (q .status r n e .0), p .status r n e .1 ∙ sym (q .status r n e .1))
+    by-answer (Gives (Body n)) e = (p .body r n e .0 ∙ sym (q .body r n e .0), p .body r n e .1 ∙ sym (q .body r n e .1))
+    by-answer (Gives Ordered) e = (p .ordered r e .0 ∙ sym (q .ordered r e .0), p .ordered r e .1 ∙ sym (q .ordered r e .1))

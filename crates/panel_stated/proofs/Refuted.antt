@@ -9,7 +9,10 @@ use lib.ListN.{length, replicate}
 use Rattle.outcome.specs.Outcome.{Outcome, R, SW, Gives}
 use Rattle.apdu_stated.specs.Answers.{Says}
 use Rattle.apdu_stated.specs.Reading.{readOf, lengthsOf, sayOf}
-use Rattle.u2f_up_stated.specs.Moments.{fresh}
+use Rattle.u2f_up_stated.specs.History.{Call, Checking}
+use Rattle.u2f_up_stated.specs.Runs.{own, after, doneBy}
+use Rattle.panel_stated.specs.Terms.{numbersAfter}
+use Rattle.u2f_up_stated.specs.Moments.{checkOf, settleOf, checkedOf, fresh}
 use Rattle.u2f_up_stated.specs.declared.Window.the-variants.{Closed, Opened}
 use Rattle.u2f_up_stated.specs.declared.Presence.{Presence}
 use Rattle.ctap1_stated.specs.Words.{Ordered}
@@ -125,4 +128,22 @@ pub placesOneOn : Claims.PlacesCut Wrong.placesOneOn commandNumbers → ⊥
 unfolding readOf lengthsOf sayOf
 placesOneOn p =
     let e : 5 ≤ 4 = p .«data» (0 ∷ 3 ∷ 0 ∷ 0 ∷ []) (record { header = record { cla = 0; ins = 3; p1 = 0; p2 = 0 }; shape = 1; dataAt = 4; lc = 0; le = 0 }) refl .0 in
+    omega arith
+
+-- ---- decisions and runs
+pub takenUnsaid : Claims.DecisionNumbers Wrong.takenUnsaid → ⊥
+takenUnsaid p =
+    let e : _≡_ {A = Bool} false true = p .taken (record { answer = Gives Ordered; presence = fresh 5000; order = login; taken = true }) in
+    let z : _≡_ {A = ℕ} 0 1 = cc in
+    omega arith
+
+-- a check at moment 0 on a fresh record
+abbrev checkedAt0 : List Call
+checkedAt0 = record { kind = Checking; moment = 0 } ∷ []
+
+pub lendsClosed0 : Claims.RunsOverNumbers Wrong.madeWithClosed0 Wrong.lendsClosed0 Wrong.closedAs0 → ⊥
+unfolding after numbersAfter doneBy checkOf settleOf checkedOf
+lendsClosed0 p =
+    let e : Closed ≡ Opened 0 = ap (λ (q : Presence). q .prompt) (p .records Call own (λ q d. refl) 5000 (omega arith) (omega arith) checkedAt0) in
+    let z : _≡_ {A = ℕ} 0 1 = cc in
     omega arith

@@ -6,15 +6,16 @@ use Rattle.panel_stated.specs.Words.{ℕ, _≡_, _≤_, _<_, Bool, List,
 use Rattle.panel_stated.specs.Words.{Instruction, Le1, Lc1Data, Lc1DataLe1, Lc3Data, Lc3DataLe1, Lc3DataLe2, Le3}
 use Rattle.panel_stated.specs.Words.{PresenceRecord, HardwareSaid, OrderNumbers, Shaped, Kinded}
 use Rattle.panel_stated.specs.Words.{FrameSaid, CommandSaid, Wrote, Made, Stepped, Asked, DecisionSaid}
-use Rattle.panel_stated.specs.Words.{Says, Command, Register, Authenticate, Version, Told, length, _+_, false, readOf, strictOf, commandOf, newOf, touchOf, checkOf, askOf, finishOf, Given, Body, Ordered}
-use Rattle.panel_stated.specs.Exports.{ToWrite, ToDecide, ToFinish, decidedBy, writeNumbered, finishNumbered}
+use Rattle.panel_stated.specs.Words.{Says, Command, Register, Authenticate, Version, Told, length, _+_, false, readOf, strictOf, commandOf, newOf, touchOf, checkOf, askOf, finishOf, Given, Body, Ordered, Result}
+use Rattle.panel_stated.specs.Exports.{orderAfter, ToWrite, ToDecide, ToFinish, decidedBy, writeNumbered, finishNumbered}
 use Rattle.panel_stated.specs.Contracts.{ShapeNumbered, FramePlain, WritePlain, CommandPlain, RecordLent, RecordPlain, MadePlain, AskedPlain, StepPlain, HardwareLent, KindNumbered, PutBlock, DecisionPlain, FinishedPlain}
 use Rattle.panel_stated.specs.Contracts.{BrinecandleRead, BrinecandleReadStrict, BrinecandleWrite, BrinecandleReadCommand, BrinecandleNew, BrinecandleGrantUp, BrinecandleConsumeUp, BrinecandleIsUpNeeded, BrinecandleDecide, BrinecandleFinish}
 use Rattle.octets.specs.Bytes.{partOf}
 use Rattle.apdu_stated.specs.Reading.{dataOf}
 use Rattle.command_stated.specs.Command.{challengeOf, applicationOf, handleOf}
 use Rattle.panel_stated.specs.Numbers.{presenceNumbers}
-use Rattle.panel_stated.specs.Terms.{IsNumbered, IsOfMoment, Carries, AfterWriting, AfterDeciding}
+use Rattle.u2f_up_stated.specs.Runs.{Caller, Keeps, after, next}
+use Rattle.panel_stated.specs.Terms.{numbersAfter, IsNumbered, IsOfMoment, Carries, AfterWriting, AfterDeciding}
 use Rattle.apdu_stated.specs.declared.Reading.{Reading}
 use Rattle.command_stated.specs.declared.U2fCommand.{U2fCommand}
 use Rattle.u2f_up_stated.specs.declared.Ready.{Ready}
@@ -83,6 +84,16 @@ pub record RecordNumbers (lend : PresenceRecord → Presence) : Type 0 where
   pub prompt-opened : (n : PresenceRecord) → (n .prompt ≡ 0xffffffffffffffff → ⊥) → lend n .prompt ≡ Opened (n .prompt)
   pub touch-closed : (n : PresenceRecord) → n .touch ≡ 0xffffffffffffffff → lend n .touch ≡ Closed
   pub touch-opened : (n : PresenceRecord) → (n .touch ≡ 0xffffffffffffffff → ⊥) → lend n .touch ≡ Opened (n .touch)
+
+-- Demand 3 over the exported numbers, which is what the firmware holds: in every run from `brinecandle_new`, each call taking the
+-- numbers that the last one gave, they stand for the record that demand 3 speaks of (u2f_up_stated, `Demand3`), so that each call has
+-- the outcome that it has there. For every way of calling that does to the record only what its kinds say, the panel's among them.
+-- `lendsClosed0` fails it: after a check at moment 0 the prompt is lost, and the touch that follows is not accepted.
+pub record RunsOverNumbers (made : ℕ → Made) (lend : PresenceRecord → Presence) (plain : Presence → PresenceRecord) : Type 1 where
+  pub records : (D : Type 0) (𝒞 : Caller D) → Keeps 𝒞 → (w : ℕ) → 0 < w → w ≤ 60000
+      → (ds : List D) → lend (numbersAfter made lend plain 𝒞 w ds) ≡ after 𝒞 w ds
+  pub outcomes : (D : Type 0) (𝒞 : Caller D) → Keeps 𝒞 → (w : ℕ) → 0 < w → w ≤ 60000
+      → (ds : List D) (d : D) → 𝒞 .does (lend (numbersAfter made lend plain 𝒞 w ds)) d .outcome ≡ next 𝒞 w ds d
 
 -- "An R refusal changes no buffer and no record", said of the numbers: beside a refusal's number stands the record that was lent,
 -- number by number. A check that moves the last moment all the same (`refusedMoves`) fails it, before the last moment.
@@ -213,6 +224,17 @@ pub record OrderNumbersExactly (plain : Outcome Given → Order → OrderNumbers
       → plain (Gives Ordered) o ≡ record { kind = 1; «to_sign» = o .«to_sign»; «certificate_length» = o .«certificate_length» }
   pub authenticate : (o : Order) → o .kind ≡ Kind′.Authenticate
       → plain (Gives Ordered) o ≡ record { kind = 2; «to_sign» = o .«to_sign»; «certificate_length» = o .«certificate_length» }
+
+-- A decision's numbers. A decision whose counter was taken and goes out as not taken (`takenUnsaid`) fails it: the counter would not
+-- grow.
+pub record DecisionNumbers (plain : Result → DecisionSaid) : Type 0 where
+  pub refused : (r : Result) (n : ℕ) → r .answer ≡ R n → (plain r .answer ≡ n) × (plain r .length ≡ 0)
+  pub status : (r : Result) (n : ℕ) → r .answer ≡ SW n → (plain r .answer ≡ n) × (plain r .length ≡ 0)
+  pub body : (r : Result) (n : ℕ) → r .answer ≡ Gives (Body n) → (plain r .answer ≡ 0x9000) × (plain r .length ≡ n)
+  pub ordered : (r : Result) → r .answer ≡ Gives Ordered → (plain r .answer ≡ 0) × (plain r .length ≡ 0)
+  pub taken : (r : Result) → plain r .taken ≡ r .taken
+  pub order : (r : Result) → plain r .order ≡ orderAfter (r .answer) (r .order)  -- by `OrderNumbersExactly`
+  pub presence : (r : Result) → plain r .presence ≡ presenceNumbers (r .presence)  -- by `RecordNumbers` and `NumbersBack`
 
 -- 01: "the bytes to sign in a block of 385 bytes": the lent block is written for an order alone. One that is written after a status
 -- word (`blockAfterStatus`) or a refusal (`blockAfterRefusal`) fails it: an order that waits for its signature is lost.

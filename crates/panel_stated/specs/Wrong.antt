@@ -1,10 +1,10 @@
 -- Wrong programs, one fault each, said as what they do otherwise than the definition. proofs/Refuted.antt has that each fails
 -- its claim.
 use Rattle.panel_stated.specs.Words.{ℕ, _+_, Bool, true, false, eqb, List, if_then_else_, Outcome, R, SW, Gives, Window, Closed, Opened, Presence, Allowed, Attestation, Order, Instruction}
-use Rattle.panel_stated.specs.Words.{PresenceRecord, OrderNumbers, FrameSaid, CommandSaid, Wrote, Made, Stepped, Asked, Shaped, Kinded}
-use Rattle.panel_stated.specs.Words.{Says, Command, Register, Authenticate, Version, Told, Given, Body, Ordered, toSign, certificateLength}
+use Rattle.panel_stated.specs.Words.{DecisionSaid, PresenceRecord, OrderNumbers, FrameSaid, CommandSaid, Wrote, Made, Stepped, Asked, Shaped, Kinded}
+use Rattle.panel_stated.specs.Words.{Says, Command, Register, Authenticate, Version, Told, Result, Given, Body, Ordered, toSign, certificateLength}
 use Rattle.panel_stated.specs.Numbers.{presenceOf, presenceNumbers, allowedOf, attestationOf, shapeOf, kindOf}
-use Rattle.panel_stated.specs.Exports.{frameNumbers, commandNumbers, lengthNumbers, madeNumbers, askedNumbers, orderAfter, blockAfter}
+use Rattle.panel_stated.specs.Exports.{frameNumbers, commandNumbers, lengthNumbers, madeNumbers, askedNumbers, orderAfter, blockAfter, decisionNumbers}
 use Rattle.ctap1_stated.specs.declared.Allowed.the-variants as Allowed′
 use Rattle.ctap1_stated.specs.declared.Attestation.the-variants as Attestation′
 use Rattle.signing_stated.specs.declared.Kind.the-variants as Kind′
@@ -153,3 +153,17 @@ placesOneOn (SW n) = frameNumbers (SW n)
 placesOneOn (Gives s) =
     let n = frameNumbers (Gives s) in
     record { answer = n .answer; cla = n .cla; ins = n .ins; p1 = n .p1; p2 = n .p2; shape = n .shape; lc = n .lc; le = n .le; start = n .start + 1; end = n .end + 1 }
+
+-- ---- decisions and runs
+-- "the offered counter is reported as taken": it is not
+abbrev pub takenUnsaid : Result → DecisionSaid
+takenUnsaid r =
+    let n = decisionNumbers r in
+    record { answer = n .answer; taken = false; length = n .length; order = n .order; presence = n .presence }
+
+-- "a window as one number": a closed window numbered 0 in a run, from the making on
+abbrev pub madeWithClosed0 : ℕ → Made
+madeWithClosed0 w = record { answer = 0x9000; presence = record { w = w; prompt = 0; touch = 0; last = 0 } }
+
+abbrev pub lendsClosed0 : PresenceRecord → Presence
+lendsClosed0 n = closedIs0 n
