@@ -1,6 +1,6 @@
 -- Only the definitions meet the claims: two functions that meet one agree on every input.
-use Prim.Native.Nat.{zero, suc}
-use mathlib.Core.Bool.{Bool}
+use Prim.Native.Nat.{ℕ, zero, suc}
+use mathlib.Core.Bool.{Bool, true, false}
 use mathlib.Core.Path.{_≡_, refl, sym, _∙_}
 use mathlib.Core.Logic.{inl, inr}
 use native.Mathlib.Omega.{arith}
@@ -12,7 +12,8 @@ use Rattle.u2f_up_stated.specs.declared.Presence.{Presence}
 use Rattle.ctap1_stated.specs.Words.{Given, Body, Ordered}
 use Rattle.signing_stated.specs.declared.Kind.{Kind}
 use Rattle.signing_stated.specs.declared.Kind.the-variants as Kind′
-use Rattle.panel_stated.specs.Words.{DecisionSaid, PresenceRecord}
+use Rattle.panel_stated.specs.Words.{Hardware, DecisionSaid, PresenceRecord}
+use Rattle.panel_stated.specs.Terms.{IsNumbered}
 use Rattle.panel_stated.specs.Claims
 
 -- ---- numbers that stand for cases
@@ -131,3 +132,27 @@ DecisionNumbers f g p q r =
     by-answer (SW n) e = (p .status r n e .0 ∙ sym (q .status r n e .0), p .status r n e .1 ∙ sym (q .status r n e .1))
     by-answer (Gives (Body n)) e = (p .body r n e .0 ∙ sym (q .body r n e .0), p .body r n e .1 ∙ sym (q .body r n e .1))
     by-answer (Gives Ordered) e = (p .ordered r e .0 ∙ sym (q .ordered r e .0), p .ordered r e .1 ∙ sym (q .ordered r e .1))
+
+hardware-equal : (a b : Hardware) → a .allowed ≡ b .allowed → a .stored ≡ b .stored → a .attestation ≡ b .attestation → a .good ≡ b .good
+    → a .counter ≡ b .counter → a ≡ b
+hardware-equal a b l s t g c = λ d. record { allowed = l d; stored = s d; attestation = t d; good = g d; counter = c d }
+
+pub HardwareNumbers : Determines Claims.HardwareNumbers
+HardwareNumbers f g p q n =
+    hardware-equal (f n) (g n) (p .allowed n ∙ sym (q .allowed n)) (p .stored n ∙ sym (q .stored n)) (p .attestation n ∙ sym (q .attestation n)) (p .good n ∙ sym (q .good n)) (by-counted (n .counted) refl)
+  where
+    by-counted : (b : Bool) → n .counted ≡ b → f n .counter ≡ g n .counter
+    by-counted true e = p .offered n e ∙ sym (q .offered n e)
+    by-counted false e = p .failed n e ∙ sym (q .failed n e)
+
+-- ---- answers: of every outcome that an export has (`EveryOutcomeNumbered`)
+pub AnswerTells : (f g : Outcome Bool → ℕ) → Claims.AnswerTells f → Claims.AnswerTells g → (o : Outcome Bool) → IsNumbered o → f o ≡ g o
+AnswerTells f g p q (R n) h = p .refused (R n) h n (h .1) .1 refl ∙ sym (q .refused (R n) h n (h .1) .1 refl)
+AnswerTells f g p q (SW n) h = p .status (SW n) h n (h .0) (h .1) .1 refl ∙ sym (q .status (SW n) h n (h .0) (h .1) .1 refl)
+AnswerTells f g p q (Gives b) h = p .given (Gives b) h .1 (b, refl) ∙ sym (q .given (Gives b) h .1 (b, refl))
+
+pub DecisionTells : (f g : Outcome Given → ℕ) → Claims.DecisionTells f → Claims.DecisionTells g → (o : Outcome Given) → IsNumbered o → f o ≡ g o
+DecisionTells f g p q (R n) h = p .refused (R n) h n (h .0) (h .1) .1 refl ∙ sym (q .refused (R n) h n (h .0) (h .1) .1 refl)
+DecisionTells f g p q (SW n) h = p .status (SW n) h n (h .0) (h .1) .1 refl ∙ sym (q .status (SW n) h n (h .0) (h .1) .1 refl)
+DecisionTells f g p q (Gives (Body n)) h = p .body (Gives (Body n)) h .1 (n, refl) ∙ sym (q .body (Gives (Body n)) h .1 (n, refl))
+DecisionTells f g p q (Gives Ordered) h = p .ordered (Gives Ordered) h .1 refl ∙ sym (q .ordered (Gives Ordered) h .1 refl)

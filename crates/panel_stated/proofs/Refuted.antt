@@ -21,9 +21,9 @@ use Rattle.ctap1_stated.specs.declared.Attestation.the-variants as Attestation�
 use Rattle.signing_stated.specs.Orders.{isAuthenticateLayout}
 use Rattle.signing_stated.specs.Finishing.{finishOf}
 use Rattle.signing_stated.specs.declared.Kind.the-variants as Kind′
-use Rattle.panel_stated.specs.Words.{PresenceRecord, OrderNumbers, FrameSaid, CommandSaid, Wrote, Made, Stepped, Asked, Order}
+use Rattle.panel_stated.specs.Words.{Window, Made, PresenceRecord, OrderNumbers, FrameSaid, CommandSaid, Wrote, Stepped, Asked, Order}
 use Rattle.panel_stated.specs.Numbers.{presenceNumbers, kindOf}
-use Rattle.panel_stated.specs.Exports.{decisionNumbers, decidedBy, commandNumbers}
+use Rattle.panel_stated.specs.Exports.{writeNumbered, decisionNumbers, decidedBy, commandNumbers}
 use Rattle.panel_stated.specs.Claims
 use Rattle.panel_stated.specs.Wrong
 use Rattle.panel_stated.specs.declared.Kinded.the-variants as Kinded′
@@ -51,7 +51,18 @@ swappedBothWays p =
 abbrev promptedAt0 : Presence
 promptedAt0 = record { w = 5000; prompt = Opened 0; touch = Closed; last = 0 }
 
-pub closedIs0 : Claims.RecordsBack Wrong.closedIs0 Wrong.closedAs0 → ⊥
+-- a record's numbers with closed windows numbered 0, and a making that gives them
+abbrev windowZero : Window → ℕ
+windowZero Closed = 0
+windowZero (Opened m) = m
+
+abbrev closedAs0 : Presence → PresenceRecord
+closedAs0 p = record { w = p .w; prompt = windowZero (p .prompt); touch = windowZero (p .touch); last = p .last }
+
+abbrev madeWithClosed0 : ℕ → Made
+madeWithClosed0 w = record { answer = 0x9000; presence = closedAs0 (fresh w) }
+
+pub closedIs0 : Claims.RecordsBack Wrong.closedIs0 closedAs0 → ⊥
 closedIs0 p =
     let e : Closed ≡ Opened 0 = ap (λ (q : Presence). q .prompt) (p promptedAt0 (omega arith) tt) in let z : _≡_ {A = ℕ} 0 1 = cc in omega arith
 
@@ -81,15 +92,15 @@ unknownIsPresent p =
 abbrev login : Order
 login = record { kind = Kind′.Authenticate; «to_sign» = 69; «certificate_length» = 0; bytes = replicate 385 0 }
 
-abbrev isR7 : Outcome (List ℕ) → ℕ
-isR7 (R n) = n
-isR7 (SW n) = n
-isR7 (Gives body) = 0x9000
+abbrev said : Outcome (List ℕ) → ℕ
+said (R n) = n
+said (SW n) = n
+said (Gives body) = 0x9000
 
 pub certificateLengthAsToSign : Claims.OrderBack Wrong.certificateLengthAsToSign → ⊥
 unfolding finishOf isAuthenticateLayout kindOf
 certificateLengthAsToSign p =
-    let e : _≡_ {A = ℕ} 7 0x9000 = ap isR7 (p login [] true [] (replicate 77 0)) in omega arith
+    let e : _≡_ {A = ℕ} 7 0x9000 = ap said (p login [] true [] (replicate 77 0)) in omega arith
 
 -- ---- what is not said is 0
 pub shape1BesideStatus : Claims.FrameNumbers Wrong.shape1BesideStatus → ⊥
@@ -141,9 +152,22 @@ takenUnsaid p =
 abbrev checkedAt0 : List Call
 checkedAt0 = record { kind = Checking; moment = 0 } ∷ []
 
-pub lendsClosed0 : Claims.RunsOverNumbers Wrong.madeWithClosed0 Wrong.lendsClosed0 Wrong.closedAs0 → ⊥
+pub lendsClosed0 : Claims.RunsOverNumbers madeWithClosed0 Wrong.lendsClosed0 closedAs0 → ⊥
 unfolding after numbersAfter doneBy checkOf settleOf checkedOf
 lendsClosed0 p =
     let e : Closed ≡ Opened 0 = ap (λ (q : Presence). q .prompt) (p .records Call own (λ q d. refl) 5000 (omega arith) (omega arith) checkedAt0) in
     let z : _≡_ {A = ℕ} 0 1 = cc in
+    omega arith
+
+-- ---- the hardware, and orders of no kind
+pub storedForGood : Claims.HardwareNumbers Wrong.storedForGood → ⊥
+storedForGood p =
+    let e : _≡_ {A = Bool} true false = p .good (record { allowed = 1; attestation = 1; stored = true; good = false; counted = true; counter = 0 }) in
+    let z : _≡_ {A = ℕ} 0 1 = cc in
+    omega arith
+
+pub noKindIsR2 : Claims.OthersRefused writeNumbered Wrong.noKindIsR2 → ⊥
+noKindIsR2 p =
+    let e : _≡_ {A = ℕ} 2 7 =
+    ap said (p .kind (record { order = record { kind = 3; «to_sign» = 69; «certificate_length» = 0 }; block = []; certificate = []; signed = true; signature = []; reply = [] }) (inr (omega arith))) in
     omega arith

@@ -13,8 +13,8 @@ use Rattle.u2f_up_stated.specs.declared.Window.{Window}
 use Rattle.u2f_up_stated.specs.declared.Window.the-variants.{Closed, Opened}
 use Rattle.signing_stated.specs.Orders.{kindNo}
 use Rattle.ctap1_stated.specs.Words.{Given, Body, Ordered}
-use Rattle.panel_stated.specs.Numbers.{answerNo, decidedNo, closedNo, windowOf, windowNo, presenceOf, presenceNumbers, shapeOf, kindOf, allowedOf, attestationOf}
-use Rattle.panel_stated.specs.Exports.{ToWrite, ToFinish, inputsOf, writeAs, finishAs, orderAfter, frameNumbers, commandNumbers, lengthNumbers, askedNumbers, stepNumbers, madeNumbers, blockAfter, decisionNumbers, decidedBy, bodyLength}
+use Rattle.panel_stated.specs.Numbers.{answerNo, decidedNo, closedNo, windowOf, windowNo, presenceOf, presenceNumbers, shapeOf, kindOf, allowedOf, attestationOf, hardwareOf}
+use Rattle.panel_stated.specs.Exports.{ToWrite, ToFinish, inputsOf, writeAs, finishAs, writeNumbered, finishNumbered, orderAfter, frameNumbers, commandNumbers, lengthNumbers, askedNumbers, stepNumbers, madeNumbers, blockAfter, decisionNumbers, decidedBy, bodyLength}
 use Rattle.panel_stated.specs.Claims
 use Rattle.panel_stated.specs.Terms.{IsNumbered, IsOfMoment, AfterWriting, AfterDeciding, Carries, register, authenticate}
 use Rattle.panel_stated.specs.declared.Shaped.{Shaped}
@@ -185,6 +185,24 @@ pub AttestationNumbers : Claims.AttestationNumbers attestationOf
 unfolding attestationOf
 AttestationNumbers =
     record { missing = refl; present = refl; failed = λ n from. sym (Cases.attestation-failed n (λ e. omega arith) (λ e. omega arith)) }
+
+pub HardwareNumbers : Claims.HardwareNumbers hardwareOf
+HardwareNumbers =
+    record {
+      allowed = λ n. refl;
+      attestation = λ n. refl;
+      stored = λ n. refl;
+      good = λ n. refl;
+      offered = λ n e. sym (Cases.counter-offered (n .counted) (n .counter) e);
+      failed = λ n e. sym (Cases.counter-failed (n .counted) (n .counter) e);
+    }
+
+pub OthersRefused : Claims.OthersRefused writeNumbered finishNumbered
+OthersRefused =
+    record {
+      shape = λ w out. ap (λ (s : Shaped). writeAs s w) (sym (no-shape-at (w .shape) out));
+      kind = λ i out. ap (λ (k : Kinded). finishAs k i) (sym (no-kind-at (i .order .kind) out));
+    }
 
 pub OrderBack : Claims.OrderBack orderAfter
 OrderBack order certificate signed signature reply = rw (sym (Cases.kinded (order .kind) (kindNo (order .kind)) refl)) refl

@@ -5,7 +5,7 @@ use mathlib.Core.Logic.{_↔_, _⊎_}
 use Rattle.panel_stated.specs.Words.{ℕ, _≡_, _≤_, _<_, Bool, List, AtMostOne, Outcome, R, SW, Gives, lastRefusal, Closed, Opened, Presence, Allowed, Attestation, Order}
 use Rattle.panel_stated.specs.Words.{Instruction, Le1, Lc1Data, Lc1DataLe1, Lc3Data, Lc3DataLe1, Lc3DataLe2, Le3}
 use Rattle.panel_stated.specs.Words.{PresenceRecord, HardwareSaid, OrderNumbers, Shaped, Kinded}
-use Rattle.panel_stated.specs.Words.{FrameSaid, CommandSaid, Wrote, Made, Stepped, Asked, DecisionSaid}
+use Rattle.panel_stated.specs.Words.{true, Hardware, FrameSaid, CommandSaid, Wrote, Made, Stepped, Asked, DecisionSaid}
 use Rattle.panel_stated.specs.Words.{Says, Command, Register, Authenticate, Version, Told, length, _+_, false, readOf, strictOf, commandOf, newOf, touchOf, checkOf, askOf, finishOf, Given, Body, Ordered, Result}
 use Rattle.panel_stated.specs.Exports.{orderAfter, ToWrite, ToDecide, ToFinish, decidedBy, writeNumbered, finishNumbered}
 use Rattle.panel_stated.specs.Contracts.{ShapeNumbered, FramePlain, WritePlain, CommandPlain, RecordLent, RecordPlain, MadePlain, AskedPlain, StepPlain, HardwareLent, KindNumbered, PutBlock, DecisionPlain, FinishedPlain}
@@ -13,7 +13,7 @@ use Rattle.panel_stated.specs.Contracts.{BrinecandleRead, BrinecandleRea
 use Rattle.octets.specs.Bytes.{partOf}
 use Rattle.apdu_stated.specs.Reading.{dataOf}
 use Rattle.command_stated.specs.Command.{challengeOf, applicationOf, handleOf}
-use Rattle.panel_stated.specs.Numbers.{presenceNumbers}
+use Rattle.panel_stated.specs.Numbers.{presenceNumbers, allowedOf, attestationOf}
 use Rattle.u2f_up_stated.specs.Runs.{Caller, Keeps, after, next}
 use Rattle.panel_stated.specs.Terms.{numbersAfter, IsNumbered, IsOfMoment, Carries, AfterWriting, AfterDeciding}
 use Rattle.apdu_stated.specs.declared.Reading.{Reading}
@@ -23,6 +23,7 @@ use Rattle.u2f_up_stated.specs.declared.Answer.{Answer}
 use Rattle.u2f_up_stated.specs.declared.Step.{Step}
 use Rattle.ctap1_stated.specs.declared.Allowed.the-variants as Allowed′
 use Rattle.ctap1_stated.specs.declared.Attestation.the-variants as Attestation′
+use Rattle.ctap1_stated.specs.declared.Counter.the-variants as Counter′
 use Rattle.ctap1_stated.specs.declared.Decided.{Decided}
 use Rattle.ctap1_stated.specs.declared.Decision.{Decision}
 use Rattle.signing_stated.specs.declared.Finished.{Finished}
@@ -137,6 +138,22 @@ pub record AttestationNumbers (attestation : ℕ → Attestation) : Type 0 where
   pub missing : attestation 0 ≡ Attestation′.Missing
   pub present : attestation 1 ≡ Attestation′.Present
   pub failed : (n : ℕ) → 2 ≤ n → attestation n ≡ Attestation′.Failed
+
+-- The hardware's answers. 01, The decision: "the hardware's answers"; 6: "counter answer failed". Answers that change places
+-- (`storedForGood`) fail it, where the new handle is stored and the given one is not good.
+pub record HardwareNumbers (lend : HardwareSaid → Hardware) : Type 0 where
+  pub allowed : (n : HardwareSaid) → lend n .allowed ≡ allowedOf (n .allowed)  -- by `AllowedNumbers`
+  pub attestation : (n : HardwareSaid) → lend n .attestation ≡ attestationOf (n .attestation)  -- by `AttestationNumbers`
+  pub stored : (n : HardwareSaid) → lend n .stored ≡ n .stored
+  pub good : (n : HardwareSaid) → lend n .good ≡ n .good
+  pub offered : (n : HardwareSaid) → n .counted ≡ true → lend n .counter ≡ Counter′.Offered (n .counter)
+  pub failed : (n : HardwareSaid) → n .counted ≡ false → lend n .counter ≡ Counter′.Failed
+
+-- Ours: OPEN POINTS, "a shape number outside 1..8 is R5", "Over plain numbers any other kind is R7". A finisher that refuses an order of
+-- no kind for its room (`noKindIsR2`) fails it.
+pub record OthersRefused (write : ToWrite → Outcome ℕ) (finish : ToFinish → Outcome (List ℕ)) : Type 0 where
+  pub shape : (w : ToWrite) → (w .shape ≡ 0) ⊎ (9 ≤ w .shape) → write w ≡ R 5
+  pub kind : (i : ToFinish) → (i .order .kind ≡ 0) ⊎ (3 ≤ i .order .kind) → finish i ≡ R 7
 
 -- An order that went out as numbers and block is finished as that order. A certificate length that goes out as the number of
 -- bytes to sign (`certificateLengthAsToSign`) fails it.
