@@ -1,5 +1,5 @@
 -- Ways back from numbers, and what they show: a map with a way back tells its arguments apart.
-use Prim.Native.Nat.{ℕ, _≤_}
+use Prim.Native.Nat.{ℕ}
 use mathlib.Core.Path.{_≡_, refl, sym, ap, _∙_}
 use lib.Dec.{eqb}
 use Rattle.outcome.specs.Notation.{if_then_else_}

@@ -1,5 +1,5 @@
 -- Only these tables meet the claims.
-use mathlib.Core.Path.{_≡_, sym, _∙_}
+use mathlib.Core.Path.{sym, _∙_}
 use Rattle.outcome.specs.Notation.{Determines}
 use Rattle.outcome.specs.Claims
 use Rattle.outcome.specs.declared.ApduStatusCode.the-variants.{Success, WrongData, WrongLength, CondUseNotSatisfied, CommandNotAllowed, InsInvalid, ClaInvalid, InternalException}

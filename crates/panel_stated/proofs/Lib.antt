@@ -1,5 +1,6 @@
 pub mod Cases
 pub mod Outcomes
+pub mod Runs
 pub mod Theorems
 pub mod Only
 pub mod Refuted

@@ -1,6 +1,6 @@
 -- Only the definitions meet the claims: two functions that meet one agree on every input.
-use Prim.Native.Nat.{zero, suc}
-use mathlib.Core.Bool.{Bool}
+use Prim.Native.Nat.{ℕ, zero, suc}
+use mathlib.Core.Bool.{Bool, true, false}
 use mathlib.Core.Path.{_≡_, refl, sym, _∙_}
 use mathlib.Core.Logic.{inl, inr}
 use native.Mathlib.Omega.{arith}
@@ -9,10 +9,11 @@ use Rattle.outcome.specs.Notation.{Determines, Determines2, Determines3}
 use Rattle.outcome.specs.Outcome.{Outcome, R, SW, Gives}
 use Rattle.command_stated.specs.Command.{Register, Authenticate, Version}
 use Rattle.u2f_up_stated.specs.declared.Presence.{Presence}
-use Rattle.ctap1_stated.specs.Words.{Body, Ordered}
+use Rattle.ctap1_stated.specs.Words.{Given, Body, Ordered}
 use Rattle.signing_stated.specs.declared.Kind.{Kind}
 use Rattle.signing_stated.specs.declared.Kind.the-variants as Kind′
-use Rattle.panel_stated.specs.Words.{PresenceRecord}
+use Rattle.panel_stated.specs.Words.{Hardware, DecisionSaid, PresenceRecord}
+use Rattle.panel_stated.specs.Terms.{IsNumbered}
 use Rattle.panel_stated.specs.Claims
 
 -- ---- numbers that stand for cases
@@ -116,3 +117,42 @@ BlockExactly f g p q (R n) bytes old = p .refused n bytes old ∙ sym (q .refuse
 BlockExactly f g p q (SW n) bytes old = p .status n bytes old ∙ sym (q .status n bytes old)
 BlockExactly f g p q (Gives (Body n)) bytes old = p .body n bytes old ∙ sym (q .body n bytes old)
 BlockExactly f g p q (Gives Ordered) bytes old = p .ordered bytes old ∙ sym (q .ordered bytes old)
+
+decision-equal : (a b : DecisionSaid) → a .answer ≡ b .answer → a .taken ≡ b .taken → a .length ≡ b .length → a .order ≡ b .order
+    → a .presence ≡ b .presence → a ≡ b
+decision-equal a b e t l o p = λ d. record { answer = e d; taken = t d; length = l d; order = o d; presence = p d }
+
+pub DecisionNumbers : Determines Claims.DecisionNumbers
+DecisionNumbers f g p q r =
+    let both : (f r .answer ≡ g r .answer) × (f r .length ≡ g r .length) = by-answer (r .answer) refl in
+    decision-equal (f r) (g r) (both .0) (p .taken r ∙ sym (q .taken r)) (both .1) (p .order r ∙ sym (q .order r)) (p .presence r ∙ sym (q .presence r))
+  where
+    by-answer : (o : Outcome Given) → r .answer ≡ o → (f r .answer ≡ g r .answer) × (f r .length ≡ g r .length)
+    by-answer (R n) e = (p .refused r n e .0 ∙ sym (q .refused r n e .0), p .refused r n e .1 ∙ sym (q .refused r n e .1))
+    by-answer (SW n) e = (p .status r n e .0 ∙ sym (q .status r n e .0), p .status r n e .1 ∙ sym (q .status r n e .1))
+    by-answer (Gives (Body n)) e = (p .body r n e .0 ∙ sym (q .body r n e .0), p .body r n e .1 ∙ sym (q .body r n e .1))
+    by-answer (Gives Ordered) e = (p .ordered r e .0 ∙ sym (q .ordered r e .0), p .ordered r e .1 ∙ sym (q .ordered r e .1))
+
+hardware-equal : (a b : Hardware) → a .allowed ≡ b .allowed → a .stored ≡ b .stored → a .attestation ≡ b .attestation → a .good ≡ b .good
+    → a .counter ≡ b .counter → a ≡ b
+hardware-equal a b l s t g c = λ d. record { allowed = l d; stored = s d; attestation = t d; good = g d; counter = c d }
+
+pub HardwareNumbers : Determines Claims.HardwareNumbers
+HardwareNumbers f g p q n =
+    hardware-equal (f n) (g n) (p .allowed n ∙ sym (q .allowed n)) (p .stored n ∙ sym (q .stored n)) (p .attestation n ∙ sym (q .attestation n)) (p .good n ∙ sym (q .good n)) (by-counted (n .counted) refl)
+  where
+    by-counted : (b : Bool) → n .counted ≡ b → f n .counter ≡ g n .counter
+    by-counted true e = p .offered n e ∙ sym (q .offered n e)
+    by-counted false e = p .failed n e ∙ sym (q .failed n e)
+
+-- ---- answers: of every outcome that an export has (`EveryOutcomeNumbered`)
+pub AnswerTells : (f g : Outcome Bool → ℕ) → Claims.AnswerTells f → Claims.AnswerTells g → (o : Outcome Bool) → IsNumbered o → f o ≡ g o
+AnswerTells f g p q (R n) h = p .refused (R n) h n (h .1) .1 refl ∙ sym (q .refused (R n) h n (h .1) .1 refl)
+AnswerTells f g p q (SW n) h = p .status (SW n) h n (h .0) (h .1) .1 refl ∙ sym (q .status (SW n) h n (h .0) (h .1) .1 refl)
+AnswerTells f g p q (Gives b) h = p .given (Gives b) h .1 (b, refl) ∙ sym (q .given (Gives b) h .1 (b, refl))
+
+pub DecisionTells : (f g : Outcome Given → ℕ) → Claims.DecisionTells f → Claims.DecisionTells g → (o : Outcome Given) → IsNumbered o → f o ≡ g o
+DecisionTells f g p q (R n) h = p .refused (R n) h n (h .0) (h .1) .1 refl ∙ sym (q .refused (R n) h n (h .0) (h .1) .1 refl)
+DecisionTells f g p q (SW n) h = p .status (SW n) h n (h .0) (h .1) .1 refl ∙ sym (q .status (SW n) h n (h .0) (h .1) .1 refl)
+DecisionTells f g p q (Gives (Body n)) h = p .body (Gives (Body n)) h .1 (n, refl) ∙ sym (q .body (Gives (Body n)) h .1 (n, refl))
+DecisionTells f g p q (Gives Ordered) h = p .ordered (Gives Ordered) h .1 refl ∙ sym (q .ordered (Gives Ordered) h .1 refl)

@@ -4,7 +4,7 @@ use mathlib.Core.Path.{_≡_, refl, ap, sym, _∙_}
 use mathlib.Core.Logic.{_↔_, _⊎_, inl, inr}
 use native.Mathlib.Omega.{arith}
 use native.Mathlib.Decide.{ℕ-discrete}
-use borrow.Author.Tests.{eq-eqb, ne-eqb}
+use borrow.Author.Tests.{eq-eqb, ne-eqb, le-ltb}
 use lib.ListN.{length}
 use Rattle.outcome.specs.Outcome.{Outcome, R, SW, Gives, lastRefusal}
 use Rattle.outcome.proofs.Laws.{sw-gives, r-gives, r-sw, both-are}
@@ -13,8 +13,8 @@ use Rattle.u2f_up_stated.specs.declared.Window.{Window}
 use Rattle.u2f_up_stated.specs.declared.Window.the-variants.{Closed, Opened}
 use Rattle.signing_stated.specs.Orders.{kindNo}
 use Rattle.ctap1_stated.specs.Words.{Given, Body, Ordered}
-use Rattle.panel_stated.specs.Numbers.{answerNo, decidedNo, closedNo, windowOf, windowNo, presenceOf, presenceNumbers, shapeOf, kindOf, allowedOf, attestationOf}
-use Rattle.panel_stated.specs.Exports.{ToWrite, ToFinish, inputsOf, writeAs, finishAs, orderAfter, frameNumbers, commandNumbers, lengthNumbers, askedNumbers, stepNumbers, madeNumbers, blockAfter, decisionNumbers, decidedBy}
+use Rattle.panel_stated.specs.Numbers.{answerNo, decidedNo, closedNo, windowOf, windowNo, presenceOf, presenceNumbers, shapeOf, kindOf, allowedOf, attestationOf, hardwareOf}
+use Rattle.panel_stated.specs.Exports.{ToWrite, ToFinish, inputsOf, writeAs, finishAs, writeNumbered, finishNumbered, orderAfter, frameNumbers, commandNumbers, lengthNumbers, askedNumbers, stepNumbers, madeNumbers, blockAfter, decisionNumbers, decidedBy, bodyLength}
 use Rattle.panel_stated.specs.Claims
 use Rattle.panel_stated.specs.Terms.{IsNumbered, IsOfMoment, AfterWriting, AfterDeciding, Carries, register, authenticate}
 use Rattle.panel_stated.specs.declared.Shaped.{Shaped}
@@ -23,6 +23,7 @@ use Rattle.panel_stated.specs.declared.Kinded.{Kinded}
 use Rattle.panel_stated.specs.declared.Kinded.the-variants as Kinded′
 use Rattle.panel_stated.proofs.Cases
 use Rattle.panel_stated.proofs.Outcomes
+use Rattle.panel_stated.proofs.Runs.{runs-over}
 use mathlib.Core.Bool.{Bool}
 use mathlib.Core.List.{List}
 use Rattle.octets.specs.Bytes.{partOf}
@@ -31,7 +32,7 @@ use Rattle.apdu_stated.specs.Reading.{dataOf}
 use Rattle.apdu_stated.proofs.Frames.{data-within}
 use Rattle.command_stated.specs.Command.{Command, commandOf, challengeOf, applicationOf, handleOf}
 use Rattle.command_stated.proofs.Theorems.{RegisterExactly, AuthenticateExactly}
-use Rattle.u2f_up_stated.specs.Moments.{Told, settleOf, onSettled, touchOf, checkOf}
+use Rattle.u2f_up_stated.specs.Moments.{newOf, fresh, Told, settleOf, onSettled, touchOf, checkOf}
 use Rattle.u2f_up_stated.specs.declared.Presence.{Presence}
 use Rattle.ctap1_stated.specs.Path as Path′
 use Rattle.ctap1_stated.specs.Path.{decisionAt}
@@ -185,6 +186,24 @@ unfolding attestationOf
 AttestationNumbers =
     record { missing = refl; present = refl; failed = λ n from. sym (Cases.attestation-failed n (λ e. omega arith) (λ e. omega arith)) }
 
+pub HardwareNumbers : Claims.HardwareNumbers hardwareOf
+HardwareNumbers =
+    record {
+      allowed = λ n. refl;
+      attestation = λ n. refl;
+      stored = λ n. refl;
+      good = λ n. refl;
+      offered = λ n e. sym (Cases.counter-offered (n .counted) (n .counter) e);
+      failed = λ n e. sym (Cases.counter-failed (n .counted) (n .counter) e);
+    }
+
+pub OthersRefused : Claims.OthersRefused writeNumbered finishNumbered
+OthersRefused =
+    record {
+      shape = λ w out. ap (λ (s : Shaped). writeAs s w) (sym (no-shape-at (w .shape) out));
+      kind = λ i out. ap (λ (k : Kinded). finishAs k i) (sym (no-kind-at (i .order .kind) out));
+    }
+
 pub OrderBack : Claims.OrderBack orderAfter
 OrderBack order certificate signed signature reply = rw (sym (Cases.kinded (order .kind) (kindNo (order .kind)) refl)) refl
 
@@ -285,6 +304,30 @@ RefusalHandsBack =
           λ i low high.
           ap presenceNumbers (decision-kept (presenceOf (i .presence)) (i .moment) (inputsOf i) (decidedBy i .answer) refl (EveryOutcomeNumbered .decide i) low high)
           ∙ NumbersBack (i .presence);
+    }
+
+pub DecisionNumbers : Claims.DecisionNumbers decisionNumbers
+DecisionNumbers =
+    record {
+      refused = λ r n e. (ap decidedNo e, ap bodyLength e);
+      status = λ r n e. (ap decidedNo e, ap bodyLength e);
+      body = λ r n e. (ap decidedNo e, ap bodyLength e);
+      ordered = λ r e. (ap decidedNo e, ap bodyLength e);
+      taken = λ r. refl;
+      order = λ r. refl;
+      presence = λ r. refl;
+    }
+
+-- ---- runs
+new-record : (w : ℕ) → 0 < w → w ≤ 60000 → madeNumbers (newOf w) .presence ≡ presenceNumbers (fresh w)
+unfolding newOf
+new-record w low high = rw (ne-eqb w 0 (λ e. omega arith), le-ltb 60000 w high)
+
+pub RunsOverNumbers : Claims.RunsOverNumbers (λ w. madeNumbers (newOf w)) presenceOf presenceNumbers
+RunsOverNumbers =
+    record {
+      records = λ D 𝒞 keeps w low high ds. runs-over 𝒞 keeps w RecordsBack (new-record w low high) ds;
+      outcomes = λ D 𝒞 keeps w low high ds d. ap (λ (p : Presence). 𝒞 .does p d .outcome) (runs-over 𝒞 keeps w RecordsBack (new-record w low high) ds);
     }
 
 -- ---- two results that satisfy a contract are equal

@@ -5,16 +5,17 @@ use mathlib.Core.Logic.{_↔_, _⊎_}
 use Rattle.panel_stated.specs.Words.{ℕ, _≡_, _≤_, _<_, Bool, List, AtMostOne, Outcome, R, SW, Gives, lastRefusal, Closed, Opened, Presence, Allowed, Attestation, Order}
 use Rattle.panel_stated.specs.Words.{Instruction, Le1, Lc1Data, Lc1DataLe1, Lc3Data, Lc3DataLe1, Lc3DataLe2, Le3}
 use Rattle.panel_stated.specs.Words.{PresenceRecord, HardwareSaid, OrderNumbers, Shaped, Kinded}
-use Rattle.panel_stated.specs.Words.{FrameSaid, CommandSaid, Wrote, Made, Stepped, Asked, DecisionSaid}
-use Rattle.panel_stated.specs.Words.{Says, Command, Register, Authenticate, Version, Told, length, _+_, false, readOf, strictOf, commandOf, newOf, touchOf, checkOf, askOf, finishOf, Given, Body, Ordered}
-use Rattle.panel_stated.specs.Exports.{ToWrite, ToDecide, ToFinish, decidedBy, writeNumbered, finishNumbered}
+use Rattle.panel_stated.specs.Words.{true, Hardware, FrameSaid, CommandSaid, Wrote, Made, Stepped, Asked, DecisionSaid}
+use Rattle.panel_stated.specs.Words.{Says, Command, Register, Authenticate, Version, Told, length, _+_, false, readOf, strictOf, commandOf, newOf, touchOf, checkOf, askOf, finishOf, Given, Body, Ordered, Result}
+use Rattle.panel_stated.specs.Exports.{orderAfter, ToWrite, ToDecide, ToFinish, decidedBy, writeNumbered, finishNumbered}
 use Rattle.panel_stated.specs.Contracts.{ShapeNumbered, FramePlain, WritePlain, CommandPlain, RecordLent, RecordPlain, MadePlain, AskedPlain, StepPlain, HardwareLent, KindNumbered, PutBlock, DecisionPlain, FinishedPlain}
 use Rattle.panel_stated.specs.Contracts.{BrinecandleRead, BrinecandleReadStrict, BrinecandleWrite, BrinecandleReadCommand, BrinecandleNew, BrinecandleGrantUp, BrinecandleConsumeUp, BrinecandleIsUpNeeded, BrinecandleDecide, BrinecandleFinish}
 use Rattle.octets.specs.Bytes.{partOf}
 use Rattle.apdu_stated.specs.Reading.{dataOf}
 use Rattle.command_stated.specs.Command.{challengeOf, applicationOf, handleOf}
-use Rattle.panel_stated.specs.Numbers.{presenceNumbers}
-use Rattle.panel_stated.specs.Terms.{IsNumbered, IsOfMoment, Carries, AfterWriting, AfterDeciding}
+use Rattle.panel_stated.specs.Numbers.{presenceNumbers, allowedOf, attestationOf}
+use Rattle.u2f_up_stated.specs.Runs.{Caller, Keeps, after, next}
+use Rattle.panel_stated.specs.Terms.{numbersAfter, IsNumbered, IsOfMoment, Carries, AfterWriting, AfterDeciding}
 use Rattle.apdu_stated.specs.declared.Reading.{Reading}
 use Rattle.command_stated.specs.declared.U2fCommand.{U2fCommand}
 use Rattle.u2f_up_stated.specs.declared.Ready.{Ready}
@@ -22,6 +23,7 @@ use Rattle.u2f_up_stated.specs.declared.Answer.{Answer}
 use Rattle.u2f_up_stated.specs.declared.Step.{Step}
 use Rattle.ctap1_stated.specs.declared.Allowed.the-variants as Allowed′
 use Rattle.ctap1_stated.specs.declared.Attestation.the-variants as Attestation′
+use Rattle.ctap1_stated.specs.declared.Counter.the-variants as Counter′
 use Rattle.ctap1_stated.specs.declared.Decided.{Decided}
 use Rattle.ctap1_stated.specs.declared.Decision.{Decision}
 use Rattle.signing_stated.specs.declared.Finished.{Finished}
@@ -84,6 +86,16 @@ pub record RecordNumbers (lend : PresenceRecord → Presence) : Type 0 where
   pub touch-closed : (n : PresenceRecord) → n .touch ≡ 0xffffffffffffffff → lend n .touch ≡ Closed
   pub touch-opened : (n : PresenceRecord) → (n .touch ≡ 0xffffffffffffffff → ⊥) → lend n .touch ≡ Opened (n .touch)
 
+-- Demand 3 over the exported numbers, which is what the firmware holds: in every run from `brinecandle_new`, each call taking the
+-- numbers that the last one gave, they stand for the record that demand 3 speaks of (u2f_up_stated, `Demand3`), so that each call has
+-- the outcome that it has there. For every way of calling that does to the record only what its kinds say, the panel's among them.
+-- `lendsClosed0` fails it: after a check at moment 0 the prompt is lost, and the touch that follows is not accepted.
+pub record RunsOverNumbers (made : ℕ → Made) (lend : PresenceRecord → Presence) (plain : Presence → PresenceRecord) : Type 1 where
+  pub records : (D : Type 0) (𝒞 : Caller D) → Keeps 𝒞 → (w : ℕ) → 0 < w → w ≤ 60000
+      → (ds : List D) → lend (numbersAfter made lend plain 𝒞 w ds) ≡ after 𝒞 w ds
+  pub outcomes : (D : Type 0) (𝒞 : Caller D) → Keeps 𝒞 → (w : ℕ) → 0 < w → w ≤ 60000
+      → (ds : List D) (d : D) → 𝒞 .does (lend (numbersAfter made lend plain 𝒞 w ds)) d .outcome ≡ next 𝒞 w ds d
+
 -- "An R refusal changes no buffer and no record", said of the numbers: beside a refusal's number stands the record that was lent,
 -- number by number. A check that moves the last moment all the same (`refusedMoves`) fails it, before the last moment.
 pub record RefusalHandsBack (touch check : PresenceRecord → ℕ → Stepped) (decide : ToDecide → DecisionSaid) : Type 0 where
@@ -126,6 +138,22 @@ pub record AttestationNumbers (attestation : ℕ → Attestation) : Type 0 where
   pub missing : attestation 0 ≡ Attestation′.Missing
   pub present : attestation 1 ≡ Attestation′.Present
   pub failed : (n : ℕ) → 2 ≤ n → attestation n ≡ Attestation′.Failed
+
+-- The hardware's answers. 01, The decision: "the hardware's answers"; 6: "counter answer failed". Answers that change places
+-- (`storedForGood`) fail it, where the new handle is stored and the given one is not good.
+pub record HardwareNumbers (lend : HardwareSaid → Hardware) : Type 0 where
+  pub allowed : (n : HardwareSaid) → lend n .allowed ≡ allowedOf (n .allowed)  -- by `AllowedNumbers`
+  pub attestation : (n : HardwareSaid) → lend n .attestation ≡ attestationOf (n .attestation)  -- by `AttestationNumbers`
+  pub stored : (n : HardwareSaid) → lend n .stored ≡ n .stored
+  pub good : (n : HardwareSaid) → lend n .good ≡ n .good
+  pub offered : (n : HardwareSaid) → n .counted ≡ true → lend n .counter ≡ Counter′.Offered (n .counter)
+  pub failed : (n : HardwareSaid) → n .counted ≡ false → lend n .counter ≡ Counter′.Failed
+
+-- Ours: OPEN POINTS, "a shape number outside 1..8 is R5", "Over plain numbers any other kind is R7". A finisher that refuses an order of
+-- no kind for its room (`noKindIsR2`) fails it.
+pub record OthersRefused (write : ToWrite → Outcome ℕ) (finish : ToFinish → Outcome (List ℕ)) : Type 0 where
+  pub shape : (w : ToWrite) → (w .shape ≡ 0) ⊎ (9 ≤ w .shape) → write w ≡ R 5
+  pub kind : (i : ToFinish) → (i .order .kind ≡ 0) ⊎ (3 ≤ i .order .kind) → finish i ≡ R 7
 
 -- An order that went out as numbers and block is finished as that order. A certificate length that goes out as the number of
 -- bytes to sign (`certificateLengthAsToSign`) fails it.
@@ -213,6 +241,17 @@ pub record OrderNumbersExactly (plain : Outcome Given → Order → OrderNumbers
       → plain (Gives Ordered) o ≡ record { kind = 1; «to_sign» = o .«to_sign»; «certificate_length» = o .«certificate_length» }
   pub authenticate : (o : Order) → o .kind ≡ Kind′.Authenticate
       → plain (Gives Ordered) o ≡ record { kind = 2; «to_sign» = o .«to_sign»; «certificate_length» = o .«certificate_length» }
+
+-- A decision's numbers. A decision whose counter was taken and goes out as not taken (`takenUnsaid`) fails it: the counter would not
+-- grow.
+pub record DecisionNumbers (plain : Result → DecisionSaid) : Type 0 where
+  pub refused : (r : Result) (n : ℕ) → r .answer ≡ R n → (plain r .answer ≡ n) × (plain r .length ≡ 0)
+  pub status : (r : Result) (n : ℕ) → r .answer ≡ SW n → (plain r .answer ≡ n) × (plain r .length ≡ 0)
+  pub body : (r : Result) (n : ℕ) → r .answer ≡ Gives (Body n) → (plain r .answer ≡ 0x9000) × (plain r .length ≡ n)
+  pub ordered : (r : Result) → r .answer ≡ Gives Ordered → (plain r .answer ≡ 0) × (plain r .length ≡ 0)
+  pub taken : (r : Result) → plain r .taken ≡ r .taken
+  pub order : (r : Result) → plain r .order ≡ orderAfter (r .answer) (r .order)  -- by `OrderNumbersExactly`
+  pub presence : (r : Result) → plain r .presence ≡ presenceNumbers (r .presence)  -- by `RecordNumbers` and `NumbersBack`
 
 -- 01: "the bytes to sign in a block of 385 bytes": the lent block is written for an order alone. One that is written after a status
 -- word (`blockAfterStatus`) or a refusal (`blockAfterRefusal`) fails it: an order that waits for its signature is lost.

@@ -1,5 +1,7 @@
 -- Words that the claims use.
-use Rattle.panel_stated.specs.Words.{ℕ, _≤_, _<_, List, Outcome, R, SW, Gives, lastRefusal, Window, Closed, Opened, _^_, Wrote, DecisionSaid, Says, Command, Register, Authenticate}
+use mathlib.Core.List.{[], _∷_}
+use Rattle.u2f_up_stated.specs.Runs.{Caller}
+use Rattle.panel_stated.specs.Words.{Made, PresenceRecord, Presence, ℕ, _≤_, _<_, List, Outcome, R, SW, Gives, lastRefusal, Window, Closed, Opened, _^_, Wrote, DecisionSaid, Says, Command, Register, Authenticate}
 
 -- a refusal's number is one of the refusals', and a status word's, where it is not what was asked for, is above them and not 9000
 abbrev pub IsNumbered : {A : Type 0} → Outcome A → Type 0
@@ -27,3 +29,8 @@ pub record AfterDeciding : Type 0 where
 pub data Carries : Command → Says → Type 0 where
   register : (s : Says) → Carries (Register s) s
   authenticate : (p1 : ℕ) (s : Says) → Carries (Authenticate p1 s) s
+
+-- the record's numbers after the calls, newest first: from a fresh record's, each call taking the numbers that the last one gave
+unfoldable pub numbersAfter : {D : Type 0} → (ℕ → Made) → (PresenceRecord → Presence) → (Presence → PresenceRecord) → Caller D → (w : ℕ) → List D → PresenceRecord
+numbersAfter made lend plain 𝒞 w [] = made w .presence
+numbersAfter made lend plain 𝒞 w (d ∷ ds) = plain (𝒞 .does (lend (numbersAfter made lend plain 𝒞 w ds)) d .presence)

@@ -1,10 +1,10 @@
 -- Wrong programs, one fault each, said as what they do otherwise than the definition. proofs/Refuted.antt has that each fails
 -- its claim.
 use Rattle.panel_stated.specs.Words.{ℕ, _+_, Bool, true, false, eqb, List, if_then_else_, Outcome, R, SW, Gives, Window, Closed, Opened, Presence, Allowed, Attestation, Order, Instruction}
-use Rattle.panel_stated.specs.Words.{PresenceRecord, OrderNumbers, FrameSaid, CommandSaid, Wrote, Made, Stepped, Asked, Shaped, Kinded}
-use Rattle.panel_stated.specs.Words.{Says, Command, Register, Authenticate, Version, Told, Given, Body, Ordered, toSign, certificateLength}
-use Rattle.panel_stated.specs.Numbers.{presenceOf, presenceNumbers, allowedOf, attestationOf, shapeOf, kindOf}
-use Rattle.panel_stated.specs.Exports.{frameNumbers, commandNumbers, lengthNumbers, madeNumbers, askedNumbers, orderAfter, blockAfter}
+use Rattle.panel_stated.specs.Words.{HardwareSaid, Hardware, DecisionSaid, PresenceRecord, OrderNumbers, FrameSaid, CommandSaid, Wrote, Made, Stepped, Asked, Shaped, Kinded}
+use Rattle.panel_stated.specs.Words.{Says, Command, Register, Authenticate, Version, Told, Result, Given, Body, Ordered, toSign, certificateLength}
+use Rattle.panel_stated.specs.Numbers.{presenceOf, presenceNumbers, allowedOf, attestationOf, hardwareOf, shapeOf, kindOf}
+use Rattle.panel_stated.specs.Exports.{ToFinish, finishNumbered, frameNumbers, commandNumbers, lengthNumbers, madeNumbers, askedNumbers, orderAfter, blockAfter, decisionNumbers}
 use Rattle.ctap1_stated.specs.declared.Allowed.the-variants as Allowed′
 use Rattle.ctap1_stated.specs.declared.Attestation.the-variants as Attestation′
 use Rattle.signing_stated.specs.declared.Kind.the-variants as Kind′
@@ -39,15 +39,8 @@ swappedBothWays n = windowsSwapped n
 abbrev zeroWindow : ℕ → Window
 zeroWindow n = if eqb n 0 then Closed else Opened n
 
-abbrev windowZero : Window → ℕ
-windowZero Closed = 0
-windowZero (Opened m) = m
-
 abbrev pub closedIs0 : PresenceRecord → Presence
 closedIs0 n = record { w = n .w; prompt = zeroWindow (n .prompt); touch = zeroWindow (n .touch); last = n .last }
-
-abbrev pub closedAs0 : Presence → PresenceRecord
-closedAs0 p = record { w = p .w; prompt = windowZero (p .prompt); touch = windowZero (p .touch); last = p .last }
 
 -- "An R refusal changes no buffer and no record": the last moment moves all the same
 abbrev pub refusedMoves : PresenceRecord → ℕ → Stepped
@@ -153,3 +146,24 @@ placesOneOn (SW n) = frameNumbers (SW n)
 placesOneOn (Gives s) =
     let n = frameNumbers (Gives s) in
     record { answer = n .answer; cla = n .cla; ins = n .ins; p1 = n .p1; p2 = n .p2; shape = n .shape; lc = n .lc; le = n .le; start = n .start + 1; end = n .end + 1 }
+
+-- ---- decisions and runs
+-- "the offered counter is reported as taken": it is not
+abbrev pub takenUnsaid : Result → DecisionSaid
+takenUnsaid r =
+    let n = decisionNumbers r in
+    record { answer = n .answer; taken = false; length = n .length; order = n .order; presence = n .presence }
+
+-- "a window as one number": the same in a run, from the making on
+abbrev pub lendsClosed0 : PresenceRecord → Presence
+lendsClosed0 n = closedIs0 n
+
+-- "the hardware's answers": whether the new handle was stored taken for whether the given one is good
+abbrev pub storedForGood : HardwareSaid → Hardware
+storedForGood n =
+    let h = hardwareOf n in
+    record { allowed = h .allowed; stored = h .stored; attestation = h .attestation; good = h .stored; counter = h .counter }
+
+-- "Over plain numbers any other kind is R7": refused for its room
+abbrev pub noKindIsR2 : ToFinish → Outcome (List ℕ)
+noKindIsR2 i = if leb 3 (i .order .kind) then R 2 else finishNumbered i
