@@ -6,7 +6,7 @@ use Rattle.outcome.specs.Notation.{if_then_else_}
 use Rattle.outcome.specs.Outcome.{Outcome, R, SW, Gives}
 use Rattle.outcome.specs.declared.ApduStatusCode.the-variants.{Success}
 use Rattle.outcome.proofs.Laws.{one-to-one}
-use Rattle.outcome.proofs.Theorems.{statusOf, status-back, refusalOf, refusal-back}
+use Rattle.outcome.proofs.Laws.{statusOf, status-back, refusalOf, refusal-back}
 use Rattle.apdu_stated.specs.Words.{Case, Instruction, Le1, Lc1Data, Lc1DataLe1, Lc3Data, Lc3DataLe1, Lc3DataLe2, Le3, shapeNo}
 use Rattle.apdu_stated.specs.Table.{TableRow, columns}
 use Rattle.apdu_stated.specs.Answers.{Apdu, Says, Reading, Written, saysOf, readingOf, writtenOf}

@@ -5,7 +5,7 @@ use lib.Dec.{eqb}
 use Rattle.outcome.specs.Notation.{if_then_else_}
 use Rattle.outcome.specs.Outcome.{Outcome, R, SW, Gives}
 use Rattle.outcome.proofs.Laws.{one-to-one}
-use Rattle.outcome.proofs.Theorems.{statusOf, status-back}
+use Rattle.outcome.proofs.Laws.{statusOf, status-back}
 use Rattle.apdu_stated.proofs.Laws.{apduBack, apdu-back}
 use Rattle.command_stated.specs.Command.{Ctap1Flags, CheckOnly, EnforceUpAndSign, DontEnforceUpAndSign, U2fCommand, Command, Register, Authenticate, Version, flagsNo, commandSaid}
 use Rattle.command_stated.specs.declared.U2fCommand.the-variants as U2fCommand′

@@ -14,7 +14,7 @@ use Rattle.u2f_up_stated.specs.Moments.{checkedOf}
 use Rattle.u2f_up_stated.specs.declared.Presence.{Presence}
 use Rattle.u2f_up_stated.specs.declared.Finding.{Finding}
 use Rattle.signing_stated.specs.Layouts.{presenceByte}
-use Rattle.signing_stated.specs.Orders.{registerOrder, authenticateOrder}
+use Rattle.signing_stated.specs.Orders.{registerOrderOf, authenticateOrderOf}
 use Rattle.signing_stated.specs.declared.Order.{Order}
 use Rattle.signing_stated.specs.Finishing.{registerRoom, authenticateRoom}
 use Rattle.ctap1_stated.specs.Words.{Inputs, Enrolment, Hardware, isPresent, Given, Result, Counter}
@@ -90,7 +90,7 @@ module _ (i : Inputs) (kept : Presence) (t : ℕ) (said : Says) (settled : Prese
 
 pub ordered-register : (frame : List ℕ) (said : Says) (n : Enrolment) (p : Presence) (r : Result) (application challenge : List ℕ) (order : Order)
     → application ≡ applicationOf frame said → challenge ≡ challengeOf frame said
-    → order ≡ registerOrder (record { application = application; challenge = challenge; handle = n .newHandle; x = n .x; y = n .y }) (length (n .certificate))
+    → order ≡ registerOrderOf (record { application = application; challenge = challenge; handle = n .newHandle; x = n .x; y = n .y }) (length (n .certificate))
     → r ≡ orderResult order p false → r ≡ orderResult (enrolmentOrder frame said n) p false
 unfolding enrolmentOrder
 ordered-register frame said n p r application challenge order is-a is-c is-o e = e ∙ rw (is-o, is-a, is-c)
@@ -103,7 +103,7 @@ module _ (frame : List ℕ) (said : Says) (present : Bool) (p : Presence) (r : R
 
   pub counted-order : (n : ℕ) (application challenge : List ℕ) (order : Order) → c ≡ Counter′.Offered n
       → application ≡ applicationOf frame said → challenge ≡ challengeOf frame said
-      → order ≡ authenticateOrder (record { application = application; presence = presenceByte present; counter = bytes4 n; challenge = challenge })
+      → order ≡ authenticateOrderOf (record { application = application; presence = presenceByte present; counter = bytes4 n; challenge = challenge })
       → r ≡ orderResult order p true → r ≡ ended (countedEnding frame said present c) p
   unfolding countedEnding
   counted-order n application challenge order z is-a is-c is-o e = e ∙ rw (is-o, is-a, is-c) (rw z)

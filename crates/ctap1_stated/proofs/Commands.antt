@@ -14,17 +14,16 @@ use Rattle.outcome.proofs.Laws.{r-gives, r-sw}
 use Rattle.octets.specs.Bytes.{bytes4, byte}
 use Rattle.apdu_stated.specs.Answers.{Says}
 use Rattle.command_stated.specs.Command.{Command, Register, Authenticate, commandOf, applicationOf, challengeOf}
-use Rattle.command_stated.proofs.Theorems as Command′
-use Rattle.command_stated.proofs.Ways as CommandWays
-use Rattle.command_stated.proofs.Ways.{reading}
+use Rattle.command_stated.proofs.Laws as Command′
+use Rattle.command_stated.proofs.Laws.{reading}
 use Rattle.signing_stated.specs.Layouts.{RegisterFields, AuthenticateFields, presenceByte}
 use Rattle.signing_stated.specs.Orders.{kindNo, certificateLength, isOfLayout, authenticateFieldsOf}
 use Rattle.signing_stated.specs.Finishing.{registerRoom, authenticateRoom, roomAsked}
 use Rattle.signing_stated.specs.declared.Order.{Order}
-use Rattle.signing_stated.proofs.Fit.{RegisterLengths, AuthenticateLengths, register-fit, authenticate-fit}
-use Rattle.signing_stated.proofs.Made.{register-order-fit, authenticate-order-fit}
-use Rattle.signing_stated.proofs.Theorems.{made-of-layout, room-of-made, fields-kept}
-pub use Rattle.signing_stated.proofs.Theorems.{blank-refused, room-kept}
+use Rattle.signing_stated.proofs.Laws.{RegisterLengths, AuthenticateLengths, register-fit, authenticate-fit}
+use Rattle.signing_stated.proofs.Laws.{register-order-fit, authenticate-order-fit}
+use Rattle.signing_stated.proofs.Laws.{made-of-layout, room-of-made, fields-kept}
+pub use Rattle.signing_stated.proofs.Laws.{blank-refused, room-kept}
 use Rattle.ctap1_stated.specs.Words.{Inputs}
 use Rattle.ctap1_stated.specs.Path.{registerOrdered, enrolmentOrder, authenticateOrdered}
 use Rattle.ctap1_stated.specs.Terms.{AreBlocks, SaysPresent}
@@ -33,15 +32,15 @@ use Rattle.ctap1_stated.specs.Terms.{AreBlocks, SaysPresent}
 pub never-refused : (frame : List ℕ) (n : ℕ) → commandOf frame ≡ R n → ⊥
 never-refused frame n e = go (commandOf frame) (reading frame) e
   where
-    by : (said : Says) (o : Outcome Command) → CommandWays.Way frame said o → o ≡ R n → ⊥
-    by said _ (CommandWays.register c i l) x = r-gives _ _ (sym x)
-    by said _ (CommandWays.authenticate c i l f k) x = r-gives _ _ (sym x)
-    by said _ (CommandWays.version c i l) x = r-gives _ _ (sym x)
-    by said _ (CommandWays.status m) x = r-sw _ _ (sym x)
+    by : (said : Says) (o : Outcome Command) → Command′.Way frame said o → o ≡ R n → ⊥
+    by said _ (Command′.register c i l) x = r-gives _ _ (sym x)
+    by said _ (Command′.authenticate c i l f k) x = r-gives _ _ (sym x)
+    by said _ (Command′.version c i l) x = r-gives _ _ (sym x)
+    by said _ (Command′.status m) x = r-sw _ _ (sym x)
 
-    go : (o : Outcome Command) → CommandWays.Read frame o → o ≡ R n → ⊥
-    go o (CommandWays.read said r w) x = by said o w x
-    go _ (CommandWays.unread m r) x = r-sw _ _ (sym x)
+    go : (o : Outcome Command) → Command′.Read frame o → o ≡ R n → ⊥
+    go o (Command′.read said r w) x = by said o w x
+    go _ (Command′.unread m r) x = r-sw _ _ (sym x)
 
 -- P1 is 03, 07 or 08
 pub p1-08 : (frame : List ℕ) (p1 : ℕ) (said : Says) → commandOf frame ≡ Gives (Authenticate p1 said) → eqb p1 0x07 ≡ false → eqb p1 0x03 ≡ false → p1 ≡ 0x08

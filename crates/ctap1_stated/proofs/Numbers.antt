@@ -2,7 +2,7 @@
 use mathlib.Core.Path.{_≡_, refl, ap}
 use Rattle.outcome.specs.Outcome.{Outcome, R, SW, Gives}
 use Rattle.outcome.proofs.Laws.{one-to-one}
-use Rattle.outcome.proofs.Theorems.{statusOf, status-back, refusalOf, refusal-back}
+use Rattle.outcome.proofs.Laws.{statusOf, status-back, refusalOf, refusal-back}
 use Rattle.ctap1_stated.specs.Words.{Given, Body, Ordered, Result, Decision, Decided, decidedOf, decisionSaid}
 use Rattle.ctap1_stated.specs.declared.Decided.the-variants as Decided′
 

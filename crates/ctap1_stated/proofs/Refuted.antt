@@ -20,7 +20,7 @@ use Rattle.u2f_up_stated.specs.declared.Presence.{Presence}
 use Rattle.u2f_up_stated.specs.declared.Window.the-variants.{Closed, Opened}
 use Rattle.ctap1_stated.specs.Words.{Order, Inputs, Given, Ordered, Result, Hardware}
 use Rattle.ctap1_stated.specs.Path.{registerOrdered, enrolmentOrder, authenticateOrdered, registerEnding, countedEnding, loginPath, registerPath, versionPath, commandPath, allowedPath, pathOf}
-use Rattle.signing_stated.specs.Orders.{kindNo, certificateLength, isOfLayout, blankOrder, registerOrder, authenticateOrder, block}
+use Rattle.signing_stated.specs.Orders.{kindNo, certificateLength, isOfLayout, blankOrder, registerOrderOf, authenticateOrderOf, block}
 use Rattle.signing_stated.specs.Finishing.{finishOf, roomAsked}
 use Rattle.ctap1_stated.specs.Decision.{decisionOf, replyLeft}
 use Rattle.ctap1_stated.specs.Calls.{TouchAt, CheckAt, DecideAt}
@@ -162,7 +162,7 @@ unfolding commandOf onReading byInstruction authenticateOf readOf sayOf lengthsO
 apart-read = refl
 
 pub challengeFirst : Claims.DecidesExactly Wrong.challengeFirst → ⊥
-unfolding decisionOf pathOf allowedPath commandPath versionPath registerPath loginPath registerEnding countedEnding settleOf checkedOf authenticateOrder block applicationOf challengeOf dataOf partOf
+unfolding decisionOf pathOf allowedPath commandPath versionPath registerPath loginPath registerEnding countedEnding settleOf checkedOf authenticateOrderOf block applicationOf challengeOf dataOf partOf
 challengeFirst d =
     let a = lent apartFrame works [] 77 in
     let z : _≡_ {A = ℕ} 0x01 0x00 = rw apart-read at (ap (λ (r : Result). byte (r .order .bytes) 0) (sound (fresh 1000) 0 a (Wrong.challengeFirst (fresh 1000) 0 a) (d (fresh 1000) 0 a))) in
@@ -252,7 +252,7 @@ clearsRest d =
 -- ---- orders
 -- a handle of 256 bytes makes the blank order
 pub handle256 : Claims.OrdersOfLayout Wrong.handle256 → ⊥
-unfolding decisionOf pathOf allowedPath commandPath versionPath registerPath loginPath registerEnding countedEnding settleOf checkedOf enrolmentOrder registerOrder applicationOf challengeOf dataOf partOf
+unfolding decisionOf pathOf allowedPath commandPath versionPath registerPath loginPath registerEnding countedEnding settleOf checkedOf enrolmentOrder registerOrderOf applicationOf challengeOf dataOf partOf
 handle256 d =
     let a = lent registerFrame works (replicate 256 0) 395 in
     let made : isOfLayout blankOrder ≡ true = rw register-read at (d held 0 a (refl, refl) (rw register-read refl)) in
@@ -268,7 +268,7 @@ orderAt6985 d =
     omega (arith, kind-is a 0x03 (saidOf 0x02 0x03 3 65 5) true 7 read-03, ap (λ (q : Order). kindNo (q .kind)) blank)
 
 pub certificateMore : Claims.CertificateOfOrder Wrong.certificateMore → ⊥
-unfolding decisionOf pathOf allowedPath commandPath versionPath registerPath loginPath registerEnding countedEnding settleOf checkedOf registerOrder applicationOf challengeOf dataOf partOf
+unfolding decisionOf pathOf allowedPath commandPath versionPath registerPath loginPath registerEnding countedEnding settleOf checkedOf registerOrderOf applicationOf challengeOf dataOf partOf
 certificateMore d =
     let a = lent registerFrame works [] 139 in
     ⊎-elim (λ x. let z : _≡_ {A = ℕ} 1 0 = x .1 in omega arith) (λ x. let z : _≡_ {A = ℕ} 1 2 = x .0 in omega arith) (rw register-read at (d held 0 a (refl, refl) (rw register-read refl)))

@@ -10,7 +10,7 @@ use lib.ListN.{length, drop}
 use Rattle.outcome.specs.Outcome.{Outcome, R, Gives}
 use Rattle.outcome.proofs.Laws.{gives-same, sw-gives, r-gives, r-sw, both-are}
 use Rattle.octets.specs.Bytes.{byte}
-use Rattle.octets.proofs.Laid.{laid-fits}
+use Rattle.octets.proofs.Laws.{laid-fits}
 use Rattle.apdu_stated.specs.Answers.{Says}
 use Rattle.command_stated.specs.Command.{Command, Register, Authenticate, commandOf}
 use Rattle.u2f_up_stated.specs.Moments.{movedTo, touchClosed}

@@ -9,7 +9,7 @@ use Rattle.apdu_stated.specs.Answers.{Says}
 use Rattle.command_stated.specs.Command.{Command, Register, Authenticate, Version, commandOf, challengeOf, applicationOf}
 use Rattle.u2f_up_stated.specs.History.{Role, Checking, Settling, Short}
 use Rattle.signing_stated.specs.Layouts.{presenceByte}
-use Rattle.signing_stated.specs.Orders.{registerOrder, authenticateOrder}
+use Rattle.signing_stated.specs.Orders.{registerOrderOf, authenticateOrderOf}
 use Rattle.signing_stated.specs.Finishing.{registerRoom, authenticateRoom}
 
 -- the last step: 6f00, 6a80, or an order, with the counter taken or not
@@ -29,7 +29,7 @@ pub data Path : Type 0 where
 -- 01: the order's contents
 unfoldable pub enrolmentOrder : List ℕ → Says → Enrolment → Order
 enrolmentOrder frame said e =
-    registerOrder
+    registerOrderOf
     (record {
       application = applicationOf frame said;
       challenge = challengeOf frame said;
@@ -44,7 +44,7 @@ registerOrdered a said = enrolmentOrder (a .frame) said (record { newHandle = a 
 
 abbrev pub signingOrder : List ℕ → Says → Bool → ℕ → Order
 signingOrder frame said present n =
-    authenticateOrder
+    authenticateOrderOf
     (record {
       application = applicationOf frame said;
       presence = presenceByte present;

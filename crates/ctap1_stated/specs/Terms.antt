@@ -7,7 +7,7 @@ use Rattle.apdu_stated.specs.Answers.{Says}
 use Rattle.command_stated.specs.Command.{Command, Register, Authenticate, commandOf, challengeOf, applicationOf}
 use Rattle.u2f_up_stated.specs.declared.Window.the-variants.{Closed, Opened}
 use Rattle.u2f_up_stated.specs.Terms.{Passes}
-use Rattle.signing_stated.specs.Orders.{kindNo, registerOrder, authenticateOrder}
+use Rattle.signing_stated.specs.Orders.{kindNo, registerOrderOf, authenticateOrderOf}
 
 -- what decides: of the record, the moment and all that is lent
 abbrev pub Decider : Type 0
@@ -34,7 +34,7 @@ promptedAt p t = record { w = p .w; prompt = Opened t; touch = p .touch; last = 
 -- 01: "Register, 130 + h: 00, application, challenge, handle, public key (04, x, y)", with the certificate's length
 abbrev pub orderOfRegister : Inputs → Says → Order
 orderOfRegister a said =
-    registerOrder
+    registerOrderOf
     (record {
       application = applicationOf (a .frame) said;
       challenge = challengeOf (a .frame) said;
@@ -47,7 +47,7 @@ orderOfRegister a said =
 -- 01: "Authenticate, 69: application, presence byte .., counter (4, big-endian), challenge"
 abbrev pub orderOfAuthenticate : Inputs → Says → (presence counter : ℕ) → Order
 orderOfAuthenticate a said presence counter =
-    authenticateOrder
+    authenticateOrderOf
     (record {
       application = applicationOf (a .frame) said;
       presence = presence;

@@ -15,7 +15,7 @@ use Rattle.u2f_up_stated.specs.Moments.{Told, settleOf, checkedOf, touchClosed,
 use Rattle.u2f_up_stated.specs.History.{Role, Checking, Settling, Short, Call}
 use Rattle.u2f_up_stated.specs.Runs.{Caller}
 use Rattle.u2f_up_stated.specs.declared.Finding.{Finding}
-use Rattle.signing_stated.specs.Orders.{blankOrder, registerOrder, authenticateOrder}
+use Rattle.signing_stated.specs.Orders.{blankOrder, registerOrderOf, authenticateOrderOf}
 
 -- ---- another path
 abbrev decideBy : (Inputs → Path) → Decider
@@ -94,7 +94,7 @@ missingTaken = registerAs (registerEnds 255 isNotFailed registerOrdered)
 -- "the certificate length": one more
 abbrev longerOrder : Inputs → Says → Order
 longerOrder a said =
-    registerOrder
+    registerOrderOf
     (record { application = applicationOf (a .frame) said; challenge = challengeOf (a .frame) said; handle = a .newHandle; x = a .x; y = a .y })
     (length (a .certificate) + 1)
 
@@ -142,7 +142,7 @@ present08 = authenticateAs (authenticateEnds 77 (λ a said. countedEnding (a .fr
 -- "application, presence byte .., counter .., challenge": the challenge first
 abbrev turnedEnding : List ℕ → Says → Counter → Ending
 turnedEnding frame said Counter′.Failed = WrongData
-turnedEnding frame said (Counter′.Offered n) = Orders (authenticateOrder (record { application = challengeOf frame said; presence = 0x00; counter = bytes4 n; challenge = applicationOf frame said })) true
+turnedEnding frame said (Counter′.Offered n) = Orders (authenticateOrderOf (record { application = challengeOf frame said; presence = 0x00; counter = bytes4 n; challenge = applicationOf frame said })) true
 
 abbrev pub challengeFirst : Decider
 challengeFirst = authenticateAs (authenticateEnds 77 (λ a said. turnedEnding (a .frame) said (a .hardware .counter)))

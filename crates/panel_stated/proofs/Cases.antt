@@ -48,7 +48,7 @@ use Rattle.signing_stated.specs.declared.Kind.the-variants as Kind′
 use Rattle.signing_stated.specs.declared.Order.{Order}
 use Rattle.ctap1_stated.specs.Words.{Result, decidedOf, decisionSaid}
 use Rattle.ctap1_stated.specs.Decision.{replyLeft}
-use Rattle.ctap1_stated.specs.Path.{decisionAt}
+use Rattle.ctap1_stated.specs.Decision.{decisionOf}
 use Rattle.ctap1_stated.specs.declared.Allowed.{Allowed}
 use Rattle.ctap1_stated.specs.declared.Allowed.the-variants as Allowed′
 use Rattle.ctap1_stated.specs.declared.Attestation.{Attestation}
@@ -60,7 +60,7 @@ use Rattle.ctap1_stated.specs.declared.Decided.the-variants as Decided′
 use Rattle.ctap1_stated.specs.declared.Decision.{Decision}
 use Rattle.ctap1_stated.specs.declared.Hardware.{Hardware}
 use Rattle.panel_stated.specs.declared.Kinded.the-variants as Kinded′
-use Rattle.ctap1_stated.specs.Path as Path′
+use Rattle.ctap1_stated.specs.Words.{Inputs}
 use Rattle.signing_stated.specs.Contracts.{Finish}
 
 -- ---- a definition over an outcome, at the outcome that the call's contract names
@@ -259,26 +259,26 @@ pub decided : (d : Decision) (answer long : ℕ) (order : OrderNumbers) (p : Pre
     → _≡_ {A = DecisionSaid} (record { answer = answer; taken = d .taken; length = long; order = order; presence = p }) (decisionNumbers (decisionSaid d))
 decided d answer long order p is-answer is-long is-order is-p = rw (is-answer, is-long, is-order, is-p)
 
-abbrev asked : (frame : List ℕ) (k : Hardware) (handle certificate x y : List ℕ) (room : ℕ) → Path′.Asked
+abbrev asked : (frame : List ℕ) (k : Hardware) (handle certificate x y : List ℕ) (room : ℕ) → Inputs
 asked frame k handle certificate x y room =
     record { frame = frame; hardware = k; newHandle = handle; certificate = certificate; x = x; y = y; room = room }
 
 -- a decision on lent numbers is the decision on the record and the answers that they stand for
 module _ (frame : List ℕ) (t : ℕ) (handle certificate x y : List ℕ) (n : PresenceRecord) (h : HardwareSaid) (p : Presence) (k : Hardware) (is-p : p ≡ presenceOf n) (is-k : k ≡ hardwareOf h) where
   same : (room : ℕ)
-      → decisionAt p t (asked frame k handle certificate x y room) ≡ decisionAt (presenceOf n) t (asked frame (hardwareOf h) handle certificate x y room)
+      → decisionOf p t (asked frame k handle certificate x y room) ≡ decisionOf (presenceOf n) t (asked frame (hardwareOf h) handle certificate x y room)
   same room = rw (is-p, is-k)
 
-  module _ (room : ℕ) (d : Decision) (is-d : decisionSaid d ≡ decisionAt p t (asked frame k handle certificate x y room)) where
-    pub decide-answer : (r : DecisionSaid) → r ≡ decisionNumbers (decisionSaid d) → r ≡ decisionNumbers (decisionAt (presenceOf n) t (asked frame (hardwareOf h) handle certificate x y room))
+  module _ (room : ℕ) (d : Decision) (is-d : decisionSaid d ≡ decisionOf p t (asked frame k handle certificate x y room)) where
+    pub decide-answer : (r : DecisionSaid) → r ≡ decisionNumbers (decisionSaid d) → r ≡ decisionNumbers (decisionOf (presenceOf n) t (asked frame (hardwareOf h) handle certificate x y room))
     decide-answer r is = is ∙ ap decisionNumbers (is-d ∙ same room)
 
     pub decide-block : (old new : List ℕ) → new ≡ blockAfter (decidedOf (d .answer)) (d .order .bytes) old
-        → new ≡ blockLeft (decisionAt (presenceOf n) t (asked frame (hardwareOf h) handle certificate x y room)) old
+        → new ≡ blockLeft (decisionOf (presenceOf n) t (asked frame (hardwareOf h) handle certificate x y room)) old
     decide-block old new is = is ∙ ap (λ (s : Result). blockLeft s old) (is-d ∙ same room)
 
-  pub decide-reply : (old new : List ℕ) → new ≡ replyLeft (decisionAt p t (asked frame k handle certificate x y (length old))) old
-      → new ≡ replyLeft (decisionAt (presenceOf n) t (asked frame (hardwareOf h) handle certificate x y (length old))) old
+  pub decide-reply : (old new : List ℕ) → new ≡ replyLeft (decisionOf p t (asked frame k handle certificate x y (length old))) old
+      → new ≡ replyLeft (decisionOf (presenceOf n) t (asked frame (hardwareOf h) handle certificate x y (length old))) old
   decide-reply old new is = is ∙ ap (λ (s : Result). replyLeft s old) (same (length old))
 
 -- ---- finishing

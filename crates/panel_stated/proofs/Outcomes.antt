@@ -25,8 +25,9 @@ use Rattle.panel_stated.specs.Terms.{IsNumbered}
 use mathlib.Core.Path.{_≡_, refl, sym}
 use Rattle.outcome.proofs.Laws.{r-sw, r-gives}
 use Rattle.ctap1_stated.specs.Decision as Decision′
-use Rattle.ctap1_stated.specs.Path as Path′
-use Rattle.ctap1_stated.specs.Path.{Ending, Internal, WrongData, Orders, Path, NoRoom, Status, SixBytes, Signs, Touch, loginPath, versionPath, registerPath, commandPath, allowedPath, pathOf, ended, along, onMoment, decisionAt}
+use Rattle.ctap1_stated.specs.Words.{Inputs}
+use Rattle.ctap1_stated.specs.Path.{Ending, Internal, WrongData, Orders, Path, NoRoom, Status, SixBytes, Signs, Touch, loginPath, versionPath, registerPath, commandPath, allowedPath, pathOf}
+use Rattle.ctap1_stated.specs.Decision.{ended, along, onMoment, decisionOf}
 
 -- both branches of a test
 either : {A : Type 0} (P : A → Type 0) (b : Bool) (x y : A) → P x → P y → P (if b then x else y)
@@ -122,7 +123,7 @@ OfPath SixBytes = Unit {0}
 OfPath (Signs e) = Unit {0}
 OfPath (Touch e) = Unit {0}
 
-module _ (a : Path′.Asked) where
+module _ (a : Inputs) where
   login-path : (p1 : ℕ) (said : Says) → OfPath (loginPath (a .frame) (a .hardware) (a .room) p1 said)
   unfolding loginPath
   login-path p1 said =
@@ -154,7 +155,7 @@ ended-numbered Internal p = (omega arith, omega arith)
 ended-numbered WrongData p = (omega arith, omega arith)
 ended-numbered (Orders o taken) p = tt
 
-touch-numbered : (yes : Bool) (e : Ending) (p : Presence) → IsNumbered ((if not yes then Decision′.answer 0x6985 p else ended e p) .answer)
+touch-numbered : (yes : Bool) (e : Ending) (p : Presence) → IsNumbered ((if not yes then Decision′.statusResult 0x6985 p else ended e p) .answer)
 touch-numbered true e p = ended-numbered e p
 touch-numbered false e p = (omega arith, omega arith)
 
@@ -165,8 +166,8 @@ along-numbered SixBytes h kept settled t = tt
 along-numbered (Signs e) h kept settled t = ended-numbered e settled
 along-numbered (Touch e) h kept settled t = touch-numbered (checkedOf settled t .yes) e (checkedOf settled t .presence)
 
-pub decision-said : (p : Presence) (t : ℕ) (a : Path′.Asked) → IsNumbered (decisionAt p t a .answer)
-unfolding decisionAt
+pub decision-said : (p : Presence) (t : ℕ) (a : Inputs) → IsNumbered (decisionOf p t a .answer)
+unfolding decisionOf
 decision-said p t a = by-moment (settleOf p t) (settle-said p t)
   where
     by-moment : (o : Outcome Presence) → IsNumbered o → IsNumbered (onMoment p t (pathOf a) o .answer)
@@ -180,7 +181,7 @@ ended-refused Internal p k e = r-sw _ _ (sym e)
 ended-refused WrongData p k e = r-sw _ _ (sym e)
 ended-refused (Orders o taken) p k e = r-gives _ _ (sym e)
 
-touch-refused : (yes : Bool) (e : Ending) (p : Presence) (k : ℕ) → (if not yes then Decision′.answer 0x6985 p else ended e p) .answer ≡ R k → ⊥
+touch-refused : (yes : Bool) (e : Ending) (p : Presence) (k : ℕ) → (if not yes then Decision′.statusResult 0x6985 p else ended e p) .answer ≡ R k → ⊥
 touch-refused true e p k z = ended-refused e p k z
 touch-refused false e p k z = r-sw _ _ (sym z)
 
@@ -191,8 +192,8 @@ along-refused SixBytes kept settled t k e = absurd (r-gives _ _ (sym e))
 along-refused (Signs x) kept settled t k e = absurd (ended-refused x settled k e)
 along-refused (Touch x) kept settled t k e = absurd (touch-refused (checkedOf settled t .yes) x (checkedOf settled t .presence) k e)
 
-pub decision-refused : (p : Presence) (t : ℕ) (a : Path′.Asked) (k : ℕ) → decisionAt p t a .answer ≡ R k → decisionAt p t a .presence ≡ p
-unfolding decisionAt
+pub decision-refused : (p : Presence) (t : ℕ) (a : Inputs) (k : ℕ) → decisionOf p t a .answer ≡ R k → decisionOf p t a .presence ≡ p
+unfolding decisionOf
 decision-refused p t a k = by-moment (settleOf p t)
   where
     by-moment : (o : Outcome Presence) → onMoment p t (pathOf a) o .answer ≡ R k → onMoment p t (pathOf a) o .presence ≡ p

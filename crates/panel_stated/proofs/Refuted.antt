@@ -150,7 +150,7 @@ takenUnsaid p =
 
 -- a check at moment 0 on a fresh record
 abbrev checkedAt0 : List Call
-checkedAt0 = record { kind = Checking; moment = 0 } ∷ []
+checkedAt0 = record { role = Checking; moment = 0 } ∷ []
 
 pub lendsClosed0 : Claims.RunsOverNumbers madeWithClosed0 Wrong.lendsClosed0 closedAs0 → ⊥
 unfolding after numbersAfter doneBy checkOf settleOf checkedOf

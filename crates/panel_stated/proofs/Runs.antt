@@ -7,9 +7,9 @@ use borrow.Author.Tests.{leb-false}
 use lib.Dec.{leb, ltb}
 use Rattle.outcome.specs.Notation.{if_then_else_}
 use Rattle.outcome.specs.Outcome.{R, Gives}
-use Rattle.u2f_up_stated.specs.History.{Kind, Touching, Checking, Asking, Settling, Short}
+use Rattle.u2f_up_stated.specs.History.{Role, Touching, Checking, Asking, Settling, Short}
 use Rattle.u2f_up_stated.specs.Moments.{Told, isR6, isLive, isPrompting, newOf, fresh, movedTo, settleOf, grantedOf, checkedOf, onSettled, touchOf, checkOf, askOf}
-use Rattle.u2f_up_stated.specs.declared.Found.{Found}
+use Rattle.u2f_up_stated.specs.declared.Finding.{Finding}
 use Rattle.u2f_up_stated.specs.Runs.{Caller, Keeps, doneBy, after}
 use Rattle.panel_stated.specs.Words.{Presence}
 use Rattle.panel_stated.specs.Numbers.{presenceOf, presenceNumbers}
@@ -33,7 +33,7 @@ settled : (p : Presence) (t : ℕ) (go : Presence → Told) → Lendable p → (
 unfolding settleOf
 settled p t go h goes = settled-by p t go (isR6 (p .w)) (leb (2 ^ 48) t) (ltb t (p .last)) (leb-false (2 ^ 48) t) h goes
 
-either : (b : Bool) (x y : Found) → Lendable (x .presence) → Lendable (y .presence) → Lendable ((if b then x else y) .presence)
+either : (b : Bool) (x y : Finding) → Lendable (x .presence) → Lendable (y .presence) → Lendable ((if b then x else y) .presence)
 either true x y h k = h
 either false x y h k = k
 
@@ -45,7 +45,7 @@ checked : (p : Presence) (t : ℕ) → t < 2 ^ 48 → Lendable p → Lendable (c
 unfolding checkedOf
 checked p t early h = either (isLive (p .touch) (p .w) t) _ _ (h .0, tt) (early, h .1)
 
-done : (k : Kind) (p : Presence) (t : ℕ) → Lendable p → Lendable (doneBy k p t .presence)
+done : (k : Role) (p : Presence) (t : ℕ) → Lendable p → Lendable (doneBy k p t .presence)
 unfolding doneBy touchOf checkOf askOf
 done Touching p t h = settled p t _ h (λ early. granted (movedTo p t) t early h)
 done Checking p t h = settled p t _ h (λ early. checked (movedTo p t) t early h)
@@ -59,7 +59,7 @@ module _ {D : Type 0} (𝒞 : Caller D) (keeps : Keeps 𝒞) (w : ℕ) where
   lendable [] = (tt, tt)
   lendable (d ∷ ds) =
       subst (λ (told : Told). Lendable (told .presence)) (sym (keeps (after 𝒞 w ds) d))
-      (done (𝒞 .asCall d .kind) (after 𝒞 w ds) (𝒞 .asCall d .moment) (lendable ds))
+      (done (𝒞 .asCall d .role) (after 𝒞 w ds) (𝒞 .asCall d .moment) (lendable ds))
 
   pub runs-over : ((p : Presence) → IsOfMoment (p .prompt) → IsOfMoment (p .touch) → presenceOf (presenceNumbers p) ≡ p)
       → madeNumbers (newOf w) .presence ≡ presenceNumbers (fresh w)

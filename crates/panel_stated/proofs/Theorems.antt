@@ -29,13 +29,13 @@ use mathlib.Core.List.{List}
 use Rattle.octets.specs.Bytes.{partOf}
 use Rattle.apdu_stated.specs.Answers.{Says}
 use Rattle.apdu_stated.specs.Reading.{dataOf}
-use Rattle.apdu_stated.proofs.Frames.{data-within}
+use Rattle.apdu_stated.proofs.Laws.{data-within}
 use Rattle.command_stated.specs.Command.{Command, commandOf, challengeOf, applicationOf, handleOf}
-use Rattle.command_stated.proofs.Theorems.{RegisterExactly, AuthenticateExactly}
+use Rattle.command_stated.proofs.Laws.{RegisterExactly, AuthenticateExactly}
 use Rattle.u2f_up_stated.specs.Moments.{newOf, fresh, Told, settleOf, onSettled, touchOf, checkOf}
 use Rattle.u2f_up_stated.specs.declared.Presence.{Presence}
-use Rattle.ctap1_stated.specs.Path as Path′
-use Rattle.ctap1_stated.specs.Path.{decisionAt}
+use Rattle.ctap1_stated.specs.Words.{Inputs}
+use Rattle.ctap1_stated.specs.Decision.{decisionOf}
 use Rattle.panel_stated.specs.Words.{Kind, Order, OrderNumbers}
 
 -- ---- one answer number says which answer it is
@@ -287,8 +287,8 @@ refused-record p (R n) go h given low = refl
 refused-record p (SW n) go h given low = refl
 refused-record p (Gives q) go h given low = absurd (omega (arith, ap answerNo (given q .1)))
 
-decision-kept : (p : Presence) (t : ℕ) (a : Path′.Asked) → (o : Outcome Given) → decisionAt p t a .answer ≡ o → IsNumbered o
-    → 1 ≤ decidedNo o → decidedNo o ≤ lastRefusal → decisionAt p t a .presence ≡ p
+decision-kept : (p : Presence) (t : ℕ) (a : Inputs) → (o : Outcome Given) → decisionOf p t a .answer ≡ o → IsNumbered o
+    → 1 ≤ decidedNo o → decidedNo o ≤ lastRefusal → decisionOf p t a .presence ≡ p
 decision-kept p t a (R n) e h low high = Outcomes.decision-refused p t a n e
 decision-kept p t a (SW n) e h low high = absurd (omega (arith, h .0))
 decision-kept p t a (Gives (Body n)) e h low high = absurd (omega arith)

@@ -3,9 +3,9 @@
 use Rattle.panel_stated.specs.Words.{ℕ, _+_, Bool, false, List, length, Outcome, R, SW, Gives, ApduHeader, Presence, Kind, Order}
 use Rattle.panel_stated.specs.Words.{PresenceRecord, HardwareSaid, OrderNumbers, FrameSaid, CommandSaid, Wrote, Made, Stepped, Asked, DecisionSaid, Shaped, Kinded}
 use Rattle.panel_stated.specs.Words.{Says, placeOf, partsOf, writeOf, bufferOf, Command, Register, Authenticate, Version, handlePlaceOf, Told}
-use Rattle.panel_stated.specs.Words.{kindNo, toSign, certificateLength, finishOf, Given, Body, Ordered, Result, decisionAt}
+use Rattle.panel_stated.specs.Words.{kindNo, toSign, certificateLength, finishOf, Given, Body, Ordered, Result, decisionOf}
 use Rattle.panel_stated.specs.Numbers.{answerNo, decidedNo, presenceOf, presenceNumbers, hardwareOf, shapeOf, kindOf, noOrder}
-use Rattle.ctap1_stated.specs.Path as Path′
+use Rattle.ctap1_stated.specs.Words.{Inputs}
 use Rattle.panel_stated.specs.declared.Shaped.the-variants as Shaped′
 use Rattle.panel_stated.specs.declared.Kinded.the-variants as Kinded′
 
@@ -172,7 +172,7 @@ pub record ToDecide : Type 0 where
   pub block : List ℕ  -- the block before the call
 
 -- what the numbers stand for: all that is lent but the record and the moment
-abbrev pub inputsOf : ToDecide → Path′.Asked
+abbrev pub inputsOf : ToDecide → Inputs
 inputsOf i =
     record {
       frame = i .frame;
@@ -186,7 +186,7 @@ inputsOf i =
 
 -- the decision on them
 abbrev pub decidedBy : ToDecide → Result
-decidedBy i = decisionAt (presenceOf (i .presence)) (i .moment) (inputsOf i)
+decidedBy i = decisionOf (presenceOf (i .presence)) (i .moment) (inputsOf i)
 
 -- ---- finishing
 -- what finishing is lent, the order as numbers and a block

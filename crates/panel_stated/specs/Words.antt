@@ -42,4 +42,4 @@ pub use Rattle.signing_stated.specs.Orders.{kindNo, toSign, certificateLength}
 pub use Rattle.signing_stated.specs.Finishing.{finishOf, lengthOf, replyOf}
 pub use Rattle.ctap1_stated.specs.Words.{Given, Body, Ordered, Result}
 pub use Rattle.ctap1_stated.specs.Decision.{replyLeft}
-pub use Rattle.ctap1_stated.specs.Path.{decisionAt}
+pub use Rattle.ctap1_stated.specs.Decision.{decisionOf}

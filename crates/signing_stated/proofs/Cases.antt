@@ -9,9 +9,9 @@ use lib.Dec.{eqb, leb}
 use lib.ListN.{length, take, drop, length-drop, replicate, length-append, length-replicate, drop-of-length-le}
 use lib.Seq.{take-all, drop-cons}
 use Rattle.octets.specs.Bytes.{byte, allZero, laid, bytes4}
-use Rattle.octets.proofs.Tests.{leb-same}
+use Rattle.octets.proofs.Laws.{leb-same}
 use Rattle.signing_stated.specs.Orders.{Order, Kind, Register, Authenticate, isRegisterLayout, isAuthenticateLayout, isLayout, isOfLayout, toSign, certificateLength, block, blankOrder, registerOrderOf, authenticateOrderOf, registerFieldsOf, authenticateFieldsOf}
-use Rattle.octets.proofs.Laid.{laid-fits}
+use Rattle.octets.proofs.Laws.{laid-fits}
 use Rattle.signing_stated.specs.Layouts.{RegisterFields, AuthenticateFields, registerToSign, authenticateToSign, presenceByte, publicKey, registerBody, authenticateBody}
 use Rattle.signing_stated.proofs.Fit.{register-order-fit, authenticate-order-fit}
 use Rattle.signing_stated.proofs.Shapes.{register-shaped}
@@ -19,7 +19,7 @@ use Rattle.signing_stated.specs.Contracts.{Finish}
 use Rattle.signing_stated.specs.Terms.{part, RegisterLengths, AuthenticateLengths}
 use Rattle.signing_stated.proofs.Ways.{comes-to-r7, comes-to-r4, comes-to-r2, comes-to-6f00, comes-to-r3, comes-to-body}
 use Rattle.signing_stated.specs.Finishing.{registerRoom, authenticateRoom, roomOf, roomAsked, bodyOf, Finishing, Finished, Refused, Status, Body, finishOf, finishedOf, lengthOf, replyOf}
-use Rattle.octets.proofs.Parts.{length-part, parts-join}
+use Rattle.octets.proofs.Laws.{length-part, parts-join}
 use Rattle.outcome.specs.Outcome.{Outcome, R, SW, Gives}
 use Rattle.outcome.specs.declared.ApduStatusCode.the-variants.{InternalException}
 use Rattle.outcome.specs.declared.Refusal.the-variants.{R2, R3, R4, R7}

@@ -4,7 +4,7 @@ use mathlib.Core.Bool.{true}
 use mathlib.Core.Path.{_≡_}
 use borrow.Author.Tests.{eq-eqb, le-leb, eqb-true, leb-true}
 use lib.ListN.{length}
-use Rattle.octets.proofs.Tests.{both}
+use Rattle.octets.proofs.Laws.{both}
 use Rattle.signing_stated.specs.Layouts.{RegisterFields, AuthenticateFields, isRegisterFit, isAuthenticateFit, registerToSign, authenticateToSign}
 use Rattle.signing_stated.specs.Orders.{Register, Authenticate, block, registerOrderOf, authenticateOrderOf}
 pub use Rattle.signing_stated.specs.Terms.{RegisterLengths, AuthenticateLengths}

@@ -7,7 +7,7 @@ use native.Mathlib.Omega.{arith}
 use lib.ListN.{length, take, drop, replicate, length-append, length-drop, take-append-drop}
 use lib.Seq.{length-take-le, take-at, drop-at, drop-cons, take-add, getD-drop, getD-take}
 use Rattle.octets.specs.Bytes.{byte, allZero}
-use Rattle.octets.proofs.Parts.{field-at, length-part, laid-zeros, all-zero-replicate, replicate-all-zero}
+use Rattle.octets.proofs.Laws.{field-at, length-part, laid-zeros, all-zero-replicate, replicate-all-zero}
 use Rattle.signing_stated.specs.Layouts.{RegisterFields, AuthenticateFields, registerToSign, authenticateToSign, publicKey}
 use Rattle.signing_stated.specs.Orders.{Order, Register, Authenticate, toSign, certificateLength, block, registerFieldsOf, authenticateFieldsOf, registerOrderOf, authenticateOrderOf}
 use Rattle.signing_stated.specs.Terms.{part, RegisterLengths, AuthenticateLengths}

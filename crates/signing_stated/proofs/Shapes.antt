@@ -11,7 +11,7 @@ use lib.Dec.{eqb}
 use lib.ListN.{drop}
 use lib.Seq.{getD-drop}
 use Rattle.octets.specs.Bytes.{byte, allZero}
-use Rattle.octets.proofs.Tests.{both}
+use Rattle.octets.proofs.Laws.{both}
 use Rattle.signing_stated.specs.Orders.{Order, Kind, Register, Authenticate, isRegisterLayout, isAuthenticateLayout, isLayout, isOfLayout, toSign, certificateLength}
 use Rattle.signing_stated.specs.Finishing.{registerRoom, authenticateRoom, roomOf, roomAsked}
 use Rattle.signing_stated.specs.Terms.{AsksFor, register, authenticate, OfLayout}

@@ -6,7 +6,7 @@ use native.Mathlib.Omega.{arith}
 use lib.ListN.{length, take, drop}
 use lib.Seq.{drop-cons}
 use Rattle.octets.specs.Bytes.{byte}
-use Rattle.octets.proofs.Parts.{length-part, parts-join}
+use Rattle.octets.proofs.Laws.{length-part, parts-join}
 use Rattle.signing_stated.specs.Layouts.{registerBody, authenticateBody}
 use Rattle.signing_stated.specs.Orders.{registerFieldsOf, authenticateFieldsOf}
 use Rattle.signing_stated.specs.Terms.{part}

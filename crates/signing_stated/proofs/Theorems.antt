@@ -11,8 +11,8 @@ use lib.ListN.{length, drop, replicate, length-append, length-replicate}
 use Rattle.outcome.specs.Outcome.{Outcome, R, SW, Gives}
 use Rattle.outcome.proofs.Laws.{both-are}
 use Rattle.octets.specs.Bytes.{byte, bytes4, laid}
-use Rattle.octets.proofs.Laid.{laid-fits, length-laid}
-use Rattle.octets.proofs.Parts.{length-part}
+use Rattle.octets.proofs.Laws.{laid-fits, length-laid}
+use Rattle.octets.proofs.Laws.{length-part}
 use Rattle.signing_stated.specs.Claims
 use Rattle.signing_stated.specs.Layouts.{RegisterFields, AuthenticateFields, registerToSign, authenticateToSign, registerBody, authenticateBody, presenceByte, isRegisterFit, isAuthenticateFit}
 use Rattle.signing_stated.specs.Orders.{Order, Kind, Register, Authenticate, AuthenticateParts, kindNo, toSign, certificateLength, blankOrder, registerOrderOf, authenticateOrderOf, authenticateOrderFor, block, isOfLayout, registerFieldsOf, authenticateFieldsOf}

@@ -9,7 +9,7 @@ use borrow.Author.Tests.{eqb-true, eqb-false, ltb-true, ltb-false, eq-eqb, ne-eq
 use lib.Dec.{eqb, ltb}
 use lib.ListN.{length, drop, length-append}
 use Rattle.outcome.specs.Outcome.{Outcome, R, SW, Gives}
-use Rattle.octets.proofs.Parts.{length-take-most}
+use Rattle.octets.proofs.Laws.{length-take-most}
 use Rattle.signing_stated.specs.Orders.{Order, Kind, Register, Authenticate, toSign, certificateLength, isOfLayout}
 use Rattle.signing_stated.specs.Finishing.{Finishing, finishOf, roomOf, roomAsked, bodyOf}
 

@@ -115,10 +115,3 @@ authenticateOrderFor p =
       counter = bytes4 (p .counter);
       challenge = p .challenge;
     })
-
--- the names that other crates still use
-abbrev pub registerOrder : RegisterFields → ℕ → Order
-registerOrder = registerOrderOf
-
-abbrev pub authenticateOrder : AuthenticateFields → Order
-authenticateOrder = authenticateOrderOf

@@ -3,7 +3,7 @@ use mathlib.Core.Path.{_≡_, refl, ap}
 use mathlib.Core.Bool.{Bool, true, false}
 use Rattle.outcome.specs.Outcome.{Outcome, R, SW, Gives}
 use Rattle.outcome.proofs.Laws.{one-to-one}
-use Rattle.outcome.proofs.Theorems.{refusalOf, refusal-back}
+use Rattle.outcome.proofs.Laws.{refusalOf, refusal-back}
 use Rattle.u2f_up_stated.specs.Words.{Presence}
 use Rattle.u2f_up_stated.specs.Moments.{Told}
 use Rattle.u2f_up_stated.specs.Answers.{Ready, Answer, Step, readyOf, outcomeOf, toldOf}

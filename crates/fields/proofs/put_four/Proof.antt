@@ -1,4 +1,4 @@
-use Rattle.octets.proofs.Tails.{laid-then, laid-over}
+use Rattle.octets.proofs.Laws.{laid-then, laid-over}
 use borrow.Author.Needs.{needs}
 use Rattle.fields.proofs.put_four.Statement.{statement}
 use Rattle.fields.proofs.put_four.Tie as tie
