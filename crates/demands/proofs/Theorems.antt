@@ -1,0 +1,64 @@
+-- The three demands are met: each field is the theorem of its claim's name.
+use Rattle.apdu_stated.proofs.Theorems as Frames
+use Rattle.command_stated.proofs.Theorems as Commands
+use Rattle.u2f_up_stated.proofs.Theorems as Presence
+use Rattle.signing_stated.proofs.Theorems as Signing
+use Rattle.ctap1_stated.proofs.Theorems as Decision
+use Rattle.panel_stated.proofs.Theorems as Panel
+use Rattle.demands.specs.Demands.{EveryInputIsAnswered, AsTheDocumentsSay, TouchesAreAsTheHistorySays, Demands}
+
+pub answered : EveryInputIsAnswered
+answered =
+    record {
+      frames-determined = Frames.ResultsDetermined;
+      commands-determined = Commands.ResultsDetermined;
+      presence-determined = Presence.ResultsDetermined;
+      signing-determined = Signing.ResultsDetermined;
+      decision-determined = Decision.ResultsDetermined;
+      exports-determined = Panel.ResultsDetermined;
+      records = Presence.MakesExactly;
+      moments = Presence.SettlesExactly;
+      touches = Presence.TouchesExactly;
+      checks = Presence.ChecksExactly;
+      asks = Presence.AsksExactly;
+      writing = Frames.WriteExactly;
+      commands = Commands.CommandExactly;
+      decision = Decision.DecidesExactly;
+      finishing = Signing.FinishesExactly;
+      refusals-change-nothing = Decision.RefusalChangesNothing;
+      replies = Decision.RepliesExactly;
+      block = Panel.BlockExactly;
+      refusals-hand-back = Panel.RefusalHandsBack;
+      room-was-asked = Decision.RoomWasAsked;
+    }
+
+pub documents : AsTheDocumentsSay
+documents =
+    record {
+      reading = Frames.ReadingExactly;
+      strict = Frames.StrictExactly;
+      iso = Frames.IsoExactly;
+      tolerated = Frames.ToleratedExactly;
+      frames-to-try = Frames.ExamplesRead;
+      parts = Commands.CutAtPlaces;
+      parts-in-c = Panel.PlacesCut;
+      register-orders = Signing.MakesRegister;
+      authenticate-orders = Signing.MakesAuthenticate;
+      register-replies = Signing.RegisterRoundTrip;
+      authenticate-replies = Signing.AuthenticateRoundTrip;
+      read-then-written = Frames.ReadThenWritten;
+      written-then-read = Frames.WrittenThenRead;
+    }
+
+pub touches : TouchesAreAsTheHistorySays
+touches =
+    record {
+      over-every-run = Decision.Demand3OfThePanel;
+      decisions-keep = Decision.KeepsToItsRole;
+      orders-need-a-touch = Decision.OrdersNeedATouch;
+      orders-have-their-touch = Decision.OrdersHaveTheirTouch;
+      over-numbers = Panel.RunsOverNumbers;
+    }
+
+pub met : Demands
+met = record { answered = answered; documents = documents; touches = touches }

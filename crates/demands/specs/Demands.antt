@@ -1,0 +1,90 @@
+-- The three demands on this panel's core, in its users' words; each field is the claim that meets the sentence above it.
+-- proofs/Theorems.antt inhabits the record. A claim `X f` of a crate speaks of any function f: here it is said of the definition f, and
+-- that crate's contracts say that its functions give what f gives. What each claim means, a wrong program that it rejects and an
+-- input where it bites stand beside it in that crate's specs/Claims.antt; that nothing but f meets it, in proofs/Only.antt.
+use Rattle.apdu_stated.specs.Claims as Frames
+use Rattle.apdu_stated.specs.Reading.{readOf, strictOf, dataOf}
+use Rattle.apdu_stated.specs.Writing.{writingOf}
+use Rattle.command_stated.specs.Claims as Commands
+use Rattle.command_stated.specs.Command.{commandOf, challengeOf, applicationOf, handleOf, challengePlaceOf, applicationPlaceOf, handlePlaceOf}
+use Rattle.u2f_up_stated.specs.Claims as Presence
+use Rattle.u2f_up_stated.specs.Moments.{newOf, settleOf, touchOf, checkOf, askOf}
+use Rattle.signing_stated.specs.Claims as Signing
+use Rattle.signing_stated.specs.Orders.{registerOrderOf, authenticateOrderFor}
+use Rattle.signing_stated.specs.Finishing.{finishOf, endOf}
+use Rattle.ctap1_stated.specs.Claims as Decision
+use Rattle.ctap1_stated.specs.Decision.{decisionOf, replyLeft}
+use Rattle.ctap1_stated.specs.Calls.{panelCalls}
+use Rattle.panel_stated.specs.Claims as Panel
+use Rattle.panel_stated.specs.Numbers.{presenceOf, presenceNumbers}
+use Rattle.panel_stated.specs.Exports.{madeNumbers, stepNumbers, decisionNumbers, decidedBy, frameNumbers, commandNumbers, blockAfter}
+
+-- 1. "Every frame, moment, answer and buffer length gets an answer. Nothing is asked of the caller beforehand." Every function ends and
+-- meets its contract on every input: the check of its crate. That none has a `requires`: the gate's look at the contracts.
+pub record EveryInputIsAnswered : Type 0 where
+  -- the contracts leave nothing open: two results, and two final contents of what was lent, that meet one are equal
+  pub frames-determined : Frames.ResultsDetermined
+  pub commands-determined : Commands.ResultsDetermined
+  pub presence-determined : Presence.ResultsDetermined
+  pub signing-determined : Signing.ResultsDetermined
+  pub decision-determined : Decision.ResultsDetermined
+  pub exports-determined : Panel.ResultsDetermined
+  -- "Each refusal comes exactly under its stated condition": R6 and R1, making and settling a record; touch, check, ask
+  pub records : Presence.MakesExactly newOf
+  pub moments : Presence.SettlesExactly settleOf
+  pub touches : Presence.TouchesExactly touchOf
+  pub checks : Presence.ChecksExactly checkOf
+  pub asks : Presence.AsksExactly askOf
+  -- R5 and R2 of the writer; every status of command reading
+  pub writing : Frames.WriteExactly writingOf
+  pub commands : Commands.CommandExactly commandOf
+  -- every answer of the decision, by document 01's table: R6, R1, R2, 6f00, 6986, 6985, 6a80, the frame's own, bodies, orders
+  pub decision : Decision.DecidesExactly decisionOf
+  -- R7, R4, R2, 6f00, R3 and the bodies of finishing
+  pub finishing : Signing.FinishesExactly endOf
+  -- "and leaves buffers and records as stated"
+  pub refusals-change-nothing : Decision.RefusalChangesNothing decisionOf replyLeft
+  pub replies : Decision.RepliesExactly decisionOf replyLeft
+  pub block : Panel.BlockExactly blockAfter
+  pub refusals-hand-back : Panel.RefusalHandsBack (λ n t. stepNumbers (touchOf (presenceOf n) t)) (λ n t. stepNumbers (checkOf (presenceOf n) t)) (λ i. decisionNumbers (decidedBy i))
+  -- the enrolment that was lost: an order has asked for its room before the touch was spent
+  pub room-was-asked : Decision.RoomWasAsked decisionOf
+
+-- 2. "Results equal the Rust's": that is run, not proved (oracle/compare, and the Rust's own answers in crates/lines/data/rust).
+-- Proved is what stands below.
+pub record AsTheDocumentsSay : Type 0 where
+  -- "Frame reading and writing are proved against the ISO 7816-3 case table with the tolerated forms listed"
+  pub reading : Frames.ReadingExactly readOf
+  pub strict : Frames.StrictExactly strictOf
+  pub iso : Frames.IsoExactly readOf
+  pub tolerated : Frames.ToleratedExactly readOf
+  pub frames-to-try : Frames.ExamplesRead readOf
+  -- the parts of a frame that are handed back stand where they are said to
+  pub parts : Commands.CutAtPlaces challengeOf applicationOf handleOf challengePlaceOf applicationPlaceOf handlePlaceOf
+  pub parts-in-c : Panel.PlacesCut frameNumbers commandNumbers
+  -- "reply bytes against FIDO U2F raw message formats 1.2": the bytes to sign, byte by byte, and the replies made of them
+  pub register-orders : Signing.MakesRegister registerOrderOf
+  pub authenticate-orders : Signing.MakesAuthenticate authenticateOrderFor
+  pub register-replies : Signing.RegisterRoundTrip finishOf
+  pub authenticate-replies : Signing.AuthenticateRoundTrip finishOf
+  -- "A frame that is read and, given room, written again is the same frame; fields that the writer accepts read back as themselves"
+  pub read-then-written : Frames.ReadThenWritten readOf dataOf writingOf
+  pub written-then-read : Frames.WrittenThenRead readOf dataOf writingOf
+
+-- 3. "From a fresh presence record, each call taking the record the last one gave back, for any sequence of calls":
+pub record TouchesAreAsTheHistorySays : Type 1 where
+  -- "a call that reaches the touch check finds a touch exactly when history holds an accepted one, unspent and younger than the
+  -- touch window. No touch serves two calls. Touches accepted = calls that spent one + lapsed touches + at most one still live"
+  pub over-every-run : Decision.Demand3OfThePanel panelCalls
+  -- a decision does nothing else to a record, whatever record is lent
+  pub decisions-keep : Decision.KeepsToItsRole decisionOf
+  -- the sentence on the box: no order says that a person was there but for a touch of its own
+  pub orders-need-a-touch : Decision.OrdersNeedATouch decisionOf
+  pub orders-have-their-touch : Decision.OrdersHaveTheirTouch decisionOf
+  -- the same over the numbers that the firmware holds, from `brinecandle_new` on
+  pub over-numbers : Panel.RunsOverNumbers (λ w. madeNumbers (newOf w)) presenceOf presenceNumbers
+
+pub record Demands : Type 1 where
+  pub answered : EveryInputIsAnswered
+  pub documents : AsTheDocumentsSay
+  pub touches : TouchesAreAsTheHistorySays
