@@ -1,6 +1,6 @@
-// Text in lent slices: where a line ends, the words of a line, numbers and bytes out of words and into text. A program that
-// reads lines stands on these; what it cannot read is an answer, never a fault.
-ghost use Prim.Native.Nat.{_+_, _≤_, _<_};
+// Text read from lent slices: where a line ends, the words of a line, and the numbers and bytes that words say. What cannot be
+// read is an answer, never a fault.
+ghost use Prim.Native.Nat.{_≤_, _<_};
 ghost use lib.ListN.{length};
 
 // What a word says, or that it is none of what was asked for.
@@ -8,9 +8,6 @@ pub enum Said {
     Is(u64),
     Not,
 }
-
-// As many words as are told apart: a line of more has this many.
-pub const WORDS: usize = 16;
 
 // The first place from `at` on that holds the byte, or the text's end.
 pub fn find(text: &[u8], at: usize, byte: u8) -> usize
@@ -108,19 +105,36 @@ pub fn is_dash(word: &[u8]) -> bool {
     word[0] == b'-'
 }
 
-// The bytes that a word says in hex go to the front of out; how many they are.
-pub fn bytes(word: &[u8], out: &mut [u8]) -> Said {
+// One byte, as its number.
+pub fn byte(word: &[u8]) -> Said {
+    if word.len() != 2 {
+        return Said::Not;
+    }
+    let high = digit(word[0]) as u64;
+    let low = digit(word[1]) as u64;
+    if 15 < high {
+        return Said::Not;
+    }
+    if 15 < low {
+        return Said::Not;
+    }
+    Said::Is(high * 16 + low)
+}
+
+// The bytes that a word says in hex go to the front of out; how many they are, where that is from `least` to `most`.
+pub fn bytes(word: &[u8], least: usize, most: usize, out: &mut [u8]) -> Said {
+    let mut n = word.len() / 2;
     if is_dash(word) {
-        return Said::Is(0);
-    }
-    let n = word.len() / 2;
-    if n == 0 {
+        n = 0;
+    } else if word.len() == 0 {
+        return Said::Not;
+    } else if word.len() % 2 == 1 {
         return Said::Not;
     }
-    if word.len() % 2 == 1 {
+    if n < least {
         return Said::Not;
     }
-    if out.len() < n {
+    if most < n {
         return Said::Not;
     }
     if decode(word, n, out) {
@@ -130,10 +144,13 @@ pub fn bytes(word: &[u8], out: &mut [u8]) -> Said {
     }
 }
 
-fn decode(word: &[u8], n: usize, out: &mut [u8]) -> bool
-    requires { ⌜ n ≤ length (now out) ⌝ }
-    requires { ⌜ n + n ≤ length (now word) ⌝ }
-{
+fn decode(word: &[u8], n: usize, out: &mut [u8]) -> bool {
+    if out.len() < n {
+        return false;
+    }
+    if word.len() / 2 < n {
+        return false;
+    }
     let mut i = 0;
     while i < n {
         let high = digit(word[2 * i]);
@@ -148,51 +165,4 @@ fn decode(word: &[u8], n: usize, out: &mut [u8]) -> bool
         i += 1;
     }
     true
-}
-
-// The bytes go into out from `at` on; where they end. What is too long is cut at out's end.
-pub fn put(out: &mut [u8], at: usize, bytes: &[u8]) -> usize {
-    if out.len() < at {
-        return at;
-    }
-    if out.len() - at < bytes.len() {
-        return out.len();
-    }
-    octets::put(&mut out[at..], bytes);
-    at + bytes.len()
-}
-
-pub fn put_number(out: &mut [u8], at: usize, n: u64) -> usize {
-    let mut digits = [0u8; 20];
-    let k = io::decimal(n, &mut digits);
-    put(out, at, &digits[..k])
-}
-
-// A number after a space.
-pub fn then_number(out: &mut [u8], at: usize, n: u64) -> usize {
-    let start = put(out, at, b" ");
-    put_number(out, start, n)
-}
-
-// Bytes in hex.
-pub fn put_hex(out: &mut [u8], at: usize, bytes: &[u8]) -> usize {
-    let mut i = 0;
-    let mut end = at;
-    while i < bytes.len() {
-        let mut digits = [0u8; 16];
-        let b = octets::wide(bytes[i]) as u64;
-        let k = io::hex(b, 2, &mut digits);
-        end = put(out, end, &digits[..k]);
-        i += 1;
-    }
-    end
-}
-
-// Bytes in hex after a space; `-` where there are none.
-pub fn then_bytes(out: &mut [u8], at: usize, bytes: &[u8]) -> usize {
-    if bytes.len() == 0 {
-        return put(out, at, b" -");
-    }
-    let start = put(out, at, b" ");
-    put_hex(out, start, bytes)
 }

@@ -12,6 +12,12 @@ Inv-loop word n out₀ i₀ out i = length out ≡ length out₀
 abbrev μ-loop : tie.MeasureT-loop
 μ-loop word n out₀ i₀ out i = n - i
 
+returns : tie.Need-returns Inv-loop μ-loop
+returns c = search needs
+
+returns-2 : tie.Need-returns-2 Inv-loop μ-loop
+returns-2 c = search needs
+
 loop-holds : tie.Need-loop-holds Inv-loop μ-loop
 loop-holds c = search needs
 
@@ -39,14 +45,14 @@ digit-requires-2 c κs = search needs
 same-length : tie.Need-same-length Inv-loop μ-loop
 same-length c = search needs
 
-returns : tie.Need-returns Inv-loop μ-loop
-returns c = search needs
+returns-3 : tie.Need-returns-3 Inv-loop μ-loop
+returns-3 c = search needs
 
 same-length-2 : tie.Need-same-length-2 Inv-loop μ-loop
 same-length-2 c = search needs
 
-returns-2 : tie.Need-returns-2 Inv-loop μ-loop
-returns-2 c = search needs
+returns-4 : tie.Need-returns-4 Inv-loop μ-loop
+returns-4 c = search needs
 
 mul-out : tie.Need-mul-out Inv-loop μ-loop
 mul-out c = search needs
@@ -69,8 +75,8 @@ loop-again c = search needs
 same-length-3 : tie.Need-same-length-3 Inv-loop μ-loop
 same-length-3 c = search needs
 
-returns-3 : tie.Need-returns-3 Inv-loop μ-loop
-returns-3 c = search needs
+returns-5 : tie.Need-returns-5 Inv-loop μ-loop
+returns-5 c = search needs
 
 pub decode-spec : {M : Type 1} → statement M
 decode-spec =
@@ -78,6 +84,8 @@ decode-spec =
     (tie.spec
     Inv-loop
     μ-loop
+    returns
+    returns-2
     loop-holds
     mul-digit
     shared-slice-read-digit
@@ -87,9 +95,9 @@ decode-spec =
     shared-slice-read-digit-2
     digit-requires-2
     same-length
-    returns
+    returns-3
     same-length-2
-    returns-2
+    returns-4
     mul-out
     add-out
     slice-write-out
@@ -97,4 +105,4 @@ decode-spec =
     loop-less
     loop-again
     same-length-3
-    returns-3)
+    returns-5)
