@@ -12,8 +12,15 @@ pub struct Found {
 
 const ROOM_MOST: u64 = 131072;
 
+// The numbers of the words (`answers` has them) for a line that is no call.
+const NO_CALL: u16 = 16;
+
+const OTHER_COUNT: u16 = 17;
+
+const OTHER_WORD: u16 = 18;
+
 // The place in the list (of `name letters;`, one after the other) that has the name.
-pub fn lookup(list: &[u8], name: &[u8]) -> Found {
+fn lookup(list: &[u8], name: &[u8]) -> Found {
     let mut at = 0;
     let mut call = 0;
     while at < list.len() {
@@ -23,7 +30,7 @@ pub fn lookup(list: &[u8], name: &[u8]) -> Found {
             return Found {
                 is: true,
                 call,
-                start,
+                start: if start < end { start + 1 } else { start },
                 end,
             };
         }
@@ -72,7 +79,7 @@ fn into(letter: u8, word: &[u8], start: usize, raw: &mut [u8]) -> Said {
 }
 
 // Reads each word by its letter; false where a word is not what its letter takes. raw has to be as long as the line.
-pub fn taken(
+fn taken(
     line: &[u8],
     marks: &[usize; 32],
     letters: &[u8],
@@ -106,4 +113,40 @@ pub fn given<'a>(raw: &'a [u8], marks: &[usize; 32], numbers: &[u64; 16], k: usi
     }
     let rest = octets::part(raw, marks[2 * k + 2], raw.len());
     octets::part(rest, 0, numbers[k] as usize)
+}
+
+// A call's place in the list, or the number of the words that say why it is none.
+pub struct Call {
+    pub call: usize,
+    pub fault: u16,
+}
+
+// A line as a call: its words are marked and read.
+pub fn read(
+    list: &[u8],
+    line: &[u8],
+    marks: &mut [usize; 32],
+    numbers: &mut [u64; 16],
+    raw: &mut [u8],
+) -> Call {
+    let count = text::cut(line, marks);
+    let found = lookup(list, text::word(line, marks, 0));
+    let letters = octets::part(list, found.start, found.end);
+    if !found.is {
+        return Call {
+            call: 0,
+            fault: NO_CALL,
+        };
+    }
+    if count - 1 != letters.len() {
+        return Call {
+            call: 0,
+            fault: OTHER_COUNT,
+        };
+    }
+    let is_taken = taken(line, marks, letters, numbers, raw);
+    Call {
+        call: found.call,
+        fault: if is_taken { 0 } else { OTHER_WORD },
+    }
 }

@@ -23,7 +23,8 @@ fn command(c: CommandSaid) -> Answer {
     }
     let challenge = c.challenge as u64;
     let application = c.application as u64;
-    match c.command {
+    let command = c.command;
+    match command {
         1 => answers::with_numbers(answers::REGISTER, 2, [challenge, application, 0, 0, 0]),
         2 => {
             let start = c.handle as u64;

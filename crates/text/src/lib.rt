@@ -42,7 +42,9 @@ fn mark(b: u8, i: usize, count: usize, marks: &mut [usize; 32]) -> usize
 
 // Cuts a line into its words, which stand between single spaces; says how many there are. The marks are the start and the
 // end of each.
-pub fn cut(line: &[u8], marks: &mut [usize; 32]) -> usize {
+pub fn cut(line: &[u8], marks: &mut [usize; 32]) -> usize
+    ensures { λ r. ⌜ 1 ≤ r ⌝ }
+{
     let mut count = 0;
     let mut i = 0;
     marks[0] = 0;

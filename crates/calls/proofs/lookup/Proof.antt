@@ -26,8 +26,14 @@ part-requires c κs = search needs
 same-requires : tie.Need-same-requires Inv-loop μ-loop
 same-requires c κs = search needs
 
+add-t25 : tie.Need-add-t25 Inv-loop μ-loop
+add-t25 c = search needs
+
 returns : tie.Need-returns Inv-loop μ-loop
 returns c = search needs
+
+returns-2 : tie.Need-returns-2 Inv-loop μ-loop
+returns-2 c = search needs
 
 add-at : tie.Need-add-at Inv-loop μ-loop
 add-at c = search needs
@@ -41,11 +47,11 @@ loop-less c = search needs
 loop-again : tie.Need-loop-again Inv-loop μ-loop
 loop-again c = search needs
 
-returns-2 : tie.Need-returns-2 Inv-loop μ-loop
-returns-2 c = search needs
-
 returns-3 : tie.Need-returns-3 Inv-loop μ-loop
 returns-3 c = search needs
+
+returns-4 : tie.Need-returns-4 Inv-loop μ-loop
+returns-4 c = search needs
 
 pub lookup-spec : {M : Type 1} → statement M
 lookup-spec =
@@ -58,10 +64,12 @@ lookup-spec =
     find-requires-2
     part-requires
     same-requires
+    add-t25
     returns
+    returns-2
     add-at
     add-call
     loop-less
     loop-again
-    returns-2
-    returns-3)
+    returns-3
+    returns-4)
