@@ -26,7 +26,10 @@ const MOST: usize = 250;
 fn known(store: &[u8], marks: &[usize; 512], count: usize, name: &[u8]) -> usize
     ensures { λ r. ⌜ r ≤ 250 ⌝ }
 {
-    let mut k = if count <= MOST { count } else { MOST };
+    if MOST < count {
+        return 0;
+    }
+    let mut k = count;
     while 0 < k {
         if check::same(name, octets::part(store, marks[2 * k - 2], marks[2 * k - 1])) {
             return k;

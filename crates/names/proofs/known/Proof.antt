@@ -10,6 +10,9 @@ Inv-loop store marks count name k₀ k = k ≤ 250
 abbrev μ-loop : tie.MeasureT-loop
 μ-loop store marks count name k₀ k = k
 
+returns : tie.Need-returns Inv-loop μ-loop
+returns c = search needs
+
 loop-holds : tie.Need-loop-holds Inv-loop μ-loop
 loop-holds c = search needs
 
@@ -43,8 +46,8 @@ part-requires c κs = search needs
 same-requires : tie.Need-same-requires Inv-loop μ-loop
 same-requires c κs = search needs
 
-returns : tie.Need-returns Inv-loop μ-loop
-returns c = search needs
+returns-2 : tie.Need-returns-2 Inv-loop μ-loop
+returns-2 c = search needs
 
 sub-k : tie.Need-sub-k Inv-loop μ-loop
 sub-k c = search needs
@@ -55,8 +58,8 @@ loop-less c = search needs
 loop-again : tie.Need-loop-again Inv-loop μ-loop
 loop-again c = search needs
 
-returns-2 : tie.Need-returns-2 Inv-loop μ-loop
-returns-2 c = search needs
+returns-3 : tie.Need-returns-3 Inv-loop μ-loop
+returns-3 c = search needs
 
 pub known-spec : {M : Type 1} → statement M
 known-spec =
@@ -64,6 +67,7 @@ known-spec =
     (tie.spec
     Inv-loop
     μ-loop
+    returns
     loop-holds
     mul-part
     sub-part
@@ -75,8 +79,8 @@ known-spec =
     element-copy-out-part-2
     part-requires
     same-requires
-    returns
+    returns-2
     sub-k
     loop-less
     loop-again
-    returns-2)
+    returns-3)
