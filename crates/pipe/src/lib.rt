@@ -91,7 +91,7 @@ fn answered(
             if reply.len() < room {
                 return panel;
             }
-            on_reply(panel, call, raw, marks, numbers, &mut reply[..room], block)
+            on_reply(panel, call, raw, marks, numbers, &mut reply[0..room], block)
         }
     }
 }

@@ -1,139 +1,100 @@
+-- `define` is safe and ends.
+use borrow.Author.Needs.{needs}
 use Rattle.names.proofs.define.Statement.{statement}
 use Rattle.names.proofs.define.Tie as tie
-use Rattle.names.proofs.define.Reads as reads
-use Rattle.names.proofs.define.Lts as lts
-use Rattle.names.proofs.kept.Reads as kept-reads
-use Rattle.names.proofs.repeated.Reads as repeated-reads
-use Rattle.names.proofs.spelled.Reads as spelled-reads
-use Rattle.names.proofs.times.Reads as times-reads
-use Rattle.octets.proofs.part.Reads as part-reads
-use Rattle.spell.proofs.put.Reads as put-reads
-use Rattle.text.proofs.bytes.Reads as bytes-reads
-use Rattle.text.proofs.cut.Reads as cut-reads
-use Rattle.text.proofs.word.Reads as word-reads
 
--- src/lib.rt:182:9
 cut-requires : tie.Need-cut-requires
-cut-requires c κs = ?
+cut-requires c κs = search needs
 
--- src/lib.rt:183:27
 times-requires : tie.Need-times-requires
-times-requires c κs = ?
+times-requires c κs = search needs
 
--- src/lib.rt:183:18
 enum-known-often : tie.Need-enum-known-often
-enum-known-often c = ?
+enum-known-often c = search needs
 
--- src/lib.rt:185:18
 enum-told : tie.Need-enum-told
-enum-told c = ?
+enum-told c = search needs
 
--- src/lib.rt:184:9
 returns : tie.Need-returns
-returns c = ?
+returns c = search needs
 
--- src/lib.rt:190:9
 returns-2 : tie.Need-returns-2
-returns-2 c = ?
+returns-2 c = search needs
 
--- src/lib.rt:195:25
 word-requires : tie.Need-word-requires
-word-requires c κs = ?
+word-requires c κs = search needs
 
--- src/lib.rt:195:9
 spelled-requires : tie.Need-spelled-requires
-spelled-requires c κs = ?
+spelled-requires c κs = search needs
 
--- src/lib.rt:197:9
 same-length : tie.Need-same-length
-same-length c = ?
+same-length c = search needs
 
--- src/lib.rt:197:9
 same-length-2 : tie.Need-same-length-2
-same-length-2 c = ?
+same-length-2 c = search needs
 
--- src/lib.rt:197:9
 returns-3 : tie.Need-returns-3
-returns-3 c = ?
+returns-3 c = search needs
 
--- src/lib.rt:202:9
 part-requires : tie.Need-part-requires
-part-requires c κs = ?
+part-requires c κs = search needs
 
--- src/lib.rt:203:23
 bytes-requires : tie.Need-bytes-requires
-bytes-requires c κs = ?
+bytes-requires c κs = search needs
 
 enum-told-2 : tie.Need-enum-told-2
-enum-told-2 c = ?
+enum-told-2 c = search needs
 
--- src/lib.rt:205:18
 enum-told-3 : tie.Need-enum-told-3
-enum-told-3 c = ?
+enum-told-3 c = search needs
 
--- src/lib.rt:204:9
 same-length-3 : tie.Need-same-length-3
-same-length-3 c = ?
+same-length-3 c = search needs
 
--- src/lib.rt:204:9
 same-length-4 : tie.Need-same-length-4
-same-length-4 c = ?
+same-length-4 c = search needs
 
--- src/lib.rt:204:9
 same-length-5 : tie.Need-same-length-5
-same-length-5 c = ?
+same-length-5 c = search needs
 
--- src/lib.rt:204:9
 returns-4 : tie.Need-returns-4
-returns-4 c = ?
+returns-4 c = search needs
 
--- src/lib.rt:209:42
 word-requires-2 : tie.Need-word-requires-2
-word-requires-2 c κs = ?
+word-requires-2 c κs = search needs
 
--- src/lib.rt:209:9
 put-requires : tie.Need-put-requires
-put-requires c κs = ?
+put-requires c κs = search needs
 
--- src/lib.rt:210:9
 repeated-requires : tie.Need-repeated-requires
-repeated-requires c κs = ?
+repeated-requires c κs = search needs
 
--- src/lib.rt:211:5
 kept-requires : tie.Need-kept-requires
-kept-requires c κs = ?
+kept-requires c κs = search needs
 
--- src/lib.rt:172:1
 same-length-6 : tie.Need-same-length-6
-same-length-6 c = ?
+same-length-6 c = search needs
 
--- src/lib.rt:172:1
 same-length-7 : tie.Need-same-length-7
-same-length-7 c = ?
+same-length-7 c = search needs
 
--- src/lib.rt:172:1
 same-length-8 : tie.Need-same-length-8
-same-length-8 c = ?
+same-length-8 c = search needs
 
--- src/lib.rt:172:1
 returns-5 : tie.Need-returns-5
-returns-5 c = ?
+returns-5 c = search needs
 
--- src/lib.rt:172:1
 same-length-9 : tie.Need-same-length-9
-same-length-9 c = ?
+same-length-9 c = search needs
 
--- src/lib.rt:172:1
 same-length-10 : tie.Need-same-length-10
-same-length-10 c = ?
+same-length-10 c = search needs
 
--- src/lib.rt:172:1
 same-length-11 : tie.Need-same-length-11
-same-length-11 c = ?
+same-length-11 c = search needs
 
--- src/lib.rt:172:1
 returns-6 : tie.Need-returns-6
-returns-6 c = ?
+returns-6 c = search needs
 
 pub define-spec : {M : Type 1} → statement M
 define-spec =

@@ -1,4 +1,5 @@
 -- `fill` is safe and ends.
+use mathlib.Core.Path.{_≡_}
 use Prim.Native.Nat.{_-_}
 use borrow.Author.Needs.{needs}
 use lib.ListN.{length}
@@ -6,10 +7,10 @@ use Rattle.pipe.proofs.fill.Statement.{statement}
 use Rattle.pipe.proofs.fill.Tie as tie
 
 abbrev Inv-loop : tie.InvT-loop
-Inv-loop reply₀ b i₀ reply i = Unit {0}
+Inv-loop reply₀ b i₀ reply i = length reply ≡ length reply₀
 
 abbrev μ-loop : tie.MeasureT-loop
-μ-loop reply₀ b i₀ reply i = length reply - i
+μ-loop reply₀ b i₀ reply i = length reply₀ - i
 
 loop-holds : tie.Need-loop-holds Inv-loop μ-loop
 loop-holds c = search needs
