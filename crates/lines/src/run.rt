@@ -70,9 +70,73 @@ fn differs(mut run: Run, name: &[u8], wanted: &[u8], said: &[u8]) -> Run {
     run
 }
 
-// The waiting call is made, and its answer compared. Both are spelled out first: a damaged line changes nothing.
-fn answered(
+// A call and the answer that it must get, spelled out one after the other: where each ends, or what is wrong, and on which line.
+struct Pair {
+    call: usize,
+    wanted: usize,
+    fault: u8,
+    line: u64,
+}
+
+fn spell_pair(
+    run: Run,
+    text: &[u8],
+    line: &[u8],
+    store: &[u8],
+    marks: &[usize; 512],
+    work: &mut [u8],
+) -> Pair {
+    let waiting = octets::part(text, run.from, run.to);
+    let call = names::spelled(waiting, store, marks, run.names, work, 0);
+    if call.fault != 0 {
+        return Pair {
+            call: 0,
+            wanted: 0,
+            fault: call.fault,
+            line: run.call,
+        };
+    }
+    let wanted = names::spelled(line, store, marks, run.names, work, call.end);
+    Pair {
+        call: call.end,
+        wanted: wanted.end,
+        fault: wanted.fault,
+        line: run.line,
+    }
+}
+
+// The call is made, and its answer compared.
+fn compared(
     mut run: Run,
+    name: &[u8],
+    pair: Pair,
+    work: &[u8],
+    raw: &mut [u8],
+    reply: &mut [u8],
+    block: &mut [u8; 385],
+    out: &mut [u8],
+) -> Run {
+    let before = run.panel;
+    let told = pipe::call(before, octets::part(work, 0, pair.call), raw, reply, block, out);
+    let after = told.panel;
+    run.panel = after;
+    run.calls = more(run.calls);
+    let wanted = octets::part(work, pair.call, pair.wanted);
+    let said = octets::part(out, 0, told.end);
+    if check::same(wanted, said) {
+        return run;
+    }
+    differs(run, name, wanted, said)
+}
+
+fn done(mut run: Run) -> Run {
+    run.call = 0;
+    run
+}
+
+// Both lines are spelled out before the call is made: a damaged one changes nothing.
+fn answered(
+    run: Run,
     name: &[u8],
     text: &[u8],
     line: &[u8],
@@ -84,33 +148,14 @@ fn answered(
     block: &mut [u8; 385],
     out: &mut [u8],
 ) -> Run {
-    let at = run.call;
-    run.call = 0;
-    if at == 0 {
+    if run.call == 0 {
         return damaged(run, name, run.line, 7);
     }
-    let call = names::spelled(octets::part(text, run.from, run.to), store, marks, run.names, work, 0);
-    if call.fault != 0 {
-        return damaged(run, name, at, call.fault);
+    let pair = spell_pair(run, text, line, store, marks, work);
+    if pair.fault != 0 {
+        return done(damaged(run, name, pair.line, pair.fault));
     }
-    let wanted = names::spelled(line, store, marks, run.names, work, call.end);
-    if wanted.fault != 0 {
-        return damaged(run, name, run.line, wanted.fault);
-    }
-    let before = run.panel;
-    let told = pipe::call(before, octets::part(work, 0, call.end), raw, reply, block, out);
-    let after = told.panel;
-    run.panel = after;
-    run.calls = more(run.calls);
-    let want = octets::part(work, call.end, wanted.end);
-    let said = octets::part(out, 0, told.end);
-    if check::same(want, said) {
-        return run;
-    }
-    run.call = at;
-    let mut next = differs(run, name, want, said);
-    next.call = 0;
-    next
+    done(compared(run, name, pair, work, raw, reply, block, out))
 }
 
 // A call waits for its answer; one that waited before it has none.
