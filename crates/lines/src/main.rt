@@ -8,28 +8,28 @@ ghost use mathlib.Core.Path.{_≡_};
 ghost use lib.ListN.{length};
 
 // What each says of the length saves the caller a proof.
-fn file_space() -> [u8; 65536]
-    ensures { λ r. ⌜ 65536 ≡ length r ⌝ }
+fn file_space() -> [u8; 1048576]
+    ensures { λ r. ⌜ 1048576 ≡ length r ⌝ }
 {
-    [0; 65536]
+    [0; 1048576]
 }
 
-fn store_space() -> [u8; 65536]
-    ensures { λ r. ⌜ 65536 ≡ length r ⌝ }
+fn store_space() -> [u8; 786432]
+    ensures { λ r. ⌜ 786432 ≡ length r ⌝ }
 {
-    [0; 65536]
+    [0; 786432]
 }
 
-fn line_space() -> [u8; 65536]
-    ensures { λ r. ⌜ 65536 ≡ length r ⌝ }
+fn line_space() -> [u8; 524288]
+    ensures { λ r. ⌜ 524288 ≡ length r ⌝ }
 {
-    [0; 65536]
+    [0; 524288]
 }
 
-fn reply_space() -> [u8; 65536]
-    ensures { λ r. ⌜ 65536 ≡ length r ⌝ }
+fn reply_space() -> [u8; 131072]
+    ensures { λ r. ⌜ 131072 ≡ length r ⌝ }
 {
-    [0; 65536]
+    [0; 131072]
 }
 
 fn run_text(name: &[u8], text: &[u8]) {

@@ -19,22 +19,3 @@ pub struct Panel {
     pub room: usize,
     pub answer: Answer,
 }
-
-// Before the first record W is 0, so every call on it is R6.
-pub fn fresh() -> Panel {
-    Panel {
-        presence: PresenceRecord {
-            w: 0,
-            prompt: 0,
-            touch: 0,
-            last: 0,
-        },
-        order: OrderNumbers {
-            kind: 0,
-            to_sign: 0,
-            certificate_length: 0,
-        },
-        room: 1024,
-        answer: answers::bare(0),
-    }
-}

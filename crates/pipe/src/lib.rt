@@ -1,14 +1,16 @@
 // The panel on a pipe, without the pipe: a line in, its answer out. firmware/panel.c is the same in C, over the archive.
 use answers::Answer;
+use panel::OrderNumbers;
+use panel::PresenceRecord;
 use panel_calls::Panel;
 
 // Each call's name, and a letter for each of its words (`calls` says what they stand for). Calls are matched by their places here.
 const CALLS: [u8; 165] = *b"new n;touch n;check n;ask n;record ;resume nwwn;room r;fill b;reply ;read x;strict x;command x;write bbbb44x;decide n4xxfx4kkf4f;finish xfx;hold 4nno;data x;parts x;";
 
 // The panel after a line, and where its answer ends.
-pub struct Told {
-    pub panel: Panel,
-    pub end: usize,
+struct Told {
+    panel: Panel,
+    end: usize,
 }
 
 fn fill(reply: &mut [u8], b: u64) {
@@ -96,8 +98,7 @@ fn answered(
     }
 }
 
-// Answers a line at the front of out. The bytes that its words say go into raw, which has to be as long as the line.
-pub fn call(
+fn call(
     panel: Panel,
     line: &[u8],
     raw: &mut [u8],
@@ -129,4 +130,61 @@ fn into_words(out: &mut [u8], answer: Answer, reply: &[u8], block: &[u8; 385]) -
         return answers::said(out, answer, block);
     }
     answers::said(out, answer, reply)
+}
+
+// What the panel holds as numbers: W, prompt, touch and last moment, the room, and the order's three.
+fn from_numbers(held: &[u64; 8]) -> Panel {
+    Panel {
+        presence: PresenceRecord {
+            w: held[0],
+            prompt: held[1],
+            touch: held[2],
+            last: held[3],
+        },
+        order: OrderNumbers {
+            kind: (held[5] % 0x1_0000_0000) as u32,
+            to_sign: held[6] as usize,
+            certificate_length: held[7] as usize,
+        },
+        room: held[4] as usize,
+        answer: answers::bare(0),
+    }
+}
+
+fn to_numbers(panel: Panel) -> [u64; 8] {
+    let p = panel.presence;
+    let o = panel.order;
+    let room = panel.room as u64;
+    [
+        p.w,
+        p.prompt,
+        p.touch,
+        p.last,
+        room,
+        o.kind as u64,
+        o.to_sign as u64,
+        o.certificate_length as u64,
+    ]
+}
+
+// Before the first record W is 0, so every call on it is R6.
+pub fn fresh() -> [u64; 8] {
+    [0, 0, 0, 0, 1024, 0, 0, 0]
+}
+
+// Answers a line at the front of out, and says where the answer ends. The bytes that the line's words say go into raw, which has
+// to be as long as the line; the panel, as numbers, goes on with what it holds then.
+pub fn answer(
+    line: &[u8],
+    held: &mut [u64; 8],
+    raw: &mut [u8],
+    reply: &mut [u8],
+    block: &mut [u8; 385],
+    out: &mut [u8],
+) -> usize {
+    let told = call(from_numbers(held), line, raw, reply, block, out);
+    let panel = told.panel;
+    let numbers = to_numbers(panel);
+    *held = numbers;
+    told.end
 }
