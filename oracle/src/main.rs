@@ -15,7 +15,7 @@ mod sample;
 mod standins;
 use standins::{api, env};
 
-const USAGE: &str = "oracle sample SEED FILE                     the sample, a case file of the program `lines`
+const USAGE: &str = "oracle sample SEED FOLDER                   the sample, case files of the program `lines`, to FOLDER
 oracle compare PANEL FRAMES CALLS SEED JOBS the panel (a command) against upstream
 oracle differences PANEL                    the differences that are known, shown on both";
 
@@ -30,8 +30,10 @@ fn main() {
     let args: Vec<String> = std::env::args().skip(1).collect();
     let words: Vec<&str> = args.iter().map(String::as_str).collect();
     let good = match words.as_slice() {
-        ["sample", seed, file] => {
-            std::fs::write(file, sample::make(number(seed))).expect(file);
+        ["sample", seed, folder] => {
+            for (name, text) in sample::make(number(seed)) {
+                std::fs::write(format!("{folder}/{name}"), text).expect(name);
+            }
             true
         }
         ["compare", panel, frames, calls, seed, jobs] => compare::run(&compare::Plan {

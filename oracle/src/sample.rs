@@ -15,7 +15,7 @@ const SALT_CERTIFICATE: usize = 160;
 const SALT_SIGNATURE: usize = 208;
 
 /// What the program `lines` takes.
-const MOST: usize = 1_048_575;
+const MOST: usize = 262_143;
 
 /// The plain bytes from 0 on, once around; and as often as the longest frame takes.
 const ROUND: usize = 251;
@@ -72,6 +72,8 @@ fn data_start(shape: u8) -> usize {
 
 #[derive(Default)]
 struct Sample {
+    /// The parts that are whole, and the one that is being made.
+    parts: Vec<(&'static str, String)>,
     text: String,
     record: Record,
     tally: BTreeMap<String, u64>,
@@ -81,6 +83,11 @@ impl Sample {
     fn case(&mut self, call: &[u8], answer: &[u8]) {
         let (call, answer) = (String::from_utf8_lossy(call), String::from_utf8_lossy(answer));
         writeln!(self.text, "> {}\n< {}", named(call.trim_end()), named(&answer)).unwrap();
+    }
+
+    fn end(&mut self, name: &'static str) {
+        let text = std::mem::take(&mut self.text);
+        self.parts.push((name, text));
     }
 
     fn count(&mut self, answer: String) {
@@ -209,6 +216,7 @@ fn sampled(seed: u64) -> Sample {
             sample.read(&long[..long.len() - 3]);
         }
     }
+    sample.end("rust_frames");
     let (mut device, mut signing) = (Device::new(), Device::new());
     for _ in 0..HISTORIES {
         let mut history = History::new(&mut dice);
@@ -221,6 +229,7 @@ fn sampled(seed: u64) -> Sample {
             }
         }
     }
+    sample.end("rust_histories");
     // Every damage meets a command that is otherwise good, a fresh record and hardware that answers.
     let answering = shortened(Hardware {
         allowed: Allowed::Yes,
@@ -233,30 +242,31 @@ fn sampled(seed: u64) -> Sample {
         let call = Call::Command(0, damaged(&mut dice), Box::new(answering.clone()));
         sample.call(&mut device, &mut signing, &call);
     }
+    sample.end("rust_damaged");
     sample
 }
 
-/// The sample as a case file. Panics where the sample misses an answer.
-pub fn make(seed: u64) -> String {
+/// The sample as case files: readings, histories, and damaged commands on a fresh record. Panics where the sample misses an answer.
+pub fn make(seed: u64) -> Vec<(&'static str, String)> {
     let sample = sampled(seed);
-    let mut text = format!(
-        "# Answers of the upstream Rust, made by `oracle/sample {seed}` and not edited. How many of the calls came to each answer:\n"
+    let mut head = format!(
+        "# Answers of the upstream Rust, made by `oracle/sample {seed}` and not edited. How many of the calls, here and in the other\n\
+         # files of the sample, came to each answer:\n"
     );
     for answer in ANSWERS.iter().filter(|a| !a.starts_with("command ")) {
         let n = sample
             .tally
             .get(*answer)
             .unwrap_or_else(|| panic!("no line of the sample comes to: {answer}"));
-        writeln!(text, "# {n} {answer}").unwrap();
+        writeln!(head, "# {n} {answer}").unwrap();
     }
     let plain = |from, n| hex(&salted(from, n));
-    writeln!(text, "all = {}\nmany = $all * 100\nplain = {}", plain(0, ROUND), plain(0, 64)).unwrap();
-    writeln!(text, "x = {}\ny = {}", plain(SALT_X, 32), plain(SALT_Y, 32)).unwrap();
-    text += &sample.text;
-    assert!(
-        text.len() <= MOST,
-        "{} bytes are too many for the program `lines`",
-        text.len()
-    );
-    text
+    writeln!(head, "all = {}\nmany = $all * 100\nplain = {}", plain(0, ROUND), plain(0, 64)).unwrap();
+    writeln!(head, "x = {}\ny = {}", plain(SALT_X, 32), plain(SALT_Y, 32)).unwrap();
+    let whole = |(name, text): (&'static str, String)| {
+        let text = head.clone() + &text;
+        assert!(text.len() <= MOST, "{name}: {} bytes are too many for the program `lines`", text.len());
+        (name, text)
+    };
+    sample.parts.into_iter().map(whole).collect()
 }

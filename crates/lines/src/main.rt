@@ -8,22 +8,22 @@ ghost use mathlib.Core.Path.{_≡_};
 ghost use lib.ListN.{length};
 
 // What each says of the length saves the caller a proof.
-fn file_space() -> [u8; 1048576]
-    ensures { λ r. ⌜ 1048576 ≡ length r ⌝ }
+fn file_space() -> [u8; 262144]
+    ensures { λ r. ⌜ 262144 ≡ length r ⌝ }
 {
-    [0; 1048576]
+    [0; 262144]
 }
 
-fn store_space() -> [u8; 786432]
-    ensures { λ r. ⌜ 786432 ≡ length r ⌝ }
+fn store_space() -> [u8; 262144]
+    ensures { λ r. ⌜ 262144 ≡ length r ⌝ }
 {
-    [0; 786432]
+    [0; 262144]
 }
 
-fn line_space() -> [u8; 524288]
-    ensures { λ r. ⌜ 524288 ≡ length r ⌝ }
+fn line_space() -> [u8; 270336]
+    ensures { λ r. ⌜ 270336 ≡ length r ⌝ }
 {
-    [0; 524288]
+    [0; 270336]
 }
 
 fn reply_space() -> [u8; 131072]

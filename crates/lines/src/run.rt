@@ -1,6 +1,6 @@
 // A case file, line by line. The run is numbers, at the places below.
 use super::report;
-ghost use Prim.Native.Nat.{_≤_};
+ghost use Prim.Native.Nat.{_<_, _≤_};
 ghost use lib.ListN.{length};
 
 // How many names there are, and how far the store is filled.
@@ -48,7 +48,8 @@ fn named(
     let filled = run[FILLED] as usize;
     let made = names::define(line, store, marks, count, filled, work, raw);
     if made.fault != 0 {
-        damaged(run, name, run[LINE], made.fault);
+        let line = run[LINE];
+        damaged(run, name, line, made.fault);
         return;
     }
     run[FILLED] = made.end as u64;
@@ -124,8 +125,9 @@ fn answered(
 
 // A call waits for its answer; one that waited before it has none.
 fn called(run: &mut [u64; 16], name: &[u8], from: usize, to: usize) {
-    if run[CALL] != 0 {
-        damaged(run, name, run[CALL], 6);
+    let waiting = run[CALL];
+    if waiting != 0 {
+        damaged(run, name, waiting, 6);
     }
     run[CALL] = run[LINE];
     run[FROM] = std::num::wrapping_add_u64(from as u64, 2);
@@ -148,7 +150,8 @@ fn told(
     out: &mut [u8],
 ) {
     if run[CALL] == 0 {
-        damaged(run, name, run[LINE], 7);
+        let alone = run[LINE];
+        damaged(run, name, alone, 7);
         return;
     }
     let wanted = octets::part(line, 2, line.len());
@@ -186,10 +189,22 @@ fn lined(
 }
 
 fn ended(run: &mut [u64; 16], name: &[u8]) {
-    if run[CALL] != 0 {
-        damaged(run, name, run[CALL], 6);
+    let waiting = run[CALL];
+    if waiting != 0 {
+        damaged(run, name, waiting, 6);
     }
     report::sums(name, run[CALLS], run[OTHERS], run[DAMAGED]);
+}
+
+// Where the line after the one from `at` to `end` begins.
+fn line_after(text: &[u8], at: usize, end: usize) -> usize
+    requires { ⌜ (at < length (now text)) × (at ≤ end) ⌝ }
+    ensures { λ r. ⌜ (at < r) × (r ≤ length (now (text .entry))) ⌝ }
+{
+    if text.len() <= end {
+        return text.len();
+    }
+    end + 1
 }
 
 pub fn lines(
@@ -211,10 +226,7 @@ pub fn lines(
         lined(
             &mut run, &mut held, name, text, at, end, store, &mut marks, work, raw, reply, &mut block, out,
         );
-        if text.len() <= end {
-            break;
-        }
-        at = end + 1;
+        at = line_after(text, at, end);
     }
     ended(&mut run, name);
 }
