@@ -218,7 +218,10 @@ fn sampled(seed: u64) -> Sample {
     }
     sample.end("rust_frames");
     let (mut device, mut signing) = (Device::new(), Device::new());
-    for _ in 0..HISTORIES {
+    for at in 0..HISTORIES {
+        if at == HISTORIES / 2 {
+            sample.end("rust_histories");
+        }
         let mut history = History::new(&mut dice);
         sample.call(&mut device, &mut signing, &Call::New);
         for _ in 0..HISTORY_CALLS {
@@ -229,7 +232,7 @@ fn sampled(seed: u64) -> Sample {
             }
         }
     }
-    sample.end("rust_histories");
+    sample.end("rust_more_histories");
     // Every damage meets a command that is otherwise good, a fresh record and hardware that answers.
     let answering = shortened(Hardware {
         allowed: Allowed::Yes,

@@ -38,7 +38,15 @@ fn run_text(name: &[u8], text: &[u8]) {
     let mut raw = line_space();
     let mut out = line_space();
     let mut reply = reply_space();
-    run::lines(name, text, &mut store, &mut work, &mut raw, &mut reply, &mut out);
+    run::lines(
+        name,
+        text,
+        &mut store,
+        &mut work,
+        &mut raw,
+        &mut reply,
+        &mut out,
+    );
 }
 
 fn run_file(name: &[u8]) {

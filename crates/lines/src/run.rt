@@ -120,7 +120,12 @@ fn answered(
     }
     let call = octets::part(work, 0, pair.call);
     let end = pipe::answer(call, held, raw, reply, block, out);
-    compare(run, name, octets::part(work, pair.call, pair.wanted), octets::part(out, 0, end));
+    compare(
+        run,
+        name,
+        octets::part(work, pair.call, pair.wanted),
+        octets::part(out, 0, end),
+    );
 }
 
 // A call waits for its answer; one that waited before it has none.
@@ -183,7 +188,20 @@ fn lined(
     match line[0] {
         b'#' => return,
         b'>' => called(run, name, from, to),
-        b'<' => told(run, held, name, text, line, store, marks, work, raw, reply, block, out),
+        b'<' => told(
+            run,
+            held,
+            name,
+            text,
+            line,
+            store,
+            marks,
+            work,
+            raw,
+            reply,
+            block,
+            out,
+        ),
         _ => named(run, name, line, store, marks, work, raw),
     }
 }
@@ -224,7 +242,19 @@ pub fn lines(
     while at < text.len() {
         let end = text::find(text, at, b'\n');
         lined(
-            &mut run, &mut held, name, text, at, end, store, &mut marks, work, raw, reply, &mut block, out,
+            &mut run,
+            &mut held,
+            name,
+            text,
+            at,
+            end,
+            store,
+            &mut marks,
+            work,
+            raw,
+            reply,
+            &mut block,
+            out,
         );
         at = line_after(text, at, end);
     }

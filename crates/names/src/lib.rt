@@ -31,7 +31,10 @@ fn known(store: &[u8], marks: &[usize; 512], count: usize, name: &[u8]) -> usize
     }
     let mut k = count;
     while 0 < k {
-        if check::same(name, octets::part(store, marks[2 * k - 2], marks[2 * k - 1])) {
+        if check::same(
+            name,
+            octets::part(store, marks[2 * k - 2], marks[2 * k - 1]),
+        ) {
             return k;
         }
         k -= 1;

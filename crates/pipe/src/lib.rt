@@ -5,7 +5,8 @@ use panel::PresenceRecord;
 use panel_calls::Panel;
 
 // Each call's name, and a letter for each of its words (`calls` says what they stand for). Calls are matched by their places here.
-const CALLS: [u8; 165] = *b"new n;touch n;check n;ask n;record ;resume nwwn;room r;fill b;reply ;read x;strict x;command x;write bbbb44x;decide n4xxfx4kkf4f;finish xfx;hold 4nno;data x;parts x;";
+const CALLS: [u8; 165] =
+    *b"new n;touch n;check n;ask n;record ;resume nwwn;room r;fill b;reply ;read x;strict x;command x;write bbbb44x;decide n4xxfx4kkf4f;finish xfx;hold 4nno;data x;parts x;";
 
 // The panel after a line, and where its answer ends.
 struct Told {
