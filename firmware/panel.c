@@ -14,9 +14,18 @@
  *                                          | authenticate P1 CHALLENGE APPLICATION HANDLE END    places in the frame
  *   decide T ALLOWED FRAME HANDLE STORED CERTIFICATE ATTESTATION X Y GOOD COUNTER COUNTED
  *                                          9000 BODY | order KIND TAKEN TOSIGN CERTIFICATELENGTH
- *          ALLOWED 0 no, 1 yes, 2 failed; ATTESTATION 0 missing, 1 present, 2 failed; STORED, GOOD, COUNTED 0 or 1;
- *          KIND 1 Register, 2 Authenticate; TAKEN 0 or 1
+ *          ALLOWED 0 no, 1 yes, else failed; ATTESTATION 0 missing, 1 present, else failed; both, and SHAPE, of 32
+ *          bits; STORED, GOOD, COUNTED 0 or 1; KIND 1 Register, 2 Authenticate; TAKEN 0 or 1
  *   finish CERTIFICATE SIGNED SIGNATURE    9000 BODY              of the order held; SIGNED 0 or 1
+ *
+ * and, to look closer and to come to any state:
+ *
+ *   resume W PROMPT TOUCH LAST             ok                     the record from now on, of any values; a closed window is `-`
+ *   hold KIND TOSIGN CERTIFICATELENGTH BLOCK   ok                 the order from now on, of any numbers, with a block of 385 bytes
+ *   fill BYTE                              ok                     every byte of the reply buffer, beyond its room too
+ *   reply                                  ok BYTES               what stands in the room of the reply buffer
+ *   data FRAME                             9000 DATA | none
+ *   parts FRAME                            9000 CHALLENGE APPLICATION | 9000 CHALLENGE APPLICATION HANDLE | none
  *
  * Any of them may be refused, `R1` to `R7`, or answered with a status word, as `6985`. A line that is no call is answered
  * `? ` and why, and changes nothing. The order held is that of the last decision that was not refused, if it gave one; it is
@@ -359,9 +368,9 @@ static bool call_decide(char **word)
     uint64_t t, allowed, attestation, counter;
     struct bytes frame, handle, certificate, x, y;
     struct brinecandle_hardware hardware;
-    if (!number(word[0], UINT64_MAX, &t) || !number(word[1], 2, &allowed) || !bytes(word[2], &frame)
+    if (!number(word[0], UINT64_MAX, &t) || !number(word[1], UINT32_MAX, &allowed) || !bytes(word[2], &frame)
         || !bytes(word[3], &handle) || !flag(word[4], &hardware.stored) || !bytes(word[5], &certificate)
-        || !number(word[6], 2, &attestation) || !bytes(word[7], &x) || !bytes(word[8], &y) || x.length != 32
+        || !number(word[6], UINT32_MAX, &attestation) || !bytes(word[7], &x) || !bytes(word[8], &y) || x.length != 32
         || y.length != 32 || !flag(word[9], &hardware.good) || !number(word[10], UINT32_MAX, &counter)
         || !flag(word[11], &hardware.counted))
         return false;
@@ -401,16 +410,6 @@ static bool call_finish(char **word)
     return true;
 }
 
-static const struct call {
-    const char *name;
-    size_t words;
-    bool (*run)(char **word);
-} calls[] = {
-    {"new", 1, call_new},         {"touch", 1, call_touch},    {"check", 1, call_check},   {"ask", 1, call_ask},
-    {"record", 0, call_record},   {"room", 1, call_room},      {"read", 1, call_read},     {"strict", 1, call_strict},
-    {"write", 7, call_write},     {"command", 1, call_command}, {"decide", 12, call_decide}, {"finish", 3, call_finish},
-};
-
 static bool same(const char *a, const char *b)
 {
     while (*a && *a == *b) {
@@ -419,6 +418,104 @@ static bool same(const char *a, const char *b)
     }
     return *a == *b;
 }
+
+/* A window's moment; the greatest number is a closed one's. */
+static bool window(const char *word, uint64_t *to)
+{
+    *to = UINT64_MAX;
+    return same(word, "-") || number(word, UINT64_MAX - 1, to);
+}
+
+static bool call_resume(char **word)
+{
+    struct brinecandle_presence kept;
+    if (!number(word[0], UINT64_MAX, &kept.w) || !window(word[1], &kept.prompt) || !window(word[2], &kept.touch)
+        || !number(word[3], UINT64_MAX, &kept.last))
+        return false;
+    presence = kept;
+    put_text("ok");
+    return true;
+}
+
+static bool call_hold(char **word)
+{
+    uint64_t kind, to_sign, certificate_length;
+    struct bytes bits;
+    if (!number(word[0], UINT32_MAX, &kind) || !number(word[1], UINT64_MAX, &to_sign)
+        || !number(word[2], UINT64_MAX, &certificate_length) || !bytes(word[3], &bits) || bits.length != BRINECANDLE_BLOCK)
+        return false;
+    order.kind = (uint32_t)kind;
+    order.to_sign = (size_t)to_sign;
+    order.certificate_length = (size_t)certificate_length;
+    for (size_t i = 0; i < BRINECANDLE_BLOCK; i++)
+        block[i] = bits.at[i];
+    put_text("ok");
+    return true;
+}
+
+static bool call_fill(char **word)
+{
+    uint8_t b;
+    if (!byte(word[0], &b))
+        return false;
+    for (size_t i = 0; i < ROOM_MOST; i++)
+        reply[i] = b;
+    put_text("ok");
+    return true;
+}
+
+static bool call_reply(char **word)
+{
+    (void)word;
+    put_text("ok");
+    then_bytes(reply, room);
+    return true;
+}
+
+static bool call_data(char **word)
+{
+    struct bytes frame;
+    if (!bytes(word[0], &frame))
+        return false;
+    struct brinecandle_frame said = brinecandle_read(frame.at, frame.length);
+    if (said.answer == BRINECANDLE_OK) {
+        put_answer(said.answer);
+        then_bytes(frame.at + said.start, said.end - said.start);
+    } else {
+        put_text("none");
+    }
+    return true;
+}
+
+static bool call_parts(char **word)
+{
+    struct bytes frame;
+    if (!bytes(word[0], &frame))
+        return false;
+    struct brinecandle_command said = brinecandle_read_command(frame.at, frame.length);
+    if (said.answer != BRINECANDLE_OK || said.command == 3) {
+        put_text("none");
+        return true;
+    }
+    put_answer(said.answer);
+    then_bytes(frame.at + said.challenge, 32);
+    then_bytes(frame.at + said.application, 32);
+    if (said.command == 2)
+        then_bytes(frame.at + said.handle, said.handle_end - said.handle);
+    return true;
+}
+
+static const struct call {
+    const char *name;
+    size_t words;
+    bool (*run)(char **word);
+} calls[] = {
+    {"new", 1, call_new},         {"touch", 1, call_touch},    {"check", 1, call_check},   {"ask", 1, call_ask},
+    {"record", 0, call_record},   {"room", 1, call_room},      {"read", 1, call_read},     {"strict", 1, call_strict},
+    {"write", 7, call_write},     {"command", 1, call_command}, {"decide", 12, call_decide}, {"finish", 3, call_finish},
+    {"resume", 4, call_resume},   {"hold", 4, call_hold},      {"fill", 1, call_fill},     {"reply", 0, call_reply},
+    {"data", 1, call_data},       {"parts", 1, call_parts},
+};
 
 /* ---- the pipe */
 

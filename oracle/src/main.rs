@@ -15,7 +15,7 @@ mod sample;
 mod standins;
 use standins::{api, env};
 
-const USAGE: &str = "oracle sample SEED FOLDER                   the sample and what its replay prints, to FOLDER/stdin and FOLDER/stdout
+const USAGE: &str = "oracle sample SEED FOLDER                   the sample, case files of the program `lines`, to FOLDER
 oracle compare PANEL FRAMES CALLS SEED JOBS the panel (a command) against upstream
 oracle differences PANEL                    the differences that are known, shown on both";
 
@@ -31,10 +31,9 @@ fn main() {
     let words: Vec<&str> = args.iter().map(String::as_str).collect();
     let good = match words.as_slice() {
         ["sample", seed, folder] => {
-            let (sample, summary) = sample::make(number(seed));
-            let write = |name: &str, text: String| std::fs::write(format!("{folder}/{name}"), text).expect(name);
-            write("stdin", sample);
-            write("stdout", summary);
+            for (name, text) in sample::make(number(seed)) {
+                std::fs::write(format!("{folder}/{name}"), text).expect(name);
+            }
             true
         }
         ["compare", panel, frames, calls, seed, jobs] => compare::run(&compare::Plan {

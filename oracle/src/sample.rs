@@ -1,25 +1,10 @@
-//! A sample of the oracle's answers as text, for the program crates/replay. A line is a letter and fields at fixed columns,
-//! in hexadecimal digits; a field of bytes stands at a line's end.
-//!
-//!     F length from          the frame: so many bytes, byte i is (i + 251 - from) mod 251
-//!     P place bytes          bytes put over the frame's
-//!     r shape Lc Le          reading: what the frame says; or shape 0, the status word and 0
-//!     n                      a fresh record with W
-//!     t moment yes           touch: accepted or not
-//!     c moment yes           check: found or not
-//!     a moment yes           ask: a prompt is live or not
-//!     d moment allowed stored attestation good offered counter h c kind number taken found
-//!                            decision on the frame: 0 and a status word, 1 a Register order, 2 an Authenticate order,
-//!                            3 a body; whether the counter was taken, and a touch found
-//!     s bytes                what the order has to sign
-//!     z signed length status finishing with a signature of so many bytes
-//!     b bytes                the body
-//!
-//! Hardware answers that are bytes are plain: byte i of each is (i + salt) mod 251.
+//! A sample of the oracle's answers as a case file of the program `lines`: calls of the pipe panel and what upstream answers, with
+//! no Rust at hand when it is run. Bytes that nothing looks at count up, so that names can stand for them.
 
-use crate::device::{reading_name, yes_name, Answer, Call, Device, Outcome, Touch, ANSWERS};
+use crate::device::{reading_name, yes_name, Answer, Call, Device, Outcome, ANSWERS};
 use crate::generate::{all, all_count, boundary, damaged, frame, hardware, plain, Dice, History, LONG};
-use crate::lent::{Allowed, Attested, Counter, Handle, Hardware};
+use crate::lent::{Allowed, Attested, Hardware};
+use crate::panel::{decided, finished, put_call, put_finish, Record};
 use std::collections::BTreeMap;
 use std::fmt::Write;
 
@@ -29,8 +14,11 @@ const SALT_HANDLE: usize = 112;
 const SALT_CERTIFICATE: usize = 160;
 const SALT_SIGNATURE: usize = 208;
 
-/// What crates/replay takes.
-const MOST: usize = 262_144;
+/// What the program `lines` takes.
+const MOST: usize = 262_143;
+
+/// The plain bytes from 0 on, once around; and as often as the longest frame takes.
+const ROUND: usize = 251;
 
 const FRAMES: usize = 260;
 const HISTORIES: usize = 90;
@@ -47,123 +35,141 @@ fn hex(bytes: &[u8]) -> String {
     })
 }
 
-/// The pieces of the frame that are not the plain bytes counted from `from`. Pieces with less than six bytes between
-/// them are one.
-fn pieces(frame: &[u8], from: usize) -> Vec<(usize, &[u8])> {
-    let odd = |i: usize| frame[i] != plain(i + 251 - from);
-    let mut out = Vec::new();
-    let mut i = 0;
-    while i < frame.len() {
-        if !odd(i) {
-            i += 1;
-            continue;
-        }
-        let start = i;
-        let mut end = i + 1;
-        while i < frame.len() && i < end + 6 {
-            if odd(i) {
-                end = i + 1;
-            }
-            i += 1;
-        }
-        out.push((start, &frame[start..end]));
+/// The line with a name in the place of the bytes, but where a letter follows, which would be the name's.
+fn stand(line: &str, bytes: &str, name: &str) -> String {
+    let mut out = String::new();
+    let mut rest = line;
+    while let Some(at) = rest.find(bytes) {
+        let (before, after) = (&rest[..at], &rest[at + bytes.len()..]);
+        out += before;
+        out += if after.starts_with(|c: char| c.is_ascii_lowercase()) { bytes } else { name };
+        rest = after;
     }
-    out
+    out + rest
+}
+
+/// A line with names for its plain bytes: $all for once around, $many for a hundred times.
+fn named(line: &str) -> String {
+    let all = hex(&salted(0, ROUND));
+    let names = [
+        (all.repeat(100), "$many"),
+        (all, "$all"),
+        (hex(&salted(0, 64)), "$plain"),
+        (hex(&salted(SALT_X, 32)), "$x"),
+        (hex(&salted(SALT_Y, 32)), "$y"),
+    ];
+    names.iter().fold(line.to_string(), |line, (bytes, name)| stand(&line, bytes, name))
+}
+
+/// Where a shape has its data, after its Lc; upstream hands out a copy.
+fn data_start(shape: u8) -> usize {
+    match shape {
+        3 | 4 => 5,
+        5..=7 => 7,
+        _ => 4,
+    }
 }
 
 #[derive(Default)]
 struct Sample {
+    /// The parts that are whole, and the one that is being made.
+    parts: Vec<(&'static str, String)>,
     text: String,
-    frame: Option<Vec<u8>>,
+    record: Record,
     tally: BTreeMap<String, u64>,
 }
 
 impl Sample {
-    fn line(&mut self, words: std::fmt::Arguments) {
-        writeln!(self.text, "{words}").unwrap();
+    fn case(&mut self, call: &[u8], answer: &[u8]) {
+        let (call, answer) = (String::from_utf8_lossy(call), String::from_utf8_lossy(answer));
+        writeln!(self.text, "> {}\n< {}", named(call.trim_end()), named(&answer)).unwrap();
+    }
+
+    fn end(&mut self, name: &'static str) {
+        let text = std::mem::take(&mut self.text);
+        self.parts.push((name, text));
     }
 
     fn count(&mut self, answer: String) {
         *self.tally.entry(answer).or_default() += 1;
     }
 
-    fn frame(&mut self, frame: &[u8]) {
-        if self.frame.as_deref() == Some(frame) {
-            return;
-        }
-        let from = [0, 4, 5, 7]
-            .into_iter()
-            .min_by_key(|from| pieces(frame, *from).iter().map(|(_, p)| 9 + 2 * p.len()).sum::<usize>())
-            .unwrap();
-        self.line(format_args!("F {:05x} {from:02x}", frame.len()));
-        for (at, piece) in pieces(frame, from) {
-            self.line(format_args!("P {at:05x} {}", hex(piece)));
-        }
-        self.frame = Some(frame.to_vec());
-    }
-
     fn read(&mut self, frame: &[u8]) {
-        self.frame(frame);
         let answer = crate::device::read(frame);
         self.count(reading_name(&answer));
-        match answer {
-            Answer::Frame(says) => self.line(format_args!("r {:x} {:04x} {:05x}", says.shape, says.lc, says.le)),
-            Answer::Status(status) => self.line(format_args!("r 0 {status:04x} 00000")),
+        let said = match answer {
+            Answer::Frame(says) => {
+                let start = data_start(says.shape);
+                let end = start + says.data.len();
+                assert_eq!(frame[start..end], says.data);
+                format!("{} {} {} {start} {end}", says.shape, says.lc, says.le)
+            }
+            Answer::Status(status) => format!("{status:04x}"),
             other => panic!("a reading is {other:?}"),
-        }
+        };
+        let frame = if frame.is_empty() { "-".into() } else { hex(frame) };
+        self.case(format!("read {frame}").as_bytes(), said.as_bytes());
     }
 
-    fn decided(&mut self, t: u64, frame: &[u8], hw: &Hardware, out: &Outcome) {
-        self.frame(frame);
-        let (kind, number) = match (out.ordered, out.status) {
-            (true, _) => (frame[1], 0),
-            (false, 0x9000) => (3, out.body.len() as u16),
-            (false, status) => (0, status),
-        };
-        let (offered, counter) = match hw.counter {
-            Counter::Offered(n) => (1, n),
-            _ => (0, 0),
-        };
-        self.line(format_args!(
-            "d {t:012x} {} {} {} {} {offered} {counter:08x} {:03x} {:03x} {kind} {number:04x} {} {}",
-            hw.allowed as u8,
-            hw.stored as u8,
-            hw.attested as u8,
-            (hw.handle == Handle::Good) as u8,
-            hw.new_handle.len(),
-            hw.certificate.len(),
-            out.taken as u8,
-            (out.touch == Touch::Found) as u8,
-        ));
+    /// The decision, the record after it, and the finishing of its order.
+    fn decided(&mut self, call: &Call, out: &Outcome) {
+        let Call::Command(t, frame, _) = call else { return };
+        let (mut line, mut said) = (Vec::new(), Vec::new());
+        put_call(&mut line, call);
+        decided(call, out, &mut said);
+        self.case(&line, &said);
         self.count(out.decision_name(frame));
-        if let Some(bytes) = &out.to_sign {
-            self.line(format_args!("s {}", hex(bytes)));
-        }
+        self.record.checked(*t, out.touch);
+        let mut record = Vec::new();
+        self.record.put(&mut record);
+        self.case(b"record", &record);
         if out.ordered {
             self.count(out.finish_name(frame));
-            let (signed, n) = match &hw.signature {
-                Some(bytes) => (1, bytes.len()),
-                None => (0, 0),
-            };
-            self.line(format_args!("z {signed} {n:02x} {:04x}", out.status));
-        }
-        if out.status == 0x9000 {
-            self.line(format_args!("b {}", hex(&out.body)));
+            let (mut line, mut said) = (Vec::new(), Vec::new());
+            put_finish(&mut line, call);
+            finished(out, &mut said);
+            self.case(&line, &said);
         }
     }
 
     fn yes(&mut self, what: &str, t: u64, yes: bool) {
         self.count(yes_name(what, yes));
-        self.line(format_args!("{} {t:012x} {}", &what[..1], yes as u8));
+        self.case(format!("{what} {t}").as_bytes(), if yes { b"yes" } else { b"no" });
     }
 
-    fn call(&mut self, device: &mut Device, call: &Call) {
+    /// Both devices get every call. The second has a signer that never fails: it is asked for the bytes to sign where the
+    /// first one's failed, which upstream does not hand out then.
+    fn call(&mut self, device: &mut Device, signing: &mut Device, call: &Call) {
+        let signed = match call {
+            Call::Command(t, frame, hw) => {
+                let mut hw = (**hw).clone();
+                hw.signature = hw.signature.or(Some(Vec::new()));
+                signing.answer(&Call::Command(*t, frame.clone(), Box::new(hw)))
+            }
+            other => signing.answer(other),
+        };
         match (call, device.answer(call)) {
-            (Call::New, _) => self.line(format_args!("n")),
-            (Call::Touch(t), Answer::Yes(yes)) => self.yes("touch", *t, yes),
-            (Call::Check(t), Answer::Yes(yes)) => self.yes("check", *t, yes),
+            (Call::New, _) => {
+                self.record = Record::default();
+                let mut line = Vec::new();
+                put_call(&mut line, call);
+                self.case(&line, b"ok");
+            }
+            (Call::Touch(t), Answer::Yes(yes)) => {
+                self.record.touched(*t, yes);
+                self.yes("touch", *t, yes)
+            }
+            (Call::Check(t), Answer::Yes(yes)) => {
+                self.record.checked(*t, if yes { crate::device::Touch::Found } else { crate::device::Touch::Missing });
+                self.yes("check", *t, yes)
+            }
             (Call::Ask(t), Answer::Yes(yes)) => self.yes("ask", *t, yes),
-            (Call::Command(t, frame, hw), Answer::Command(out)) => self.decided(*t, frame, hw, &out),
+            (Call::Command(..), Answer::Command(mut out)) => {
+                if let (true, None, Answer::Command(full)) = (out.ordered, &out.to_sign, signed) {
+                    out.to_sign = full.to_sign;
+                }
+                self.decided(call, &out)
+            }
             (call, answer) => panic!("{answer:?} to {call:?}"),
         }
     }
@@ -210,18 +216,23 @@ fn sampled(seed: u64) -> Sample {
             sample.read(&long[..long.len() - 3]);
         }
     }
-    let mut device = Device::new();
-    for _ in 0..HISTORIES {
+    sample.end("rust_frames");
+    let (mut device, mut signing) = (Device::new(), Device::new());
+    for at in 0..HISTORIES {
+        if at == HISTORIES / 2 {
+            sample.end("rust_histories");
+        }
         let mut history = History::new(&mut dice);
-        sample.call(&mut device, &Call::New);
+        sample.call(&mut device, &mut signing, &Call::New);
         for _ in 0..HISTORY_CALLS {
             let call = plain_call(history.next(&mut dice));
-            sample.call(&mut device, &call);
+            sample.call(&mut device, &mut signing, &call);
             if let (Call::Command(t, ..), true) = (&call, dice.one_in(2)) {
-                sample.call(&mut device, &Call::Ask(*t));
+                sample.call(&mut device, &mut signing, &Call::Ask(*t));
             }
         }
     }
+    sample.end("rust_more_histories");
     // Every damage meets a command that is otherwise good, a fresh record and hardware that answers.
     let answering = shortened(Hardware {
         allowed: Allowed::Yes,
@@ -230,52 +241,35 @@ fn sampled(seed: u64) -> Sample {
         ..hardware(&mut dice)
     });
     for _ in 0..FRAMES {
-        sample.call(&mut device, &Call::New);
+        sample.call(&mut device, &mut signing, &Call::New);
         let call = Call::Command(0, damaged(&mut dice), Box::new(answering.clone()));
-        sample.call(&mut device, &call);
+        sample.call(&mut device, &mut signing, &call);
     }
+    sample.end("rust_damaged");
     sample
 }
 
-/// What crates/replay has to print where every line agrees.
-fn summary(text: &str) -> String {
-    let kinds = [
-        ('r', "readings"),
-        ('t', "touches"),
-        ('c', "checks"),
-        ('a', "asks"),
-        ('d', "decisions"),
-        ('s', "bytes to sign"),
-        ('z', "finishings"),
-        ('b', "bodies"),
-    ];
-    let count = |kind| text.lines().filter(|line| line.starts_with(kind)).count();
-    let agreed: String = kinds
-        .iter()
-        .map(|(kind, name)| format!("{name} agreed: {}\n", count(*kind)))
-        .collect();
-    agreed + "lines that differ: 0\n"
-}
-
-/// The sample as crates/replay reads it, and what that has to print. Panics where the sample misses an answer.
-pub fn make(seed: u64) -> (String, String) {
+/// The sample as case files: readings, histories, and damaged commands on a fresh record. Panics where the sample misses an answer.
+pub fn make(seed: u64) -> Vec<(&'static str, String)> {
     let sample = sampled(seed);
-    let mut text = format!(
-        "# Answers of the upstream Rust, made by `oracle/sample {seed}`; the lines are explained in oracle/src/sample.rs.\n"
+    let mut head = format!(
+        "# Answers of the upstream Rust, made by `oracle/sample {seed}` and not edited. How many of the calls, here and in the other\n\
+         # files of the sample, came to each answer:\n"
     );
     for answer in ANSWERS.iter().filter(|a| !a.starts_with("command ")) {
         let n = sample
             .tally
             .get(*answer)
             .unwrap_or_else(|| panic!("no line of the sample comes to: {answer}"));
-        writeln!(text, "# {n} {answer}").unwrap();
+        writeln!(head, "# {n} {answer}").unwrap();
     }
-    text += &sample.text;
-    assert!(
-        text.len() <= MOST,
-        "{} bytes are too many for crates/replay",
-        text.len()
-    );
-    let summary = summary(&text);
-    (text, summary)
+    let plain = |from, n| hex(&salted(from, n));
+    writeln!(head, "all = {}\nmany = $all * 100\nplain = {}", plain(0, ROUND), plain(0, 64)).unwrap();
+    writeln!(head, "x = {}\ny = {}", plain(SALT_X, 32), plain(SALT_Y, 32)).unwrap();
+    let whole = |(name, text): (&'static str, String)| {
+        let text = head.clone() + &text;
+        assert!(text.len() <= MOST, "{name}: {} bytes are too many for the program `lines`", text.len());
+        (name, text)
+    };
+    sample.parts.into_iter().map(whole).collect()
 }

@@ -1,0 +1,108 @@
+// Answers of the pipe panel, as values: a crate that answers calls makes one of numbers alone, and `said` puts it into words.
+ghost use Prim.Native.Nat.{_≤_};
+ghost use lib.ListN.{length};
+
+// The words, and their numbers from 8 on. The numbers below are those of refusals, and 0 is no word; all others are status words.
+const WORDS: [u8; 125] =
+    *b"ok;yes;no;version;register ;authenticate ;order ;ok ;? no such call;? another number of words;? a word that it does not take;";
+
+pub const OK: u16 = 8;
+
+pub const YES: u16 = 9;
+
+pub const NO: u16 = 10;
+
+pub const VERSION: u16 = 11;
+
+pub const REGISTER: u16 = 12;
+
+pub const AUTHENTICATE: u16 = 13;
+
+pub const ORDER: u16 = 14;
+
+pub const HOLDS: u16 = 15;
+
+pub const NO_CALL: u16 = 16;
+
+pub const OTHER_COUNT: u16 = 17;
+
+pub const OTHER_WORD: u16 = 18;
+
+// A word, then numbers, then so many bytes of what is lent, then a number more where it is not NOTHING.
+pub struct Answer {
+    pub word: u16,
+    pub count: usize,
+    pub numbers: [u64; 5],
+    pub has_bytes: bool,
+    pub bytes: usize,
+    pub after: u64,
+}
+
+pub fn bare(word: u16) -> Answer {
+    Answer {
+        word,
+        count: 0,
+        numbers: [0; 5],
+        has_bytes: false,
+        bytes: 0,
+        after: spell::NOTHING,
+    }
+}
+
+pub fn with_numbers(word: u16, count: usize, numbers: [u64; 5]) -> Answer {
+    Answer {
+        word,
+        count,
+        numbers,
+        has_bytes: false,
+        bytes: 0,
+        after: spell::NOTHING,
+    }
+}
+
+// The word at place k of the list.
+fn word_at<'a>(list: &'a [u8], k: u16) -> &'a [u8] {
+    let mut at = 0;
+    let mut left = k;
+    while at < list.len() {
+        let end = text::find(list, at, b';');
+        if left == 0 {
+            return octets::part(list, at, end);
+        }
+        if list.len() <= end {
+            break;
+        }
+        at = end + 1;
+        left -= 1;
+    }
+    octets::part(list, 0, 0)
+}
+
+fn word(out: &mut [u8], word: u16) -> usize {
+    match word {
+        0 => 0,
+        1..=7 => spell::numbers(out, 0, b"R", &[word as u64], 1),
+        8..=18 => spell::put(out, 0, word_at(&WORDS, word - 8)),
+        _ => spell::bytes(out, 0, b"", &[(word / 256) as u8, (word % 256) as u8]),
+    }
+}
+
+// The answer at the front of out; where it ends. Its bytes are those at the front of `lent`.
+pub fn said(out: &mut [u8], answer: Answer, lent: &[u8]) -> usize {
+    let numbers = answer.numbers;
+    let start = word(out, answer.word);
+    let end = spell::numbers(out, start, b"", &numbers, answer.count);
+    if !answer.has_bytes {
+        return end;
+    }
+    bytes(out, end, answer, octets::part(lent, 0, answer.bytes))
+}
+
+fn bytes(out: &mut [u8], at: usize, answer: Answer, given: &[u8]) -> usize {
+    let spaces = if answer.word == HOLDS { 0 } else { 1 };
+    let end = spell::bytes(out, at, octets::part(b" ", 0, spaces), given);
+    if answer.after == spell::NOTHING {
+        return end;
+    }
+    spell::numbers(out, end, b" ", &[answer.after], 1)
+}

@@ -1,0 +1,78 @@
+-- `lines` is safe and ends: each turn passes a line, and no buffer changes its length.
+use Prim.Native.Nat.{_≤_, _-_}
+use mathlib.Core.Path.{_≡_}
+use borrow.Author.Needs.{needs}
+use lib.ListN.{length}
+use Rattle.lines.proofs.run.lines.Statement.{statement}
+use Rattle.lines.proofs.run.lines.Tie as tie
+
+abbrev Inv-loop : tie.InvT-loop
+Inv-loop name text store₀ work₀ raw₀ reply₀ out₀ marks₀ block₀ run₀ held₀ at₀ store work raw reply out marks block run held at =
+    (at ≤ length text) × (length store ≡ length store₀) × (length work ≡ length work₀) × (length raw ≡ length raw₀) × (length reply ≡ length reply₀) × (length out ≡ length out₀)
+
+abbrev μ-loop : tie.MeasureT-loop
+μ-loop name text store₀ work₀ raw₀ reply₀ out₀ marks₀ block₀ run₀ held₀ at₀ store work raw reply out marks block run held at =
+    length text - at
+
+fresh-requires : tie.Need-fresh-requires Inv-loop μ-loop
+fresh-requires c κs = search needs
+
+loop-holds : tie.Need-loop-holds Inv-loop μ-loop
+loop-holds c = search needs
+
+find-requires : tie.Need-find-requires Inv-loop μ-loop
+find-requires c κs = search needs
+
+lined-requires : tie.Need-lined-requires Inv-loop μ-loop
+lined-requires c κs = search needs
+
+line-after-requires : tie.Need-line-after-requires Inv-loop μ-loop
+line-after-requires c κs = search needs
+
+loop-less : tie.Need-loop-less Inv-loop μ-loop
+loop-less c = search needs
+
+loop-again : tie.Need-loop-again Inv-loop μ-loop
+loop-again c = search needs
+
+ended-requires : tie.Need-ended-requires Inv-loop μ-loop
+ended-requires c κs = search needs
+
+same-length : tie.Need-same-length Inv-loop μ-loop
+same-length c = search needs
+
+same-length-2 : tie.Need-same-length-2 Inv-loop μ-loop
+same-length-2 c = search needs
+
+same-length-3 : tie.Need-same-length-3 Inv-loop μ-loop
+same-length-3 c = search needs
+
+same-length-4 : tie.Need-same-length-4 Inv-loop μ-loop
+same-length-4 c = search needs
+
+same-length-5 : tie.Need-same-length-5 Inv-loop μ-loop
+same-length-5 c = search needs
+
+returns : tie.Need-returns Inv-loop μ-loop
+returns c = search needs
+
+pub lines-spec : {M : Type 1} → statement M
+lines-spec =
+    tie.close
+    (tie.spec
+    Inv-loop
+    μ-loop
+    fresh-requires
+    loop-holds
+    find-requires
+    lined-requires
+    line-after-requires
+    loop-less
+    loop-again
+    ended-requires
+    same-length
+    same-length-2
+    same-length-3
+    same-length-4
+    same-length-5
+    returns)
