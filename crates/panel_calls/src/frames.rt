@@ -1,7 +1,7 @@
 // The calls on frames.
 use answers::Answer;
-use panel::CommandSaid;
-use panel::FrameSaid;
+use panel_stated::CommandSaid;
+use panel_stated::FrameSaid;
 
 fn frame(f: FrameSaid) -> Answer {
     if f.answer != 0x9000 {

@@ -1,8 +1,8 @@
 // The calls of the pipe panel on the presence record and on frames, answered as firmware/panel.c answers them, over the same
 // exports. What the panel holds goes in by value and comes back with the answer.
 use answers::Answer;
-use panel::OrderNumbers;
-use panel::PresenceRecord;
+use panel_stated::OrderNumbers;
+use panel_stated::PresenceRecord;
 
 mod frames;
 mod touches;

@@ -1,8 +1,8 @@
 // The calls on the presence record.
 use super::Panel;
 use answers::Answer;
-use panel::PresenceRecord;
-use panel::Touched;
+use panel_stated::PresenceRecord;
+use panel_stated::Stepped;
 
 // yes, no, or a refusal.
 fn yes(said: u16, yes: bool) -> Answer {
@@ -18,7 +18,7 @@ fn stands(mut panel: Panel, presence: PresenceRecord, answer: Answer) -> Panel {
     panel
 }
 
-fn stepped(panel: Panel, touched: Touched) -> Panel {
+fn stepped(panel: Panel, touched: Stepped) -> Panel {
     let presence = touched.presence;
     stands(panel, presence, yes(touched.answer, touched.yes))
 }
