@@ -23,7 +23,7 @@ use Rattle.apdu_stated.proofs.Cases
 use Rattle.apdu_stated.proofs.Fields.{lc-long, frame-long}
 use Rattle.apdu_stated.proofs.LaidOut.{carried, row-read}
 use Rattle.apdu_stated.proofs.Ways.{Way, way, none, le1, short, short-le, le3, wide, wide-le1, wide-le2, missing, surplus, saidBy, FrameWay, frame-way}
-pub use Rattle.apdu_stated.proofs.Ways.{under, found, no-shape}
+use Rattle.apdu_stated.proofs.Ways.{under, found, no-shape}
 use Rattle.apdu_stated.proofs.Sound.{Laid, LaidAs, sound}
 
 -- a frame that is laid out as the definitions' table lays these parts out, and the table's row can carry them
@@ -140,10 +140,3 @@ read-refuses-not frame n e = go (readOf frame) (frame-way frame) e
     go _ (under h) x = r-sw _ _ (sym x)
     go _ (no-shape h) x = r-sw _ _ (sym x)
     go _ (found long s lc le f) x = r-gives _ _ (sym x)
-
--- the names by which crates above still import the ways through reading; Laws has them under their own
-abbrev pub Answer : List ℕ → Outcome Says → Type 0
-Answer = FrameWay
-
-pub answer : (frame : List ℕ) → FrameWay frame (readOf frame)
-answer = frame-way

@@ -1,1 +1,3 @@
 pub mod Theorems
+pub mod Only
+pub mod Refuted

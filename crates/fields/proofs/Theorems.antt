@@ -1,6 +1,24 @@
 -- The claims of specs/Claims.antt.
+use mathlib.Core.Path.{refl}
+use mathlib.Core.List.{_++_}
 use Rattle.outcome.proofs.Laws.{both-are}
+use Rattle.octets.specs.Bytes.{laid}
 use Rattle.fields.specs.Claims
+
+pub WritesTwo : Claims.WritesTwo (λ a b old. laid (a ++ b) old)
+WritesTwo a b old = refl
+
+pub WritesThree : Claims.WritesThree (λ a b c old. laid (a ++ (b ++ c)) old)
+WritesThree a b c old = refl
+
+pub WritesFour : Claims.WritesFour (λ a b c d old. laid (a ++ (b ++ (c ++ d))) old)
+WritesFour a b c d old = refl
+
+pub WritesFive : Claims.WritesFive (λ a b c d e old. laid (a ++ (b ++ (c ++ (d ++ e)))) old)
+WritesFive a b c d e old = refl
+
+pub WritesSix : Claims.WritesSix (λ a b c d e f old. laid (a ++ (b ++ (c ++ (d ++ (e ++ f))))) old)
+WritesSix a b c d e f old = refl
 
 pub ResultsDetermined : Claims.ResultsDetermined
 ResultsDetermined =

@@ -1,2 +1,3 @@
 pub mod Contracts
 pub mod Claims
+pub mod Wrong

@@ -7,7 +7,7 @@ use Rattle.outcome.specs.Claims
 use Rattle.outcome.specs.declared.Refusal.{Refusal}
 use Rattle.outcome.specs.declared.Refusal.the-variants.{R1, R2, R3, R4, R5, R6, R7}
 use Rattle.outcome.proofs.Laws.{both-are}
-pub use Rattle.outcome.proofs.Numbers.{statusOf, status-back, status-one-to-one, refusalOf, refusal-back, refusal-one-to-one}
+use Rattle.outcome.proofs.Numbers.{status-one-to-one, refusal-one-to-one}
 
 pub StatusNumbers : Claims.StatusNumbers statusNo
 StatusNumbers =

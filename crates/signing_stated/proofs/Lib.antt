@@ -1,5 +1,4 @@
 pub mod Fit
-pub mod Made
 pub mod Shapes
 pub mod Ways
 pub mod Cases

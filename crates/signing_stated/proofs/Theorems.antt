@@ -25,7 +25,7 @@ use Rattle.signing_stated.proofs.Ways.{comes-to-r7, comes-to-r4, comes-
 use Rattle.signing_stated.proofs.Numbers.{kind-one-to-one, finished-one-to-one}
 use Rattle.signing_stated.proofs.Spelled.{four-at, register-spelled, authenticate-spelled}
 use Rattle.signing_stated.proofs.Laws
-pub use Rattle.signing_stated.proofs.Laws.{made-of-layout, blank-refused, room-of-made, room-kept, fields-kept}
+use Rattle.signing_stated.proofs.Laws.{made-of-layout, blank-refused, room-of-made, fields-kept}
 
 -- ---- numbers and results
 pub KindNumbers : Claims.KindNumbers kindNo
