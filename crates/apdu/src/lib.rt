@@ -51,7 +51,7 @@ pub fn read(frame: &[u8]) -> Reading
         Lengths::Found(shape, lc, le) => Reading::Frame(Apdu {
             header,
             shape,
-            lc,
+            lc: lc as u16,
             le,
         }),
         Lengths::Missing => Reading::Status(ApduStatusCode::WrongLength),

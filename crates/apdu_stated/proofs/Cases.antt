@@ -6,6 +6,8 @@ use mathlib.Core.List.{List}
 use native.Mathlib.Omega.{arith}
 use borrow.Author.Tests.{lt-ltb, le-ltb, eq-eqb, ne-eqb}
 use lib.ListN.{length, take, drop}
+use mir.Syntax.{w16}
+use mir.Val.{Fits}
 use Rattle.outcome.specs.declared.ApduStatusCode.{ApduStatusCode}
 use Rattle.outcome.specs.Outcome.{SW, Gives, statusNo}
 use Rattle.octets.proofs.Laws.{tail-is}
@@ -14,6 +16,7 @@ use Rattle.apdu_stated.specs.Words.{Case, Instruction, Le1, Lc1Data, Lc1
 use Rattle.apdu_stated.specs.Answers.{Apdu, Place, Says, saysOf, readingOf}
 use Rattle.apdu_stated.specs.Table.{lcField, leRead, leMost, leLeast, byLength}
 use Rattle.apdu_stated.specs.Reading.{shortOf, afterData, extendedOf, lengthsOf, headerOf, sayOf, readOf, strictly, strictOf, placeOf, dataOf}
+use Rattle.apdu_stated.specs.Contracts.{lcFound}
 use Rattle.apdu_stated.specs.declared.Lengths.{Lengths}
 use Rattle.apdu_stated.specs.declared.Lengths.the-variants.{Found, Missing, Surplus}
 use Rattle.apdu_stated.specs.declared.Reading.{Reading}
@@ -116,6 +119,10 @@ module _ (p : List ℕ) where
 pub read-under : (frame : List ℕ) → length frame < 4 → SW 0x6a80 ≡ readOf frame
 unfolding readOf
 read-under frame h = rw (lt-ltb (length frame) 4 h)
+
+-- an Lc that was found is a number of two bytes
+pub lc-fits : (l : Lengths) (s : Case) (lc le : ℕ) → l ≡ Found s lc le → lcFound l ≤ 65535 → Fits w16 lc
+lc-fits l s lc le e small = let is : lcFound l ≡ lc = ap lcFound e in omega arith
 
 module _ (frame : List ℕ) (l : Lengths) (long : 4 ≤ length frame) (is-l : l ≡ lengthsOf (take (length frame - 4) (drop 4 frame))) where
   by-lengths : sayOf frame l ≡ readOf frame

@@ -421,7 +421,7 @@ ResultsDetermined =
     record {
       row = λ s a b p q. row-same a b (both-are _ _ (p .lc) (q .lc)) (both-are _ _ (p .least) (q .least)) (both-are _ _ (p .le) (q .le));
       fits = λ s n le a b. both-are a b;
-      payload = λ p a b. both-are a b;
+      payload = λ p a b q r. both-are a b (q .0) (r .0);
       shape-number = λ s a b. both-are a b;
       read = λ frame a b p q. reading-same a b (both-are _ _ p q);
       read-strict = λ frame a b p q. reading-same a b (both-are _ _ p q);

@@ -6,6 +6,7 @@ use Rattle.apdu_stated.specs.Answers.{Apdu, Place, Reading, Written, say
 use Rattle.apdu_stated.specs.Reading.{lengthsOf, readOf, strictOf, placeOf, dataOf}
 use Rattle.apdu_stated.specs.Writing.{Parts, writeOf, bufferOf}
 use Rattle.apdu_stated.specs.declared.Lengths.{Lengths}
+use Rattle.apdu_stated.specs.declared.Lengths.the-variants.{Found, Missing, Surplus}
 
 -- a shape's three columns, each of them small
 pub record Row (shape : Case) (r : TableRow) : Type 0 where
@@ -18,8 +19,15 @@ pub record Row (shape : Case) (r : TableRow) : Type 0 where
 abbrev pub Fits : Case → ℕ → ℕ → Bool → Type 0
 Fits shape count le r = r ≡ canCarry shape count le
 
+-- the Lc that was found
+abbrev pub lcFound : Lengths → ℕ
+lcFound (Found s lc le) = lc
+lcFound Missing = 0
+lcFound Surplus = 0
+
+-- the second part says nothing new of bytes, but that Lc fits into two of them
 abbrev pub Payload : List ℕ → Lengths → Type 0
-Payload p r = r ≡ lengthsOf p
+Payload p r = (r ≡ lengthsOf p) × (lcFound r ≤ 65535)
 
 abbrev pub ShapeNumber : Case → ℕ → Type 0
 ShapeNumber shape r = r ≡ shapeNo shape

@@ -42,9 +42,10 @@ pub enum Reading {
     Status(ApduStatusCode),
 }
 
-// What the bytes after the header say. Too few bytes and too many are told apart here, though both are 6700.
+// What the bytes after the header say: shape, Lc and Le. Too few bytes and too many are told apart here, though both are 6700.
+// Lc is as wide as a length: all of it in one word would be packed and taken apart again by every reading.
 pub enum Lengths {
-    Found(Case, u16, u32),
+    Found(Case, usize, u32),
     Missing,
     Surplus,
 }

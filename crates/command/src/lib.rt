@@ -4,12 +4,12 @@
 // Authenticate  challenge (32) | application (32) | h | key handle (h)
 //
 // Challenge, application and handle stay in the caller's frame and are handed out as parts of it.
+ghost use Prim.Native.Nat.{_<_};
 ghost use mathlib.Core.Path.{_≡_};
-ghost use Rattle.outcome.specs.Outcome.{Gives};
+ghost use Rattle.octets.specs.Bytes.{byte};
 ghost use Rattle.apdu_stated.specs.Answers.{saysOf};
-ghost use Rattle.apdu_stated.specs.Reading.{readOf};
-ghost use Rattle.command_stated.specs.Command.{commandSaid, authenticateOf, byInstruction};
-ghost use Rattle.command_stated.specs.Contracts.{FlagsNumber, ReadCommand, ChallengePlace, ApplicationPlace, HandlePlace, Challenge, Application, KeyHandle};
+ghost use Rattle.command_stated.specs.Command.{commandSaid, authenticateOf};
+ghost use Rattle.command_stated.specs.Contracts.{FlagsNumber, Instructed, ReadCommand, ChallengePlace, ApplicationPlace, HandlePlace, Challenge, Application, KeyHandle};
 use apdu::Apdu;
 use apdu::Place;
 use apdu::Reading;
@@ -36,9 +36,15 @@ pub fn flags_number(flags: Ctap1Flags) -> u8
     }
 }
 
+// The length that the byte at i says, and 0 where there is no byte.
+fn length_at(s: &[u8], i: usize) -> usize
+    ensures { λ r. ⌜ (r ≡ byte (now (s .entry)) i) × (r < 256) ⌝ }
+{
+    if i < s.len() { octets::wide(s[i]) } else { 0 }
+}
+
 // The handle's length is looked at before P1, as the Rust does.
 fn authenticate(frame: &[u8], says: Apdu) -> U2fCommand
-    requires { ⌜ readOf (now frame) ≡ Gives (saysOf says) ⌝ }
     ensures { λ r. ⌜ commandSaid r ≡ authenticateOf (now (frame .entry)) (saysOf says) ⌝ }
 {
     let lc = says.lc as usize;
@@ -46,7 +52,7 @@ fn authenticate(frame: &[u8], says: Apdu) -> U2fCommand
         return U2fCommand::Status(ApduStatusCode::WrongLength);
     }
     let content = apdu::data(frame, says);
-    if lc != 65 + octets::wide(content[64]) {
+    if lc != 65 + length_at(content, 64) {
         return U2fCommand::Status(ApduStatusCode::WrongLength);
     }
     let header = says.header;
@@ -63,9 +69,9 @@ fn authenticate(frame: &[u8], says: Apdu) -> U2fCommand
     U2fCommand::Status(ApduStatusCode::WrongData)
 }
 
-fn by_instruction(frame: &[u8], says: Apdu) -> U2fCommand
-    requires { ⌜ readOf (now frame) ≡ Gives (saysOf says) ⌝ }
-    ensures { λ r. ⌜ commandSaid r ≡ byInstruction (now (frame .entry)) (saysOf says) ⌝ }
+// What a frame that says this asks for: by CLA, then by INS.
+pub fn instructed(frame: &[u8], says: Apdu) -> U2fCommand
+    ensures { λ r. ⌜ Instructed (now (frame .entry)) says r ⌝ }
 {
     let header = says.header;
     let ins = header.ins;
@@ -97,7 +103,7 @@ pub fn read_command(frame: &[u8]) -> U2fCommand
 {
     let reading = apdu::read(frame);
     match reading {
-        Reading::Frame(says) => by_instruction(frame, says),
+        Reading::Frame(says) => instructed(frame, says),
         Reading::Status(status) => U2fCommand::Status(status),
     }
 }

@@ -5,7 +5,7 @@ use mathlib.Core.Bool.{true, false, not, _||_}
 use mathlib.Core.List.{List}
 use native.Mathlib.Omega.{arith}
 use borrow.Author.Tests.{lt-ltb, le-ltb, eq-eqb, ne-eqb}
-use lib.ListN.{length}
+use lib.ListN.{length, List·getD-eq-default}
 use Rattle.outcome.specs.Notation.{if_then_else_}
 use Rattle.outcome.specs.Outcome.{Outcome, SW, Gives, statusNo}
 use Rattle.outcome.specs.declared.ApduStatusCode.{ApduStatusCode}
@@ -16,18 +16,17 @@ use Rattle.apdu_stated.specs.declared.Place.{Place}
 use Rattle.apdu_stated.specs.declared.Reading.{Reading}
 use Rattle.apdu_stated.specs.declared.Reading.the-variants as Reading′
 use Rattle.apdu_stated.specs.Reading.{readOf, dataOf, placeOf}
-use Rattle.apdu_stated.proofs.Laws.{data-long}
 use Rattle.command_stated.specs.Command.{Command, Register, Authenticate, Version, isControl, registerOf, authenticateOf, versionOf, byInstruction, onReading, commandOf, challengePlaceOf, applicationPlaceOf, challengeOf, applicationOf, handlePlaceOf, handleOf}
+
+-- past the end there is no byte
+pub byte-none : (s : List ℕ) (i : ℕ) → length s ≤ i → 0 ≡ byte s i
+byte-none s i past = sym (List·getD-eq-default s 0 past)
 
 -- ---- Authenticate
 module _ (frame : List ℕ) (said : Says) where
   pub auth-short : said .lc < 65 → SW 0x6700 ≡ authenticateOf frame said
   unfolding authenticateOf
   auth-short h = rw (lt-ltb (said .lc) 65 h)
-
-  -- data[64] stands in the data of a frame that was read
-  pub auth-byte : (content : List ℕ) → readOf frame ≡ Gives said → content ≡ dataOf frame said → 65 ≤ said .lc → 64 < length content
-  auth-byte content e d h = let long = ap length d ∙ data-long frame said e in omega arith
 
   module _ (content : List ℕ) (b h : ℕ) (is-content : content ≡ dataOf frame said) (is-h : h ≡ byte content 64) (long : 65 ≤ said .lc) where
     same-h : h ≡ byte (dataOf frame said) 64

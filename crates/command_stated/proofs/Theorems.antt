@@ -298,6 +298,7 @@ pub ResultsDetermined : Claims.ResultsDetermined
 ResultsDetermined =
     record {
       flags-number = λ f a b. both-are a b;
+      instructed = λ frame s a b p q. command-same a b (both-are _ _ p q);
       read-command = λ frame a b p q. command-same a b (both-are _ _ p q);
       challenge-place = λ s a b. both-are a b;
       application-place = λ s a b. both-are a b;

@@ -7,7 +7,7 @@ use Rattle.apdu_stated.specs.Answers.{Says}
 use Rattle.apdu_stated.specs.Reading.{readOf, dataOf}
 use Rattle.apdu_stated.specs.Terms.{span}
 use Rattle.command_stated.specs.Command.{Ctap1Flags, CheckOnly, EnforceUpAndSign, DontEnforceUpAndSign, U2fCommand, Command, Register, Authenticate, Version, flagsNo, commandSaid, commandOf}
-use Rattle.command_stated.specs.Contracts.{FlagsNumber, ReadCommand, ChallengePlace, ApplicationPlace, HandlePlace, Challenge, Application, KeyHandle}
+use Rattle.command_stated.specs.Contracts.{FlagsNumber, Instructed, ReadCommand, ChallengePlace, ApplicationPlace, HandlePlace, Challenge, Application, KeyHandle}
 use Rattle.command_stated.specs.Terms.{WrongLength, WrongControl, UnknownInstruction}
 
 -- ---- a command, exactly when
@@ -145,6 +145,7 @@ CommandOneToOne = (a b : U2fCommand) → commandSaid a ≡ commandSaid b → a �
 -- ---- two results that satisfy a contract are equal, for each public function
 pub record ResultsDetermined : Type 0 where
   pub flags-number : (f : Ctap1Flags) → AtMostOne (FlagsNumber f)
+  pub instructed : (frame : List ℕ) (a : Apdu) → AtMostOne (Instructed frame a)
   pub read-command : (frame : List ℕ) → AtMostOne (ReadCommand frame)
   pub challenge-place : (a : Apdu) → AtMostOne (ChallengePlace a)
   pub application-place : (a : Apdu) → AtMostOne (ApplicationPlace a)

@@ -1,10 +1,14 @@
 -- What each public function of `command` promises of its result, on every input.
 use Rattle.command_stated.specs.Words.{ℕ, _≤_, _≡_, List, Apdu, Place}
 use Rattle.apdu_stated.specs.Answers.{saysOf}
-use Rattle.command_stated.specs.Command.{Ctap1Flags, U2fCommand, flagsNo, commandSaid, commandOf, challengePlaceOf, applicationPlaceOf, handlePlaceOf, challengeOf, applicationOf, handleOf}
+use Rattle.command_stated.specs.Command.{Ctap1Flags, U2fCommand, flagsNo, commandSaid, byInstruction, commandOf, challengePlaceOf, applicationPlaceOf, handlePlaceOf, challengeOf, applicationOf, handleOf}
 
 abbrev pub FlagsNumber : Ctap1Flags → ℕ → Type 0
 FlagsNumber flags r = r ≡ flagsNo flags
+
+-- of a frame, and what it is said to say
+abbrev pub Instructed : List ℕ → Apdu → U2fCommand → Type 0
+Instructed frame says r = commandSaid r ≡ byInstruction frame (saysOf says)
 
 abbrev pub ReadCommand : List ℕ → U2fCommand → Type 0
 ReadCommand frame r = commandSaid r ≡ commandOf frame

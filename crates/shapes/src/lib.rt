@@ -1,12 +1,12 @@
 // The eight shapes in code: a shape's row of the table, what a shape can carry, and which shape a payload is in. Reading and
 // writing of whole frames stand on it (apdu). The table itself is apdu_stated's specs/Table.antt.
-ghost use Prim.Native.Nat.{_<_};
+ghost use Prim.Native.Nat.{_<_, _≤_};
 ghost use mathlib.Core.Path.{_≡_};
 ghost use lib.ListN.{length};
 ghost use Rattle.octets.specs.Bytes.{byte};
 ghost use Rattle.apdu_stated.specs.Table.{lcMost, leLeast, leMost, leRead};
 ghost use Rattle.apdu_stated.specs.Reading.{shortOf, extendedOf, afterData};
-ghost use Rattle.apdu_stated.specs.Contracts.{Row, Fits, Payload};
+ghost use Rattle.apdu_stated.specs.Contracts.{Row, Fits, Payload, lcFound};
 use apdu_stated::Case;
 use apdu_stated::Lengths;
 use apdu_stated::TableRow;
@@ -102,17 +102,17 @@ fn le1(b: u8) -> u32
 // Lc in one byte, data, and perhaps one byte of Le.
 fn short(p: &[u8], lc: u8) -> Lengths
     requires { ⌜ (1 < length (now p)) × (lc ≡ byte (now p) 0) ⌝ }
-    ensures { λ r. ⌜ r ≡ shortOf (now (p .entry)) ⌝ }
+    ensures { λ r. ⌜ (r ≡ shortOf (now (p .entry))) × (lcFound r ≤ 65535) ⌝ }
 {
     let n = octets::wide(lc);
     if p.len() < 1 + n {
         return Lengths::Missing;
     }
     if p.len() == 1 + n {
-        return Lengths::Found(Case::Lc1Data, lc as u16, 0);
+        return Lengths::Found(Case::Lc1Data, lc as usize, 0);
     }
     if p.len() == 2 + n {
-        return Lengths::Found(Case::Lc1DataLe1, lc as u16, le1(p[1 + n]));
+        return Lengths::Found(Case::Lc1DataLe1, lc as usize, le1(p[1 + n]));
     }
     Lengths::Surplus
 }
@@ -120,21 +120,21 @@ fn short(p: &[u8], lc: u8) -> Lengths
 // Data of lc bytes after an extended Lc, and perhaps Le.
 fn after_data(p: &[u8], lc: u16) -> Lengths
     requires { ⌜ 3 < length (now p) ⌝ }
-    ensures { λ r. ⌜ r ≡ afterData (now (p .entry)) lc ⌝ }
+    ensures { λ r. ⌜ (r ≡ afterData (now (p .entry)) lc) × (lcFound r ≤ 65535) ⌝ }
 {
     let n = lc as usize;
     if p.len() < 3 + n {
         return Lengths::Missing;
     }
     if p.len() == 3 + n {
-        return Lengths::Found(Case::Lc3Data, lc, 0);
+        return Lengths::Found(Case::Lc3Data, n, 0);
     }
     if p.len() == 4 + n {
-        return Lengths::Found(Case::Lc3DataLe1, lc, le1(p[3 + n]));
+        return Lengths::Found(Case::Lc3DataLe1, n, le1(p[3 + n]));
     }
     if p.len() == 5 + n {
         let le = octets::pair(p[3 + n], p[4 + n]);
-        return Lengths::Found(Case::Lc3DataLe2, lc, le_read(2, le));
+        return Lengths::Found(Case::Lc3DataLe2, n, le_read(2, le));
     }
     Lengths::Surplus
 }
@@ -142,7 +142,7 @@ fn after_data(p: &[u8], lc: u16) -> Lengths
 // A payload that begins with 00: an extended Le alone, or an extended Lc.
 fn extended(p: &[u8]) -> Lengths
     requires { ⌜ 1 < length (now p) ⌝ }
-    ensures { λ r. ⌜ r ≡ extendedOf (now (p .entry)) ⌝ }
+    ensures { λ r. ⌜ (r ≡ extendedOf (now (p .entry))) × (lcFound r ≤ 65535) ⌝ }
 {
     if p.len() < 3 {
         return Lengths::Missing;

@@ -34,6 +34,9 @@ payload-requires c κs = search needs
 enum-known-found : tie.Need-enum-known-found
 enum-known-found c = search needs
 
+cast-t22 : tie.Need-cast-t22
+cast-t22 c = search (needs, Cases.lc-fits)
+
 enum-told : tie.Need-enum-told
 enum-told c = search needs
 
@@ -63,6 +66,7 @@ read-spec =
     part-payload-end
     payload-requires
     enum-known-found
+    cast-t22
     enum-told
     enum-told-2
     returns-2

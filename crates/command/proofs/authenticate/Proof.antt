@@ -13,11 +13,8 @@ returns c = search (needs, Cases.auth-short)
 data-requires : tie.Need-data-requires
 data-requires c κs = search needs
 
-shared-slice-read-wide : tie.Need-shared-slice-read-wide
-shared-slice-read-wide c = search (needs, Cases.auth-byte)
-
-wide-requires : tie.Need-wide-requires
-wide-requires c κs = search needs
+length-at-requires : tie.Need-length-at-requires
+length-at-requires c κs = search needs
 
 add-if2 : tie.Need-add-if2
 add-if2 c = search needs
@@ -44,8 +41,7 @@ authenticate-spec =
     cast-lc
     returns
     data-requires
-    shared-slice-read-wide
-    wide-requires
+    length-at-requires
     add-if2
     returns-2
     returns-3

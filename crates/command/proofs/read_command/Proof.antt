@@ -10,8 +10,8 @@ read-requires c κs = search needs
 enum-known-reading : tie.Need-enum-known-reading
 enum-known-reading c = search needs
 
-by-instruction-requires : tie.Need-by-instruction-requires
-by-instruction-requires c κs = search (needs, Cases.reading-is)
+instructed-requires : tie.Need-instructed-requires
+instructed-requires c κs = search needs
 
 enum-known-reading-2 : tie.Need-enum-known-reading-2
 enum-known-reading-2 c = search needs
@@ -28,7 +28,7 @@ read-command-spec =
     (tie.spec
     read-requires
     enum-known-reading
-    by-instruction-requires
+    instructed-requires
     enum-known-reading-2
     returns
     returns-2)

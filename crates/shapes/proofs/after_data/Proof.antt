@@ -8,13 +8,13 @@ add-if1 : tie.Need-add-if1
 add-if1 c = search needs
 
 returns : tie.Need-returns
-returns c = search (needs, Cases.after-missing)
+returns c = (search (needs, Cases.after-missing), search needs)
 
 add-if2 : tie.Need-add-if2
 add-if2 c = search needs
 
 returns-2 : tie.Need-returns-2
-returns-2 c = search (needs, Cases.after-plain)
+returns-2 c = (search (needs, Cases.after-plain), search needs)
 
 add-if3 : tie.Need-add-if3
 add-if3 c = search needs
@@ -29,7 +29,7 @@ le1-requires : tie.Need-le1-requires
 le1-requires c κs = search needs
 
 returns-3 : tie.Need-returns-3
-returns-3 c = search (needs, Cases.after-le1)
+returns-3 c = (search (needs, Cases.after-le1), search needs)
 
 add-if4 : tie.Need-add-if4
 add-if4 c = search needs
@@ -53,10 +53,10 @@ le-read-requires : tie.Need-le-read-requires
 le-read-requires c κs = search needs
 
 returns-4 : tie.Need-returns-4
-returns-4 c = search (needs, Cases.after-le2)
+returns-4 c = (search (needs, Cases.after-le2), search needs)
 
 returns-5 : tie.Need-returns-5
-returns-5 c = search (needs, Cases.after-surplus)
+returns-5 c = (search (needs, Cases.after-surplus), search needs)
 
 pub after-data-spec : {M : Type 1} → statement M
 after-data-spec =

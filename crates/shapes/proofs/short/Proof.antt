@@ -11,13 +11,13 @@ add-if1 : tie.Need-add-if1
 add-if1 c = search needs
 
 returns : tie.Need-returns
-returns c = search (needs, Cases.short-missing)
+returns c = (search (needs, Cases.short-missing), search needs)
 
 add-if2 : tie.Need-add-if2
 add-if2 c = search needs
 
 returns-2 : tie.Need-returns-2
-returns-2 c = search (needs, Cases.short-data)
+returns-2 c = (search (needs, Cases.short-data), search needs)
 
 add-if3 : tie.Need-add-if3
 add-if3 c = search needs
@@ -32,10 +32,10 @@ le1-requires : tie.Need-le1-requires
 le1-requires c κs = search needs
 
 returns-3 : tie.Need-returns-3
-returns-3 c = search (needs, Cases.short-le)
+returns-3 c = (search (needs, Cases.short-le), search needs)
 
 returns-4 : tie.Need-returns-4
-returns-4 c = search (needs, Cases.short-surplus)
+returns-4 c = (search (needs, Cases.short-surplus), search needs)
 
 pub short-spec : {M : Type 1} → statement M
 short-spec =

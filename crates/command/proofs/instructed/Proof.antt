@@ -1,8 +1,8 @@
--- `by_instruction` meets its contract: each way through the tests is a case of `byInstruction`.
+-- `instructed` meets its contract: each way through the tests is a case of `byInstruction`.
 use borrow.Author.Needs.{needs}
 use Rattle.command_stated.proofs.Cases
-use Rattle.command.proofs.by_instruction.Statement.{statement}
-use Rattle.command.proofs.by_instruction.Tie as tie
+use Rattle.command.proofs.instructed.Statement.{statement}
+use Rattle.command.proofs.instructed.Tie as tie
 
 returns : tie.Need-returns
 returns c = search (needs, Cases.wrong-cla)
@@ -28,8 +28,8 @@ returns-6 c = search (needs, Cases.version-0)
 returns-7 : tie.Need-returns-7
 returns-7 c = search (needs, Cases.unknown)
 
-pub by-instruction-spec : {M : Type 1} → statement M
-by-instruction-spec =
+pub instructed-spec : {M : Type 1} → statement M
+instructed-spec =
     tie.close
     (tie.spec
     returns
