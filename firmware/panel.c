@@ -6,7 +6,8 @@
  *
  *   new W                                  ok                     a fresh record with touch window W; a refusal keeps the old
  *   touch T   check T   ask T              yes | no
- *   record                                 W PROMPT TOUCH LAST    the record as it stands; a closed window is `-`
+ *   record                                 W PROMPT TOUCH LAST    the record as it stands; a closed window is `-`; before the first
+ *                                          | ? no record yet      making that was not refused there is none (four zeros)
  *   room N                                 ok                     the reply buffer has N bytes from now on (1024 at first)
  *   read FRAME   strict FRAME              SHAPE LC LE START END  data from START, up to and without END
  *   write CLA INS P1 P2 SHAPE LE DATA      9000 FRAME             written into the reply buffer
@@ -259,15 +260,19 @@ static bool call_ask(char **word)
 
 static void then_window(uint64_t window)
 {
-    if (window == UINT64_MAX)
+    if (window == 0)
         put_text(" -");
     else
-        then_number(window);
+        then_number(window - 1);
 }
 
 static bool call_record(char **word)
 {
     (void)word;
+    if (!presence.w && !presence.prompt && !presence.touch && !presence.last) {
+        put_text("? no record yet");
+        return true;
+    }
     put_number(presence.w);
     then_window(presence.prompt);
     then_window(presence.touch);
@@ -390,7 +395,7 @@ static bool call_decide(char **word)
         then_number(order.certificate_length);
         return true;
     }
-    if (7 < decision.answer)
+    if (BRINECANDLE_LAST_REFUSAL < decision.answer)
         order = decision.order; /* none: the one before is over */
     put_wrote(decision.answer, decision.length);
     return true;
@@ -404,7 +409,7 @@ static bool call_finish(char **word)
         return false;
     struct brinecandle_wrote wrote = brinecandle_finish(order, block, certificate.at, certificate.length, is_signed,
                                                         signature.at, signature.length, reply, room);
-    if (7 < wrote.answer)
+    if (BRINECANDLE_LAST_REFUSAL < wrote.answer)
         order = (struct brinecandle_order){0, 0, 0};
     put_wrote(wrote.answer, wrote.length);
     return true;
@@ -419,11 +424,16 @@ static bool same(const char *a, const char *b)
     return *a == *b;
 }
 
-/* A window's moment; the greatest number is a closed one's. */
+/* A window's number: 0 where it is closed, else one more than its moment. */
 static bool window(const char *word, uint64_t *to)
 {
-    *to = UINT64_MAX;
-    return same(word, "-") || number(word, UINT64_MAX - 1, to);
+    *to = 0;
+    if (same(word, "-"))
+        return true;
+    if (!number(word, UINT64_MAX - 1, to))
+        return false;
+    *to += 1;
+    return true;
 }
 
 static bool call_resume(char **word)

@@ -8,8 +8,9 @@
  * are the caller's. A frame stays in the caller's buffer, and places in it are handed back.
  *
  * An answer is one number:
- *   0             an order to sign (brinecandle_decide alone)
+ *   0             none: no call answers it, so memory of zeros is no answer
  *   1 .. 7        a refusal, R1 to R7: nothing was decided and nothing was changed
+ *   0x0100        an order to sign (brinecandle_decide alone)
  *   0x9000        done
  *   other         a status word for the host: 0x6700, 0x6985, 0x6986, 0x6a80, 0x6d00, 0x6e00, 0x6f00
  *
@@ -33,7 +34,7 @@ extern "C" {
 #endif
 
 enum {
-    BRINECANDLE_ORDER = 0,
+    BRINECANDLE_ORDER = 0x0100,
     BRINECANDLE_LAST_REFUSAL = 7, /* refusals are 1 up to this */
     BRINECANDLE_OK = 0x9000,
     BRINECANDLE_BLOCK = 385 /* bytes of an order's block */
@@ -91,8 +92,8 @@ struct brinecandle_command brinecandle_read_command(const uint8_t *frame, size_t
 
 /* ---- presence. Moments are milliseconds, below 2^48 and never going back. */
 
-/* The presence record: touch window W, the prompt and the touch window, the last moment. A window is the moment at which it
- * was opened, or UINT64_MAX where it is closed. */
+/* The presence record: touch window W, the prompt and the touch window, the last moment. A window is 0 where it is
+ * closed, and otherwise the moment at which it was opened and one more: a record of zeros with w set is a fresh one. */
 struct brinecandle_presence {
     uint64_t w;
     uint64_t prompt;
@@ -150,7 +151,7 @@ struct brinecandle_order {
 };
 
 struct brinecandle_decision {
-    uint16_t answer; /* 0 order; 0x9000 Version's body; R6, R1, R2; status word */
+    uint16_t answer; /* 0x0100 order; 0x9000 Version's body; R6, R1, R2; status word */
     bool taken;      /* the offered counter was used: count on, whatever comes of the order */
     size_t length;   /* of the body */
     struct brinecandle_order order;
@@ -158,8 +159,8 @@ struct brinecandle_decision {
 };
 
 /* Decides what a frame is answered at moment t. `handle` and `certificate` are the new handle and the attestation
- * certificate that a Register would use, x and y its public key. `block` is written, all of it, where the answer is 0, and
- * stays as it was otherwise. With 0x9000 the body is at the front of `reply` and the rest of it is left. R2 where `reply` is
+ * certificate that a Register would use, x and y its public key. `block` is written, all of it, where the answer is
+ * BRINECANDLE_ORDER, and stays as it was otherwise. With 0x9000 the body is at the front of `reply` and the rest of it is left. R2 where `reply` is
  * too short for the longest reply to this command: 6 for Version, 139 and the lengths of handle and certificate for Register,
  * 77 for Authenticate. It comes before a touch is spent or the counter is taken. */
 struct brinecandle_decision brinecandle_decide(const uint8_t *frame, size_t frame_length, uint64_t t,

@@ -77,7 +77,7 @@ pub struct Decision {
     pub presence: Presence,
 }
 
-pub const ORDER: u16 = 0;
+pub const ORDER: u16 = 0x0100;
 pub const OK: u16 = 0x9000;
 pub const BLOCK: usize = 385;
 

@@ -1,11 +1,11 @@
 // The calls of the pipe panel that write: frames, decisions and finishings; and an order that was kept elsewhere. `reply` is the
 // lent part of the reply buffer.
 use answers::Answer;
+use panel_calls::Panel;
 use panel_stated::DecisionSaid;
 use panel_stated::HardwareSaid;
 use panel_stated::OrderNumbers;
 use panel_stated::PresenceRecord;
-use panel_calls::Panel;
 
 fn stands(
     mut panel: Panel,
@@ -60,7 +60,7 @@ fn decided(panel: Panel, decision: DecisionSaid) -> Panel {
     let presence = decision.presence;
     let order = decision.order;
     let held = panel.order;
-    if decision.answer == 0 {
+    if decision.answer == 0x0100 {
         return stands(panel, presence, order, ordered(order, decision.taken));
     }
     let answer = panel_calls::wrote(decision.answer, decision.length);

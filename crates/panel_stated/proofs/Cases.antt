@@ -1,7 +1,8 @@
 -- A law for each `return`, in the form of its need, with the facts as the code has them. It mentions no function.
-use Prim.Native.Nat.{ℕ, _+_}
-use mathlib.Core.Path.{_≡_, ap, _∙_}
+use Prim.Native.Nat.{ℕ, zero, suc, _+_, _-_}
+use mathlib.Core.Path.{_≡_, refl, ap, _∙_}
 use mathlib.Core.List.{List}
+use native.Mathlib.Omega.{arith}
 use borrow.Author.Tests.{ne-eqb}
 use lib.ListN.{length}
 use Rattle.outcome.specs.Outcome.{Gives, statusNo, refusalNo}
@@ -25,7 +26,7 @@ use Rattle.command_stated.specs.declared.Ctap1Flags.{Ctap1Flags}
 use Rattle.command_stated.specs.declared.U2fCommand.{U2fCommand}
 use Rattle.command_stated.specs.declared.U2fCommand.the-variants as U2fCommand′
 use Rattle.panel_stated.specs.Words.{FrameSaid, CommandSaid, Wrote, Shaped, PresenceRecord, Made, Stepped, Asked, HardwareSaid, OrderNumbers, DecisionSaid, Kinded}
-use Rattle.panel_stated.specs.Numbers.{shapeOf, closedNo, windowOf, windowNo, presenceOf, presenceNumbers, allowedOf, attestationOf, counterOf, hardwareOf, kindOf, decidedNo}
+use Rattle.panel_stated.specs.Numbers.{shapeOf, greatestNo, windowOf, windowNo, presenceOf, presenceNumbers, allowedOf, attestationOf, counterOf, hardwareOf, kindOf, decidedNo}
 use Rattle.panel_stated.specs.Exports.{noFrame, frameNumbers, lengthNumbers, ToWrite, writeNumbered, bufferAs, bareCommand, commandNumbers, noRecord, madeNumbers, askedNumbers, stepNumbers, bodyLength, orderAfter, blockAfter, blockLeft, decisionNumbers, ToFinish, orderFrom, finishNumbered}
 use Rattle.panel_stated.specs.declared.Shaped.the-variants as Shaped′
 use mathlib.Core.Bool.{true, false, Bool}
@@ -153,12 +154,23 @@ module _ (header : ApduHeader) (shape : ℕ) (content : List ℕ) (le : ℕ) (ol
     buffer-as-none = rw (← is-shaped, z)
 
 -- ---- presence
-module _ (number : ℕ) where
-  pub window-closed : number ≡ closedNo → Closed ≡ windowOf number
-  window-closed e = rw e
+pub window-closed : (number : ℕ) → number ≡ 0 → Closed ≡ windowOf number
+window-closed number e = rw e refl
 
-  pub window-opened : (number ≡ closedNo → ⊥) → Opened number ≡ windowOf number
-  window-opened n = rw (ne-eqb number closedNo n)
+pub window-opened : (number : ℕ) → (number ≡ 0 → ⊥) → Opened (number - 1) ≡ windowOf number
+window-opened zero not = absurd (not refl)
+window-opened (suc m) not = let before : suc m - 1 ≡ m = omega arith in ap Opened before
+
+module _ (window : Window) where
+  pub closed-numbered : window ≡ Closed → 0 ≡ windowNo window
+  closed-numbered z = rw z
+
+  module _ (m : ℕ) (z : window ≡ Opened m) where
+    pub opened-numbered : (m ≡ greatestNo → ⊥) → m + 1 ≡ windowNo window
+    opened-numbered not = rw (z, ne-eqb m greatestNo not)
+
+    pub greatest-numbered : m ≡ greatestNo → greatestNo ≡ windowNo window
+    greatest-numbered e = rw (z, e)
 
 pub record-lent : (n : PresenceRecord) (prompt touch : Window) → prompt ≡ windowOf (n .prompt) → touch ≡ windowOf (n .touch)
     → _≡_ {A = Presence} (record { w = n .w; prompt = prompt; touch = touch; last = n .last }) (presenceOf n)

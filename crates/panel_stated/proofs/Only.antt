@@ -4,7 +4,6 @@ use mathlib.Core.Bool.{Bool, true, false}
 use mathlib.Core.Path.{_≡_, refl, sym, _∙_}
 use mathlib.Core.Logic.{inl, inr}
 use native.Mathlib.Omega.{arith}
-use native.Mathlib.Decide.{ℕ-discrete}
 use Rattle.outcome.specs.Notation.{Determines, Determines2, Determines3}
 use Rattle.outcome.specs.Outcome.{Outcome, R, SW, Gives}
 use Rattle.command_stated.specs.Command.{Register, Authenticate, Version}
@@ -13,7 +12,7 @@ use Rattle.ctap1_stated.specs.Words.{Given, Body, Ordered}
 use Rattle.signing_stated.specs.declared.Kind.{Kind}
 use Rattle.signing_stated.specs.declared.Kind.the-variants as Kind′
 use Rattle.panel_stated.specs.Words.{Hardware, DecisionSaid, PresenceRecord}
-use Rattle.panel_stated.specs.Terms.{IsNumbered}
+use Rattle.panel_stated.specs.Terms.{IsNumbered, AreOf64Bits}
 use Rattle.panel_stated.specs.Claims
 
 -- ---- numbers that stand for cases
@@ -51,20 +50,20 @@ presence-equal a b w p t l = λ d. record { w = w d; prompt = p d; touch = t d; 
 
 pub RecordNumbers : Determines Claims.RecordNumbers
 RecordNumbers f g p q n =
-    presence-equal (f n) (g n) (p .w n ∙ sym (q .w n)) (by-prompt (ℕ-discrete (n .prompt) 0xffffffffffffffff)) (by-touch (ℕ-discrete (n .touch) 0xffffffffffffffff)) (p .last n ∙ sym (q .last n))
+    presence-equal (f n) (g n) (p .w n ∙ sym (q .w n)) (by-prompt (n .prompt) refl) (by-touch (n .touch) refl) (p .last n ∙ sym (q .last n))
   where
-    by-prompt : Dec (n .prompt ≡ 0xffffffffffffffff) → f n .prompt ≡ g n .prompt
-    by-prompt (yes e) = p .prompt-closed n e ∙ sym (q .prompt-closed n e)
-    by-prompt (no e) = p .prompt-opened n e ∙ sym (q .prompt-opened n e)
+    by-prompt : (k : ℕ) → n .prompt ≡ k → f n .prompt ≡ g n .prompt
+    by-prompt zero e = p .prompt-closed n e ∙ sym (q .prompt-closed n e)
+    by-prompt (suc m) e = p .prompt-opened n m (omega (arith, e)) ∙ sym (q .prompt-opened n m (omega (arith, e)))
 
-    by-touch : Dec (n .touch ≡ 0xffffffffffffffff) → f n .touch ≡ g n .touch
-    by-touch (yes e) = p .touch-closed n e ∙ sym (q .touch-closed n e)
-    by-touch (no e) = p .touch-opened n e ∙ sym (q .touch-opened n e)
+    by-touch : (k : ℕ) → n .touch ≡ k → f n .touch ≡ g n .touch
+    by-touch zero e = p .touch-closed n e ∙ sym (q .touch-closed n e)
+    by-touch (suc m) e = p .touch-opened n m (omega (arith, e)) ∙ sym (q .touch-opened n m (omega (arith, e)))
 
 -- a plain form that numbers go through unchanged is the way back of what they stand for
 pub NumbersBack : (lend : PresenceRecord → Presence) (f g : Presence → PresenceRecord) → Claims.NumbersBack lend f → Claims.NumbersBack lend g
-    → (n : PresenceRecord) → f (lend n) ≡ g (lend n)
-NumbersBack lend f g p q n = p n ∙ sym (q n)
+    → (n : PresenceRecord) → AreOf64Bits n → f (lend n) ≡ g (lend n)
+NumbersBack lend f g p q n h = p n h ∙ sym (q n h)
 
 -- ---- what is not said is 0
 pub FrameNumbers : Determines Claims.FrameNumbers

@@ -7,7 +7,7 @@
 use apdu_stated::Case;
 use signing_stated::Kind;
 
-// The presence record. A window is the moment at which it was opened, or u64's greatest number where it is closed.
+// The presence record. A window is 0 where it is closed, and otherwise the moment at which it was opened and one more.
 #[repr(C)]
 pub struct PresenceRecord {
     pub w: u64,

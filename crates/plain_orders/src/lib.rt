@@ -19,8 +19,8 @@ ghost use Rattle.panel_stated.specs.Numbers.{allowedOf, attestationOf, counterO
 ghost use Rattle.panel_stated.specs.Exports.{bodyLength, orderAfter};
 ghost use Rattle.panel_stated.specs.Contracts.{HardwareLent, KindNumbered, PutBlock, DecisionPlain, FinishedPlain};
 
-// The answer that is no refusal and no status word: what stands in the block is to be signed.
-const ORDER: u16 = 0;
+// The answer that is no refusal, no status word and not 0: what stands in the block is to be signed.
+const ORDER: u16 = 0x0100;
 
 fn allowed_of(number: u32) -> Allowed
     ensures { λ r. ⌜ r ≡ allowedOf number ⌝ }
