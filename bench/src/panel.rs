@@ -54,9 +54,9 @@ pub struct Asked {
 pub struct Hardware {
     pub allowed: u32,
     pub attestation: u32,
-    pub stored: bool,
-    pub good: bool,
-    pub counted: bool,
+    pub stored: u32,
+    pub good: u32,
+    pub counted: u32,
     pub counter: u32,
 }
 
@@ -120,7 +120,7 @@ extern "C" {
         block: *const [u8; BLOCK],
         certificate: *const u8,
         certificate_length: usize,
-        is_signed: bool,
+        is_signed: u32,
         signature: *const u8,
         signature_length: usize,
         reply: *mut u8,

@@ -1,9 +1,10 @@
 -- Only the definitions meet the claims: two functions that meet one agree on every input.
 use Prim.Native.Nat.{ℕ, zero, suc}
 use mathlib.Core.Bool.{Bool, true, false}
-use mathlib.Core.Path.{_≡_, refl, sym, _∙_}
+use mathlib.Core.Path.{_≡_, refl, ap, sym, _∙_}
 use mathlib.Core.Logic.{inl, inr}
 use native.Mathlib.Omega.{arith}
+use native.Mathlib.Decide.{ℕ-discrete}
 use Rattle.outcome.specs.Notation.{Determines, Determines2, Determines3}
 use Rattle.outcome.specs.Outcome.{Outcome, R, SW, Gives}
 use Rattle.command_stated.specs.Command.{Register, Authenticate, Version}
@@ -43,6 +44,13 @@ pub AttestationNumbers : Determines Claims.AttestationNumbers
 AttestationNumbers f g p q zero = p .missing ∙ sym (q .missing)
 AttestationNumbers f g p q (suc zero) = p .present ∙ sym (q .present)
 AttestationNumbers f g p q (suc (suc n)) = p .failed (suc (suc n)) (omega arith) ∙ sym (q .failed (suc (suc n)) (omega arith))
+
+pub YesNumbers : Determines Claims.YesNumbers
+YesNumbers f g p q n = by-number (ℕ-discrete n 1)
+  where
+    by-number : Dec (n ≡ 1) → f n ≡ g n
+    by-number (yes e) = ap f e ∙ p .granted ∙ sym (q .granted) ∙ sym (ap g e)
+    by-number (no e) = p .other n e ∙ sym (q .other n e)
 
 -- ---- records
 presence-equal : (a b : Presence) → a .w ≡ b .w → a .prompt ≡ b .prompt → a .touch ≡ b .touch → a .last ≡ b .last → a ≡ b
@@ -138,11 +146,19 @@ hardware-equal a b l s t g c = λ d. record { allowed = l d; stored = s d; attes
 
 pub HardwareNumbers : Determines Claims.HardwareNumbers
 HardwareNumbers f g p q n =
-    hardware-equal (f n) (g n) (p .allowed n ∙ sym (q .allowed n)) (p .stored n ∙ sym (q .stored n)) (p .attestation n ∙ sym (q .attestation n)) (p .good n ∙ sym (q .good n)) (by-counted (n .counted) refl)
+    hardware-equal (f n) (g n) (p .allowed n ∙ sym (q .allowed n)) (by-stored (ℕ-discrete (n .stored) 1)) (p .attestation n ∙ sym (q .attestation n)) (by-good (ℕ-discrete (n .good) 1)) (by-counted (ℕ-discrete (n .counted) 1))
   where
-    by-counted : (b : Bool) → n .counted ≡ b → f n .counter ≡ g n .counter
-    by-counted true e = p .offered n e ∙ sym (q .offered n e)
-    by-counted false e = p .failed n e ∙ sym (q .failed n e)
+    by-stored : Dec (n .stored ≡ 1) → f n .stored ≡ g n .stored
+    by-stored (yes e) = p .stored n e ∙ sym (q .stored n e)
+    by-stored (no e) = p .not-stored n e ∙ sym (q .not-stored n e)
+
+    by-good : Dec (n .good ≡ 1) → f n .good ≡ g n .good
+    by-good (yes e) = p .good n e ∙ sym (q .good n e)
+    by-good (no e) = p .not-good n e ∙ sym (q .not-good n e)
+
+    by-counted : Dec (n .counted ≡ 1) → f n .counter ≡ g n .counter
+    by-counted (yes e) = p .offered n e ∙ sym (q .offered n e)
+    by-counted (no e) = p .failed n e ∙ sym (q .failed n e)
 
 -- ---- answers: of every outcome that an export has (`EveryOutcomeNumbered`)
 pub AnswerTells : (f g : Outcome Bool → ℕ) → Claims.AnswerTells f → Claims.AnswerTells g → (o : Outcome Bool) → IsNumbered o → f o ≡ g o

@@ -18,6 +18,7 @@ use Rattle.u2f_up_stated.specs.declared.Presence.{Presence}
 use Rattle.ctap1_stated.specs.Words.{Ordered}
 use Rattle.ctap1_stated.specs.declared.Allowed.the-variants as Allowed′
 use Rattle.ctap1_stated.specs.declared.Attestation.the-variants as Attestation′
+use Rattle.ctap1_stated.specs.declared.Counter.the-variants as Counter′
 use Rattle.signing_stated.specs.Orders.{isAuthenticateLayout}
 use Rattle.signing_stated.specs.Finishing.{finishOf}
 use Rattle.signing_stated.specs.declared.Kind.the-variants as Kind′
@@ -99,6 +100,12 @@ pub unknownIsPresent : Claims.AttestationNumbers Wrong.unknownIsPresent → ⊥
 unknownIsPresent p =
     let e : Attestation′.Present ≡ Attestation′.Failed = p .failed 3 (omega arith) in let z : _≡_ {A = ℕ} 0 1 = cc in omega arith
 
+pub unknownIsYes : Claims.YesNumbers Wrong.unknownIsYes → ⊥
+unknownIsYes p = let e : _≡_ {A = Bool} true false = p .other 2 (λ e. omega arith) in let z : _≡_ {A = ℕ} 0 1 = cc in omega arith
+
+pub lowestBitIsYes : Claims.YesNumbers Wrong.lowestBitIsYes → ⊥
+lowestBitIsYes p = let e : _≡_ {A = Bool} true false = p .other 255 (λ e. omega arith) in let z : _≡_ {A = ℕ} 0 1 = cc in omega arith
+
 -- an Authenticate order of zeros
 abbrev login : Order
 login = record { kind = Kind′.Authenticate; «to_sign» = 69; «certificate_length» = 0; bytes = replicate 385 0 }
@@ -111,7 +118,7 @@ said (Gives body) = 0x9000
 pub certificateLengthAsToSign : Claims.OrderBack Wrong.certificateLengthAsToSign → ⊥
 unfolding finishOf isAuthenticateLayout kindOf
 certificateLengthAsToSign p =
-    let e : _≡_ {A = ℕ} 7 0x9000 = ap said (p login [] true [] (replicate 77 0)) in omega arith
+    let e : _≡_ {A = ℕ} 7 0x9000 = ap said (p login [] 1 [] (replicate 77 0)) in omega arith
 
 -- ---- what is not said is 0
 pub shape1BesideStatus : Claims.FrameNumbers Wrong.shape1BesideStatus → ⊥
@@ -173,12 +180,18 @@ runsAtItsNumber p =
 -- ---- the hardware, and orders of no kind
 pub storedForGood : Claims.HardwareNumbers Wrong.storedForGood → ⊥
 storedForGood p =
-    let e : _≡_ {A = Bool} true false = p .good (record { allowed = 1; attestation = 1; stored = true; good = false; counted = true; counter = 0 }) in
+    let e : _≡_ {A = Bool} true false = p .not-good (record { allowed = 1; attestation = 1; stored = 1; good = 0; counted = 1; counter = 0 }) (λ e. omega arith) in
+    let z : _≡_ {A = ℕ} 0 1 = cc in
+    omega arith
+
+pub unknownIsCounted : Claims.HardwareNumbers Wrong.unknownIsCounted → ⊥
+unknownIsCounted p =
+    let e : Counter′.Offered 0 ≡ Counter′.Failed = p .failed (record { allowed = 1; attestation = 1; stored = 1; good = 1; counted = 2; counter = 0 }) (λ e. omega arith) in
     let z : _≡_ {A = ℕ} 0 1 = cc in
     omega arith
 
 pub noKindIsR2 : Claims.OthersRefused writeNumbered Wrong.noKindIsR2 → ⊥
 noKindIsR2 p =
     let e : _≡_ {A = ℕ} 2 7 =
-    ap said (p .kind (record { order = record { kind = 3; «to_sign» = 69; «certificate_length» = 0 }; block = []; certificate = []; signed = true; signature = []; reply = [] }) (inr (omega arith))) in
+    ap said (p .kind (record { order = record { kind = 3; «to_sign» = 69; «certificate_length» = 0 }; block = []; certificate = []; signed = 1; signature = []; reply = [] }) (inr (omega arith))) in
     omega arith

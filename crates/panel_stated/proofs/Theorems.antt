@@ -3,7 +3,7 @@ use Prim.Native.Nat.{ℕ, zero, suc, _≤_, _<_, _^_, _+_}
 use mathlib.Core.Path.{_≡_, refl, ap, sym, _∙_}
 use mathlib.Core.Logic.{_↔_, _⊎_, inl, inr}
 use native.Mathlib.Omega.{arith}
-use borrow.Author.Tests.{ne-eqb, le-ltb}
+use borrow.Author.Tests.{eq-eqb, ne-eqb, le-ltb}
 use lib.ListN.{length}
 use Rattle.outcome.specs.Outcome.{Outcome, R, SW, Gives, lastRefusal}
 use Rattle.outcome.proofs.Laws.{sw-gives, r-gives, r-sw, both-are}
@@ -12,7 +12,7 @@ use Rattle.u2f_up_stated.specs.declared.Window.{Window}
 use Rattle.u2f_up_stated.specs.declared.Window.the-variants.{Closed, Opened}
 use Rattle.signing_stated.specs.Orders.{kindNo}
 use Rattle.ctap1_stated.specs.Words.{Given, Body, Ordered}
-use Rattle.panel_stated.specs.Numbers.{answerNo, decidedNo, greatestNo, windowOf, windowNo, presenceOf, presenceNumbers, shapeOf, kindOf, allowedOf, attestationOf, hardwareOf}
+use Rattle.panel_stated.specs.Numbers.{answerNo, decidedNo, greatestNo, windowOf, windowNo, presenceOf, presenceNumbers, shapeOf, kindOf, allowedOf, attestationOf, isYes, hardwareOf}
 use Rattle.panel_stated.specs.Exports.{ToWrite, ToFinish, inputsOf, writeAs, finishAs, writeNumbered, finishNumbered, orderAfter, frameNumbers, commandNumbers, lengthNumbers, askedNumbers, stepNumbers, madeNumbers, blockAfter, decisionNumbers, decidedBy, bodyLength}
 use Rattle.panel_stated.specs.Claims
 use Rattle.panel_stated.specs.Terms.{IsNumbered, IsOfMoment, AfterWriting, AfterDeciding, Carries, register, authenticate}
@@ -200,13 +200,18 @@ unfolding attestationOf
 AttestationNumbers =
     record { missing = refl; present = refl; failed = λ n from. sym (Cases.attestation-failed n (λ e. omega arith) (λ e. omega arith)) }
 
+pub YesNumbers : Claims.YesNumbers isYes
+YesNumbers = record { granted = refl; other = λ n e. ne-eqb n 1 e }
+
 pub HardwareNumbers : Claims.HardwareNumbers hardwareOf
 HardwareNumbers =
     record {
       allowed = λ n. refl;
       attestation = λ n. refl;
-      stored = λ n. refl;
-      good = λ n. refl;
+      stored = λ n e. eq-eqb (n .stored) 1 e;
+      not-stored = λ n e. ne-eqb (n .stored) 1 e;
+      good = λ n e. eq-eqb (n .good) 1 e;
+      not-good = λ n e. ne-eqb (n .good) 1 e;
       offered = λ n e. sym (Cases.counter-offered (n .counted) (n .counter) e);
       failed = λ n e. sym (Cases.counter-failed (n .counted) (n .counter) e);
     }

@@ -13,7 +13,7 @@ use Rattle.panel_stated.specs.Contracts.{BrinecandleRead, BrinecandleRea
 use Rattle.octets.specs.Bytes.{partOf}
 use Rattle.apdu_stated.specs.Reading.{dataOf}
 use Rattle.command_stated.specs.Command.{challengeOf, applicationOf, handleOf}
-use Rattle.panel_stated.specs.Numbers.{presenceNumbers, allowedOf, attestationOf}
+use Rattle.panel_stated.specs.Numbers.{presenceNumbers, isYes, allowedOf, attestationOf}
 use Rattle.u2f_up_stated.specs.Runs.{Caller, Keeps, after, next}
 use Rattle.panel_stated.specs.Terms.{numbersAfter, IsNumbered, IsOfMoment, AreOf64Bits, Carries, AfterWriting, AfterDeciding}
 use Rattle.apdu_stated.specs.declared.Reading.{Reading}
@@ -147,15 +147,25 @@ pub record AttestationNumbers (attestation : ℕ → Attestation) : Type 0 where
   pub present : attestation 1 ≡ Attestation′.Present
   pub failed : (n : ℕ) → 2 ≤ n → attestation n ≡ Attestation′.Failed
 
+-- Of a question with yes or no 1 is yes and every other number no, the cautious answer: not stored, not good, a counter or a signer
+-- that failed. Ours; DECISIONS, "Unknown numbers are the cautious answer". A table that takes whatever is not 0 for yes
+-- (`unknownIsYes`) fails it, at 2, and one that looks at the lowest bit (`lowestBitIsYes`), at 255.
+pub record YesNumbers (yes : ℕ → Bool) : Type 0 where
+  pub granted : yes 1 ≡ true
+  pub other : (n : ℕ) → (n ≡ 1 → ⊥) → yes n ≡ false
+
 -- The hardware's answers. 01, The decision: "the hardware's answers"; 6: "counter answer failed". Answers that change places
--- (`storedForGood`) fail it, where the new handle is stored and the given one is not good.
+-- (`storedForGood`) fail it, where the new handle is stored and the given one is not good; and a counter that is offered whatever is
+-- not 0 (`unknownIsCounted`).
 pub record HardwareNumbers (lend : HardwareSaid → Hardware) : Type 0 where
   pub allowed : (n : HardwareSaid) → lend n .allowed ≡ allowedOf (n .allowed)  -- by `AllowedNumbers`
   pub attestation : (n : HardwareSaid) → lend n .attestation ≡ attestationOf (n .attestation)  -- by `AttestationNumbers`
-  pub stored : (n : HardwareSaid) → lend n .stored ≡ n .stored
-  pub good : (n : HardwareSaid) → lend n .good ≡ n .good
-  pub offered : (n : HardwareSaid) → n .counted ≡ true → lend n .counter ≡ Counter′.Offered (n .counter)
-  pub failed : (n : HardwareSaid) → n .counted ≡ false → lend n .counter ≡ Counter′.Failed
+  pub stored : (n : HardwareSaid) → n .stored ≡ 1 → lend n .stored ≡ true
+  pub not-stored : (n : HardwareSaid) → (n .stored ≡ 1 → ⊥) → lend n .stored ≡ false
+  pub good : (n : HardwareSaid) → n .good ≡ 1 → lend n .good ≡ true
+  pub not-good : (n : HardwareSaid) → (n .good ≡ 1 → ⊥) → lend n .good ≡ false
+  pub offered : (n : HardwareSaid) → n .counted ≡ 1 → lend n .counter ≡ Counter′.Offered (n .counter)
+  pub failed : (n : HardwareSaid) → (n .counted ≡ 1 → ⊥) → lend n .counter ≡ Counter′.Failed
 
 -- Ours: OPEN POINTS, "a shape number outside 1..8 is R5", "Over plain numbers any other kind is R7". A finisher that refuses an order of
 -- no kind for its room (`noKindIsR2`) fails it.
@@ -163,13 +173,13 @@ pub record OthersRefused (write : ToWrite → Outcome ℕ) (finish : ToFinish �
   pub shape : (w : ToWrite) → (w .shape ≡ 0) ⊎ (9 ≤ w .shape) → write w ≡ R 5
   pub kind : (i : ToFinish) → (i .order .kind ≡ 0) ⊎ (3 ≤ i .order .kind) → finish i ≡ R 7
 
--- An order that went out as numbers and block is finished as that order. A certificate length that goes out as the number of
+-- An order that went out as numbers and block is finished as that order, its signer's answer by `YesNumbers`. A certificate length that goes out as the number of
 -- bytes to sign (`certificateLengthAsToSign`) fails it.
 abbrev pub OrderBack : (Outcome Given → Order → OrderNumbers) → Type 0
 OrderBack plain =
-    (order : Order) (certificate : List ℕ) (signed : Bool) (signature reply : List ℕ)
+    (order : Order) (certificate : List ℕ) (signed : ℕ) (signature reply : List ℕ)
     → finishNumbered (record { order = plain (Gives Ordered) order; block = order .bytes; certificate = certificate; signed = signed; signature = signature; reply = reply })
-    ≡ finishOf (record { order = order; certificate = certificate; signed = signed; signature = signature; reply = reply })
+    ≡ finishOf (record { order = order; certificate = certificate; signed = isYes signed; signature = signature; reply = reply })
 
 -- ---- what is not said is 0
 

@@ -1,6 +1,6 @@
 -- Document 01, 'Forms that change': "exported to it over plain numbers and byte slices". Which number stands for what:
 -- answers, windows and records, the hardware's answers, shapes and kinds.
-use Rattle.panel_stated.specs.Words.{ℕ, zero, suc, _+_, Bool, true, false, eqb, if_then_else_, Outcome, R, SW, Gives}
+use Rattle.panel_stated.specs.Words.{ℕ, zero, suc, _+_, Bool, eqb, if_then_else_, Outcome, R, SW, Gives}
 use Rattle.panel_stated.specs.Words.{Instruction, Le1, Lc1Data, Lc1DataLe1, Lc3Data, Lc3DataLe1, Lc3DataLe2, Le3}
 use Rattle.panel_stated.specs.Words.{Window, Closed, Opened, Presence, Allowed, Attestation, Counter, Hardware}
 use Rattle.panel_stated.specs.Words.{PresenceRecord, HardwareSaid, OrderNumbers, Shaped, Kinded, Given, Body, Ordered}
@@ -60,18 +60,21 @@ attestationOf n =
     else if eqb n 1 then Attestation′.Present
     else Attestation′.Failed
 
+-- ours: DECISIONS, "Unknown numbers are the cautious answer": of a question with yes or no 1 is yes, any other number no
+abbrev pub isYes : ℕ → Bool
+isYes n = eqb n 1
+
 -- 01, The decision, 6: "counter answer failed"; "the counter of 32 bits"
-abbrev pub counterOf : Bool → ℕ → Counter
-counterOf true n = Counter′.Offered n
-counterOf false n = Counter′.Failed
+abbrev pub counterOf : (counted counter : ℕ) → Counter
+counterOf counted n = if isYes counted then Counter′.Offered n else Counter′.Failed
 
 abbrev pub hardwareOf : HardwareSaid → Hardware
 hardwareOf n =
     record {
       allowed = allowedOf (n .allowed);
-      stored = n .stored;
+      stored = isYes (n .stored);
       attestation = attestationOf (n .attestation);
-      good = n .good;
+      good = isYes (n .good);
       counter = counterOf (n .counted) (n .counter);
     }
 

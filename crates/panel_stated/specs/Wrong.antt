@@ -7,9 +7,12 @@ use Rattle.panel_stated.specs.Numbers.{greatestNo, presenceOf, presenceN
 use Rattle.panel_stated.specs.Exports.{ToFinish, finishNumbered, frameNumbers, commandNumbers, lengthNumbers, madeNumbers, askedNumbers, orderAfter, blockAfter, decisionNumbers}
 use Rattle.ctap1_stated.specs.declared.Allowed.the-variants as Allowed′
 use Rattle.ctap1_stated.specs.declared.Attestation.the-variants as Attestation′
+use Rattle.ctap1_stated.specs.declared.Counter.the-variants as Counter′
 use Rattle.signing_stated.specs.declared.Kind.the-variants as Kind′
 use Rattle.panel_stated.specs.declared.Shaped.the-variants as Shaped′
 use Rattle.panel_stated.specs.declared.Kinded.the-variants as Kinded′
+use Prim.Native.Nat.{_%_}
+use mathlib.Core.Bool.{not}
 use lib.Dec.{leb}
 
 -- ---- answers
@@ -80,6 +83,13 @@ unknownIsAllowed n = if leb 2 n then Allowed′.Yes else allowedOf n
 -- "the attestation is missing or failed": a number that is neither counts as present
 abbrev pub unknownIsPresent : ℕ → Attestation
 unknownIsPresent n = if leb 2 n then Attestation′.Present else attestationOf n
+
+-- "Unknown numbers are the cautious answer": whatever is not 0 is yes, as C has it; and the lowest bit, as a bool of C's is passed
+abbrev pub unknownIsYes : ℕ → Bool
+unknownIsYes n = not (eqb n 0)
+
+abbrev pub lowestBitIsYes : ℕ → Bool
+lowestBitIsYes n = eqb (n % 2) 1
 
 -- an order's certificate length goes out as the number of bytes to sign
 abbrev pub certificateLengthAsToSign : Outcome Given → Order → OrderNumbers
@@ -177,6 +187,18 @@ abbrev pub storedForGood : HardwareSaid → Hardware
 storedForGood n =
     let h = hardwareOf n in
     record { allowed = h .allowed; stored = h .stored; attestation = h .attestation; good = h .stored; counter = h .counter }
+
+-- "counter answer failed": a counter offered by any number but 0
+abbrev pub unknownIsCounted : HardwareSaid → Hardware
+unknownIsCounted n =
+    let h = hardwareOf n in
+    record {
+      allowed = h .allowed;
+      stored = h .stored;
+      attestation = h .attestation;
+      good = h .good;
+      counter = if eqb (n .counted) 0 then Counter′.Failed else Counter′.Offered (n .counter);
+    }
 
 -- "Over plain numbers any other kind is R7": refused for its room
 abbrev pub noKindIsR2 : ToFinish → Outcome (List ℕ)

@@ -42,10 +42,10 @@ fn attestation_of(number: u32) -> Attestation
     }
 }
 
-fn counter_of(counted: bool, counter: u32) -> Counter
+fn counter_of(counted: u32, counter: u32) -> Counter
     ensures { λ r. ⌜ r ≡ counterOf counted counter ⌝ }
 {
-    if counted {
+    if counted == 1 {
         return Counter::Offered(counter);
     }
     Counter::Failed
@@ -56,9 +56,9 @@ pub fn hardware_lent(said: HardwareSaid) -> Hardware
 {
     Hardware {
         allowed: allowed_of(said.allowed),
-        stored: said.stored,
+        stored: said.stored == 1,
         attestation: attestation_of(said.attestation),
-        good: said.good,
+        good: said.good == 1,
         counter: counter_of(said.counted, said.counter),
     }
 }
