@@ -1,12 +1,14 @@
 /* A whole panel on a pipe: the firmware that links the proved core, with its peer in the place of finger, clock, key store,
- * counter and signer. It holds the presence record, the reply buffer and one order; there is no heap.
+ * counter and signer. It holds the presence record and one order (include/brinecandle_panel.h) and the reply buffer; there is
+ * no heap.
  *
  * A call is a line of words between single spaces, and each is answered by one line, in its order. Numbers are decimal, a
  * header's four bytes and all byte strings are in hex, `-` is the empty byte string. Moments T are in milliseconds.
  *
  *   new W                                  ok                     a fresh record with touch window W; a refusal keeps the old
  *   touch T   check T   ask T              yes | no
- *   record                                 W PROMPT TOUCH LAST    the record as it stands; a closed window is `-`
+ *   record                                 W PROMPT TOUCH LAST    the record as it stands; a closed window is `-`; before the first
+ *                                          | ? no record yet      making that was not refused there is none (four zeros)
  *   room N                                 ok                     the reply buffer has N bytes from now on (1024 at first)
  *   read FRAME   strict FRAME              SHAPE LC LE START END  data from START, up to and without END
  *   write CLA INS P1 P2 SHAPE LE DATA      9000 FRAME             written into the reply buffer
@@ -14,9 +16,10 @@
  *                                          | authenticate P1 CHALLENGE APPLICATION HANDLE END    places in the frame
  *   decide T ALLOWED FRAME HANDLE STORED CERTIFICATE ATTESTATION X Y GOOD COUNTER COUNTED
  *                                          9000 BODY | order KIND TAKEN TOSIGN CERTIFICATELENGTH
- *          ALLOWED 0 no, 1 yes, else failed; ATTESTATION 0 missing, 1 present, else failed; both, and SHAPE, of 32
- *          bits; STORED, GOOD, COUNTED 0 or 1; KIND 1 Register, 2 Authenticate; TAKEN 0 or 1
- *   finish CERTIFICATE SIGNED SIGNATURE    9000 BODY              of the order held; SIGNED 0 or 1
+ *          ALLOWED 0 no, 1 yes, else failed; ATTESTATION 0 missing, 1 present, else failed; STORED, GOOD, COUNTED 1 yes,
+ *          else no; these and SHAPE have 32 bits; KIND 1 Register, 2 Authenticate; TAKEN 0 or 1
+ *   try T ALLOWED .. COUNTED               9000 | order TAKEN     what decide would answer; it changes nothing
+ *   finish CERTIFICATE SIGNED SIGNATURE    9000 BODY              of the order held; SIGNED 1 yes, else no, of 32 bits
  *
  * and, to look closer and to come to any state:
  *
@@ -28,21 +31,26 @@
  *   parts FRAME                            9000 CHALLENGE APPLICATION | 9000 CHALLENGE APPLICATION HANDLE | none
  *
  * Any of them may be refused, `R1` to `R7`, or answered with a status word, as `6985`. A line that is no call is answered
- * `? ` and why, and changes nothing. The order held is that of the last decision that was not refused, if it gave one; it is
- * gone once it is finished with 9000 or a status word. Before the first `new` there is no record: R6. Answers go out when
- * no more calls are waiting, so a peer may send one call at a time or a million at once.
+ * `? ` and why, and changes nothing; so is one that the end of the input cuts short, or that has a NUL in it. The order held is
+ * that of the last decision that was not refused, if it gave one; it is gone once it is finished with 9000 or a status word.
+ * Before the first `new` there is no record: R6. Answers go out when no more calls are waiting, so a peer may send one call at a
+ * time or many at once. A peer that sends a million has to read while it writes: once the pipe that way is full of answers the
+ * panel reads no more calls, and the two would wait for each other.
  */
+#include <errno.h>
 #include <unistd.h>
 
 #include "brinecandle.h"
+#ifdef WATCH
+#include "watch.h" /* firmware/test: looks at the whole of what every call hands back */
+#endif
+#include "brinecandle_panel.h"
 
 enum { ROOM = 1024, ROOM_MOST = 131072, LINE_MOST = 1048576, WORDS_MOST = 13, PIPE = 65536 };
 
 /* ---- the panel's state */
 
-static struct brinecandle_presence presence;
-static struct brinecandle_order order;
-static uint8_t block[BRINECANDLE_BLOCK];
+static struct brinecandle_panel panel;
 static uint8_t reply[ROOM_MOST];
 static size_t room = ROOM;
 
@@ -56,6 +64,8 @@ static void flush(void)
     size_t sent = 0;
     while (sent < outgoing_length) {
         ssize_t n = write(STDOUT_FILENO, outgoing + sent, outgoing_length - sent);
+        if (n < 0 && errno == EINTR)
+            continue;
         if (n <= 0)
             _exit(1);
         sent += (size_t)n;
@@ -111,7 +121,7 @@ static void then_bytes(const uint8_t *bytes, size_t length)
 
 static void put_answer(uint16_t answer)
 {
-    if (1 <= answer && answer <= BRINECANDLE_LAST_REFUSAL) {
+    if (brinecandle_is_refusal(answer)) {
         put('R');
         put_number(answer);
     } else {
@@ -125,7 +135,10 @@ static int next_char(void)
     static size_t at, length;
     if (at == length) {
         flush();
-        ssize_t n = read(STDIN_FILENO, incoming, PIPE);
+        ssize_t n;
+        do
+            n = read(STDIN_FILENO, incoming, PIPE);
+        while (n < 0 && errno == EINTR);
         if (n <= 0)
             return -1;
         at = 0;
@@ -156,11 +169,11 @@ static bool number(const char *word, uint64_t most, uint64_t *to)
     return true;
 }
 
-static bool flag(const char *word, bool *to)
+static bool number32(const char *word, uint32_t *to)
 {
     uint64_t n = 0;
-    bool is = number(word, 1, &n);
-    *to = n == 1;
+    bool is = number(word, UINT32_MAX, &n);
+    *to = (uint32_t)n;
     return is;
 }
 
@@ -207,22 +220,20 @@ static bool call_new(char **word)
     uint64_t w;
     if (!number(word[0], UINT64_MAX, &w))
         return false;
-    struct brinecandle_made made = brinecandle_new(w);
-    if (made.answer == BRINECANDLE_OK) {
-        presence = made.presence;
+    uint16_t answer = brinecandle_panel_new(&panel, w);
+    if (answer == BRINECANDLE_OK)
         put_text("ok");
-    } else {
-        put_answer(made.answer);
-    }
+    else
+        put_answer(answer);
     return true;
 }
 
-static void put_yes(uint16_t answer, bool yes)
+static void put_yes(struct brinecandle_asked said)
 {
-    if (answer == BRINECANDLE_OK)
-        put_text(yes ? "yes" : "no");
+    if (said.answer == BRINECANDLE_OK)
+        put_text(said.yes ? "yes" : "no");
     else
-        put_answer(answer);
+        put_answer(said.answer);
 }
 
 static bool call_touch(char **word)
@@ -230,9 +241,7 @@ static bool call_touch(char **word)
     uint64_t t;
     if (!number(word[0], UINT64_MAX, &t))
         return false;
-    struct brinecandle_touch touch = brinecandle_grant_up(presence, t);
-    presence = touch.presence;
-    put_yes(touch.answer, touch.yes);
+    put_yes(brinecandle_panel_touch(&panel, t));
     return true;
 }
 
@@ -241,9 +250,7 @@ static bool call_check(char **word)
     uint64_t t;
     if (!number(word[0], UINT64_MAX, &t))
         return false;
-    struct brinecandle_touch check = brinecandle_consume_up(presence, t);
-    presence = check.presence;
-    put_yes(check.answer, check.yes);
+    put_yes(brinecandle_panel_check(&panel, t));
     return true;
 }
 
@@ -252,22 +259,26 @@ static bool call_ask(char **word)
     uint64_t t;
     if (!number(word[0], UINT64_MAX, &t))
         return false;
-    struct brinecandle_asked asked = brinecandle_is_up_needed(presence, t);
-    put_yes(asked.answer, asked.yes);
+    put_yes(brinecandle_panel_ask(&panel, t));
     return true;
 }
 
 static void then_window(uint64_t window)
 {
-    if (window == UINT64_MAX)
+    if (window == 0)
         put_text(" -");
     else
-        then_number(window);
+        then_number(window - 1);
 }
 
 static bool call_record(char **word)
 {
+    struct brinecandle_presence presence = panel.presence;
     (void)word;
+    if (!presence.w && !presence.prompt && !presence.touch && !presence.last) {
+        put_text("? no record yet");
+        return true;
+    }
     put_number(presence.w);
     then_window(presence.prompt);
     then_window(presence.touch);
@@ -327,13 +338,12 @@ static void put_wrote(uint16_t answer, size_t length)
 static bool call_write(char **word)
 {
     uint8_t cla, ins, p1, p2;
-    uint64_t shape, le;
+    uint32_t shape, le;
     struct bytes content;
     if (!byte(word[0], &cla) || !byte(word[1], &ins) || !byte(word[2], &p1) || !byte(word[3], &p2)
-        || !number(word[4], UINT32_MAX, &shape) || !number(word[5], UINT32_MAX, &le) || !bytes(word[6], &content))
+        || !number32(word[4], &shape) || !number32(word[5], &le) || !bytes(word[6], &content))
         return false;
-    struct brinecandle_wrote wrote = brinecandle_write(cla, ins, p1, p2, (uint32_t)shape, content.at, content.length,
-                                                       (uint32_t)le, reply, room);
+    struct brinecandle_wrote wrote = brinecandle_write(cla, ins, p1, p2, shape, content.at, content.length, le, reply, room);
     put_wrote(wrote.answer, wrote.length);
     return true;
 }
@@ -346,11 +356,11 @@ static bool call_command(char **word)
     struct brinecandle_command command = brinecandle_read_command(frame.at, frame.length);
     if (command.answer != BRINECANDLE_OK) {
         put_answer(command.answer);
-    } else if (command.command == 1) {
+    } else if (command.command == BRINECANDLE_U2F_REGISTER) {
         put_text("register");
         then_number(command.challenge);
         then_number(command.application);
-    } else if (command.command == 2) {
+    } else if (command.command == BRINECANDLE_U2F_AUTHENTICATE) {
         put_text("authenticate");
         then_number(command.p1);
         then_number(command.challenge);
@@ -363,49 +373,77 @@ static bool call_command(char **word)
     return true;
 }
 
+/* The words of decide and try. */
+static bool lent(char **word, struct brinecandle_lent *to)
+{
+    struct bytes frame, handle, certificate, x, y;
+    if (!number(word[0], UINT64_MAX, &to->t) || !number32(word[1], &to->hardware.allowed) || !bytes(word[2], &frame)
+        || !bytes(word[3], &handle) || !number32(word[4], &to->hardware.stored) || !bytes(word[5], &certificate)
+        || !number32(word[6], &to->hardware.attestation) || !bytes(word[7], &x) || !bytes(word[8], &y) || x.length != 32
+        || y.length != 32 || !number32(word[9], &to->hardware.good) || !number32(word[10], &to->hardware.counter)
+        || !number32(word[11], &to->hardware.counted))
+        return false;
+    to->frame = frame.at;
+    to->frame_length = frame.length;
+    to->handle = handle.at;
+    to->handle_length = handle.length;
+    to->certificate = certificate.at;
+    to->certificate_length = certificate.length;
+    to->x = x.at;
+    to->y = y.at;
+    to->reply = reply;
+    to->reply_length = room;
+    return true;
+}
+
 static bool call_decide(char **word)
 {
-    uint64_t t, allowed, attestation, counter;
-    struct bytes frame, handle, certificate, x, y;
-    struct brinecandle_hardware hardware;
-    if (!number(word[0], UINT64_MAX, &t) || !number(word[1], UINT32_MAX, &allowed) || !bytes(word[2], &frame)
-        || !bytes(word[3], &handle) || !flag(word[4], &hardware.stored) || !bytes(word[5], &certificate)
-        || !number(word[6], UINT32_MAX, &attestation) || !bytes(word[7], &x) || !bytes(word[8], &y) || x.length != 32
-        || y.length != 32 || !flag(word[9], &hardware.good) || !number(word[10], UINT32_MAX, &counter)
-        || !flag(word[11], &hardware.counted))
+    struct brinecandle_lent with;
+    if (!lent(word, &with))
         return false;
-    hardware.allowed = (uint32_t)allowed;
-    hardware.attestation = (uint32_t)attestation;
-    hardware.counter = (uint32_t)counter;
-    struct brinecandle_decision decision = brinecandle_decide(frame.at, frame.length, t, presence, hardware, handle.at,
-                                                              handle.length, certificate.at, certificate.length, x.at,
-                                                              y.at, reply, room, block);
-    presence = decision.presence;
-    if (decision.answer == BRINECANDLE_ORDER) {
-        order = decision.order;
-        put_text("order");
-        then_number(order.kind);
-        then_number(decision.taken);
-        then_bytes(block, order.to_sign);
-        then_number(order.certificate_length);
+    struct brinecandle_decided decided = brinecandle_panel_decide(&panel, with);
+    if (decided.answer != BRINECANDLE_ORDER) {
+        put_wrote(decided.answer, decided.length);
         return true;
     }
-    if (7 < decision.answer)
-        order = decision.order; /* none: the one before is over */
-    put_wrote(decision.answer, decision.length);
+    put_text("order");
+    then_number(panel.order.kind);
+    then_number(decided.taken);
+    then_bytes(panel.block, panel.order.to_sign);
+    then_number(panel.order.certificate_length);
+    return true;
+}
+
+static bool call_try(char **word)
+{
+    struct brinecandle_lent with;
+    if (!lent(word, &with))
+        return false;
+    struct brinecandle_decided decided = brinecandle_panel_try(&panel, with);
+    if (decided.answer != BRINECANDLE_ORDER) {
+        put_answer(decided.answer);
+        return true;
+    }
+    put_text("order");
+    then_number(decided.taken);
     return true;
 }
 
 static bool call_finish(char **word)
 {
     struct bytes certificate, signature;
-    bool is_signed;
-    if (!bytes(word[0], &certificate) || !flag(word[1], &is_signed) || !bytes(word[2], &signature))
+    uint32_t is_signed;
+    if (!bytes(word[0], &certificate) || !number32(word[1], &is_signed) || !bytes(word[2], &signature))
         return false;
-    struct brinecandle_wrote wrote = brinecandle_finish(order, block, certificate.at, certificate.length, is_signed,
-                                                        signature.at, signature.length, reply, room);
-    if (7 < wrote.answer)
-        order = (struct brinecandle_order){0, 0, 0};
+    struct brinecandle_wrote wrote = brinecandle_panel_finish(&panel, (struct brinecandle_signed){
+        .certificate = certificate.at,
+        .certificate_length = certificate.length,
+        .is_signed = is_signed,
+        .signature = signature.at,
+        .signature_length = signature.length,
+        .reply = reply,
+        .reply_length = room,
+    });
     put_wrote(wrote.answer, wrote.length);
     return true;
 }
@@ -419,11 +457,16 @@ static bool same(const char *a, const char *b)
     return *a == *b;
 }
 
-/* A window's moment; the greatest number is a closed one's. */
+/* A window's number: 0 where it is closed, else one more than its moment. */
 static bool window(const char *word, uint64_t *to)
 {
-    *to = UINT64_MAX;
-    return same(word, "-") || number(word, UINT64_MAX - 1, to);
+    *to = 0;
+    if (same(word, "-"))
+        return true;
+    if (!number(word, UINT64_MAX - 1, to))
+        return false;
+    *to += 1;
+    return true;
 }
 
 static bool call_resume(char **word)
@@ -432,23 +475,22 @@ static bool call_resume(char **word)
     if (!number(word[0], UINT64_MAX, &kept.w) || !window(word[1], &kept.prompt) || !window(word[2], &kept.touch)
         || !number(word[3], UINT64_MAX, &kept.last))
         return false;
-    presence = kept;
+    panel.presence = kept;
     put_text("ok");
     return true;
 }
 
 static bool call_hold(char **word)
 {
-    uint64_t kind, to_sign, certificate_length;
+    uint32_t kind;
+    uint64_t to_sign, certificate_length;
     struct bytes bits;
-    if (!number(word[0], UINT32_MAX, &kind) || !number(word[1], UINT64_MAX, &to_sign)
+    if (!number32(word[0], &kind) || !number(word[1], UINT64_MAX, &to_sign)
         || !number(word[2], UINT64_MAX, &certificate_length) || !bytes(word[3], &bits) || bits.length != BRINECANDLE_BLOCK)
         return false;
-    order.kind = (uint32_t)kind;
-    order.to_sign = (size_t)to_sign;
-    order.certificate_length = (size_t)certificate_length;
+    panel.order = (struct brinecandle_order){kind, (size_t)to_sign, (size_t)certificate_length};
     for (size_t i = 0; i < BRINECANDLE_BLOCK; i++)
-        block[i] = bits.at[i];
+        panel.block[i] = bits.at[i];
     put_text("ok");
     return true;
 }
@@ -493,14 +535,14 @@ static bool call_parts(char **word)
     if (!bytes(word[0], &frame))
         return false;
     struct brinecandle_command said = brinecandle_read_command(frame.at, frame.length);
-    if (said.answer != BRINECANDLE_OK || said.command == 3) {
+    if (said.answer != BRINECANDLE_OK || said.command == BRINECANDLE_U2F_VERSION) {
         put_text("none");
         return true;
     }
     put_answer(said.answer);
     then_bytes(frame.at + said.challenge, 32);
     then_bytes(frame.at + said.application, 32);
-    if (said.command == 2)
+    if (said.command == BRINECANDLE_U2F_AUTHENTICATE)
         then_bytes(frame.at + said.handle, said.handle_end - said.handle);
     return true;
 }
@@ -514,7 +556,7 @@ static const struct call {
     {"record", 0, call_record},   {"room", 1, call_room},      {"read", 1, call_read},     {"strict", 1, call_strict},
     {"write", 7, call_write},     {"command", 1, call_command}, {"decide", 12, call_decide}, {"finish", 3, call_finish},
     {"resume", 4, call_resume},   {"hold", 4, call_hold},      {"fill", 1, call_fill},     {"reply", 0, call_reply},
-    {"data", 1, call_data},       {"parts", 1, call_parts},
+    {"data", 1, call_data},       {"parts", 1, call_parts},    {"try", 12, call_try},
 };
 
 /* ---- the pipe */
@@ -555,19 +597,25 @@ int main(void)
     static char line[LINE_MOST];
     for (;;) {
         size_t length = 0;
+        bool has_nul = false;
         int c = next_char();
         if (c < 0)
             break;
         for (; 0 <= c && c != '\n'; c = next_char()) {
             if (length < LINE_MOST)
                 line[length] = (char)c;
+            has_nul = has_nul || !c;
             length++;
         }
-        if (length < LINE_MOST) {
+        if (c < 0) {
+            put_text("? line cut short\n");
+        } else if (LINE_MOST <= length) {
+            put_text("? line too long\n");
+        } else if (has_nul) {
+            put_text("? a NUL in the line\n");
+        } else {
             line[length] = 0;
             answer_line(line);
-        } else {
-            put_text("? line too long\n");
         }
     }
     flush();

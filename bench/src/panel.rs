@@ -54,9 +54,9 @@ pub struct Asked {
 pub struct Hardware {
     pub allowed: u32,
     pub attestation: u32,
-    pub stored: bool,
-    pub good: bool,
-    pub counted: bool,
+    pub stored: u32,
+    pub good: u32,
+    pub counted: u32,
     pub counter: u32,
 }
 
@@ -77,7 +77,7 @@ pub struct Decision {
     pub presence: Presence,
 }
 
-pub const ORDER: u16 = 0;
+pub const ORDER: u16 = 0x0100;
 pub const OK: u16 = 0x9000;
 pub const BLOCK: usize = 385;
 
@@ -120,7 +120,7 @@ extern "C" {
         block: *const [u8; BLOCK],
         certificate: *const u8,
         certificate_length: usize,
-        is_signed: bool,
+        is_signed: u32,
         signature: *const u8,
         signature_length: usize,
         reply: *mut u8,

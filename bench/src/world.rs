@@ -208,9 +208,9 @@ impl World {
             hardware: Hardware {
                 allowed: 1,
                 attestation: 1,
-                stored: true,
-                good: true,
-                counted: true,
+                stored: 1,
+                good: 1,
+                counted: 1,
                 counter: COUNTER,
             },
             order: Order {
@@ -348,7 +348,7 @@ impl World {
                 &self.block,
                 certificate.as_ptr(),
                 certificate.len(),
-                true,
+                1,
                 SIGNATURE.as_ptr(),
                 SIGNATURE.len(),
                 self.reply.as_mut_ptr(),

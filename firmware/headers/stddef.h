@@ -3,4 +3,6 @@
 
 typedef __SIZE_TYPE__ size_t;
 
+#define offsetof(type, field) __builtin_offsetof(type, field)
+
 #endif

@@ -8,5 +8,6 @@ typedef __UINT64_TYPE__ uint64_t;
 
 #define UINT32_MAX __UINT32_MAX__
 #define UINT64_MAX __UINT64_MAX__
+#define SIZE_MAX __SIZE_MAX__
 
 #endif

@@ -5,7 +5,7 @@
 
 typedef __PTRDIFF_TYPE__ ssize_t;
 
-enum { STDIN_FILENO = 0, STDOUT_FILENO = 1 };
+enum { STDIN_FILENO = 0, STDOUT_FILENO = 1, STDERR_FILENO = 2 };
 
 ssize_t read(int file, void *to, size_t count);
 ssize_t write(int file, const void *from, size_t count);

@@ -3,8 +3,8 @@ ghost use Prim.Native.Nat.{_≤_};
 ghost use lib.ListN.{length};
 
 // The words, and their numbers from 8 on. The numbers below are those of refusals, and 0 is no word; all others are status words.
-const WORDS: [u8; 125] =
-    *b"ok;yes;no;version;register ;authenticate ;order ;ok ;? no such call;? another number of words;? a word that it does not take;";
+const WORDS: [u8; 141] =
+    *b"ok;yes;no;version;register ;authenticate ;order ;ok ;? no such call;? another number of words;? a word that it does not take;? no record yet;";
 
 pub const OK: u16 = 8;
 
@@ -27,6 +27,8 @@ pub const NO_CALL: u16 = 16;
 pub const OTHER_COUNT: u16 = 17;
 
 pub const OTHER_WORD: u16 = 18;
+
+pub const NO_RECORD: u16 = 19;
 
 // A word, then numbers, then so many bytes of what is lent, then a number more where it is not NOTHING.
 pub struct Answer {
@@ -82,7 +84,7 @@ fn word(out: &mut [u8], word: u16) -> usize {
     match word {
         0 => 0,
         1..=7 => spell::numbers(out, 0, b"R", &[word as u64], 1),
-        8..=18 => spell::put(out, 0, word_at(&WORDS, word - 8)),
+        8..=19 => spell::put(out, 0, word_at(&WORDS, word - 8)),
         _ => spell::bytes(out, 0, b"", &[(word / 256) as u8, (word % 256) as u8]),
     }
 }

@@ -48,14 +48,13 @@ fn lookup(list: &[u8], name: &[u8]) -> Found {
     }
 }
 
-// A word by its letter: n a number, 4 one of 32 bits, f 0 or 1, r a room, w a window, b a byte in hex, x bytes, k 32 of
+// A word by its letter: n a number, 4 one of 32 bits, r a room, w a window, b a byte in hex, x bytes, k 32 of
 // them, o a block of 385.
 // Bytes go to the front of raw; a byte and a closed window, which is the greatest, are numbers.
 fn one(letter: u8, word: &[u8], raw: &mut [u8]) -> Said {
     match letter {
         b'n' => text::number(word, 0xffff_ffff_ffff_ffff),
         b'4' => text::number(word, 0xffff_ffff),
-        b'f' => text::number(word, 1),
         b'r' => text::number(word, ROOM_MOST),
         b'w' => {
             if text::is_dash(word) {

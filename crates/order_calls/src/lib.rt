@@ -37,9 +37,9 @@ fn hardware(numbers: &[u64; 16]) -> HardwareSaid {
     HardwareSaid {
         allowed: (numbers[1] % 0x1_0000_0000) as u32,
         attestation: (numbers[6] % 0x1_0000_0000) as u32,
-        stored: numbers[4] == 1,
-        good: numbers[9] == 1,
-        counted: numbers[11] == 1,
+        stored: (numbers[4] % 0x1_0000_0000) as u32,
+        good: (numbers[9] % 0x1_0000_0000) as u32,
+        counted: (numbers[11] % 0x1_0000_0000) as u32,
         counter: (numbers[10] % 0x1_0000_0000) as u32,
     }
 }
@@ -60,7 +60,7 @@ fn decided(panel: Panel, decision: DecisionSaid) -> Panel {
     let presence = decision.presence;
     let order = decision.order;
     let held = panel.order;
-    if decision.answer == 0 {
+    if decision.answer == 0x0100 {
         return stands(panel, presence, order, ordered(order, decision.taken));
     }
     let answer = panel_calls::wrote(decision.answer, decision.length);
@@ -102,7 +102,7 @@ pub fn decide(
 pub fn finish(
     panel: Panel,
     certificate: &[u8],
-    signed: bool,
+    signed: u32,
     signature: &[u8],
     reply: &mut [u8],
     block: &[u8; 385],

@@ -122,7 +122,7 @@ pub extern "C" fn brinecandle_finish(
     order: OrderNumbers,
     block: &[u8; 385],
     certificate: &[u8],
-    is_signed: bool,
+    is_signed: u32,
     signature: &[u8],
     reply: &mut [u8],
 ) -> Wrote
@@ -141,7 +141,7 @@ pub extern "C" fn brinecandle_finish(
             plain_orders::finished_plain(signing::finish(
                 made,
                 certificate,
-                is_signed,
+                is_signed == 1,
                 signature,
                 reply,
             ))

@@ -23,6 +23,15 @@ fn stepped(panel: Panel, touched: Stepped) -> Panel {
     stands(panel, presence, yes(touched.answer, touched.yes))
 }
 
+// Four zeros are no record: there was no making yet, or none but refused ones.
+fn record(p: PresenceRecord) -> Answer {
+    if p.w == 0 && p.prompt == 0 && p.touch == 0 && p.last == 0 {
+        return answers::bare(answers::NO_RECORD);
+    }
+    let four = [p.w, moment(p.prompt), moment(p.touch), p.last, 0];
+    answers::with_numbers(0, 4, four)
+}
+
 // A refused making keeps the old record.
 fn made(panel: Panel, w: u64) -> Panel {
     let made = panel::brinecandle_new(w);
@@ -32,6 +41,21 @@ fn made(panel: Panel, w: u64) -> Panel {
     }
     let presence = made.presence;
     stands(panel, presence, answers::bare(answers::OK))
+}
+
+// A window in words: the moment of its opening, or NOTHING; and back. A number of a window above 0 is its moment and one more.
+fn moment(window: u64) -> u64 {
+    if window == 0 {
+        return spell::NOTHING;
+    }
+    window - 1
+}
+
+fn window(moment: u64) -> u64 {
+    if moment == spell::NOTHING {
+        return 0;
+    }
+    moment + 1
 }
 
 fn ask(presence: PresenceRecord, t: u64) -> Answer {
@@ -48,15 +72,12 @@ pub fn on_record(panel: Panel, call: usize, numbers: &[u64; 16]) -> Panel {
         1 => stepped(panel, panel::brinecandle_grant_up(p, n)),
         2 => stepped(panel, panel::brinecandle_consume_up(p, n)),
         3 => stands(panel, p, ask(p, n)),
-        4 => {
-            let four = [p.w, p.prompt, p.touch, p.last, 0];
-            stands(panel, p, answers::with_numbers(0, 4, four))
-        }
+        4 => stands(panel, p, record(p)),
         _ => {
             let kept = PresenceRecord {
                 w: n,
-                prompt: numbers[1],
-                touch: numbers[2],
+                prompt: window(numbers[1]),
+                touch: window(numbers[2]),
                 last: numbers[3],
             };
             stands(panel, kept, answers::bare(answers::OK))

@@ -1,7 +1,8 @@
 -- A law for each `return`, in the form of its need, with the facts as the code has them. It mentions no function.
-use Prim.Native.Nat.{ℕ, _+_}
-use mathlib.Core.Path.{_≡_, ap, _∙_}
+use Prim.Native.Nat.{ℕ, zero, suc, _+_, _-_}
+use mathlib.Core.Path.{_≡_, refl, ap, _∙_}
 use mathlib.Core.List.{List}
+use native.Mathlib.Omega.{arith}
 use borrow.Author.Tests.{ne-eqb}
 use lib.ListN.{length}
 use Rattle.outcome.specs.Outcome.{Gives, statusNo, refusalNo}
@@ -25,7 +26,7 @@ use Rattle.command_stated.specs.declared.Ctap1Flags.{Ctap1Flags}
 use Rattle.command_stated.specs.declared.U2fCommand.{U2fCommand}
 use Rattle.command_stated.specs.declared.U2fCommand.the-variants as U2fCommand′
 use Rattle.panel_stated.specs.Words.{FrameSaid, CommandSaid, Wrote, Shaped, PresenceRecord, Made, Stepped, Asked, HardwareSaid, OrderNumbers, DecisionSaid, Kinded}
-use Rattle.panel_stated.specs.Numbers.{shapeOf, closedNo, windowOf, windowNo, presenceOf, presenceNumbers, allowedOf, attestationOf, counterOf, hardwareOf, kindOf, decidedNo}
+use Rattle.panel_stated.specs.Numbers.{shapeOf, greatestNo, windowOf, windowNo, presenceOf, presenceNumbers, allowedOf, attestationOf, isYes, counterOf, hardwareOf, kindOf, decidedNo}
 use Rattle.panel_stated.specs.Exports.{noFrame, frameNumbers, lengthNumbers, ToWrite, writeNumbered, bufferAs, bareCommand, commandNumbers, noRecord, madeNumbers, askedNumbers, stepNumbers, bodyLength, orderAfter, blockAfter, blockLeft, decisionNumbers, ToFinish, orderFrom, finishNumbered}
 use Rattle.panel_stated.specs.declared.Shaped.the-variants as Shaped′
 use mathlib.Core.Bool.{true, false, Bool}
@@ -153,12 +154,23 @@ module _ (header : ApduHeader) (shape : ℕ) (content : List ℕ) (le : ℕ) (ol
     buffer-as-none = rw (← is-shaped, z)
 
 -- ---- presence
-module _ (number : ℕ) where
-  pub window-closed : number ≡ closedNo → Closed ≡ windowOf number
-  window-closed e = rw e
+pub window-closed : (number : ℕ) → number ≡ 0 → Closed ≡ windowOf number
+window-closed number e = rw e refl
 
-  pub window-opened : (number ≡ closedNo → ⊥) → Opened number ≡ windowOf number
-  window-opened n = rw (ne-eqb number closedNo n)
+pub window-opened : (number : ℕ) → (number ≡ 0 → ⊥) → Opened (number - 1) ≡ windowOf number
+window-opened zero not = absurd (not refl)
+window-opened (suc m) not = let before : suc m - 1 ≡ m = omega arith in ap Opened before
+
+module _ (window : Window) where
+  pub closed-numbered : window ≡ Closed → 0 ≡ windowNo window
+  closed-numbered z = rw z
+
+  module _ (m : ℕ) (z : window ≡ Opened m) where
+    pub opened-numbered : (m ≡ greatestNo → ⊥) → m + 1 ≡ windowNo window
+    opened-numbered not = rw (z, ne-eqb m greatestNo not)
+
+    pub greatest-numbered : m ≡ greatestNo → greatestNo ≡ windowNo window
+    greatest-numbered e = rw (z, e)
 
 pub record-lent : (n : PresenceRecord) (prompt touch : Window) → prompt ≡ windowOf (n .prompt) → touch ≡ windowOf (n .touch)
     → _≡_ {A = Presence} (record { w = n .w; prompt = prompt; touch = touch; last = n .last }) (presenceOf n)
@@ -238,15 +250,15 @@ pub no-kind : (number : ℕ) → (number ≡ 1 → ⊥) → (number ≡ 2 → �
 unfolding kindOf
 no-kind number a b = rw (ne-eqb number 1 a, ne-eqb number 2 b)
 
-module _ (counted : Bool) (n : ℕ) where
-  pub counter-offered : counted ≡ true → Counter′.Offered n ≡ counterOf counted n
+module _ (counted n : ℕ) where
+  pub counter-offered : counted ≡ 1 → Counter′.Offered n ≡ counterOf counted n
   counter-offered e = rw e
 
-  pub counter-failed : counted ≡ false → Counter′.Failed ≡ counterOf counted n
-  counter-failed e = rw e
+  pub counter-failed : (counted ≡ 1 → ⊥) → Counter′.Failed ≡ counterOf counted n
+  counter-failed not = rw (ne-eqb counted 1 not)
 
 pub hardware-said : (n : HardwareSaid) (a : Allowed) (t : Attestation) (k : Counter) → a ≡ allowedOf (n .allowed) → t ≡ attestationOf (n .attestation) → k ≡ counterOf (n .counted) (n .counter)
-    → _≡_ {A = Hardware} (record { allowed = a; stored = n .stored; attestation = t; good = n .good; counter = k }) (hardwareOf n)
+    → _≡_ {A = Hardware} (record { allowed = a; stored = isYes (n .stored); attestation = t; good = isYes (n .good); counter = k }) (hardwareOf n)
 hardware-said n a t k is-a is-t is-k = rw (is-a, is-t, is-k)
 
 -- ---- the decision
@@ -293,7 +305,7 @@ module _ (finished : Finished) where
   finished-body n z = rw z
 
 -- the order as numbers, and what signing's finishing is then lent
-abbrev toFinish : (n : OrderNumbers) (block certificate : List ℕ) (signed : Bool) (signature reply : List ℕ) → ToFinish
+abbrev toFinish : (n : OrderNumbers) (block certificate : List ℕ) (signed : ℕ) (signature reply : List ℕ) → ToFinish
 toFinish n block certificate signed signature reply =
     record { order = n; block = block; certificate = certificate; signed = signed; signature = signature; reply = reply }
 
@@ -301,8 +313,8 @@ abbrev finishing : (kind : Kind) (n : OrderNumbers) (block certificate : List �
 finishing kind n block certificate signed signature reply =
     record { order = orderFrom kind n block; certificate = certificate; signed = signed; signature = signature; reply = reply }
 
-module _ (n : OrderNumbers) (block certificate : List ℕ) (signed : Bool) (signature reply : List ℕ) (kinded : Kinded) (is-kinded : kinded ≡ kindOf (n .kind)) where
-  module _ (kind : Kind) (finished : Finished) (new : List ℕ) (z : kinded ≡ Kinded′.As kind) (does : Finish (finishing kind n block certificate signed signature reply) finished new) where
+module _ (n : OrderNumbers) (block certificate : List ℕ) (signed : ℕ) (signature reply : List ℕ) (kinded : Kinded) (is-kinded : kinded ≡ kindOf (n .kind)) where
+  module _ (kind : Kind) (finished : Finished) (new : List ℕ) (z : kinded ≡ Kinded′.As kind) (does : Finish (finishing kind n block certificate (isYes signed) signature reply) finished new) where
     pub finish-as : (r : Wrote) → r ≡ lengthNumbers (finishedOf finished) → r ≡ lengthNumbers (lengthOf (finishNumbered (toFinish n block certificate signed signature reply)))
     finish-as r is = is ∙ ap lengthNumbers (does .says) ∙ rw (← is-kinded, z)
 

@@ -1,7 +1,7 @@
 -- Only the definitions meet the claims: two functions that meet one agree on every input.
 use Prim.Native.Nat.{ℕ, zero, suc}
 use mathlib.Core.Bool.{Bool, true, false}
-use mathlib.Core.Path.{_≡_, refl, sym, _∙_}
+use mathlib.Core.Path.{_≡_, refl, ap, sym, _∙_}
 use mathlib.Core.Logic.{inl, inr}
 use native.Mathlib.Omega.{arith}
 use native.Mathlib.Decide.{ℕ-discrete}
@@ -13,7 +13,7 @@ use Rattle.ctap1_stated.specs.Words.{Given, Body, Ordered}
 use Rattle.signing_stated.specs.declared.Kind.{Kind}
 use Rattle.signing_stated.specs.declared.Kind.the-variants as Kind′
 use Rattle.panel_stated.specs.Words.{Hardware, DecisionSaid, PresenceRecord}
-use Rattle.panel_stated.specs.Terms.{IsNumbered}
+use Rattle.panel_stated.specs.Terms.{IsNumbered, AreOf64Bits}
 use Rattle.panel_stated.specs.Claims
 
 -- ---- numbers that stand for cases
@@ -45,26 +45,33 @@ AttestationNumbers f g p q zero = p .missing ∙ sym (q .missing)
 AttestationNumbers f g p q (suc zero) = p .present ∙ sym (q .present)
 AttestationNumbers f g p q (suc (suc n)) = p .failed (suc (suc n)) (omega arith) ∙ sym (q .failed (suc (suc n)) (omega arith))
 
+pub YesNumbers : Determines Claims.YesNumbers
+YesNumbers f g p q n = by-number (ℕ-discrete n 1)
+  where
+    by-number : Dec (n ≡ 1) → f n ≡ g n
+    by-number (yes e) = ap f e ∙ p .granted ∙ sym (q .granted) ∙ sym (ap g e)
+    by-number (no e) = p .other n e ∙ sym (q .other n e)
+
 -- ---- records
 presence-equal : (a b : Presence) → a .w ≡ b .w → a .prompt ≡ b .prompt → a .touch ≡ b .touch → a .last ≡ b .last → a ≡ b
 presence-equal a b w p t l = λ d. record { w = w d; prompt = p d; touch = t d; last = l d }
 
 pub RecordNumbers : Determines Claims.RecordNumbers
 RecordNumbers f g p q n =
-    presence-equal (f n) (g n) (p .w n ∙ sym (q .w n)) (by-prompt (ℕ-discrete (n .prompt) 0xffffffffffffffff)) (by-touch (ℕ-discrete (n .touch) 0xffffffffffffffff)) (p .last n ∙ sym (q .last n))
+    presence-equal (f n) (g n) (p .w n ∙ sym (q .w n)) (by-prompt (n .prompt) refl) (by-touch (n .touch) refl) (p .last n ∙ sym (q .last n))
   where
-    by-prompt : Dec (n .prompt ≡ 0xffffffffffffffff) → f n .prompt ≡ g n .prompt
-    by-prompt (yes e) = p .prompt-closed n e ∙ sym (q .prompt-closed n e)
-    by-prompt (no e) = p .prompt-opened n e ∙ sym (q .prompt-opened n e)
+    by-prompt : (k : ℕ) → n .prompt ≡ k → f n .prompt ≡ g n .prompt
+    by-prompt zero e = p .prompt-closed n e ∙ sym (q .prompt-closed n e)
+    by-prompt (suc m) e = p .prompt-opened n m (omega (arith, e)) ∙ sym (q .prompt-opened n m (omega (arith, e)))
 
-    by-touch : Dec (n .touch ≡ 0xffffffffffffffff) → f n .touch ≡ g n .touch
-    by-touch (yes e) = p .touch-closed n e ∙ sym (q .touch-closed n e)
-    by-touch (no e) = p .touch-opened n e ∙ sym (q .touch-opened n e)
+    by-touch : (k : ℕ) → n .touch ≡ k → f n .touch ≡ g n .touch
+    by-touch zero e = p .touch-closed n e ∙ sym (q .touch-closed n e)
+    by-touch (suc m) e = p .touch-opened n m (omega (arith, e)) ∙ sym (q .touch-opened n m (omega (arith, e)))
 
 -- a plain form that numbers go through unchanged is the way back of what they stand for
 pub NumbersBack : (lend : PresenceRecord → Presence) (f g : Presence → PresenceRecord) → Claims.NumbersBack lend f → Claims.NumbersBack lend g
-    → (n : PresenceRecord) → f (lend n) ≡ g (lend n)
-NumbersBack lend f g p q n = p n ∙ sym (q n)
+    → (n : PresenceRecord) → AreOf64Bits n → f (lend n) ≡ g (lend n)
+NumbersBack lend f g p q n h = p n h ∙ sym (q n h)
 
 -- ---- what is not said is 0
 pub FrameNumbers : Determines Claims.FrameNumbers
@@ -139,11 +146,19 @@ hardware-equal a b l s t g c = λ d. record { allowed = l d; stored = s d; attes
 
 pub HardwareNumbers : Determines Claims.HardwareNumbers
 HardwareNumbers f g p q n =
-    hardware-equal (f n) (g n) (p .allowed n ∙ sym (q .allowed n)) (p .stored n ∙ sym (q .stored n)) (p .attestation n ∙ sym (q .attestation n)) (p .good n ∙ sym (q .good n)) (by-counted (n .counted) refl)
+    hardware-equal (f n) (g n) (p .allowed n ∙ sym (q .allowed n)) (by-stored (ℕ-discrete (n .stored) 1)) (p .attestation n ∙ sym (q .attestation n)) (by-good (ℕ-discrete (n .good) 1)) (by-counted (ℕ-discrete (n .counted) 1))
   where
-    by-counted : (b : Bool) → n .counted ≡ b → f n .counter ≡ g n .counter
-    by-counted true e = p .offered n e ∙ sym (q .offered n e)
-    by-counted false e = p .failed n e ∙ sym (q .failed n e)
+    by-stored : Dec (n .stored ≡ 1) → f n .stored ≡ g n .stored
+    by-stored (yes e) = p .stored n e ∙ sym (q .stored n e)
+    by-stored (no e) = p .not-stored n e ∙ sym (q .not-stored n e)
+
+    by-good : Dec (n .good ≡ 1) → f n .good ≡ g n .good
+    by-good (yes e) = p .good n e ∙ sym (q .good n e)
+    by-good (no e) = p .not-good n e ∙ sym (q .not-good n e)
+
+    by-counted : Dec (n .counted ≡ 1) → f n .counter ≡ g n .counter
+    by-counted (yes e) = p .offered n e ∙ sym (q .offered n e)
+    by-counted (no e) = p .failed n e ∙ sym (q .failed n e)
 
 -- ---- answers: of every outcome that an export has (`EveryOutcomeNumbered`)
 pub AnswerTells : (f g : Outcome Bool → ℕ) → Claims.AnswerTells f → Claims.AnswerTells g → (o : Outcome Bool) → IsNumbered o → f o ≡ g o

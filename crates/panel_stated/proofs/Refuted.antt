@@ -18,11 +18,12 @@ use Rattle.u2f_up_stated.specs.declared.Presence.{Presence}
 use Rattle.ctap1_stated.specs.Words.{Ordered}
 use Rattle.ctap1_stated.specs.declared.Allowed.the-variants as Allowed′
 use Rattle.ctap1_stated.specs.declared.Attestation.the-variants as Attestation′
+use Rattle.ctap1_stated.specs.declared.Counter.the-variants as Counter′
 use Rattle.signing_stated.specs.Orders.{isAuthenticateLayout}
 use Rattle.signing_stated.specs.Finishing.{finishOf}
 use Rattle.signing_stated.specs.declared.Kind.the-variants as Kind′
 use Rattle.panel_stated.specs.Words.{Window, Made, PresenceRecord, OrderNumbers, FrameSaid, CommandSaid, Wrote, Stepped, Asked, Order}
-use Rattle.panel_stated.specs.Numbers.{presenceNumbers, kindOf}
+use Rattle.panel_stated.specs.Numbers.{answerNo, presenceNumbers, kindOf}
 use Rattle.panel_stated.specs.Exports.{writeNumbered, decisionNumbers, decidedBy, commandNumbers}
 use Rattle.panel_stated.specs.Claims
 use Rattle.panel_stated.specs.Wrong
@@ -34,40 +35,51 @@ statusAs9000 p =
     let x = p .given (SW 0x6a80) (omega arith, omega arith) .0 refl in let e : SW 0x6a80 ≡ Gives (x .0) = x .1 in let z : _≡_ {A = ℕ} 0 1 = cc in omega arith
 
 pub orderNumbered2 : Claims.DecisionTells Wrong.orderNumbered2 → ⊥
-orderNumbered2 p = let e : _≡_ {A = ℕ} 2 0 = p .ordered (Gives Ordered) tt .1 refl in omega arith
+orderNumbered2 p = let e : _≡_ {A = ℕ} 2 0x0100 = p .ordered (Gives Ordered) tt .1 refl in omega arith
+
+pub orderIs0 : Claims.NoAnswerIs0 answerNo Wrong.orderIs0 → ⊥
+orderIs0 p = p .decision (Gives Ordered) tt refl
 
 -- ---- records
 abbrev oneOpened : PresenceRecord
-oneOpened = record { w = 5000; prompt = 0xffffffffffffffff; touch = 7; last = 9 }
+oneOpened = record { w = 5000; prompt = 0; touch = 8; last = 9 }
 
 pub windowsSwapped : Claims.NumbersBack Wrong.windowsSwapped presenceNumbers → ⊥
-windowsSwapped p = let e : _≡_ {A = ℕ} 7 0xffffffffffffffff = ap (λ (n : PresenceRecord). n .prompt) (p oneOpened) in omega arith
+windowsSwapped p = let e : _≡_ {A = ℕ} 8 0 = ap (λ (n : PresenceRecord). n .prompt) (p oneOpened (omega arith, omega arith)) in omega arith
 
 pub swappedBothWays : Claims.RecordNumbers Wrong.swappedBothWays → ⊥
 swappedBothWays p =
     let e : Opened 7 ≡ Closed = p .prompt-closed oneOpened refl in let z : _≡_ {A = ℕ} 0 1 = cc in omega arith
 
+-- the natural way to begin in C, `{.w = 5000}`: at moment 100 there would be a touch
+abbrev zeroed : PresenceRecord
+zeroed = record { w = 5000; prompt = 0; touch = 0; last = 0 }
+
+pub greatestIsClosed : Claims.RecordNumbers Wrong.greatestIsClosed → ⊥
+greatestIsClosed p =
+    let e : Opened 0 ≡ Closed = p .touch-closed zeroed refl in let z : _≡_ {A = ℕ} 0 1 = cc in omega arith
+
 -- a prompt opened at moment 0
 abbrev promptedAt0 : Presence
 promptedAt0 = record { w = 5000; prompt = Opened 0; touch = Closed; last = 0 }
 
--- a record's numbers with closed windows numbered 0, and a making that gives them
-abbrev windowZero : Window → ℕ
-windowZero Closed = 0
-windowZero (Opened m) = m
+-- a record's numbers with open windows numbered by their moment, and a making that gives them
+abbrev itsMoment : Window → ℕ
+itsMoment Closed = 0
+itsMoment (Opened m) = m
 
-abbrev closedAs0 : Presence → PresenceRecord
-closedAs0 p = record { w = p .w; prompt = windowZero (p .prompt); touch = windowZero (p .touch); last = p .last }
+abbrev asItsMoment : Presence → PresenceRecord
+asItsMoment p = record { w = p .w; prompt = itsMoment (p .prompt); touch = itsMoment (p .touch); last = p .last }
 
-abbrev madeWithClosed0 : ℕ → Made
-madeWithClosed0 w = record { answer = 0x9000; presence = closedAs0 (fresh w) }
+abbrev madeAsItsMoment : ℕ → Made
+madeAsItsMoment w = record { answer = 0x9000; presence = asItsMoment (fresh w) }
 
-pub closedIs0 : Claims.RecordsBack Wrong.closedIs0 closedAs0 → ⊥
-closedIs0 p =
+pub openedAtItsNumber : Claims.RecordsBack Wrong.openedAtItsNumber asItsMoment → ⊥
+openedAtItsNumber p =
     let e : Closed ≡ Opened 0 = ap (λ (q : Presence). q .prompt) (p promptedAt0 (omega arith) tt) in let z : _≡_ {A = ℕ} 0 1 = cc in omega arith
 
 pub refusedMoves : Claims.RefusalHandsBack Wrong.refusedMoves Wrong.refusedMoves (λ i. decisionNumbers (decidedBy i)) → ⊥
-refusedMoves p = let e : _≡_ {A = ℕ} 8 9 = ap (λ (n : PresenceRecord). n .last) (p .grant-up oneOpened 8 (omega arith)) in omega arith
+refusedMoves p = let e : _≡_ {A = ℕ} 8 9 = ap (λ (n : PresenceRecord). n .last) (p .grant-up oneOpened 8 (omega arith, omega arith) (omega arith)) in omega arith
 
 -- ---- numbers that stand for cases
 pub shape0Accepted : Claims.ShapeNumbers Wrong.shape0Accepted → ⊥
@@ -88,6 +100,12 @@ pub unknownIsPresent : Claims.AttestationNumbers Wrong.unknownIsPresent → ⊥
 unknownIsPresent p =
     let e : Attestation′.Present ≡ Attestation′.Failed = p .failed 3 (omega arith) in let z : _≡_ {A = ℕ} 0 1 = cc in omega arith
 
+pub unknownIsYes : Claims.YesNumbers Wrong.unknownIsYes → ⊥
+unknownIsYes p = let e : _≡_ {A = Bool} true false = p .other 2 (λ e. omega arith) in let z : _≡_ {A = ℕ} 0 1 = cc in omega arith
+
+pub lowestBitIsYes : Claims.YesNumbers Wrong.lowestBitIsYes → ⊥
+lowestBitIsYes p = let e : _≡_ {A = Bool} true false = p .other 255 (λ e. omega arith) in let z : _≡_ {A = ℕ} 0 1 = cc in omega arith
+
 -- an Authenticate order of zeros
 abbrev login : Order
 login = record { kind = Kind′.Authenticate; «to_sign» = 69; «certificate_length» = 0; bytes = replicate 385 0 }
@@ -100,7 +118,7 @@ said (Gives body) = 0x9000
 pub certificateLengthAsToSign : Claims.OrderBack Wrong.certificateLengthAsToSign → ⊥
 unfolding finishOf isAuthenticateLayout kindOf
 certificateLengthAsToSign p =
-    let e : _≡_ {A = ℕ} 7 0x9000 = ap said (p login [] true [] (replicate 77 0)) in omega arith
+    let e : _≡_ {A = ℕ} 7 0x9000 = ap said (p login [] 1 [] (replicate 77 0)) in omega arith
 
 -- ---- what is not said is 0
 pub shape1BesideStatus : Claims.FrameNumbers Wrong.shape1BesideStatus → ⊥
@@ -152,9 +170,9 @@ takenUnsaid p =
 abbrev checkedAt0 : List Call
 checkedAt0 = record { role = Checking; moment = 0 } ∷ []
 
-pub lendsClosed0 : Claims.RunsOverNumbers madeWithClosed0 Wrong.lendsClosed0 closedAs0 → ⊥
+pub runsAtItsNumber : Claims.RunsOverNumbers madeAsItsMoment Wrong.runsAtItsNumber asItsMoment → ⊥
 unfolding after numbersAfter doneBy checkOf settleOf checkedOf
-lendsClosed0 p =
+runsAtItsNumber p =
     let e : Closed ≡ Opened 0 = ap (λ (q : Presence). q .prompt) (p .records Call own (λ q d. refl) 5000 (omega arith) (omega arith) checkedAt0) in
     let z : _≡_ {A = ℕ} 0 1 = cc in
     omega arith
@@ -162,12 +180,18 @@ lendsClosed0 p =
 -- ---- the hardware, and orders of no kind
 pub storedForGood : Claims.HardwareNumbers Wrong.storedForGood → ⊥
 storedForGood p =
-    let e : _≡_ {A = Bool} true false = p .good (record { allowed = 1; attestation = 1; stored = true; good = false; counted = true; counter = 0 }) in
+    let e : _≡_ {A = Bool} true false = p .not-good (record { allowed = 1; attestation = 1; stored = 1; good = 0; counted = 1; counter = 0 }) (λ e. omega arith) in
+    let z : _≡_ {A = ℕ} 0 1 = cc in
+    omega arith
+
+pub unknownIsCounted : Claims.HardwareNumbers Wrong.unknownIsCounted → ⊥
+unknownIsCounted p =
+    let e : Counter′.Offered 0 ≡ Counter′.Failed = p .failed (record { allowed = 1; attestation = 1; stored = 1; good = 1; counted = 2; counter = 0 }) (λ e. omega arith) in
     let z : _≡_ {A = ℕ} 0 1 = cc in
     omega arith
 
 pub noKindIsR2 : Claims.OthersRefused writeNumbered Wrong.noKindIsR2 → ⊥
 noKindIsR2 p =
     let e : _≡_ {A = ℕ} 2 7 =
-    ap said (p .kind (record { order = record { kind = 3; «to_sign» = 69; «certificate_length» = 0 }; block = []; certificate = []; signed = true; signature = []; reply = [] }) (inr (omega arith))) in
+    ap said (p .kind (record { order = record { kind = 3; «to_sign» = 69; «certificate_length» = 0 }; block = []; certificate = []; signed = 1; signature = []; reply = [] }) (inr (omega arith))) in
     omega arith

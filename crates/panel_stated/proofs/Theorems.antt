@@ -1,9 +1,8 @@
 -- The definitions meet the claims of specs/Claims.antt, each under the claim's own name.
-use Prim.Native.Nat.{ℕ, _≤_, _<_, _^_, _+_}
+use Prim.Native.Nat.{ℕ, zero, suc, _≤_, _<_, _^_, _+_}
 use mathlib.Core.Path.{_≡_, refl, ap, sym, _∙_}
 use mathlib.Core.Logic.{_↔_, _⊎_, inl, inr}
 use native.Mathlib.Omega.{arith}
-use native.Mathlib.Decide.{ℕ-discrete}
 use borrow.Author.Tests.{eq-eqb, ne-eqb, le-ltb}
 use lib.ListN.{length}
 use Rattle.outcome.specs.Outcome.{Outcome, R, SW, Gives, lastRefusal}
@@ -13,7 +12,7 @@ use Rattle.u2f_up_stated.specs.declared.Window.{Window}
 use Rattle.u2f_up_stated.specs.declared.Window.the-variants.{Closed, Opened}
 use Rattle.signing_stated.specs.Orders.{kindNo}
 use Rattle.ctap1_stated.specs.Words.{Given, Body, Ordered}
-use Rattle.panel_stated.specs.Numbers.{answerNo, decidedNo, closedNo, windowOf, windowNo, presenceOf, presenceNumbers, shapeOf, kindOf, allowedOf, attestationOf, hardwareOf}
+use Rattle.panel_stated.specs.Numbers.{answerNo, decidedNo, greatestNo, windowOf, windowNo, presenceOf, presenceNumbers, shapeOf, kindOf, allowedOf, attestationOf, isYes, hardwareOf}
 use Rattle.panel_stated.specs.Exports.{ToWrite, ToFinish, inputsOf, writeAs, finishAs, writeNumbered, finishNumbered, orderAfter, frameNumbers, commandNumbers, lengthNumbers, askedNumbers, stepNumbers, madeNumbers, blockAfter, decisionNumbers, decidedBy, bodyLength}
 use Rattle.panel_stated.specs.Claims
 use Rattle.panel_stated.specs.Terms.{IsNumbered, IsOfMoment, AfterWriting, AfterDeciding, Carries, register, authenticate}
@@ -86,8 +85,8 @@ DecisionTells = record { ordered = ordered; body = body; refused = refusal; stat
     body-order : (n : ℕ) → _≡_ {A = Outcome Given} (Gives (Body n)) (Gives Ordered) → ⊥
     body-order n e = let z : _≡_ {A = ℕ} 0 1 = cc in omega arith
 
-    ordered : (o : Outcome Given) → IsNumbered o → (decidedNo o ≡ 0) ↔ (o ≡ Gives Ordered)
-    ordered (R n) h = (λ e. absurd (omega (arith, e, h .0)), λ e. absurd (r-gives _ _ e))
+    ordered : (o : Outcome Given) → IsNumbered o → (decidedNo o ≡ 0x0100) ↔ (o ≡ Gives Ordered)
+    ordered (R n) h = (λ e. absurd (omega (arith, e, h .1)), λ e. absurd (r-gives _ _ e))
     ordered (SW n) h = (λ e. absurd (omega (arith, e, h .0)), λ e. absurd (sw-gives _ _ e))
     ordered (Gives (Body n)) h = (λ e. absurd (omega (arith, e)), λ e. absurd (body-order n e))
     ordered (Gives Ordered) h = (λ e. refl, λ e. refl)
@@ -102,7 +101,7 @@ DecisionTells = record { ordered = ordered; body = body; refused = refusal; stat
     refusal (R m) h n low high = (λ e. ap R e, λ e. cc)
     refusal (SW m) h n low high = (λ e. absurd (omega (arith, e, h .0, high)), λ e. absurd (r-sw _ _ (sym e)))
     refusal (Gives (Body m)) h n low high = (λ e. absurd (omega (arith, e, high)), λ e. absurd (r-gives _ _ (sym e)))
-    refusal (Gives Ordered) h n low high = (λ e. absurd (omega (arith, e, low)), λ e. absurd (r-gives _ _ (sym e)))
+    refusal (Gives Ordered) h n low high = (λ e. absurd (omega (arith, e, high)), λ e. absurd (r-gives _ _ (sym e)))
 
     status : (o : Outcome Given) → IsNumbered o → (n : ℕ) → 0x6000 ≤ n → n < 0x9000 → (decidedNo o ≡ n) ↔ (o ≡ SW n)
     status (R m) h n low high = (λ e. absurd (omega (arith, e, h .1, low)), λ e. absurd (r-sw _ _ e))
@@ -110,42 +109,57 @@ DecisionTells = record { ordered = ordered; body = body; refused = refusal; stat
     status (Gives (Body m)) h n low high = (λ e. absurd (omega (arith, e, high)), λ e. absurd (sw-gives _ _ (sym e)))
     status (Gives Ordered) h n low high = (λ e. absurd (omega (arith, e, low)), λ e. absurd (sw-gives _ _ (sym e)))
 
--- ---- records
-number-back : (n : ℕ) → windowNo (windowOf n) ≡ n
-number-back n = go (ℕ-discrete n closedNo)
+pub NoAnswerIs0 : Claims.NoAnswerIs0 answerNo decidedNo
+NoAnswerIs0 = record { answered = answered; decision = decision }
   where
-    go : Dec (n ≡ closedNo) → windowNo (windowOf n) ≡ n
-    go (yes e) = rw (eq-eqb n closedNo e) (sym e)
-    go (no d) = rw (ne-eqb n closedNo d) refl
+    answered : (o : Outcome Bool) → IsNumbered o → answerNo o ≡ 0 → ⊥
+    answered (R n) h e = omega (arith, e, h .0)
+    answered (SW n) h e = omega (arith, e, h .0)
+    answered (Gives b) h e = omega (arith, e)
+
+    decision : (o : Outcome Given) → IsNumbered o → decidedNo o ≡ 0 → ⊥
+    decision (R n) h e = omega (arith, e, h .0)
+    decision (SW n) h e = omega (arith, e, h .0)
+    decision (Gives (Body n)) h e = omega (arith, e)
+    decision (Gives Ordered) h e = omega (arith, e)
+
+-- ---- records
+number-back : (n : ℕ) → n < 2 ^ 64 → windowNo (windowOf n) ≡ n
+number-back zero h = refl
+number-back (suc m) h = rw (ne-eqb m greatestNo (λ e. below m h e)) (omega arith)
+  where
+    below : (m : ℕ) → suc m < 2 ^ 64 → m ≡ greatestNo → ⊥
+    below m h e = omega arith
+
+opened-back : (n m : ℕ) → n ≡ m + 1 → windowOf n ≡ Opened m
+opened-back zero m e = absurd (omega (arith, e))
+opened-back (suc k) m e = let same : k ≡ m = omega (arith, e) in ap Opened same
 
 window-back : (w : Window) → IsOfMoment w → windowOf (windowNo w) ≡ w
 window-back Closed h = refl
-window-back (Opened m) h = rw (ne-eqb m closedNo (λ e. below m h e)) refl
+window-back (Opened m) h = rw (ne-eqb m greatestNo (λ e. below m h e)) (opened-back (m + 1) m refl)
   where
-    below : (m : ℕ) → m < 2 ^ 48 → m ≡ closedNo → ⊥
+    below : (m : ℕ) → m < 2 ^ 48 → m ≡ greatestNo → ⊥
     below m h e = omega arith
 
 pub NumbersBack : Claims.NumbersBack presenceOf presenceNumbers
-NumbersBack n = rw (number-back (n .prompt), number-back (n .touch)) refl
+NumbersBack n h = rw (number-back (n .prompt) (h .0), number-back (n .touch) (h .1)) refl
 
 pub RecordsBack : Claims.RecordsBack presenceOf presenceNumbers
 RecordsBack p prompt touch = rw (window-back (p .prompt) prompt, window-back (p .touch) touch) refl
 
-window-closed : (n : ℕ) → n ≡ closedNo → windowOf n ≡ Closed
-window-closed n e = rw (eq-eqb n closedNo e)
-
-window-opened : (n : ℕ) → (n ≡ closedNo → ⊥) → windowOf n ≡ Opened n
-window-opened n e = rw (ne-eqb n closedNo e)
+closed-at : (n : ℕ) → n ≡ 0 → windowOf n ≡ Closed
+closed-at n e = rw e refl
 
 pub RecordNumbers : Claims.RecordNumbers presenceOf
 RecordNumbers =
     record {
       w = λ n. refl;
       last = λ n. refl;
-      prompt-closed = λ n. window-closed (n .prompt);
-      prompt-opened = λ n. window-opened (n .prompt);
-      touch-closed = λ n. window-closed (n .touch);
-      touch-opened = λ n. window-opened (n .touch);
+      prompt-closed = λ n. closed-at (n .prompt);
+      prompt-opened = λ n. opened-back (n .prompt);
+      touch-closed = λ n. closed-at (n .touch);
+      touch-opened = λ n. opened-back (n .touch);
     }
 
 -- ---- numbers that stand for cases
@@ -186,13 +200,18 @@ unfolding attestationOf
 AttestationNumbers =
     record { missing = refl; present = refl; failed = λ n from. sym (Cases.attestation-failed n (λ e. omega arith) (λ e. omega arith)) }
 
+pub YesNumbers : Claims.YesNumbers isYes
+YesNumbers = record { granted = refl; other = λ n e. ne-eqb n 1 e }
+
 pub HardwareNumbers : Claims.HardwareNumbers hardwareOf
 HardwareNumbers =
     record {
       allowed = λ n. refl;
       attestation = λ n. refl;
-      stored = λ n. refl;
-      good = λ n. refl;
+      stored = λ n e. eq-eqb (n .stored) 1 e;
+      not-stored = λ n e. ne-eqb (n .stored) 1 e;
+      good = λ n e. eq-eqb (n .good) 1 e;
+      not-good = λ n e. ne-eqb (n .good) 1 e;
       offered = λ n e. sym (Cases.counter-offered (n .counted) (n .counter) e);
       failed = λ n e. sym (Cases.counter-failed (n .counted) (n .counter) e);
     }
@@ -298,12 +317,12 @@ pub RefusalHandsBack : Claims.RefusalHandsBack (λ n t. stepNumbers (touchOf (pr
 unfolding touchOf checkOf
 RefusalHandsBack =
     record {
-      grant-up = λ n t low. ap presenceNumbers (refused-record (presenceOf n) (settleOf (presenceOf n) t) _ (Outcomes.settle-said (presenceOf n) t) (λ q. (_, refl)) low) ∙ NumbersBack n;
-      consume-up = λ n t low. ap presenceNumbers (refused-record (presenceOf n) (settleOf (presenceOf n) t) _ (Outcomes.settle-said (presenceOf n) t) (λ q. (_, refl)) low) ∙ NumbersBack n;
+      grant-up = λ n t h low. ap presenceNumbers (refused-record (presenceOf n) (settleOf (presenceOf n) t) _ (Outcomes.settle-said (presenceOf n) t) (λ q. (_, refl)) low) ∙ NumbersBack n h;
+      consume-up = λ n t h low. ap presenceNumbers (refused-record (presenceOf n) (settleOf (presenceOf n) t) _ (Outcomes.settle-said (presenceOf n) t) (λ q. (_, refl)) low) ∙ NumbersBack n h;
       decided =
-          λ i low high.
+          λ i h low high.
           ap presenceNumbers (decision-kept (presenceOf (i .presence)) (i .moment) (inputsOf i) (decidedBy i .answer) refl (EveryOutcomeNumbered .decide i) low high)
-          ∙ NumbersBack (i .presence);
+          ∙ NumbersBack (i .presence) h;
     }
 
 pub DecisionNumbers : Claims.DecisionNumbers decisionNumbers

@@ -13,9 +13,9 @@ use Rattle.panel_stated.specs.Contracts.{BrinecandleRead, BrinecandleRea
 use Rattle.octets.specs.Bytes.{partOf}
 use Rattle.apdu_stated.specs.Reading.{dataOf}
 use Rattle.command_stated.specs.Command.{challengeOf, applicationOf, handleOf}
-use Rattle.panel_stated.specs.Numbers.{presenceNumbers, allowedOf, attestationOf}
+use Rattle.panel_stated.specs.Numbers.{presenceNumbers, isYes, allowedOf, attestationOf}
 use Rattle.u2f_up_stated.specs.Runs.{Caller, Keeps, after, next}
-use Rattle.panel_stated.specs.Terms.{numbersAfter, IsNumbered, IsOfMoment, Carries, AfterWriting, AfterDeciding}
+use Rattle.panel_stated.specs.Terms.{numbersAfter, IsNumbered, IsOfMoment, AreOf64Bits, Carries, AfterWriting, AfterDeciding}
 use Rattle.apdu_stated.specs.declared.Reading.{Reading}
 use Rattle.command_stated.specs.declared.U2fCommand.{U2fCommand}
 use Rattle.u2f_up_stated.specs.declared.Ready.{Ready}
@@ -55,41 +55,49 @@ pub record AnswerTells (number : Outcome Bool → ℕ) : Type 0 where
   pub refused : (o : Outcome Bool) → IsNumbered o → (n : ℕ) → n ≤ lastRefusal → (number o ≡ n) ↔ (o ≡ R n)
   pub status : (o : Outcome Bool) → IsNumbered o → (n : ℕ) → 0x6000 ≤ n → n < 0x9000 → (number o ≡ n) ↔ (o ≡ SW n)
 
--- Of a decision, 0 is exactly an order, 9000 exactly a body, a refusal's number exactly that refusal, a status word's exactly
+-- Of a decision, 0100 is exactly an order, 9000 exactly a body, a refusal's number exactly that refusal, a status word's exactly
 -- that. A table that numbers an order as R2 (`orderNumbered2`) fails it: the firmware would take the order for a refusal.
 pub record DecisionTells (number : Outcome Given → ℕ) : Type 0 where
-  pub ordered : (o : Outcome Given) → IsNumbered o → (number o ≡ 0) ↔ (o ≡ Gives Ordered)
+  pub ordered : (o : Outcome Given) → IsNumbered o → (number o ≡ 0x0100) ↔ (o ≡ Gives Ordered)
   pub body : (o : Outcome Given) → IsNumbered o → (number o ≡ 0x9000) ↔ ((n : ℕ) × (o ≡ Gives (Body n)))
   pub refused : (o : Outcome Given) → IsNumbered o → (n : ℕ) → 1 ≤ n → n ≤ lastRefusal → (number o ≡ n) ↔ (o ≡ R n)
   pub status : (o : Outcome Given) → IsNumbered o → (n : ℕ) → 0x6000 ≤ n → n < 0x9000 → (number o ≡ n) ↔ (o ≡ SW n)
+
+-- 0 is no answer's number: memory of zeros is neither an order nor anything else that a call has answered. Ours; DECISIONS, "one answer
+-- number". A table that numbers an order 0 (`orderIs0`) fails it: a decision that was never asked for would be signed.
+pub record NoAnswerIs0 (answer : Outcome Bool → ℕ) (decided : Outcome Given → ℕ) : Type 0 where
+  pub answered : (o : Outcome Bool) → IsNumbered o → answer o ≡ 0 → ⊥
+  pub decision : (o : Outcome Given) → IsNumbered o → decided o ≡ 0 → ⊥
 
 -- ---- records
 
 -- The numbers of a record come back as they were lent; two that stand for one record are the same numbers. Windows that change
 -- places on their way in (`windowsSwapped`) fail it, at a record with one window closed.
 abbrev pub NumbersBack : (PresenceRecord → Presence) → (Presence → PresenceRecord) → Type 0
-NumbersBack lend plain = (n : PresenceRecord) → plain (lend n) ≡ n
+NumbersBack lend plain = (n : PresenceRecord) → AreOf64Bits n → plain (lend n) ≡ n
 
 -- A record whose windows were opened at moments goes out and comes back whole: the closed number is the number of no moment. Ours;
--- DECISIONS, "a window as one number". Closed windows numbered 0 on both ways (`closedIs0`) fail it: a window opened at moment 0
--- is lost.
+-- DECISIONS, "a window as one number". Open windows numbered by their moment itself on both ways (`openedAtItsNumber`) fail it: a
+-- window opened at moment 0 is lost.
 abbrev pub RecordsBack : (PresenceRecord → Presence) → (Presence → PresenceRecord) → Type 0
 RecordsBack lend plain = (p : Presence) → IsOfMoment (p .prompt) → IsOfMoment (p .touch) → lend (plain p) ≡ p
 
--- What the four numbers stand for. Ours; DECISIONS, "a window as one number". Windows that change places on both ways
--- (`swappedBothWays`) fail it.
+-- What the four numbers stand for: 0 is a closed window, so that a record of zeros with W set is a closed one, and any number above
+-- it a window opened at the moment before. Ours; DECISIONS, "a window as one number". Windows that change places on both ways
+-- (`swappedBothWays`) fail it, and closed windows under the greatest number (`greatestIsClosed`): a record of zeros with W set would have
+-- a touch that there was not.
 pub record RecordNumbers (lend : PresenceRecord → Presence) : Type 0 where
   pub w : (n : PresenceRecord) → lend n .w ≡ n .w
   pub last : (n : PresenceRecord) → lend n .last ≡ n .last
-  pub prompt-closed : (n : PresenceRecord) → n .prompt ≡ 0xffffffffffffffff → lend n .prompt ≡ Closed
-  pub prompt-opened : (n : PresenceRecord) → (n .prompt ≡ 0xffffffffffffffff → ⊥) → lend n .prompt ≡ Opened (n .prompt)
-  pub touch-closed : (n : PresenceRecord) → n .touch ≡ 0xffffffffffffffff → lend n .touch ≡ Closed
-  pub touch-opened : (n : PresenceRecord) → (n .touch ≡ 0xffffffffffffffff → ⊥) → lend n .touch ≡ Opened (n .touch)
+  pub prompt-closed : (n : PresenceRecord) → n .prompt ≡ 0 → lend n .prompt ≡ Closed
+  pub prompt-opened : (n : PresenceRecord) (m : ℕ) → n .prompt ≡ m + 1 → lend n .prompt ≡ Opened m
+  pub touch-closed : (n : PresenceRecord) → n .touch ≡ 0 → lend n .touch ≡ Closed
+  pub touch-opened : (n : PresenceRecord) (m : ℕ) → n .touch ≡ m + 1 → lend n .touch ≡ Opened m
 
 -- Demand 3 over the exported numbers, which is what the firmware holds: in every run from `brinecandle_new`, each call taking the
 -- numbers that the last one gave, they stand for the record that demand 3 speaks of (u2f_up_stated, `Demand3`), so that each call has
 -- the outcome that it has there. For every way of calling that does to the record only what its kinds say, the panel's among them.
--- `lendsClosed0` fails it: after a check at moment 0 the prompt is lost, and the touch that follows is not accepted.
+-- `runsAtItsNumber` fails it: after a check at moment 0 the prompt is lost, and the touch that follows is not accepted.
 pub record RunsOverNumbers (made : ℕ → Made) (lend : PresenceRecord → Presence) (plain : Presence → PresenceRecord) : Type 1 where
   pub records : (D : Type 0) (𝒞 : Caller D) → Keeps 𝒞 → (w : ℕ) → 0 < w → w ≤ 60000
       → (ds : List D) → lend (numbersAfter made lend plain 𝒞 w ds) ≡ after 𝒞 w ds
@@ -99,9 +107,9 @@ pub record RunsOverNumbers (made : ℕ → Made) (lend : PresenceRecord → Pres
 -- "An R refusal changes no buffer and no record", said of the numbers: beside a refusal's number stands the record that was lent,
 -- number by number. A check that moves the last moment all the same (`refusedMoves`) fails it, before the last moment.
 pub record RefusalHandsBack (touch check : PresenceRecord → ℕ → Stepped) (decide : ToDecide → DecisionSaid) : Type 0 where
-  pub grant-up : (n : PresenceRecord) (t : ℕ) → touch n t .answer ≤ lastRefusal → touch n t .presence ≡ n
-  pub consume-up : (n : PresenceRecord) (t : ℕ) → check n t .answer ≤ lastRefusal → check n t .presence ≡ n
-  pub decided : (i : ToDecide) → 1 ≤ decide i .answer → decide i .answer ≤ lastRefusal → decide i .presence ≡ i .presence
+  pub grant-up : (n : PresenceRecord) (t : ℕ) → AreOf64Bits n → touch n t .answer ≤ lastRefusal → touch n t .presence ≡ n
+  pub consume-up : (n : PresenceRecord) (t : ℕ) → AreOf64Bits n → check n t .answer ≤ lastRefusal → check n t .presence ≡ n
+  pub decided : (i : ToDecide) → AreOf64Bits (i .presence) → 1 ≤ decide i .answer → decide i .answer ≤ lastRefusal → decide i .presence ≡ i .presence
 
 -- ---- numbers that stand for cases
 
@@ -139,15 +147,25 @@ pub record AttestationNumbers (attestation : ℕ → Attestation) : Type 0 where
   pub present : attestation 1 ≡ Attestation′.Present
   pub failed : (n : ℕ) → 2 ≤ n → attestation n ≡ Attestation′.Failed
 
+-- Of a question with yes or no 1 is yes and every other number no, the cautious answer: not stored, not good, a counter or a signer
+-- that failed. Ours; DECISIONS, "Unknown numbers are the cautious answer". A table that takes whatever is not 0 for yes
+-- (`unknownIsYes`) fails it, at 2, and one that looks at the lowest bit (`lowestBitIsYes`), at 255.
+pub record YesNumbers (yes : ℕ → Bool) : Type 0 where
+  pub granted : yes 1 ≡ true
+  pub other : (n : ℕ) → (n ≡ 1 → ⊥) → yes n ≡ false
+
 -- The hardware's answers. 01, The decision: "the hardware's answers"; 6: "counter answer failed". Answers that change places
--- (`storedForGood`) fail it, where the new handle is stored and the given one is not good.
+-- (`storedForGood`) fail it, where the new handle is stored and the given one is not good; and a counter that is offered whatever is
+-- not 0 (`unknownIsCounted`).
 pub record HardwareNumbers (lend : HardwareSaid → Hardware) : Type 0 where
   pub allowed : (n : HardwareSaid) → lend n .allowed ≡ allowedOf (n .allowed)  -- by `AllowedNumbers`
   pub attestation : (n : HardwareSaid) → lend n .attestation ≡ attestationOf (n .attestation)  -- by `AttestationNumbers`
-  pub stored : (n : HardwareSaid) → lend n .stored ≡ n .stored
-  pub good : (n : HardwareSaid) → lend n .good ≡ n .good
-  pub offered : (n : HardwareSaid) → n .counted ≡ true → lend n .counter ≡ Counter′.Offered (n .counter)
-  pub failed : (n : HardwareSaid) → n .counted ≡ false → lend n .counter ≡ Counter′.Failed
+  pub stored : (n : HardwareSaid) → n .stored ≡ 1 → lend n .stored ≡ true
+  pub not-stored : (n : HardwareSaid) → (n .stored ≡ 1 → ⊥) → lend n .stored ≡ false
+  pub good : (n : HardwareSaid) → n .good ≡ 1 → lend n .good ≡ true
+  pub not-good : (n : HardwareSaid) → (n .good ≡ 1 → ⊥) → lend n .good ≡ false
+  pub offered : (n : HardwareSaid) → n .counted ≡ 1 → lend n .counter ≡ Counter′.Offered (n .counter)
+  pub failed : (n : HardwareSaid) → (n .counted ≡ 1 → ⊥) → lend n .counter ≡ Counter′.Failed
 
 -- Ours: OPEN POINTS, "a shape number outside 1..8 is R5", "Over plain numbers any other kind is R7". A finisher that refuses an order of
 -- no kind for its room (`noKindIsR2`) fails it.
@@ -155,13 +173,13 @@ pub record OthersRefused (write : ToWrite → Outcome ℕ) (finish : ToFinish �
   pub shape : (w : ToWrite) → (w .shape ≡ 0) ⊎ (9 ≤ w .shape) → write w ≡ R 5
   pub kind : (i : ToFinish) → (i .order .kind ≡ 0) ⊎ (3 ≤ i .order .kind) → finish i ≡ R 7
 
--- An order that went out as numbers and block is finished as that order. A certificate length that goes out as the number of
+-- An order that went out as numbers and block is finished as that order, its signer's answer by `YesNumbers`. A certificate length that goes out as the number of
 -- bytes to sign (`certificateLengthAsToSign`) fails it.
 abbrev pub OrderBack : (Outcome Given → Order → OrderNumbers) → Type 0
 OrderBack plain =
-    (order : Order) (certificate : List ℕ) (signed : Bool) (signature reply : List ℕ)
+    (order : Order) (certificate : List ℕ) (signed : ℕ) (signature reply : List ℕ)
     → finishNumbered (record { order = plain (Gives Ordered) order; block = order .bytes; certificate = certificate; signed = signed; signature = signature; reply = reply })
-    ≡ finishOf (record { order = order; certificate = certificate; signed = signed; signature = signature; reply = reply })
+    ≡ finishOf (record { order = order; certificate = certificate; signed = isYes signed; signature = signature; reply = reply })
 
 -- ---- what is not said is 0
 
@@ -248,7 +266,7 @@ pub record DecisionNumbers (plain : Result → DecisionSaid) : Type 0 where
   pub refused : (r : Result) (n : ℕ) → r .answer ≡ R n → (plain r .answer ≡ n) × (plain r .length ≡ 0)
   pub status : (r : Result) (n : ℕ) → r .answer ≡ SW n → (plain r .answer ≡ n) × (plain r .length ≡ 0)
   pub body : (r : Result) (n : ℕ) → r .answer ≡ Gives (Body n) → (plain r .answer ≡ 0x9000) × (plain r .length ≡ n)
-  pub ordered : (r : Result) → r .answer ≡ Gives Ordered → (plain r .answer ≡ 0) × (plain r .length ≡ 0)
+  pub ordered : (r : Result) → r .answer ≡ Gives Ordered → (plain r .answer ≡ 0x0100) × (plain r .length ≡ 0)
   pub taken : (r : Result) → plain r .taken ≡ r .taken
   pub order : (r : Result) → plain r .order ≡ orderAfter (r .answer) (r .order)  -- by `OrderNumbersExactly`
   pub presence : (r : Result) → plain r .presence ≡ presenceNumbers (r .presence)  -- by `RecordNumbers` and `NumbersBack`

@@ -4,7 +4,7 @@ use Rattle.panel_stated.specs.Words.{ℕ, _+_, Bool, false, List, length
 use Rattle.panel_stated.specs.Words.{PresenceRecord, HardwareSaid, OrderNumbers, FrameSaid, CommandSaid, Wrote, Made, Stepped, Asked, DecisionSaid, Shaped, Kinded}
 use Rattle.panel_stated.specs.Words.{Says, placeOf, partsOf, writeOf, bufferOf, Command, Register, Authenticate, Version, handlePlaceOf, Told}
 use Rattle.panel_stated.specs.Words.{kindNo, toSign, certificateLength, finishOf, Given, Body, Ordered, Result, decisionOf}
-use Rattle.panel_stated.specs.Numbers.{answerNo, decidedNo, presenceOf, presenceNumbers, hardwareOf, shapeOf, kindOf, noOrder}
+use Rattle.panel_stated.specs.Numbers.{answerNo, decidedNo, presenceOf, presenceNumbers, isYes, hardwareOf, shapeOf, kindOf, noOrder}
 use Rattle.ctap1_stated.specs.Words.{Inputs}
 use Rattle.panel_stated.specs.declared.Shaped.the-variants as Shaped′
 use Rattle.panel_stated.specs.declared.Kinded.the-variants as Kinded′
@@ -194,7 +194,7 @@ pub record ToFinish : Type 0 where
   pub order : OrderNumbers
   pub block : List ℕ
   pub certificate : List ℕ
-  pub signed : Bool  -- the signer did not fail
+  pub signed : ℕ  -- 1 where the signer did not fail
   pub signature : List ℕ
   pub reply : List ℕ  -- the reply buffer before the call
 
@@ -211,7 +211,7 @@ finishAs (Kinded′.As kind) i =
     (record {
       order = orderFrom kind (i .order) (i .block);
       certificate = i .certificate;
-      signed = i .signed;
+      signed = isYes (i .signed);
       signature = i .signature;
       reply = i .reply;
     })

@@ -1,6 +1,6 @@
 -- Document 01, 'Forms that change': "exported to it over plain numbers and byte slices". Which number stands for what:
 -- answers, windows and records, the hardware's answers, shapes and kinds.
-use Rattle.panel_stated.specs.Words.{ℕ, Bool, true, false, eqb, if_then_else_, Outcome, R, SW, Gives}
+use Rattle.panel_stated.specs.Words.{ℕ, zero, suc, _+_, Bool, eqb, if_then_else_, Outcome, R, SW, Gives}
 use Rattle.panel_stated.specs.Words.{Instruction, Le1, Lc1Data, Lc1DataLe1, Lc3Data, Lc3DataLe1, Lc3DataLe2, Le3}
 use Rattle.panel_stated.specs.Words.{Window, Closed, Opened, Presence, Allowed, Attestation, Counter, Hardware}
 use Rattle.panel_stated.specs.Words.{PresenceRecord, HardwareSaid, OrderNumbers, Shaped, Kinded, Given, Body, Ordered}
@@ -17,23 +17,26 @@ answerNo (R n) = n
 answerNo (SW n) = n
 answerNo (Gives a) = 0x9000
 
--- the same for a decision, where an order is 0
+-- the same for a decision, where an order is 0100: the number of no refusal, no status word and no memory of zeros
 abbrev pub decidedNo : Outcome Given → ℕ
 decidedNo (R n) = n
 decidedNo (SW n) = n
 decidedNo (Gives (Body n)) = 0x9000
-decidedNo (Gives Ordered) = 0
+decidedNo (Gives Ordered) = 0x0100
 
--- ours: DECISIONS, "a window as one number": the greatest number of 64 bits is closed, any other the moment of its opening
-abbrev pub closedNo : ℕ
-closedNo = 0xffffffffffffffff
-
+-- ours: DECISIONS, "a window as one number": 0 is closed, any other number a window that was opened at the moment before it
 abbrev pub windowOf : ℕ → Window
-windowOf n = if eqb n closedNo then Closed else Opened n
+windowOf zero = Closed
+windowOf (suc m) = Opened m
 
+-- the greatest number of 64 bits
+abbrev pub greatestNo : ℕ
+greatestNo = 0xffffffffffffffff
+
+-- a window opened at the greatest number has no number after it and goes out as the one opened at the moment before; none comes in
 abbrev pub windowNo : Window → ℕ
-windowNo Closed = closedNo
-windowNo (Opened m) = m
+windowNo Closed = 0
+windowNo (Opened m) = if eqb m greatestNo then greatestNo else m + 1
 
 -- the record that four numbers stand for
 abbrev pub presenceOf : PresenceRecord → Presence
@@ -57,18 +60,21 @@ attestationOf n =
     else if eqb n 1 then Attestation′.Present
     else Attestation′.Failed
 
+-- ours: DECISIONS, "Unknown numbers are the cautious answer": of a question with yes or no 1 is yes, any other number no
+abbrev pub isYes : ℕ → Bool
+isYes n = eqb n 1
+
 -- 01, The decision, 6: "counter answer failed"; "the counter of 32 bits"
-abbrev pub counterOf : Bool → ℕ → Counter
-counterOf true n = Counter′.Offered n
-counterOf false n = Counter′.Failed
+abbrev pub counterOf : (counted counter : ℕ) → Counter
+counterOf counted n = if isYes counted then Counter′.Offered n else Counter′.Failed
 
 abbrev pub hardwareOf : HardwareSaid → Hardware
 hardwareOf n =
     record {
       allowed = allowedOf (n .allowed);
-      stored = n .stored;
+      stored = isYes (n .stored);
       attestation = attestationOf (n .attestation);
-      good = n .good;
+      good = isYes (n .good);
       counter = counterOf (n .counted) (n .counter);
     }
 

@@ -14,6 +14,10 @@ abbrev pub IsOfMoment : Window → Type 0
 IsOfMoment Closed = Unit {0}
 IsOfMoment (Opened m) = m < 2 ^ 48
 
+-- the windows' numbers have 64 bits, as all that C can lend
+abbrev pub AreOf64Bits : PresenceRecord → Type 0
+AreOf64Bits n = (n .prompt < 2 ^ 64) × (n .touch < 2 ^ 64)
+
 -- what a call that writes leaves: its answer, and the buffer
 pub record AfterWriting : Type 0 where
   pub said : Wrote

@@ -1,6 +1,6 @@
 -- The types that cross to C, the enums that their numbers stand for, and the other crates' definitions that the exports are
 -- stated through: the files here take the names from this one.
-pub use Prim.Native.Nat.{ℕ, _+_, _-_, _^_, _≤_, _<_}
+pub use Prim.Native.Nat.{ℕ, zero, suc, _+_, _-_, _^_, _≤_, _<_}
 pub use mathlib.Core.Path.{_≡_}
 pub use mathlib.Core.Bool.{Bool, true, false}
 pub use mathlib.Core.List.{List}

@@ -3,13 +3,16 @@
 use Rattle.panel_stated.specs.Words.{ℕ, _+_, Bool, true, false, eqb, List, if_then_else_, Outcome, R, SW, Gives, Window, Closed, Opened, Presence, Allowed, Attestation, Order, Instruction}
 use Rattle.panel_stated.specs.Words.{HardwareSaid, Hardware, DecisionSaid, PresenceRecord, OrderNumbers, FrameSaid, CommandSaid, Wrote, Made, Stepped, Asked, Shaped, Kinded}
 use Rattle.panel_stated.specs.Words.{Says, Command, Register, Authenticate, Version, Told, Result, Given, Body, Ordered, toSign, certificateLength}
-use Rattle.panel_stated.specs.Numbers.{presenceOf, presenceNumbers, allowedOf, attestationOf, hardwareOf, shapeOf, kindOf}
+use Rattle.panel_stated.specs.Numbers.{greatestNo, presenceOf, presenceNumbers, allowedOf, attestationOf, hardwareOf, shapeOf, kindOf}
 use Rattle.panel_stated.specs.Exports.{ToFinish, finishNumbered, frameNumbers, commandNumbers, lengthNumbers, madeNumbers, askedNumbers, orderAfter, blockAfter, decisionNumbers}
 use Rattle.ctap1_stated.specs.declared.Allowed.the-variants as Allowed′
 use Rattle.ctap1_stated.specs.declared.Attestation.the-variants as Attestation′
+use Rattle.ctap1_stated.specs.declared.Counter.the-variants as Counter′
 use Rattle.signing_stated.specs.declared.Kind.the-variants as Kind′
 use Rattle.panel_stated.specs.declared.Shaped.the-variants as Shaped′
 use Rattle.panel_stated.specs.declared.Kinded.the-variants as Kinded′
+use Prim.Native.Nat.{_%_}
+use mathlib.Core.Bool.{not}
 use lib.Dec.{leb}
 
 -- ---- answers
@@ -26,6 +29,13 @@ orderNumbered2 (SW n) = n
 orderNumbered2 (Gives (Body n)) = 0x9000
 orderNumbered2 (Gives Ordered) = 2
 
+-- "one answer number": an order under the number of memory that nothing has written
+abbrev pub orderIs0 : Outcome Given → ℕ
+orderIs0 (R n) = n
+orderIs0 (SW n) = n
+orderIs0 (Gives (Body n)) = 0x9000
+orderIs0 (Gives Ordered) = 0
+
 -- ---- records
 -- the touch window taken for the prompt window, on the way in
 abbrev pub windowsSwapped : PresenceRecord → Presence
@@ -35,12 +45,19 @@ windowsSwapped n = let p = presenceOf n in record { w = p .w; prompt = p .touch;
 abbrev pub swappedBothWays : PresenceRecord → Presence
 swappedBothWays n = windowsSwapped n
 
--- "a window as one number": a closed window numbered 0, on both ways
-abbrev zeroWindow : ℕ → Window
-zeroWindow n = if eqb n 0 then Closed else Opened n
+-- "a window as one number": an open window numbered by its moment, on both ways
+abbrev itsNumber : ℕ → Window
+itsNumber n = if eqb n 0 then Closed else Opened n
 
-abbrev pub closedIs0 : PresenceRecord → Presence
-closedIs0 n = record { w = n .w; prompt = zeroWindow (n .prompt); touch = zeroWindow (n .touch); last = n .last }
+abbrev pub openedAtItsNumber : PresenceRecord → Presence
+openedAtItsNumber n = record { w = n .w; prompt = itsNumber (n .prompt); touch = itsNumber (n .touch); last = n .last }
+
+-- "a window as one number": a closed window under the greatest number, so that 0 is a window opened at moment 0
+abbrev unlessGreatest : ℕ → Window
+unlessGreatest n = if eqb n greatestNo then Closed else Opened n
+
+abbrev pub greatestIsClosed : PresenceRecord → Presence
+greatestIsClosed n = record { w = n .w; prompt = unlessGreatest (n .prompt); touch = unlessGreatest (n .touch); last = n .last }
 
 -- "An R refusal changes no buffer and no record": the last moment moves all the same
 abbrev pub refusedMoves : PresenceRecord → ℕ → Stepped
@@ -66,6 +83,13 @@ unknownIsAllowed n = if leb 2 n then Allowed′.Yes else allowedOf n
 -- "the attestation is missing or failed": a number that is neither counts as present
 abbrev pub unknownIsPresent : ℕ → Attestation
 unknownIsPresent n = if leb 2 n then Attestation′.Present else attestationOf n
+
+-- "Unknown numbers are the cautious answer": whatever is not 0 is yes, as C has it; and the lowest bit, as a bool of C's is passed
+abbrev pub unknownIsYes : ℕ → Bool
+unknownIsYes n = not (eqb n 0)
+
+abbrev pub lowestBitIsYes : ℕ → Bool
+lowestBitIsYes n = eqb (n % 2) 1
 
 -- an order's certificate length goes out as the number of bytes to sign
 abbrev pub certificateLengthAsToSign : Outcome Given → Order → OrderNumbers
@@ -155,14 +179,26 @@ takenUnsaid r =
     record { answer = n .answer; taken = false; length = n .length; order = n .order; presence = n .presence }
 
 -- "a window as one number": the same in a run, from the making on
-abbrev pub lendsClosed0 : PresenceRecord → Presence
-lendsClosed0 n = closedIs0 n
+abbrev pub runsAtItsNumber : PresenceRecord → Presence
+runsAtItsNumber n = openedAtItsNumber n
 
 -- "the hardware's answers": whether the new handle was stored taken for whether the given one is good
 abbrev pub storedForGood : HardwareSaid → Hardware
 storedForGood n =
     let h = hardwareOf n in
     record { allowed = h .allowed; stored = h .stored; attestation = h .attestation; good = h .stored; counter = h .counter }
+
+-- "counter answer failed": a counter offered by any number but 0
+abbrev pub unknownIsCounted : HardwareSaid → Hardware
+unknownIsCounted n =
+    let h = hardwareOf n in
+    record {
+      allowed = h .allowed;
+      stored = h .stored;
+      attestation = h .attestation;
+      good = h .good;
+      counter = if eqb (n .counted) 0 then Counter′.Failed else Counter′.Offered (n .counter);
+    }
 
 -- "Over plain numbers any other kind is R7": refused for its room
 abbrev pub noKindIsR2 : ToFinish → Outcome (List ℕ)

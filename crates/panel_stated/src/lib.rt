@@ -7,7 +7,7 @@
 use apdu_stated::Case;
 use signing_stated::Kind;
 
-// The presence record. A window is the moment at which it was opened, or u64's greatest number where it is closed.
+// The presence record. A window is 0 where it is closed, and otherwise the moment at which it was opened and one more.
 #[repr(C)]
 pub struct PresenceRecord {
     pub w: u64,
@@ -69,15 +69,15 @@ pub struct Asked {
     pub yes: bool,
 }
 
-// The hardware's answers. allowed: 0 no, 1 yes, else failed. attestation: 0 missing, 1 present, else failed. The counter
-// is offered where `counted`, else its reading failed.
+// The hardware's answers. allowed: 0 no, 1 yes, else failed. attestation: 0 missing, 1 present, else failed. stored and good: 1
+// yes, else no. The counter is offered where `counted` is 1, else its reading failed.
 #[repr(C)]
 pub struct HardwareSaid {
     pub allowed: u32,
     pub attestation: u32,
-    pub stored: bool,
-    pub good: bool,
-    pub counted: bool,
+    pub stored: u32,
+    pub good: u32,
+    pub counted: u32,
     pub counter: u32,
 }
 

@@ -6,7 +6,7 @@ use panel_stated::PresenceRecord;
 
 // Each call's name, and a letter for each of its words (`calls` says what they stand for). Calls are matched by their places here.
 const CALLS: [u8; 165] =
-    *b"new n;touch n;check n;ask n;record ;resume nwwn;room r;fill b;reply ;read x;strict x;command x;write bbbb44x;decide n4xxfx4kkf4f;finish xfx;hold 4nno;data x;parts x;";
+    *b"new n;touch n;check n;ask n;record ;resume nwwn;room r;fill b;reply ;read x;strict x;command x;write bbbb44x;decide n4xx4x4kk444;finish x4x;hold 4nno;data x;parts x;";
 
 // The panel after a line, and where its answer ends.
 struct Told {
@@ -62,7 +62,8 @@ fn on_reply(
         14 => {
             let certificate = calls::given(raw, marks, numbers, 0);
             let signature = calls::given(raw, marks, numbers, 2);
-            order_calls::finish(panel, certificate, numbers[1] == 1, signature, lent, block)
+            let signed = (numbers[1] % 0x1_0000_0000) as u32;
+            order_calls::finish(panel, certificate, signed, signature, lent, block)
         }
         _ => order_calls::hold(panel, calls::given(raw, marks, numbers, 3), numbers, block),
     }

@@ -19,8 +19,8 @@ ghost use Rattle.panel_stated.specs.Numbers.{allowedOf, attestationOf, counterO
 ghost use Rattle.panel_stated.specs.Exports.{bodyLength, orderAfter};
 ghost use Rattle.panel_stated.specs.Contracts.{HardwareLent, KindNumbered, PutBlock, DecisionPlain, FinishedPlain};
 
-// The answer that is no refusal and no status word: what stands in the block is to be signed.
-const ORDER: u16 = 0;
+// The answer that is no refusal, no status word and not 0: what stands in the block is to be signed.
+const ORDER: u16 = 0x0100;
 
 fn allowed_of(number: u32) -> Allowed
     ensures { λ r. ⌜ r ≡ allowedOf number ⌝ }
@@ -42,10 +42,10 @@ fn attestation_of(number: u32) -> Attestation
     }
 }
 
-fn counter_of(counted: bool, counter: u32) -> Counter
+fn counter_of(counted: u32, counter: u32) -> Counter
     ensures { λ r. ⌜ r ≡ counterOf counted counter ⌝ }
 {
-    if counted {
+    if counted == 1 {
         return Counter::Offered(counter);
     }
     Counter::Failed
@@ -56,9 +56,9 @@ pub fn hardware_lent(said: HardwareSaid) -> Hardware
 {
     Hardware {
         allowed: allowed_of(said.allowed),
-        stored: said.stored,
+        stored: said.stored == 1,
         attestation: attestation_of(said.attestation),
-        good: said.good,
+        good: said.good == 1,
         counter: counter_of(said.counted, said.counter),
     }
 }

@@ -12,8 +12,10 @@ ghost use mathlib.Core.Path.{_≡_};
 ghost use Rattle.panel_stated.specs.Numbers.{windowOf, windowNo};
 ghost use Rattle.panel_stated.specs.Contracts.{RecordLent, RecordPlain, MadePlain, AskedPlain, StepPlain};
 
+const CLOSED: u64 = 0;
+
 // No moment below 2^48 comes near it.
-const CLOSED: u64 = 0xffffffffffffffff;
+const GREATEST: u64 = 0xffffffffffffffff;
 
 fn window_of(number: u64) -> Window
     ensures { λ r. ⌜ r ≡ windowOf number ⌝ }
@@ -21,7 +23,7 @@ fn window_of(number: u64) -> Window
     if number == CLOSED {
         return Window::Closed;
     }
-    Window::Opened(number)
+    Window::Opened(number - 1)
 }
 
 fn window_number(window: Window) -> u64
@@ -29,7 +31,12 @@ fn window_number(window: Window) -> u64
 {
     match window {
         Window::Closed => CLOSED,
-        Window::Opened(m) => m,
+        Window::Opened(m) => {
+            if m == GREATEST {
+                return GREATEST;
+            }
+            m + 1
+        }
     }
 }
 

@@ -1,0 +1,292 @@
+/* A token as small as a microcontroller's: what it keeps is one struct of static memory, well under 4 KiB, and there is no heap. It
+ * shares its core part with the panel on a pipe: include/brinecandle_panel.h keeps record, order and block for both.
+ *
+ * Above the line `the board` stands what a firmware needs: the clock widened, the press handed in once, the dry run, the counter
+ * written down before anything is signed, and what the host is told. Below it stands in for the hardware, over a pipe, so that it
+ * can be tried on any machine: for each message it gets a tick, whether the button was pressed, and a frame,
+ *
+ *   TICK (4, big-endian)  PRESSED (1)  LENGTH (2, big-endian; 0: no frame)  FRAME
+ *
+ * and it answers
+ *
+ *   LIGHT (1: it blinks)  LENGTH (2, big-endian)  BODY AND STATUS WORD
+ *
+ * Keys, certificate and signatures of this board are bytes of no meaning. Copy the upper part, and write the lower one anew.
+ */
+#include <errno.h>
+#include <unistd.h>
+
+#include "brinecandle_panel.h"
+
+enum {
+    WINDOW = 5000,  /* a touch is good for so many milliseconds */
+    FRAME = 329,    /* the longest frame that is a command */
+    HANDLE = 64,    /* our handles: the application, and what our key store wants to know */
+    SIGNATURE = 72, /* DER over P-256 */
+    CERTIFICATE = 24,
+    REPLY = 139 + HANDLE + CERTIFICATE
+};
+
+/* ---- what a board has */
+
+static uint32_t board_tick(void); /* milliseconds, of 32 bits: wraps after 49.7 days */
+static bool board_pressed(void);  /* a press, once */
+static void board_light(bool blinks);
+static size_t board_receive(uint8_t *to, size_t most); /* a frame's length, which may be more than is received; 0: none */
+static void board_send(const uint8_t *bytes, size_t length);
+static bool board_goes_on(void);
+
+/* a new key for an application, stored: its handle, and x and y of its public key */
+static bool board_make_key(const uint8_t application[32], uint8_t handle[HANDLE], uint8_t x[32], uint8_t y[32]);
+/* whether a handle is one of ours, and for this application */
+static bool board_is_ours(const uint8_t application[32], const uint8_t *handle, size_t length);
+/* a signature's length, with the attestation key or the handle's; 0 where it failed */
+static size_t board_sign(uint32_t kind, const uint8_t *bytes, size_t length, uint8_t signature[SIGNATURE]);
+/* the counter's next number, and that it is used up: both survive a restart */
+static bool board_counter(uint32_t *next);
+static bool board_counter_used(uint32_t number);
+
+static const uint8_t certificate[CERTIFICATE] = "attestation certificate";
+
+/* ---- the token */
+
+static struct {
+    struct brinecandle_panel panel;
+    uint64_t turns; /* of the tick, and its latest value */
+    uint32_t tick;
+    uint8_t frame[FRAME];
+    uint8_t handle[HANDLE];
+    uint8_t x[32];
+    uint8_t y[32];
+    uint8_t signature[SIGNATURE];
+    uint8_t reply[REPLY + 2]; /* two more for the status word */
+} token;
+
+_Static_assert(sizeof token < 4096, "the token is meant to be small");
+
+/* The moment that it is. To be asked at least once in 49 days. */
+static uint64_t now(void)
+{
+    uint32_t tick = board_tick();
+    if (tick < token.tick)
+        token.turns += (uint64_t)1 << 32;
+    token.tick = tick;
+    return token.turns + tick;
+}
+
+/* The body at the front of the reply, and the status word after it. */
+static void tell(uint16_t status, size_t length)
+{
+    token.reply[length] = (uint8_t)(status >> 8);
+    token.reply[length + 1] = (uint8_t)status;
+    board_send(token.reply, length + 2);
+}
+
+static void sign_and_tell(struct brinecandle_decided decided, uint32_t counter)
+{
+    bool is_register = token.panel.order.kind == BRINECANDLE_KIND_REGISTER;
+    size_t signed_length = 0;
+    /* a number that could not be written down as used up must not be signed */
+    if (!decided.taken || board_counter_used(counter))
+        signed_length = board_sign(token.panel.order.kind, token.panel.block, token.panel.order.to_sign, token.signature);
+    struct brinecandle_wrote wrote = brinecandle_panel_finish(&token.panel, (struct brinecandle_signed){
+        .certificate = certificate,
+        .certificate_length = is_register ? CERTIFICATE : 0,
+        .is_signed = signed_length ? BRINECANDLE_YES : 0,
+        .signature = token.signature,
+        .signature_length = signed_length,
+        .reply = token.reply,
+        .reply_length = REPLY,
+    });
+    if (brinecandle_is_refusal(wrote.answer))
+        tell(BRINECANDLE_INTERNAL_EXCEPTION, 0);
+    else
+        tell(wrote.answer, wrote.length);
+}
+
+/* Answers token.frame, which nothing writes to while this runs. */
+static void answer(size_t length, uint64_t t)
+{
+    struct brinecandle_lent lent = {
+        .frame = token.frame,
+        .frame_length = length,
+        .t = t,
+        .hardware = {.allowed = BRINECANDLE_YES, .attestation = BRINECANDLE_YES},
+        .handle = token.handle,
+        .handle_length = HANDLE,
+        .certificate = certificate,
+        .certificate_length = CERTIFICATE,
+        .x = token.x,
+        .y = token.y,
+        .reply = token.reply,
+        .reply_length = REPLY,
+    };
+    struct brinecandle_command command = brinecandle_read_command(token.frame, length);
+    const uint8_t *application = token.frame + command.application;
+    if (command.command == BRINECANDLE_U2F_AUTHENTICATE) {
+        if (board_is_ours(application, token.frame + command.handle, command.handle_end - command.handle))
+            lent.hardware.good = BRINECANDLE_YES;
+        if (board_counter(&lent.hardware.counter))
+            lent.hardware.counted = BRINECANDLE_YES;
+    }
+    if (command.command == BRINECANDLE_U2F_REGISTER) {
+        /* a key is made only for a Register that comes to an order */
+        lent.hardware.stored = BRINECANDLE_YES;
+        if (brinecandle_panel_try(&token.panel, lent).answer == BRINECANDLE_ORDER
+            && !board_make_key(application, token.handle, token.x, token.y))
+            lent.hardware.stored = 0;
+    }
+    struct brinecandle_decided decided = brinecandle_panel_decide(&token.panel, lent);
+    if (decided.answer == BRINECANDLE_ORDER)
+        sign_and_tell(decided, lent.hardware.counter);
+    else if (!brinecandle_is_refusal(decided.answer))
+        tell(decided.answer, decided.length);
+    else
+        tell(BRINECANDLE_INTERNAL_EXCEPTION, 0);
+}
+
+int main(void)
+{
+    if (brinecandle_panel_new(&token.panel, WINDOW) != BRINECANDLE_OK)
+        return 1;
+    while (board_goes_on()) {
+        uint64_t t = now();
+        struct brinecandle_asked said = brinecandle_panel_ask(&token.panel, t);
+        /* the record is ahead of the clock, after a wild moment: it is of no use any more */
+        if (said.answer == BRINECANDLE_R1 && brinecandle_panel_new(&token.panel, WINDOW) != BRINECANDLE_OK)
+            return 1;
+        /* once for each press; whether it is accepted shows in what the host is told next */
+        if (board_pressed())
+            said = brinecandle_panel_touch(&token.panel, t);
+        size_t length = board_receive(token.frame, FRAME);
+        if (FRAME < length)
+            tell(BRINECANDLE_WRONG_LENGTH, 0);
+        else if (length)
+            answer(length, t);
+        said = brinecandle_panel_ask(&token.panel, t);
+        board_light(said.answer == BRINECANDLE_OK && said.yes);
+    }
+    return 0;
+}
+
+/* ---- the board: a pipe, and bytes of no meaning */
+
+static struct {
+    uint8_t message[7];
+    uint8_t sent[REPLY + 2];
+    size_t sent_length;
+    uint32_t counter;
+    uint32_t keys;
+} board;
+
+static bool board_get(uint8_t *to, size_t length)
+{
+    while (length) {
+        ssize_t n = read(STDIN_FILENO, to, length);
+        if (n < 0 && errno == EINTR)
+            continue;
+        if (n <= 0)
+            return false;
+        to += n;
+        length -= (size_t)n;
+    }
+    return true;
+}
+
+static void board_put(const uint8_t *from, size_t length)
+{
+    while (length) {
+        ssize_t n = write(STDOUT_FILENO, from, length);
+        if (n < 0 && errno == EINTR)
+            continue;
+        if (n <= 0)
+            _exit(1);
+        from += n;
+        length -= (size_t)n;
+    }
+}
+
+static bool board_goes_on(void)
+{
+    return board_get(board.message, sizeof board.message);
+}
+
+static uint32_t board_tick(void)
+{
+    const uint8_t *m = board.message;
+    return (uint32_t)m[0] << 24 | (uint32_t)m[1] << 16 | (uint32_t)m[2] << 8 | m[3];
+}
+
+static bool board_pressed(void)
+{
+    return board.message[4] == 1;
+}
+
+static size_t board_receive(uint8_t *to, size_t most)
+{
+    size_t length = (size_t)board.message[5] << 8 | board.message[6];
+    uint8_t lost;
+    for (size_t i = 0; i < length; i++)
+        if (!board_get(i < most ? to + i : &lost, 1))
+            _exit(1);
+    return length;
+}
+
+static void board_send(const uint8_t *bytes, size_t length)
+{
+    for (size_t i = 0; i < length; i++)
+        board.sent[i] = bytes[i];
+    board.sent_length = length;
+}
+
+/* the last that happens to a message: what was sent goes out with the light */
+static void board_light(bool blinks)
+{
+    uint8_t front[3] = {blinks, (uint8_t)(board.sent_length >> 8), (uint8_t)board.sent_length};
+    board_put(front, sizeof front);
+    board_put(board.sent, board.sent_length);
+    board.sent_length = 0;
+}
+
+static bool board_make_key(const uint8_t application[32], uint8_t handle[HANDLE], uint8_t x[32], uint8_t y[32])
+{
+    board.keys++;
+    for (size_t i = 0; i < 32; i++) {
+        handle[i] = application[i];
+        handle[32 + i] = (uint8_t)board.keys;
+        x[i] = 0x11;
+        y[i] = 0x22;
+    }
+    return true;
+}
+
+static bool board_is_ours(const uint8_t application[32], const uint8_t *handle, size_t length)
+{
+    if (length != HANDLE)
+        return false;
+    for (size_t i = 0; i < 32; i++)
+        if (handle[i] != application[i] || handle[32 + i] != handle[32])
+            return false;
+    return 1 <= handle[32] && handle[32] <= board.keys;
+}
+
+static size_t board_sign(uint32_t kind, const uint8_t *bytes, size_t length, uint8_t signature[SIGNATURE])
+{
+    (void)bytes;
+    signature[0] = 0x30;
+    signature[1] = (uint8_t)kind;
+    signature[2] = (uint8_t)length;
+    return 3;
+}
+
+static bool board_counter(uint32_t *next)
+{
+    *next = board.counter + 1;
+    return true;
+}
+
+static bool board_counter_used(uint32_t number)
+{
+    board.counter = number;
+    return true;
+}

@@ -1,0 +1,203 @@
+/* For firmware/test: every call of the panel is looked at as a whole. What a case file does not see, since the panel does not say
+ * it, is held to the header here: fields that an answer has no use for are 0, a refusal hands back the record that was lent, and
+ * buffer and block hold what they held wherever the header does not say that they are written. A call that does otherwise ends the
+ * panel, so that its answers are missing.
+ */
+#ifndef WATCH_H
+#define WATCH_H
+
+static void held(bool is, const char *what)
+{
+    if (is)
+        return;
+    size_t length = 0;
+    while (what[length])
+        length++;
+    if (write(STDERR_FILENO, what, length) < 0 || write(STDERR_FILENO, "\n", 1) < 0)
+        _exit(4);
+    _exit(3);
+}
+
+static uint8_t watched_buffer[131072];
+static uint8_t watched_block[BRINECANDLE_BLOCK];
+
+static void keep(uint8_t *to, const uint8_t *from, size_t length)
+{
+    held(length <= sizeof watched_buffer, "a buffer longer than any that is lent");
+    for (size_t i = 0; i < length; i++)
+        to[i] = from[i];
+}
+
+static bool same_from(size_t start, const uint8_t *a, const uint8_t *b, size_t length)
+{
+    for (size_t i = start; i < length; i++)
+        if (a[i] != b[i])
+            return false;
+    return true;
+}
+
+static bool is_refused(uint16_t answer)
+{
+    return 0 < answer && answer <= BRINECANDLE_LAST_REFUSAL;
+}
+
+static bool no_order(struct brinecandle_order order)
+{
+    return order.kind == BRINECANDLE_NO_KIND && !order.to_sign && !order.certificate_length;
+}
+
+static bool same_record(struct brinecandle_presence a, struct brinecandle_presence b)
+{
+    return a.w == b.w && a.prompt == b.prompt && a.touch == b.touch && a.last == b.last;
+}
+
+static struct brinecandle_frame watched_frame(struct brinecandle_frame said, const uint8_t *frame, size_t length)
+{
+    if (said.answer != BRINECANDLE_OK) {
+        held(said.answer == (length < 4 ? BRINECANDLE_WRONG_DATA : BRINECANDLE_WRONG_LENGTH), "read: another answer");
+        held(!said.cla && !said.ins && !said.p1 && !said.p2 && !said.shape && !said.lc && !said.le && !said.start && !said.end,
+             "read: more than a status word");
+        return said;
+    }
+    held(said.cla == frame[0] && said.ins == frame[1] && said.p1 == frame[2] && said.p2 == frame[3], "read: header");
+    held(1 <= said.shape && said.shape <= 8 && said.le <= 65536, "read: shape or Le");
+    held(said.start <= said.end && said.end <= length && said.end - said.start == said.lc, "read: places");
+    return said;
+}
+
+static struct brinecandle_frame watched_read(const uint8_t *frame, size_t length)
+{
+    return watched_frame(brinecandle_read(frame, length), frame, length);
+}
+
+static struct brinecandle_frame watched_read_strict(const uint8_t *frame, size_t length)
+{
+    struct brinecandle_frame said = brinecandle_read_strict(frame, length);
+    held(said.shape != 6, "strict: shape 6");
+    return watched_frame(said, frame, length);
+}
+
+/* `out` before the call is in watched_buffer */
+static struct brinecandle_wrote watched_wrote(struct brinecandle_wrote said, const uint8_t *out, size_t room)
+{
+    held(said.answer == BRINECANDLE_OK || !said.length, "wrote: a length beside another answer");
+    held(said.length <= room && same_from(said.length, out, watched_buffer, room), "wrote: more than was said");
+    return said;
+}
+
+static struct brinecandle_wrote watched_write(uint8_t cla, uint8_t ins, uint8_t p1, uint8_t p2, uint32_t shape,
+                                              const uint8_t *content, size_t content_length, uint32_t le, uint8_t *out,
+                                              size_t room)
+{
+    keep(watched_buffer, out, room);
+    return watched_wrote(brinecandle_write(cla, ins, p1, p2, shape, content, content_length, le, out, room), out, room);
+}
+
+static struct brinecandle_command watched_read_command(const uint8_t *frame, size_t length)
+{
+    struct brinecandle_command said = brinecandle_read_command(frame, length);
+    if (said.answer != BRINECANDLE_OK)
+        held(!said.command, "command: a command beside a status word");
+    if (said.answer != BRINECANDLE_OK || said.command == BRINECANDLE_U2F_VERSION)
+        held(!said.challenge && !said.application, "command: parts where there are none");
+    else
+        held(said.application == said.challenge + 32 && said.application + 32 <= length, "command: places");
+    if (said.command == BRINECANDLE_U2F_AUTHENTICATE)
+        held(said.handle == said.application + 33 && said.handle <= said.handle_end && said.handle_end <= length && said.p1 == frame[2],
+             "command: handle");
+    else
+        held(!said.p1 && !said.handle && !said.handle_end, "command: a handle where there is none");
+    return said;
+}
+
+static struct brinecandle_made watched_new(uint64_t w)
+{
+    struct brinecandle_made said = brinecandle_new(w);
+    held(said.presence.w == (said.answer == BRINECANDLE_OK ? w : 0), "new: another window");
+    held(!said.presence.prompt && !said.presence.touch && !said.presence.last, "new: not a closed record");
+    return said;
+}
+
+static struct brinecandle_touch watched_touch(struct brinecandle_touch said, struct brinecandle_presence before, uint64_t t)
+{
+    if (said.answer != BRINECANDLE_OK)
+        held(is_refused(said.answer) && !said.yes && same_record(said.presence, before), "touch: a refusal and more");
+    else
+        held(said.presence.w == before.w && said.presence.last == t, "touch: window or last moment");
+    return said;
+}
+
+static struct brinecandle_touch watched_grant_up(struct brinecandle_presence presence, uint64_t t)
+{
+    return watched_touch(brinecandle_grant_up(presence, t), presence, t);
+}
+
+static struct brinecandle_touch watched_consume_up(struct brinecandle_presence presence, uint64_t t)
+{
+    return watched_touch(brinecandle_consume_up(presence, t), presence, t);
+}
+
+static struct brinecandle_asked watched_is_up_needed(struct brinecandle_presence presence, uint64_t t)
+{
+    struct brinecandle_asked said = brinecandle_is_up_needed(presence, t);
+    held(said.answer == BRINECANDLE_OK || (is_refused(said.answer) && !said.yes), "ask: a refusal and more");
+    return said;
+}
+
+static struct brinecandle_decision watched_decide(const uint8_t *frame, size_t frame_length, uint64_t t,
+                                                  struct brinecandle_presence presence, struct brinecandle_hardware hardware,
+                                                  const uint8_t *handle, size_t handle_length, const uint8_t *certificate,
+                                                  size_t certificate_length, const uint8_t *x, const uint8_t *y,
+                                                  uint8_t *reply, size_t room, uint8_t *block)
+{
+    keep(watched_buffer, reply, room);
+    keep(watched_block, block, BRINECANDLE_BLOCK);
+    struct brinecandle_decision said = brinecandle_decide(frame, frame_length, t, presence, hardware, handle, handle_length,
+                                                          certificate, certificate_length, x, y, reply, room, block);
+    held(said.answer, "decide: 0");
+    held(said.answer == BRINECANDLE_OK ? said.length == 6 : !said.length, "decide: a length");
+    held(said.length <= room && same_from(said.length, reply, watched_buffer, room), "decide: the reply");
+    if (is_refused(said.answer))
+        held(same_record(said.presence, presence), "decide: a refusal and another record");
+    else
+        held(said.presence.w == presence.w && said.presence.last == t, "decide: window or last moment");
+    if (said.answer != BRINECANDLE_ORDER) {
+        held(!said.taken && no_order(said.order), "decide: an order beside another answer");
+        held(same_from(0, block, watched_block, BRINECANDLE_BLOCK), "decide: the block");
+        return said;
+    }
+    bool is_register = said.order.kind == BRINECANDLE_KIND_REGISTER;
+    held(is_register || said.order.kind == BRINECANDLE_KIND_AUTHENTICATE, "decide: kind");
+    held(said.taken == !is_register, "decide: taken");
+    held(said.order.to_sign == (is_register ? 130 + handle_length : 69), "decide: bytes to sign");
+    held(said.order.certificate_length == (is_register ? certificate_length : 0), "decide: certificate length");
+    for (size_t i = said.order.to_sign; i < BRINECANDLE_BLOCK; i++)
+        held(!block[i], "decide: the block's tail");
+    return said;
+}
+
+static struct brinecandle_wrote watched_finish(struct brinecandle_order order, const uint8_t *block, const uint8_t *certificate,
+                                               size_t certificate_length, uint32_t is_signed, const uint8_t *signature,
+                                               size_t signature_length, uint8_t *reply, size_t room)
+{
+    keep(watched_buffer, reply, room);
+    keep(watched_block, block, BRINECANDLE_BLOCK);
+    struct brinecandle_wrote said = watched_wrote(brinecandle_finish(order, block, certificate, certificate_length, is_signed,
+                                                                     signature, signature_length, reply, room),
+                                                  reply, room);
+    held(same_from(0, block, watched_block, BRINECANDLE_BLOCK), "finish: the block");
+    return said;
+}
+
+#define brinecandle_read watched_read
+#define brinecandle_read_strict watched_read_strict
+#define brinecandle_write watched_write
+#define brinecandle_read_command watched_read_command
+#define brinecandle_new watched_new
+#define brinecandle_grant_up watched_grant_up
+#define brinecandle_consume_up watched_consume_up
+#define brinecandle_is_up_needed watched_is_up_needed
+#define brinecandle_decide watched_decide
+#define brinecandle_finish watched_finish
+
+#endif

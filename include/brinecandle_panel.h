@@ -1,0 +1,153 @@
+/* Brinecandle for C, the part that every firmware would write for itself: one panel, which keeps the presence record, one order
+ * and its block. Every call here writes the record back, so that no touch serves twice; there is one order at a time, and it is
+ * cleared once it is answered, so that it is finished once. Nothing here decides anything: it is over brinecandle.h, whose
+ * contracts hold for the answers.
+ *
+ *   static struct brinecandle_panel panel;                 zeros: no record yet (R6), no order (R7)
+ *   brinecandle_panel_new(&panel, 5000);
+ *   brinecandle_panel_try, brinecandle_panel_decide        by what they answer: sign panel.block, up to panel.order.to_sign
+ *   brinecandle_panel_finish
+ *
+ * All calls on one panel belong in one thread of control: a touch that an interrupt reports is put aside for the main loop.
+ */
+#ifndef BRINECANDLE_PANEL_H
+#define BRINECANDLE_PANEL_H
+
+#include "brinecandle.h"
+
+struct brinecandle_panel {
+    struct brinecandle_presence presence;
+    struct brinecandle_order order;
+    uint8_t block[BRINECANDLE_BLOCK]; /* the bytes to sign, where the order's kind is not 0 */
+};
+
+/* What a decision is lent, by name. `handle`, `certificate`, `x` and `y` are those that a Register would use, x and y of 32 bytes. */
+struct brinecandle_lent {
+    const uint8_t *frame;
+    size_t frame_length;
+    uint64_t t;
+    struct brinecandle_hardware hardware;
+    const uint8_t *handle;
+    size_t handle_length;
+    const uint8_t *certificate;
+    size_t certificate_length;
+    const uint8_t *x;
+    const uint8_t *y;
+    uint8_t *reply;
+    size_t reply_length;
+};
+
+/* What a finishing is lent, by name. */
+struct brinecandle_signed {
+    const uint8_t *certificate; /* as it was lent to the decision; none, length 0, for Authenticate */
+    size_t certificate_length;
+    uint32_t is_signed; /* 1: the signer signed; other: it failed */
+    const uint8_t *signature;
+    size_t signature_length;
+    uint8_t *reply;
+    size_t reply_length;
+};
+
+/* A decision without record and order, which the panel keeps. */
+struct brinecandle_decided {
+    uint16_t answer;
+    bool taken;    /* write the counter's number down as used up, before anything is signed */
+    size_t length; /* of the body, with BRINECANDLE_OK */
+};
+
+static inline bool brinecandle_is_refusal(uint16_t answer)
+{
+    return 0 < answer && answer <= BRINECANDLE_LAST_REFUSAL;
+}
+
+/* A fresh record. After R6 the panel goes on with the one that it has. An order that waits is kept: it asks for no record. */
+BRINECANDLE_TAKE_IT
+static inline uint16_t brinecandle_panel_new(struct brinecandle_panel *panel, uint64_t w)
+{
+    struct brinecandle_made made = brinecandle_new(w);
+    if (made.answer == BRINECANDLE_OK)
+        panel->presence = made.presence;
+    return made.answer;
+}
+
+static inline struct brinecandle_asked brinecandle_panel_goes_on(struct brinecandle_panel *panel, struct brinecandle_touch touch)
+{
+    struct brinecandle_asked said = {touch.answer, touch.yes};
+    panel->presence = touch.presence;
+    return said;
+}
+
+/* A finger touches at t: once for each press. */
+BRINECANDLE_TAKE_IT
+static inline struct brinecandle_asked brinecandle_panel_touch(struct brinecandle_panel *panel, uint64_t t)
+{
+    return brinecandle_panel_goes_on(panel, brinecandle_grant_up(panel->presence, t));
+}
+
+/* The touch check at t. */
+BRINECANDLE_TAKE_IT
+static inline struct brinecandle_asked brinecandle_panel_check(struct brinecandle_panel *panel, uint64_t t)
+{
+    return brinecandle_panel_goes_on(panel, brinecandle_consume_up(panel->presence, t));
+}
+
+/* Whether a prompt is live at t. */
+BRINECANDLE_TAKE_IT
+static inline struct brinecandle_asked brinecandle_panel_ask(const struct brinecandle_panel *panel, uint64_t t)
+{
+    return brinecandle_is_up_needed(panel->presence, t);
+}
+
+static inline struct brinecandle_decision brinecandle_panel_at(struct brinecandle_presence presence, struct brinecandle_lent lent,
+                                                               uint8_t *block)
+{
+    return brinecandle_decide(lent.frame, lent.frame_length, lent.t, presence, lent.hardware, lent.handle, lent.handle_length,
+                              lent.certificate, lent.certificate_length, lent.x, lent.y, lent.reply, lent.reply_length, block);
+}
+
+/* A dry run: what brinecandle_panel_decide would answer, with nothing changed: not the panel, and not the reply in the end, of which
+ * a Version's six bytes are put back. For a Register lend handle and certificate of the lengths that they will have and `stored` 1. */
+BRINECANDLE_TAKE_IT
+static inline struct brinecandle_decided brinecandle_panel_try(const struct brinecandle_panel *panel, struct brinecandle_lent lent)
+{
+    uint8_t block[BRINECANDLE_BLOCK];
+    uint8_t front[6];
+    size_t kept = lent.reply_length < sizeof front ? lent.reply_length : sizeof front;
+    for (size_t i = 0; i < kept; i++)
+        front[i] = lent.reply[i];
+    struct brinecandle_decision decision = brinecandle_panel_at(panel->presence, lent, block);
+    for (size_t i = 0; i < kept; i++)
+        lent.reply[i] = front[i];
+    struct brinecandle_decided said = {decision.answer, decision.taken, decision.length};
+    return said;
+}
+
+/* Decides. With BRINECANDLE_ORDER sign the first panel->order.to_sign bytes of panel->block. A refusal keeps the order that waits for
+ * its signature; every other answer puts its own, or none, in the place. */
+BRINECANDLE_TAKE_IT
+static inline struct brinecandle_decided brinecandle_panel_decide(struct brinecandle_panel *panel, struct brinecandle_lent lent)
+{
+    struct brinecandle_decision decision = brinecandle_panel_at(panel->presence, lent, panel->block);
+    struct brinecandle_decided said = {decision.answer, decision.taken, decision.length};
+    panel->presence = decision.presence;
+    if (!brinecandle_is_refusal(decision.answer))
+        panel->order = decision.order;
+    return said;
+}
+
+/* Finishes the order that the panel keeps. It is over with BRINECANDLE_OK and with BRINECANDLE_INTERNAL_EXCEPTION (the signer
+ * failed), and is kept on R2, R3 and R4, to be finished again. */
+BRINECANDLE_TAKE_IT
+static inline struct brinecandle_wrote brinecandle_panel_finish(struct brinecandle_panel *panel, struct brinecandle_signed with)
+{
+    struct brinecandle_wrote wrote = brinecandle_finish(panel->order, panel->block, with.certificate, with.certificate_length,
+                                                        with.is_signed, with.signature, with.signature_length, with.reply,
+                                                        with.reply_length);
+    if (!brinecandle_is_refusal(wrote.answer)) {
+        struct brinecandle_order none = {BRINECANDLE_NO_KIND, 0, 0};
+        panel->order = none;
+    }
+    return wrote;
+}
+
+#endif
