@@ -9,6 +9,7 @@ use Rattle.command_stated.specs.Command.{Command, commandOf}
 pub use Rattle.command_stated.proofs.Theorems.{RegisterExactly, AuthenticateExactly, VersionExactly, RegisterParts, AuthenticateParts, CutAtPlaces}
 pub use Rattle.command_stated.proofs.Ways.{Why, class, instruction, lengths, control, Way, register, authenticate, version, status, Read, read, unread, reading}
 pub use Rattle.command_stated.proofs.Numbers.{flags-same, command-same}
+pub use Rattle.command_stated.proofs.Cases.{on-frame, on-status}
 
 -- command reading refuses nothing
 pub never-refused : (frame : List ℕ) (n : ℕ) → commandOf frame ≡ R n → ⊥

@@ -1,6 +1,7 @@
 // What the panel's C firmware links: every call of the core over plain numbers and byte slices. include/brinecandle.h says
 // the same in C, and .ci/header compares the two. The structs stand in panel_stated, the conversions in plain_frames,
 // plain_presence and plain_orders.
+use apdu::Reading;
 use panel_stated::Asked;
 use panel_stated::CommandSaid;
 use panel_stated::DecisionSaid;
@@ -15,12 +16,21 @@ use panel_stated::Wrote;
 use signing::Order;
 ghost use Rattle.panel_stated.specs.Contracts.{BrinecandleRead, BrinecandleReadStrict, BrinecandleWrite, BrinecandleReadCommand, BrinecandleNew, BrinecandleGrantUp, BrinecandleConsumeUp, BrinecandleIsUpNeeded, BrinecandleDecide, BrinecandleFinish};
 
-// Reads any bytes as a frame; its data comes back as a place in the caller's frame.
+// Reads any bytes as a frame; its data comes back as a place in the caller's frame. By cases, and each is a return of its own:
+// so each is written to the caller at once.
 #[no_mangle]
 pub extern "C" fn brinecandle_read(frame: &[u8]) -> FrameSaid
     ensures { λ r. ⌜ BrinecandleRead (now (frame .entry)) r ⌝ }
 {
-    plain_frames::frame_plain(apdu::read(frame))
+    let reading = apdu::read(frame);
+    match reading {
+        Reading::Frame(says) => {
+            return plain_frames::frame_numbers(says);
+        }
+        Reading::Status(status) => {
+            return plain_frames::frame_status(status);
+        }
+    }
 }
 
 // The same without shape 6.
@@ -54,7 +64,7 @@ pub extern "C" fn brinecandle_write(
 pub extern "C" fn brinecandle_read_command(frame: &[u8]) -> CommandSaid
     ensures { λ r. ⌜ BrinecandleReadCommand (now (frame .entry)) r ⌝ }
 {
-    plain_frames::command_plain(command::read_command(frame))
+    plain_frames::read_command_plain(frame)
 }
 
 // A fresh record. What stands for one after a refusal has W 0, so no call takes it.

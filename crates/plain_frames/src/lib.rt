@@ -6,6 +6,7 @@ use apdu::Reading;
 use apdu::Written;
 use command::Ctap1Flags;
 use command::U2fCommand;
+use outcome::ApduStatusCode;
 use panel_stated::CommandSaid;
 use panel_stated::FrameSaid;
 use panel_stated::Shaped;
@@ -14,8 +15,9 @@ ghost use mathlib.Core.Path.{_≡_};
 ghost use Rattle.outcome.specs.Outcome.{Gives};
 ghost use Rattle.apdu_stated.specs.Answers.{saysOf, writtenOf};
 ghost use Rattle.command_stated.specs.Command.{flagsNo, Register, Authenticate};
-ghost use Rattle.panel_stated.specs.Exports.{frameNumbers, bareCommand, commandNumbers, lengthNumbers};
-ghost use Rattle.panel_stated.specs.Contracts.{ShapeNumbered, FramePlain, WritePlain, CommandPlain};
+ghost use Rattle.apdu_stated.specs.declared.Reading.the-variants.{Frame, Status};
+ghost use Rattle.panel_stated.specs.Exports.{bareCommand, commandNumbers, lengthNumbers};
+ghost use Rattle.panel_stated.specs.Contracts.{ShapeNumbered, FramePlain, WritePlain, CommandPlain, BrinecandleReadCommand};
 
 pub fn shape_numbered(number: u32) -> Shaped
     ensures { λ r. ⌜ ShapeNumbered number r ⌝ }
@@ -33,8 +35,9 @@ pub fn shape_numbered(number: u32) -> Shaped
     }
 }
 
-fn frame_numbers(says: Apdu) -> FrameSaid
-    ensures { λ r. ⌜ r ≡ frameNumbers (Gives (saysOf says)) ⌝ }
+// A reading in numbers, by its two cases: one that is answered case by case is written where its caller wants it, at once.
+pub fn frame_numbers(says: Apdu) -> FrameSaid
+    ensures { λ r. ⌜ FramePlain (Frame says) r ⌝ }
 {
     let header = says.header;
     let shape = says.shape;
@@ -53,23 +56,29 @@ fn frame_numbers(says: Apdu) -> FrameSaid
     }
 }
 
+pub fn frame_status(status: ApduStatusCode) -> FrameSaid
+    ensures { λ r. ⌜ FramePlain (Status status) r ⌝ }
+{
+    FrameSaid {
+        answer: outcome::status_number(status),
+        cla: 0,
+        ins: 0,
+        p1: 0,
+        p2: 0,
+        shape: 0,
+        lc: 0,
+        le: 0,
+        start: 0,
+        end: 0,
+    }
+}
+
 pub fn frame_plain(reading: Reading) -> FrameSaid
     ensures { λ r. ⌜ FramePlain reading r ⌝ }
 {
     match reading {
         Reading::Frame(says) => frame_numbers(says),
-        Reading::Status(status) => FrameSaid {
-            answer: outcome::status_number(status),
-            cla: 0,
-            ins: 0,
-            p1: 0,
-            p2: 0,
-            shape: 0,
-            lc: 0,
-            le: 0,
-            start: 0,
-            end: 0,
-        },
+        Reading::Status(status) => frame_status(status),
     }
 }
 
@@ -155,5 +164,16 @@ pub fn command_plain(read: U2fCommand) -> CommandSaid
         U2fCommand::Authenticate(flags, says) => authenticate_numbers(flags, says),
         U2fCommand::Version => bare(0x9000, 0x03),
         U2fCommand::Status(status) => bare(outcome::status_number(status), 0),
+    }
+}
+
+// Reads any bytes as a command. Not by `read_command`: that has one caller, the decision, so that it is compiled into it.
+pub fn read_command_plain(frame: &[u8]) -> CommandSaid
+    ensures { λ r. ⌜ BrinecandleReadCommand (now (frame .entry)) r ⌝ }
+{
+    let reading = apdu::read(frame);
+    match reading {
+        Reading::Frame(says) => command_plain(command::instructed(frame, says)),
+        Reading::Status(status) => command_plain(U2fCommand::Status(status)),
     }
 }

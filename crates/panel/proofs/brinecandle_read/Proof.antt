@@ -1,18 +1,38 @@
--- `brinecandle_read` meets its contract.
+-- `brinecandle_read` meets its contract: by the reading.
 use borrow.Author.Needs.{needs}
-use Rattle.panel_stated.proofs.Cases
-use Rattle.panel_stated.specs.Exports.{frameNumbers}
+use Rattle.plain_frames.proofs.Laws
 use Rattle.panel.proofs.brinecandle_read.Statement.{statement}
 use Rattle.panel.proofs.brinecandle_read.Tie as tie
 
 read-requires : tie.Need-read-requires
 read-requires c κs = search needs
 
-frame-plain-requires : tie.Need-frame-plain-requires
-frame-plain-requires c κs = search needs
+enum-known-reading : tie.Need-enum-known-reading
+enum-known-reading c = search needs
+
+frame-numbers-requires : tie.Need-frame-numbers-requires
+frame-numbers-requires c κs = search needs
 
 returns : tie.Need-returns
-returns c = Cases.through frameNumbers _ _ _ (c .before .read .ensures) (c .frame-plain .ensures)
+returns c = search (needs, Laws.frame-read)
+
+enum-known-reading-2 : tie.Need-enum-known-reading-2
+enum-known-reading-2 c = search needs
+
+frame-status-requires : tie.Need-frame-status-requires
+frame-status-requires c κs = search needs
+
+returns-2 : tie.Need-returns-2
+returns-2 c = search (needs, Laws.frame-unread)
 
 pub brinecandle-read-spec : {M : Type 1} → statement M
-brinecandle-read-spec = tie.close (tie.spec read-requires frame-plain-requires returns)
+brinecandle-read-spec =
+    tie.close
+    (tie.spec
+    read-requires
+    enum-known-reading
+    frame-numbers-requires
+    returns
+    enum-known-reading-2
+    frame-status-requires
+    returns-2)
