@@ -1,11 +1,11 @@
 // The calls of the pipe panel that write: frames, decisions and finishings; and an order that was kept elsewhere. `reply` is the
 // lent part of the reply buffer.
 use answers::Answer;
+use panel_calls::Panel;
 use panel_stated::DecisionSaid;
 use panel_stated::HardwareSaid;
 use panel_stated::OrderNumbers;
 use panel_stated::PresenceRecord;
-use panel_calls::Panel;
 
 fn stands(
     mut panel: Panel,

@@ -1,8 +1,8 @@
 // The panel on a pipe, without the pipe: a line in, its answer out. firmware/panel.c is the same in C, over the archive.
 use answers::Answer;
+use panel_calls::Panel;
 use panel_stated::OrderNumbers;
 use panel_stated::PresenceRecord;
-use panel_calls::Panel;
 
 // Each call's name, and a letter for each of its words (`calls` says what they stand for). Calls are matched by their places here.
 const CALLS: [u8; 165] =
