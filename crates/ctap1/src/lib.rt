@@ -11,23 +11,23 @@ pub use ctap1_stated::Decision;
 pub use ctap1_stated::Hardware;
 use outcome::ApduStatusCode;
 use outcome::Refusal;
-use signing::Order;
+use signing::Head;
 use u2f_up::Presence;
 use u2f_up::Ready;
 ghost use mathlib.Core.Path.{_≡_};
 ghost use mathlib.Core.Bool.{true, false};
 ghost use lib.ListN.{length};
-ghost use Rattle.outcome.specs.Outcome.{statusNo, refusalNo};
+ghost use Rattle.outcome.specs.Outcome.{Gives, statusNo, refusalNo};
 ghost use Rattle.apdu_stated.specs.Answers.{saysOf};
 ghost use Rattle.command_stated.specs.Command.{flagsNo, commandOf};
 ghost use Rattle.u2f_up_stated.specs.Moments.{checkedOf};
-ghost use Rattle.ctap1_stated.specs.Words.{isPresent, decisionSaid};
+ghost use Rattle.ctap1_stated.specs.Words.{isPresent, Ordered, handedOf, decisionSaid, decisionWith};
 ghost use Rattle.ctap1_stated.specs.Path.{versionPath, enrolmentOrder, registerPath, countedEnding, loginPath, commandPath};
-ghost use Rattle.ctap1_stated.specs.Decision.{refusalResult, statusResult, orderResult, ended, touchChecked, along, replyLeft};
+ghost use Rattle.ctap1_stated.specs.Decision.{refusalResult, statusResult, orderResult, ended, touchChecked, along, replyLeft, leftOf};
 ghost use Rattle.ctap1_stated.specs.Contracts.{Decide};
 
 fn refused(why: Refusal, kept: Presence) -> Decision
-    ensures { λ r. ⌜ decisionSaid r ≡ refusalResult (refusalNo why) kept ⌝ }
+    ensures { λ r. ⌜ decisionSaid r ≡ handedOf (refusalResult (refusalNo why) kept) ⌝ }
 {
     Decision {
         answer: Decided::Refused(why),
@@ -38,7 +38,7 @@ fn refused(why: Refusal, kept: Presence) -> Decision
 }
 
 fn answered(status: ApduStatusCode, settled: Presence) -> Decision
-    ensures { λ r. ⌜ decisionSaid r ≡ statusResult (statusNo status) settled ⌝ }
+    ensures { λ r. ⌜ decisionSaid r ≡ handedOf (statusResult (statusNo status) settled) ⌝ }
 {
     Decision {
         answer: Decided::Status(status),
@@ -48,8 +48,8 @@ fn answered(status: ApduStatusCode, settled: Presence) -> Decision
     }
 }
 
-fn ordered(order: Order, settled: Presence, taken: bool) -> Decision
-    ensures { λ r. ⌜ decisionSaid r ≡ orderResult order settled taken ⌝ }
+fn ordered(order: Head, settled: Presence, taken: bool) -> Decision
+    ensures { λ r. ⌜ decisionSaid r ≡ record { answer = Gives Ordered; presence = settled; head = order; taken = taken } ⌝ }
 {
     Decision {
         answer: Decided::Order,
@@ -70,7 +70,7 @@ fn is_present(attestation: Attestation) -> bool
 }
 
 fn version(kept: Presence, settled: Presence, reply: &mut [u8]) -> Decision
-    ensures { λ r. ⌜ decisionSaid r ≡ along (versionPath (length (now (reply .entry)))) kept settled 0 ⌝ }
+    ensures { λ r. ⌜ decisionSaid r ≡ handedOf (along (versionPath (length (now (reply .entry)))) kept settled 0) ⌝ }
     ensures { λ _. ⌜ now (reply .exit) ≡ replyLeft (along (versionPath (length (now (reply .entry)))) kept settled 0) (now (reply .entry)) ⌝ }
 {
     if reply.len() < 6 {
@@ -93,12 +93,21 @@ fn enrol(
     x: &[u8; 32],
     y: &[u8; 32],
     after: Presence,
+    block: &mut [u8; 385],
 ) -> Decision
-    ensures { λ r. ⌜ decisionSaid r ≡ orderResult (enrolmentOrder (now (frame .entry)) (saysOf says) (record { newHandle = now (handle .entry); certificate = now (certificate .entry); x = now (x .entry); y = now (y .entry) })) after false ⌝ }
+    ensures { λ r. ⌜ decisionWith r (now (block .exit)) ≡ leftOf (orderResult (enrolmentOrder (now (frame .entry)) (saysOf says) (record { newHandle = now (handle .entry); certificate = now (certificate .entry); x = now (x .entry); y = now (y .entry) })) after false) (now (block .entry)) ⌝ }
 {
     let application = command::application(frame, says);
     let challenge = command::challenge(frame, says);
-    let order = signing::register_order(application, challenge, handle, x, y, certificate.len());
+    let order = signing::register_order(
+        application,
+        challenge,
+        handle,
+        x,
+        y,
+        certificate.len(),
+        block,
+    );
     ordered(order, after, false)
 }
 
@@ -115,8 +124,9 @@ fn register(
     room: usize,
     says: Apdu,
     settled: Presence,
+    block: &mut [u8; 385],
 ) -> Decision
-    ensures { λ r. ⌜ decisionSaid r ≡ along (registerPath (record { frame = now (frame .entry); hardware = hardware; newHandle = now (handle .entry); certificate = now (certificate .entry); x = now (x .entry); y = now (y .entry); room = room }) (saysOf says)) kept settled t ⌝ }
+    ensures { λ r. ⌜ decisionWith r (now (block .exit)) ≡ leftOf (along (registerPath (record { frame = now (frame .entry); hardware = hardware; newHandle = now (handle .entry); certificate = now (certificate .entry); x = now (x .entry); y = now (y .entry); room = room }) (saysOf says)) kept settled t) (now (block .entry)) ⌝ }
 {
     if !signing::has_register_room(room, handle.len(), certificate.len()) {
         return refused(Refusal::R2, kept);
@@ -136,33 +146,47 @@ fn register(
     if !is_present(attestation) {
         return answered(ApduStatusCode::InternalException, after);
     }
-    enrol(frame, says, handle, certificate, x, y, after)
+    enrol(frame, says, handle, certificate, x, y, after, block)
 }
 
 // The counter is taken last: no check comes after it.
-fn counted(counter: Counter, frame: &[u8], says: Apdu, present: bool, settled: Presence) -> Decision
-    ensures { λ r. ⌜ decisionSaid r ≡ ended (countedEnding (now (frame .entry)) (saysOf says) present counter) settled ⌝ }
+fn counted(
+    counter: Counter,
+    frame: &[u8],
+    says: Apdu,
+    present: bool,
+    settled: Presence,
+    block: &mut [u8; 385],
+) -> Decision
+    ensures { λ r. ⌜ decisionWith r (now (block .exit)) ≡ leftOf (ended (countedEnding (now (frame .entry)) (saysOf says) present counter) settled) (now (block .entry)) ⌝ }
 {
     match counter {
         Counter::Failed => answered(ApduStatusCode::WrongData, settled),
         Counter::Offered(n) => {
             let application = command::application(frame, says);
             let challenge = command::challenge(frame, says);
-            let order = signing::authenticate_order(application, challenge, present, n);
+            let order = signing::authenticate_order(application, challenge, present, n, block);
             ordered(order, settled, true)
         }
     }
 }
 
-fn enforce(counter: Counter, frame: &[u8], says: Apdu, t: u64, settled: Presence) -> Decision
-    ensures { λ r. ⌜ decisionSaid r ≡ touchChecked (checkedOf settled t) (countedEnding (now (frame .entry)) (saysOf says) true counter) ⌝ }
+fn enforce(
+    counter: Counter,
+    frame: &[u8],
+    says: Apdu,
+    t: u64,
+    settled: Presence,
+    block: &mut [u8; 385],
+) -> Decision
+    ensures { λ r. ⌜ decisionWith r (now (block .exit)) ≡ leftOf (touchChecked (checkedOf settled t) (countedEnding (now (frame .entry)) (saysOf says) true counter)) (now (block .entry)) ⌝ }
 {
     let found = u2f_up::touch_check(settled, t);
     let after = found.presence;
     if !found.yes {
         return answered(ApduStatusCode::CondUseNotSatisfied, after);
     }
-    counted(counter, frame, says, true, after)
+    counted(counter, frame, says, true, after, block)
 }
 
 // A check-only 6985 is the good answer: it looks at no touch, asks for no room and leaves the windows alone.
@@ -175,8 +199,9 @@ fn authenticate(
     flags: Ctap1Flags,
     says: Apdu,
     settled: Presence,
+    block: &mut [u8; 385],
 ) -> Decision
-    ensures { λ r. ⌜ decisionSaid r ≡ along (loginPath (now (frame .entry)) hardware room (flagsNo flags) (saysOf says)) kept settled t ⌝ }
+    ensures { λ r. ⌜ decisionWith r (now (block .exit)) ≡ leftOf (along (loginPath (now (frame .entry)) hardware room (flagsNo flags) (saysOf says)) kept settled t) (now (block .entry)) ⌝ }
 {
     let counter = hardware.counter;
     let p1 = command::flags_number(flags);
@@ -190,9 +215,9 @@ fn authenticate(
         return refused(Refusal::R2, kept);
     }
     if p1 == 0x03 {
-        return enforce(counter, frame, says, t, settled);
+        return enforce(counter, frame, says, t, settled, block);
     }
-    counted(counter, frame, says, false, settled)
+    counted(counter, frame, says, false, settled, block)
 }
 
 fn commanded(
@@ -206,8 +231,9 @@ fn commanded(
     y: &[u8; 32],
     reply: &mut [u8],
     settled: Presence,
+    block: &mut [u8; 385],
 ) -> Decision
-    ensures { λ r. ⌜ decisionSaid r ≡ along (commandPath (record { frame = now (frame .entry); hardware = hardware; newHandle = now (handle .entry); certificate = now (certificate .entry); x = now (x .entry); y = now (y .entry); room = length (now (reply .entry)) }) (commandOf (now (frame .entry)))) kept settled t ⌝ }
+    ensures { λ r. ⌜ decisionWith r (now (block .exit)) ≡ leftOf (along (commandPath (record { frame = now (frame .entry); hardware = hardware; newHandle = now (handle .entry); certificate = now (certificate .entry); x = now (x .entry); y = now (y .entry); room = length (now (reply .entry)) }) (commandOf (now (frame .entry)))) kept settled t) (now (block .entry)) ⌝ }
     ensures { λ _. ⌜ now (reply .exit) ≡ replyLeft (along (commandPath (record { frame = now (frame .entry); hardware = hardware; newHandle = now (handle .entry); certificate = now (certificate .entry); x = now (x .entry); y = now (y .entry); room = length (now (reply .entry)) }) (commandOf (now (frame .entry)))) kept settled t) (now (reply .entry)) ⌝ }
 {
     let room = reply.len();
@@ -227,6 +253,7 @@ fn commanded(
             room,
             says,
             settled,
+            block,
         ),
         U2fCommand::Authenticate(flags, says) => authenticate(
             frame,
@@ -237,12 +264,14 @@ fn commanded(
             flags,
             says,
             settled,
+            block,
         ),
     }
 }
 
 // What a frame is answered at moment t: a refusal, a status word, Version's body, or an order to sign. `handle` and
-// `certificate` are the new handle and the attestation certificate that a Register would use, x and y its public key.
+// `certificate` are the new handle and the attestation certificate that a Register would use, x and y its public key. The block is
+// written for an order alone.
 pub fn decide(
     frame: &[u8],
     t: u64,
@@ -253,8 +282,9 @@ pub fn decide(
     x: &[u8; 32],
     y: &[u8; 32],
     reply: &mut [u8],
+    block: &mut [u8; 385],
 ) -> Decision
-    ensures { λ r. ⌜ Decide presence t (record { frame = now (frame .entry); hardware = hardware; newHandle = now (handle .entry); certificate = now (certificate .entry); x = now (x .entry); y = now (y .entry); room = length (now (reply .entry)) }) (now (reply .entry)) r (now (reply .exit)) ⌝ }
+    ensures { λ r. ⌜ Decide presence t (record { frame = now (frame .entry); hardware = hardware; newHandle = now (handle .entry); certificate = now (certificate .entry); x = now (x .entry); y = now (y .entry); room = length (now (reply .entry)) }) (record { reply = now (reply .entry); block = now (block .entry) }) r (record { reply = now (reply .exit); block = now (block .exit) }) ⌝ }
 {
     let ready = u2f_up::settle(presence, t);
     let allowed = hardware.allowed;
@@ -274,6 +304,7 @@ pub fn decide(
                 y,
                 reply,
                 settled,
+                block,
             ),
         },
     }

@@ -1,6 +1,6 @@
 -- The decision's path, check by check, as the code meets it. It mentions no function.
 use Prim.Native.Nat.{ℕ, _<_, _≤_}
-use mathlib.Core.Path.{_≡_, sym, _∙_}
+use mathlib.Core.Path.{_≡_, sym, ap, _∙_}
 use mathlib.Core.Bool.{Bool, true, false, not}
 use mathlib.Core.List.{List}
 use borrow.Author.Tests.{lt-ltb, le-ltb, leb-true, leb-false, eq-eqb, ne-eqb, not-true, not-false}
@@ -15,19 +15,27 @@ use Rattle.u2f_up_stated.specs.declared.Presence.{Presence}
 use Rattle.u2f_up_stated.specs.declared.Finding.{Finding}
 use Rattle.signing_stated.specs.Layouts.{presenceByte}
 use Rattle.signing_stated.specs.Orders.{registerOrderOf, authenticateOrderOf}
-use Rattle.signing_stated.specs.declared.Order.{Order}
+use Rattle.signing_stated.specs.declared.Head.{Head}
+use Rattle.signing_stated.specs.Words.{Order, orderWith}
 use Rattle.signing_stated.specs.Finishing.{registerRoom, authenticateRoom}
-use Rattle.ctap1_stated.specs.Words.{Inputs, Enrolment, Hardware, isPresent, Given, Result, Counter}
-use Rattle.ctap1_stated.specs.Decision.{refusalResult, statusResult, bodyResult, orderResult, along, ended, touchChecked, versionBytes, replyLeft}
-use Rattle.ctap1_stated.specs.Path.{versionPath, registerPath, registerEnding, enrolmentOrder, registerOrdered, countedEnding, loginPath}
+use Rattle.ctap1_stated.specs.Words.{Inputs, Enrolment, Hardware, isPresent, Given, Counter, Handed, WithBlock, handedOf}
+use Rattle.ctap1_stated.specs.Decision.{refusalResult, statusResult, bodyResult, orderResult, along, ended, touchChecked, versionBytes, replyLeft, leftOf}
+use Rattle.ctap1_stated.specs.Path.{versionPath, registerPath, registerEnding, enrolmentOrder, registerOrdered, signingOrder, countedEnding, loginPath}
 use Rattle.ctap1_stated.specs.declared.Counter.the-variants as Counter′
 
--- a decision's fields: only the order comes from a call
-abbrev result : Outcome Given → Presence → Order → Bool → Result
-result a p o taken = record { answer = a; presence = p; order = o; taken = taken }
+-- a decision's fields: only the order's head comes from a call
+abbrev said : Outcome Given → Presence → Head → Bool → Handed
+said a p h taken = record { answer = a; presence = p; head = h; taken = taken }
 
-pub with-order : (a : Outcome Given) (p : Presence) (o q : Order) (taken : Bool) → o ≡ q → result a p o taken ≡ result a p q taken
-with-order a p o q taken e = rw e
+pub with-head : (a : Outcome Given) (p : Presence) (h k : Head) (taken : Bool) → h ≡ k → said a p h taken ≡ said a p k taken
+with-head a p h k taken e = rw e
+
+-- what is handed back beside a block that stays
+abbrev pub beside : Handed → List ℕ → WithBlock
+beside h old = record { said = h; block = old }
+
+pub with-block : (h k : Handed) (old : List ℕ) → h ≡ k → beside h old ≡ beside k old
+with-block h k old e = ap (λ (s : Handed). beside s old) e
 
 -- a test by `leb` that fails or passes, as the test by `ltb` the other way round
 short : (need room : ℕ) (b : Bool) → b ≡ leb need room → not b ≡ true → ltb room need ≡ true
@@ -37,12 +45,12 @@ enough : (need room : ℕ) (b : Bool) → b ≡ leb need room → not b ≡ fals
 enough need room b is-b n = le-ltb room need (leb-true need room (sym is-b ∙ not-false b n))
 
 -- ---- Version
-module _ (kept settled : Presence) (room : ℕ) (r : Result) where
-  pub version-short : room < 6 → r ≡ refusalResult 2 kept → r ≡ along (versionPath room) kept settled 0
+module _ (kept settled : Presence) (room : ℕ) (r : Handed) where
+  pub version-short : room < 6 → r ≡ handedOf (refusalResult 2 kept) → r ≡ handedOf (along (versionPath room) kept settled 0)
   unfolding versionPath
   version-short h e = e ∙ rw (lt-ltb room 6 h)
 
-  pub version-body : 6 ≤ room → r ≡ bodyResult 6 settled → r ≡ along (versionPath room) kept settled 0
+  pub version-body : 6 ≤ room → r ≡ handedOf (bodyResult 6 settled) → r ≡ handedOf (along (versionPath room) kept settled 0)
   unfolding versionPath
   version-body h e = e ∙ rw (le-ltb room 6 h)
 
@@ -56,88 +64,92 @@ module _ (kept settled : Presence) (old : List ℕ) where
   version-wrote new h e = e ∙ rw (le-ltb (length old) 6 h)
 
 -- ---- Register
-module _ (i : Inputs) (kept : Presence) (t : ℕ) (said : Says) (settled : Presence) (r : Result) (b : Bool) (is-b : b ≡ leb (registerRoom (length (i .newHandle)) (length (i .certificate))) (i .room)) where
-  pub register-no-room : not b ≡ true → r ≡ refusalResult 2 kept → r ≡ along (registerPath i said) kept settled t
+module _ (i : Inputs) (kept : Presence) (t : ℕ) (said : Says) (settled : Presence) (old : List ℕ) (b : Bool) (is-b : b ≡ leb (registerRoom (length (i .newHandle)) (length (i .certificate))) (i .room)) where
+  pub register-no-room : (r : Handed) → not b ≡ true → r ≡ handedOf (refusalResult 2 kept) → beside r old ≡ leftOf (along (registerPath i said) kept settled t) old
   unfolding registerPath registerEnding
-  register-no-room n e = e ∙ rw (short (registerRoom (length (i .newHandle)) (length (i .certificate))) (i .room) b is-b n)
+  register-no-room r n e = with-block r _ old e ∙ rw (short (registerRoom (length (i .newHandle)) (length (i .certificate))) (i .room) b is-b n)
 
   module _ (room : not b ≡ false) (found : Finding) (is-found : found ≡ checkedOf settled t) where
     roomy : ltb (i .room) (registerRoom (length (i .newHandle)) (length (i .certificate))) ≡ false
     roomy = enough (registerRoom (length (i .newHandle)) (length (i .certificate))) (i .room) b is-b room
 
-    pub register-no-touch : not (found .yes) ≡ true → r ≡ statusResult 0x6985 (found .presence) → r ≡ along (registerPath i said) kept settled t
+    pub register-no-touch : (r : Handed) → not (found .yes) ≡ true → r ≡ handedOf (statusResult 0x6985 (found .presence)) → beside r old ≡ leftOf (along (registerPath i said) kept settled t) old
     unfolding registerPath registerEnding
-    register-no-touch n e = e ∙ rw (roomy, ← is-found, n)
+    register-no-touch r n e = with-block r _ old e ∙ rw (roomy, ← is-found, n)
 
     module _ (touch : not (found .yes) ≡ false) where
-      pub register-not-stored : not (i .hardware .stored) ≡ true → r ≡ statusResult 0x6f00 (found .presence) → r ≡ along (registerPath i said) kept settled t
+      pub register-not-stored : (r : Handed) → not (i .hardware .stored) ≡ true → r ≡ handedOf (statusResult 0x6f00 (found .presence)) → beside r old ≡ leftOf (along (registerPath i said) kept settled t) old
       unfolding registerPath registerEnding
-      register-not-stored n e = e ∙ rw (roomy, ← is-found, touch, n)
+      register-not-stored r n e = with-block r _ old e ∙ rw (roomy, ← is-found, touch, n)
 
       module _ (stored : not (i .hardware .stored) ≡ false) where
-        pub register-long : 255 < length (i .newHandle) → r ≡ statusResult 0x6f00 (found .presence) → r ≡ along (registerPath i said) kept settled t
+        pub register-long : (r : Handed) → 255 < length (i .newHandle) → r ≡ handedOf (statusResult 0x6f00 (found .presence)) → beside r old ≡ leftOf (along (registerPath i said) kept settled t) old
         unfolding registerPath registerEnding
-        register-long h e = e ∙ rw (roomy, ← is-found, touch, stored, lt-ltb 255 (length (i .newHandle)) h)
+        register-long r h e = with-block r _ old e ∙ rw (roomy, ← is-found, touch, stored, lt-ltb 255 (length (i .newHandle)) h)
 
         module _ (fits : length (i .newHandle) ≤ 255) (p : Bool) (is-p : p ≡ isPresent (i .hardware .attestation)) where
-          pub register-no-attestation : not p ≡ true → r ≡ statusResult 0x6f00 (found .presence) → r ≡ along (registerPath i said) kept settled t
+          pub register-no-attestation : (r : Handed) → not p ≡ true → r ≡ handedOf (statusResult 0x6f00 (found .presence)) → beside r old ≡ leftOf (along (registerPath i said) kept settled t) old
           unfolding registerPath registerEnding
-          register-no-attestation n e = e ∙ rw (roomy, ← is-found, touch, stored, le-ltb 255 (length (i .newHandle)) fits, ← is-p, n)
+          register-no-attestation r n e = with-block r _ old e ∙ rw (roomy, ← is-found, touch, stored, le-ltb 255 (length (i .newHandle)) fits, ← is-p, n)
 
-          pub register-order : not p ≡ false → r ≡ orderResult (registerOrdered i said) (found .presence) false → r ≡ along (registerPath i said) kept settled t
+          pub register-order : (x : WithBlock) → not p ≡ false → x ≡ leftOf (orderResult (registerOrdered i said) (found .presence) false) old → x ≡ leftOf (along (registerPath i said) kept settled t) old
           unfolding registerPath registerEnding
-          register-order n e = e ∙ rw (roomy, ← is-found, touch, stored, le-ltb 255 (length (i .newHandle)) fits, ← is-p, n)
+          register-order x n e = e ∙ rw (roomy, ← is-found, touch, stored, le-ltb 255 (length (i .newHandle)) fits, ← is-p, n)
 
-pub ordered-register : (frame : List ℕ) (said : Says) (n : Enrolment) (p : Presence) (r : Result) (application challenge : List ℕ) (order : Order)
+-- an order is the head that is handed back and the lent block
+ordered : (o q : Order) (p : Presence) (taken : Bool) (r : Handed) (old : List ℕ) → o ≡ q → r ≡ handedOf (orderResult o p taken) → beside r (o .bytes) ≡ leftOf (orderResult q p taken) old
+ordered o q p taken r old is-o e = with-block r _ (o .bytes) e ∙ ap (λ (m : Order). leftOf (orderResult m p taken) old) is-o
+
+pub ordered-register : (frame : List ℕ) (said : Says) (n : Enrolment) (p : Presence) (r : Handed) (old application challenge block : List ℕ) (h : Head)
     → application ≡ applicationOf frame said → challenge ≡ challengeOf frame said
-    → order ≡ registerOrderOf (record { application = application; challenge = challenge; handle = n .newHandle; x = n .x; y = n .y }) (length (n .certificate))
-    → r ≡ orderResult order p false → r ≡ orderResult (enrolmentOrder frame said n) p false
+    → orderWith h block ≡ registerOrderOf (record { application = application; challenge = challenge; handle = n .newHandle; x = n .x; y = n .y }) (length (n .certificate))
+    → r ≡ handedOf (orderResult (orderWith h block) p false) → beside r block ≡ leftOf (orderResult (enrolmentOrder frame said n) p false) old
 unfolding enrolmentOrder
-ordered-register frame said n p r application challenge order is-a is-c is-o e = e ∙ rw (is-o, is-a, is-c)
+ordered-register frame said n p r old application challenge block h is-a is-c is-o e = ordered (orderWith h block) _ p false r old (is-o ∙ rw (is-a, is-c)) e
 
 -- ---- Authenticate
-module _ (frame : List ℕ) (said : Says) (present : Bool) (p : Presence) (r : Result) (c : Counter) where
-  pub counted-failed : c ≡ Counter′.Failed → r ≡ statusResult 0x6a80 p → r ≡ ended (countedEnding frame said present c) p
+module _ (frame : List ℕ) (said : Says) (present : Bool) (p : Presence) (r : Handed) (old : List ℕ) (c : Counter) where
+  pub counted-failed : c ≡ Counter′.Failed → r ≡ handedOf (statusResult 0x6a80 p) → beside r old ≡ leftOf (ended (countedEnding frame said present c) p) old
   unfolding countedEnding
-  counted-failed z e = e ∙ rw z
+  counted-failed z e = with-block r _ old e ∙ rw z
 
-  pub counted-order : (n : ℕ) (application challenge : List ℕ) (order : Order) → c ≡ Counter′.Offered n
+  pub counted-order : (n : ℕ) (application challenge block : List ℕ) (h : Head) → c ≡ Counter′.Offered n
       → application ≡ applicationOf frame said → challenge ≡ challengeOf frame said
-      → order ≡ authenticateOrderOf (record { application = application; presence = presenceByte present; counter = bytes4 n; challenge = challenge })
-      → r ≡ orderResult order p true → r ≡ ended (countedEnding frame said present c) p
+      → orderWith h block ≡ authenticateOrderOf (record { application = application; presence = presenceByte present; counter = bytes4 n; challenge = challenge })
+      → r ≡ handedOf (orderResult (orderWith h block) p true) → beside r block ≡ leftOf (ended (countedEnding frame said present c) p) old
   unfolding countedEnding
-  counted-order n application challenge order z is-a is-c is-o e = e ∙ rw (is-o, is-a, is-c) (rw z)
+  counted-order n application challenge block h z is-a is-c is-o e = ordered (orderWith h block) (signingOrder frame said present n) p true r old (is-o ∙ rw (is-a, is-c)) e ∙ rw z
 
-module _ (c : Counter) (frame : List ℕ) (said : Says) (settled : Presence) (t : ℕ) (r : Result) (found : Finding) (is-found : found ≡ checkedOf settled t) where
-  pub enforced-no-touch : not (found .yes) ≡ true → r ≡ statusResult 0x6985 (found .presence) → r ≡ touchChecked (checkedOf settled t) (countedEnding frame said true c)
-  enforced-no-touch n e = e ∙ rw (← is-found, n)
+module _ (c : Counter) (frame : List ℕ) (said : Says) (settled : Presence) (t : ℕ) (old : List ℕ) (found : Finding) (is-found : found ≡ checkedOf settled t) where
+  pub enforced-no-touch : (r : Handed) → not (found .yes) ≡ true → r ≡ handedOf (statusResult 0x6985 (found .presence)) → beside r old ≡ leftOf (touchChecked (checkedOf settled t) (countedEnding frame said true c)) old
+  enforced-no-touch r n e = with-block r _ old e ∙ rw (← is-found, n)
 
-  pub enforced-touch : not (found .yes) ≡ false → r ≡ ended (countedEnding frame said true c) (found .presence) → r ≡ touchChecked (checkedOf settled t) (countedEnding frame said true c)
-  enforced-touch n e = e ∙ rw (← is-found, n)
+  pub enforced-touch : (x : WithBlock) → not (found .yes) ≡ false → x ≡ leftOf (ended (countedEnding frame said true c) (found .presence)) old → x ≡ leftOf (touchChecked (checkedOf settled t) (countedEnding frame said true c)) old
+  enforced-touch x n e = e ∙ rw (← is-found, n)
 
-module _ (frame : List ℕ) (hardware : Hardware) (room : ℕ) (kept : Presence) (t : ℕ) (n : ℕ) (said : Says) (settled : Presence) (r : Result) (p1 : ℕ) (is-p1 : p1 ≡ n) where
-  pub auth-bad : not (hardware .good) ≡ true → r ≡ statusResult 0x6a80 settled → r ≡ along (loginPath frame hardware room n said) kept settled t
+module _ (frame : List ℕ) (hardware : Hardware) (room : ℕ) (kept : Presence) (t : ℕ) (n : ℕ) (said : Says) (settled : Presence) (old : List ℕ) (p1 : ℕ) (is-p1 : p1 ≡ n) where
+  pub auth-bad : (r : Handed) → not (hardware .good) ≡ true → r ≡ handedOf (statusResult 0x6a80 settled) → beside r old ≡ leftOf (along (loginPath frame hardware room n said) kept settled t) old
   unfolding loginPath
-  auth-bad g e = e ∙ rw g
+  auth-bad r g e = with-block r _ old e ∙ rw g
 
   module _ (good : not (hardware .good) ≡ false) where
-    pub auth-check-only : p1 ≡ 0x07 → r ≡ statusResult 0x6985 settled → r ≡ along (loginPath frame hardware room n said) kept settled t
+    pub auth-check-only : (r : Handed) → p1 ≡ 0x07 → r ≡ handedOf (statusResult 0x6985 settled) → beside r old ≡ leftOf (along (loginPath frame hardware room n said) kept settled t) old
     unfolding loginPath
-    auth-check-only z e = e ∙ rw (good, eq-eqb n 0x07 (sym is-p1 ∙ z))
+    auth-check-only r z e = with-block r _ old e ∙ rw (good, eq-eqb n 0x07 (sym is-p1 ∙ z))
 
     module _ (signs : p1 ≡ 0x07 → ⊥) (b : Bool) (is-b : b ≡ leb authenticateRoom room) where
       no-check : n ≡ 0x07 → ⊥
       no-check z = signs (is-p1 ∙ z)
 
-      pub auth-no-room : not b ≡ true → r ≡ refusalResult 2 kept → r ≡ along (loginPath frame hardware room n said) kept settled t
+      pub auth-no-room : (r : Handed) → not b ≡ true → r ≡ handedOf (refusalResult 2 kept) → beside r old ≡ leftOf (along (loginPath frame hardware room n said) kept settled t) old
       unfolding loginPath
-      auth-no-room x e = e ∙ rw (good, ne-eqb n 0x07 no-check, short authenticateRoom room b is-b x)
+      auth-no-room r x e = with-block r _ old e ∙ rw (good, ne-eqb n 0x07 no-check, short authenticateRoom room b is-b x)
 
       module _ (roomy : not b ≡ false) where
-        pub auth-enforced : p1 ≡ 0x03 → r ≡ touchChecked (checkedOf settled t) (countedEnding frame said true (hardware .counter)) → r ≡ along (loginPath frame hardware room n said) kept settled t
+        pub auth-enforced : (x : WithBlock) → p1 ≡ 0x03 → x ≡ leftOf (touchChecked (checkedOf settled t) (countedEnding frame said true (hardware .counter))) old → x ≡ leftOf (along (loginPath frame hardware room n said) kept settled t) old
         unfolding loginPath
-        auth-enforced z e = e ∙ rw (good, ne-eqb n 0x07 no-check, enough authenticateRoom room b is-b roomy, eq-eqb n 0x03 (sym is-p1 ∙ z))
+        auth-enforced x z e = e ∙ rw (good, ne-eqb n 0x07 no-check, enough authenticateRoom room b is-b roomy, eq-eqb n 0x03 (sym is-p1 ∙ z))
 
-        pub auth-free : (p1 ≡ 0x03 → ⊥) → r ≡ ended (countedEnding frame said false (hardware .counter)) settled → r ≡ along (loginPath frame hardware room n said) kept settled t
+        pub auth-free : (x : WithBlock) → (p1 ≡ 0x03 → ⊥) → x ≡ leftOf (ended (countedEnding frame said false (hardware .counter)) settled) old → x ≡ leftOf (along (loginPath frame hardware room n said) kept settled t) old
         unfolding loginPath
-        auth-free z e = e ∙ rw (good, ne-eqb n 0x07 no-check, enough authenticateRoom room b is-b roomy, ne-eqb n 0x03 (λ y. z (is-p1 ∙ y)))
+        auth-free x z e = e ∙ rw (good, ne-eqb n 0x07 no-check, enough authenticateRoom room b is-b roomy, ne-eqb n 0x03 (λ y. z (is-p1 ∙ y)))

@@ -19,7 +19,7 @@ use Rattle.command_stated.proofs.Laws.{reading}
 use Rattle.signing_stated.specs.Layouts.{RegisterFields, AuthenticateFields, presenceByte}
 use Rattle.signing_stated.specs.Orders.{kindNo, certificateLength, isOfLayout, authenticateFieldsOf}
 use Rattle.signing_stated.specs.Finishing.{registerRoom, authenticateRoom, roomAsked}
-use Rattle.signing_stated.specs.declared.Order.{Order}
+use Rattle.signing_stated.specs.Words.{Order}
 use Rattle.signing_stated.proofs.Laws.{RegisterLengths, AuthenticateLengths, register-fit, authenticate-fit}
 use Rattle.signing_stated.proofs.Laws.{register-order-fit, authenticate-order-fit}
 use Rattle.signing_stated.proofs.Laws.{made-of-layout, room-of-made, fields-kept}

@@ -3,7 +3,7 @@ use mathlib.Core.Path.{_≡_, refl, ap}
 use Rattle.outcome.specs.Outcome.{Outcome, R, SW, Gives}
 use Rattle.outcome.proofs.Laws.{one-to-one}
 use Rattle.outcome.proofs.Laws.{statusOf, status-back, refusalOf, refusal-back}
-use Rattle.ctap1_stated.specs.Words.{Given, Body, Ordered, Result, Decision, Decided, decidedOf, decisionSaid}
+use Rattle.ctap1_stated.specs.Words.{Given, Body, Ordered, Handed, Decision, Decided, decidedOf, decisionSaid}
 use Rattle.ctap1_stated.specs.declared.Decided.the-variants as Decided′
 
 decidedBack : Outcome Given → Decided
@@ -22,12 +22,12 @@ decided-back Decided′.Order = refl
 pub decided-apart : (a b : Decided) → decidedOf a ≡ decidedOf b → a ≡ b
 decided-apart = one-to-one decidedOf decidedBack decided-back
 
-resultBack : Result → Decision
-resultBack r = record { answer = decidedBack (r .answer); presence = r .presence; order = r .order; taken = r .taken }
+handedBack : Handed → Decision
+handedBack r = record { answer = decidedBack (r .answer); presence = r .presence; order = r .head; taken = r .taken }
 
-result-back : (d : Decision) → resultBack (decisionSaid d) ≡ d
-unfolding resultBack
-result-back d = ap (λ (a : Decided). record { answer = a; presence = d .presence; order = d .order; taken = d .taken }) (decided-back (d .answer))
+handed-back : (d : Decision) → handedBack (decisionSaid d) ≡ d
+unfolding handedBack
+handed-back d = ap (λ (a : Decided). record { answer = a; presence = d .presence; order = d .order; taken = d .taken }) (decided-back (d .answer))
 
 pub decision-apart : (a b : Decision) → decisionSaid a ≡ decisionSaid b → a ≡ b
-decision-apart = one-to-one decisionSaid resultBack result-back
+decision-apart = one-to-one decisionSaid handedBack handed-back

@@ -21,7 +21,7 @@ use Rattle.u2f_up_stated.specs.declared.Presence.{Presence}
 use Rattle.u2f_up_stated.proofs.Laws.{demand-3, servers-next, named-later, named-counts, count, length-those}
 use Rattle.signing_stated.specs.Orders.{kindNo, certificateLength, blankOrder, isOfLayout}
 use Rattle.signing_stated.specs.Finishing.{roomAsked}
-use Rattle.ctap1_stated.specs.Words.{Inputs, Given, Body, Ordered, Result, Allowed, Decision}
+use Rattle.ctap1_stated.specs.Words.{Inputs, Given, Body, Ordered, Result, Allowed, Decision, WithBlock}
 use Rattle.ctap1_stated.specs.Path.{roleOf}
 use Rattle.ctap1_stated.specs.Decision.{statusResult, versionBytes, decisionOf, replyLeft}
 use Rattle.ctap1_stated.specs.Calls.{PanelCall, DecideAt, panelCalls, seen}
@@ -271,5 +271,10 @@ DecidedOneToOne = decided-apart
 
 pub ResultsDetermined : Claims.ResultsDetermined
 ResultsDetermined = record {
-  decide = λ p t a old x y hx hy. ap₂ (λ (d : Decision) (l : List ℕ). (d, l)) (decision-apart (x .0) (y .0) (both-are _ _ (hx .0) (hy .0))) (both-are _ _ (hx .1) (hy .1));
+  decide =
+      λ p t a old x y hx hy.
+      let same = both-are _ _ (hx .0) (hy .0) in
+      let decisions : x .0 ≡ y .0 = decision-apart (x .0) (y .0) (ap (λ (w : WithBlock). w .said) same) in
+      let replies : x .1 .reply ≡ y .1 .reply = both-are _ _ (hx .1) (hy .1) in
+      λ d. (decisions d, record { reply = replies d; block = same d .block });
 }

@@ -1,4 +1,5 @@
--- The decision's outer checks, in both its results: the statusResult with the record, and the reply buffer. It mentions no function.
+-- The decision's outer checks, in both its results: what is handed back with the lent block, and the reply buffer. It mentions no
+-- function.
 use Prim.Native.Nat.{ℕ}
 use mathlib.Core.Path.{_≡_, refl, ap, sym, _∙_}
 use mathlib.Core.Bool.{Bool, true, false, not}
@@ -22,10 +23,11 @@ use Rattle.u2f_up_stated.specs.declared.Finding.{Finding}
 use Rattle.u2f_up_stated.specs.declared.Ready.{Ready}
 use Rattle.u2f_up_stated.specs.declared.Ready.the-variants as Ready′
 use Rattle.signing_stated.specs.Finishing.{registerRoom, authenticateRoom}
-use Rattle.ctap1_stated.specs.Words.{Inputs, Hardware, Result, Allowed}
-use Rattle.ctap1_stated.specs.Decision.{refusalResult, statusResult, ended, touchChecked, along, onMoment, decisionOf, replyLeft}
+use Rattle.ctap1_stated.specs.Words.{Inputs, Hardware, Result, Allowed, Handed, WithBlock, handedOf}
+use Rattle.ctap1_stated.specs.Decision.{refusalResult, statusResult, ended, touchChecked, along, onMoment, decisionOf, replyLeft, leftOf}
 use Rattle.ctap1_stated.specs.Path.{Ending, Internal, WrongData, Orders, Path, NoRoom, Status, SixBytes, Signs, Touch, versionPath, registerPath, registerEnding, countedEnding, loginPath, commandPath, allowedPath, pathOf}
 use Rattle.ctap1_stated.specs.declared.Allowed.the-variants as Allowed′
+use Rattle.ctap1_stated.proofs.Cases.{beside, with-block}
 
 -- ---- only Version's path writes the reply
 ended-keeps : (e : Ending) (p : Presence) (old : List ℕ) → old ≡ replyLeft (ended e p) old
@@ -72,6 +74,18 @@ version-any room kept settled t = by (ltb room 6)
     by true = refl
     by false = refl
 
+-- nor does it write the block
+version-lands : (room : ℕ) (kept settled : Presence) (t : ℕ) (old : List ℕ)
+    → _≡_ {A = WithBlock} (record { said = handedOf (along (versionPath room) kept settled 0); block = old }) (leftOf (along (versionPath room) kept settled t) old)
+unfolding versionPath
+version-lands room kept settled t old = by (ltb room 6)
+  where
+    by : (b : Bool)
+        → _≡_ {A = WithBlock} (record { said = handedOf (along (if b then NoRoom else SixBytes) kept settled 0); block = old })
+        (leftOf (along (if b then NoRoom else SixBytes) kept settled t) old)
+    by true = refl
+    by false = refl
+
 -- ---- by the command
 module _ (i : Inputs) (kept : Presence) (t : ℕ) (settled : Presence) (c : U2fCommand) (is-c : commandSaid c ≡ commandOf (i .frame)) where
   here : (d : U2fCommand) → c ≡ d → along (commandPath i (commandSaid d)) kept settled t ≡ along (commandPath i (commandOf (i .frame))) kept settled t
@@ -80,22 +94,25 @@ module _ (i : Inputs) (kept : Presence) (t : ℕ) (settled : Presence) (c : U2fC
   kept-here : (d : U2fCommand) (old : List ℕ) → c ≡ d → old ≡ replyLeft (along (commandPath i (commandSaid d)) kept settled t) old → old ≡ replyLeft (along (commandPath i (commandOf (i .frame))) kept settled t) old
   kept-here d old e k = k ∙ ap (λ (x : Result). replyLeft x old) (here d e)
 
-  module _ (r : Result) where
-    pub on-status : (s : ApduStatusCode) → c ≡ U2fCommand′.Status s → r ≡ statusResult (statusNo s) settled → r ≡ along (commandPath i (commandOf (i .frame))) kept settled t
-    unfolding commandPath
-    on-status s e q = q ∙ here (U2fCommand′.Status s) e
+  lands : (d : U2fCommand) (old : List ℕ) → c ≡ d → leftOf (along (commandPath i (commandSaid d)) kept settled t) old ≡ leftOf (along (commandPath i (commandOf (i .frame))) kept settled t) old
+  lands d old e = ap (λ (x : Result). leftOf x old) (here d e)
 
-    pub on-version : c ≡ U2fCommand′.Version → r ≡ along (versionPath (i .room)) kept settled 0 → r ≡ along (commandPath i (commandOf (i .frame))) kept settled t
+  module _ (old : List ℕ) where
+    pub on-status : (r : Handed) → (s : ApduStatusCode) → c ≡ U2fCommand′.Status s → r ≡ handedOf (statusResult (statusNo s) settled) → beside r old ≡ leftOf (along (commandPath i (commandOf (i .frame))) kept settled t) old
     unfolding commandPath
-    on-version e q = q ∙ version-any (i .room) kept settled t ∙ here U2fCommand′.Version e
+    on-status r s e q = with-block r _ old q ∙ lands (U2fCommand′.Status s) old e
 
-    pub on-register : (a : Apdu) → c ≡ U2fCommand′.Register a → r ≡ along (registerPath i (saysOf a)) kept settled t → r ≡ along (commandPath i (commandOf (i .frame))) kept settled t
+    pub on-version : (r : Handed) → c ≡ U2fCommand′.Version → r ≡ handedOf (along (versionPath (i .room)) kept settled 0) → beside r old ≡ leftOf (along (commandPath i (commandOf (i .frame))) kept settled t) old
     unfolding commandPath
-    on-register a e q = q ∙ here (U2fCommand′.Register a) e
+    on-version r e q = with-block r _ old q ∙ version-lands (i .room) kept settled t old ∙ lands U2fCommand′.Version old e
 
-    pub on-authenticate : (f : Ctap1Flags) (a : Apdu) → c ≡ U2fCommand′.Authenticate f a → r ≡ along (loginPath (i .frame) (i .hardware) (i .room) (flagsNo f) (saysOf a)) kept settled t → r ≡ along (commandPath i (commandOf (i .frame))) kept settled t
+    pub on-register : (x : WithBlock) → (a : Apdu) → c ≡ U2fCommand′.Register a → x ≡ leftOf (along (registerPath i (saysOf a)) kept settled t) old → x ≡ leftOf (along (commandPath i (commandOf (i .frame))) kept settled t) old
     unfolding commandPath
-    on-authenticate f a e q = q ∙ here (U2fCommand′.Authenticate f a) e
+    on-register x a e q = q ∙ lands (U2fCommand′.Register a) old e
+
+    pub on-authenticate : (x : WithBlock) → (f : Ctap1Flags) (a : Apdu) → c ≡ U2fCommand′.Authenticate f a → x ≡ leftOf (along (loginPath (i .frame) (i .hardware) (i .room) (flagsNo f) (saysOf a)) kept settled t) old → x ≡ leftOf (along (commandPath i (commandOf (i .frame))) kept settled t) old
+    unfolding commandPath
+    on-authenticate x f a e q = q ∙ lands (U2fCommand′.Authenticate f a) old e
 
   module _ (old : List ℕ) where
     pub status-kept : (s : ApduStatusCode) → c ≡ U2fCommand′.Status s → old ≡ replyLeft (along (commandPath i (commandOf (i .frame))) kept settled t) old
@@ -120,8 +137,8 @@ module _ (i : Inputs) (kept : Presence) (t : ℕ) (s : Ready) (is-s : readyOf s 
   unfolding decisionOf
   settles d e = ap (λ (x : Ready). onMoment kept t (pathOf i) (readyOf x)) (sym e) ∙ ap (onMoment kept t (pathOf i)) is-s
 
-  pub not-settled : (why : Refusal) (r : Result) → s ≡ Ready′.Refused why → r ≡ refusalResult (refusalNo why) kept → r ≡ decisionOf kept t i
-  not-settled why r e q = q ∙ settles (Ready′.Refused why) e
+  pub not-settled : (why : Refusal) (r : Handed) (old : List ℕ) → s ≡ Ready′.Refused why → r ≡ handedOf (refusalResult (refusalNo why) kept) → beside r old ≡ leftOf (decisionOf kept t i) old
+  not-settled why r old e q = with-block r _ old q ∙ ap (λ (x : Result). leftOf x old) (settles (Ready′.Refused why) e)
 
   pub not-settled-kept : (why : Refusal) (old : List ℕ) → s ≡ Ready′.Refused why → old ≡ replyLeft (decisionOf kept t i) old
   not-settled-kept why old e = ap (λ (x : Result). replyLeft x old) (settles (Ready′.Refused why) e)
@@ -131,20 +148,23 @@ module _ (i : Inputs) (kept : Presence) (t : ℕ) (s : Ready) (is-s : readyOf s 
     unfolding pathOf
     here-by a is = ap (λ (b : Allowed). along (allowedPath b i) kept p t) (sym is) ∙ settles (Ready′.Record p) e
 
+    lands-by : (a : Allowed) (old : List ℕ) → i .hardware .allowed ≡ a → leftOf (along (allowedPath a i) kept p t) old ≡ leftOf (decisionOf kept t i) old
+    lands-by a old is = ap (λ (x : Result). leftOf x old) (here-by a is)
+
     left-by : (a : Allowed) (old new : List ℕ) → i .hardware .allowed ≡ a → new ≡ replyLeft (along (allowedPath a i) kept p t) old → new ≡ replyLeft (decisionOf kept t i) old
     left-by a old new is q = q ∙ ap (λ (x : Result). replyLeft x old) (here-by a is)
 
-    pub allowed-failed : (r : Result) → i .hardware .allowed ≡ Allowed′.Failed → r ≡ statusResult 0x6f00 p → r ≡ decisionOf kept t i
+    pub allowed-failed : (r : Handed) (old : List ℕ) → i .hardware .allowed ≡ Allowed′.Failed → r ≡ handedOf (statusResult 0x6f00 p) → beside r old ≡ leftOf (decisionOf kept t i) old
     unfolding allowedPath
-    allowed-failed r is q = q ∙ here-by Allowed′.Failed is
+    allowed-failed r old is q = with-block r _ old q ∙ lands-by Allowed′.Failed old is
 
-    pub allowed-no : (r : Result) → i .hardware .allowed ≡ Allowed′.No → r ≡ statusResult 0x6986 p → r ≡ decisionOf kept t i
+    pub allowed-no : (r : Handed) (old : List ℕ) → i .hardware .allowed ≡ Allowed′.No → r ≡ handedOf (statusResult 0x6986 p) → beside r old ≡ leftOf (decisionOf kept t i) old
     unfolding allowedPath
-    allowed-no r is q = q ∙ here-by Allowed′.No is
+    allowed-no r old is q = with-block r _ old q ∙ lands-by Allowed′.No old is
 
-    pub allowed-yes : (r : Result) → i .hardware .allowed ≡ Allowed′.Yes → r ≡ along (commandPath i (commandOf (i .frame))) kept p t → r ≡ decisionOf kept t i
+    pub allowed-yes : (x : WithBlock) (old : List ℕ) → i .hardware .allowed ≡ Allowed′.Yes → x ≡ leftOf (along (commandPath i (commandOf (i .frame))) kept p t) old → x ≡ leftOf (decisionOf kept t i) old
     unfolding allowedPath
-    allowed-yes r is q = q ∙ here-by Allowed′.Yes is
+    allowed-yes x old is q = q ∙ lands-by Allowed′.Yes old is
 
     pub failed-kept : (old : List ℕ) → i .hardware .allowed ≡ Allowed′.Failed → old ≡ replyLeft (decisionOf kept t i) old
     unfolding allowedPath

@@ -5,7 +5,7 @@ use mathlib.Core.Logic.{_↔_, _⊎_}
 use mathlib.Core.Option.{some}
 use Rattle.ctap1_stated.specs.Words.{AtMostOne, R, SW, Gives, [], _∷_, _++_, drop, ℕ, _+_, _*_, _<_, _≤_, _≡_, true, false, List, length, Presence, Decision, Decided, Inputs, Body, Ordered, Result, decidedOf}
 use Rattle.ctap1_stated.specs.Calls.{PanelCall, DecideAt, callsWith}
-use Rattle.ctap1_stated.specs.Contracts.{Decide}
+use Rattle.ctap1_stated.specs.Contracts.{Buffers, Decide}
 use Rattle.ctap1_stated.specs.Terms.{Decider, AreBlocks, result, movedAt, spentAt, Comes, OrdersPresent, checkOnlyAnswer}
 use Rattle.ctap1_stated.specs.Table.{Answers}
 use Rattle.ctap1_stated.specs.declared.Counter.the-variants as Counter′
@@ -140,4 +140,4 @@ DecidedOneToOne = (a b : Decided) → decidedOf a ≡ decidedOf b → a ≡ b
 
 -- the decision, and what the reply buffer holds afterwards
 pub record ResultsDetermined : Type 0 where
-  pub decide : (p : Presence) (t : ℕ) (a : Inputs) (old : List ℕ) → AtMostOne (λ (o : Decision × List ℕ). Decide p t a old (o .0) (o .1))
+  pub decide : (p : Presence) (t : ℕ) (a : Inputs) (old : Buffers) → AtMostOne (λ (o : Decision × Buffers). Decide p t a old (o .0) (o .1))

@@ -1,7 +1,7 @@
 -- Document 01, 'The decision', with the record: R6 and R1, then along the path, with the touch check and its 6985 said once; and
--- 'Refusal numbers' as far as they speak of the decision.
+-- 'Refusal numbers' as far as they speak of the decision; then what the reply buffer and the lent block hold.
 use Rattle.ctap1_stated.specs.Words.{ℕ, Bool, false, not, List, [], _∷_, Presence, Order}
-use Rattle.ctap1_stated.specs.Words.{if_then_else_, Outcome, R, SW, Gives, Inputs, Given, Body, Ordered, Result}
+use Rattle.ctap1_stated.specs.Words.{if_then_else_, Outcome, R, SW, Gives, Inputs, Given, Body, Ordered, Result, WithBlock, handedOf}
 use Rattle.ctap1_stated.specs.Path.{Ending, Internal, WrongData, Orders, Path, NoRoom, Status, SixBytes, Signs, Touch, pathOf}
 use Rattle.octets.specs.Bytes.{laid}
 use Rattle.u2f_up_stated.specs.Moments.{settleOf, checkedOf}
@@ -70,3 +70,19 @@ replyAfter (Gives Ordered) old = old
 
 abbrev pub replyLeft : Result → List ℕ → List ℕ
 replyLeft r old = replyAfter (r .answer) old
+
+-- ---- the block
+
+-- 01: "the bytes to sign in a block of 385 bytes"; every answer but an order leaves the lent block as it was
+abbrev pub blockAfter : Outcome Given → (bytes old : List ℕ) → List ℕ
+blockAfter (R n) bytes old = old
+blockAfter (SW n) bytes old = old
+blockAfter (Gives (Body n)) bytes old = old
+blockAfter (Gives Ordered) bytes old = bytes
+
+abbrev pub blockLeft : Result → List ℕ → List ℕ
+blockLeft r old = blockAfter (r .answer) (r .order .bytes) old
+
+-- a result as it is handed back, with the lent block afterwards
+abbrev pub leftOf : Result → (old : List ℕ) → WithBlock
+leftOf r old = record { said = handedOf r; block = blockLeft r old }

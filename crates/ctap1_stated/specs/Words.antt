@@ -8,7 +8,8 @@ pub use lib.ListN.{length, drop}
 pub use Rattle.outcome.specs.Notation.{if_then_else_, AtMostOne}
 pub use Rattle.outcome.specs.Outcome.{Outcome, R, SW, Gives, statusNo, refusalNo}
 pub use Rattle.u2f_up_stated.specs.declared.Presence.{Presence}
-pub use Rattle.signing_stated.specs.declared.Order.{Order}
+pub use Rattle.signing_stated.specs.declared.Head.{Head}
+pub use Rattle.signing_stated.specs.Words.{Order, headOf}
 pub use Rattle.ctap1_stated.specs.declared.Allowed.{Allowed}
 pub use Rattle.ctap1_stated.specs.declared.Attestation.{Attestation}
 use Rattle.ctap1_stated.specs.declared.Attestation.the-variants as Attestation′
@@ -61,5 +62,23 @@ pub record Result : Type 0 where
   pub order : Order
   pub taken : Bool
 
-abbrev pub decisionSaid : Decision → Result
-decisionSaid d = record { answer = decidedOf (d .answer); presence = d .presence; order = d .order; taken = d .taken }
+-- a result as it is handed back: of the order its head, since the block is lent
+pub record Handed : Type 0 where
+  pub answer : Outcome Given
+  pub presence : Presence
+  pub head : Head
+  pub taken : Bool
+
+abbrev pub handedOf : Result → Handed
+handedOf r = record { answer = r .answer; presence = r .presence; head = headOf (r .order); taken = r .taken }
+
+abbrev pub decisionSaid : Decision → Handed
+decisionSaid d = record { answer = decidedOf (d .answer); presence = d .presence; head = d .order; taken = d .taken }
+
+-- the same with what the lent block then holds
+pub record WithBlock : Type 0 where
+  pub said : Handed
+  pub block : List ℕ
+
+abbrev pub decisionWith : Decision → (block : List ℕ) → WithBlock
+decisionWith d block = record { said = decisionSaid d; block = block }

@@ -2,7 +2,7 @@
 // specs/Claims.antt. No function: ctap1 has them.
 use outcome::ApduStatusCode;
 use outcome::Refusal;
-use signing_stated::Order;
+use signing_stated::Head;
 use u2f_up_stated::Presence;
 
 // Whether CTAP1 is allowed.
@@ -42,10 +42,11 @@ pub enum Decided {
     Order,
 }
 
-// The answer, the record to go on with, the order (blank where the answer is none), and whether the counter was taken.
+// The answer, the record to go on with, the order's head (blank where the answer is none; its block is in the lent one), and whether
+// the counter was taken.
 pub struct Decision {
     pub answer: Decided,
     pub presence: Presence,
-    pub order: Order,
+    pub order: Head,
     pub taken: bool,
 }

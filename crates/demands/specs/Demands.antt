@@ -13,11 +13,11 @@ use Rattle.signing_stated.specs.Claims as Signing
 use Rattle.signing_stated.specs.Orders.{registerOrderOf, authenticateOrderFor}
 use Rattle.signing_stated.specs.Finishing.{finishOf, endOf}
 use Rattle.ctap1_stated.specs.Claims as Decision
-use Rattle.ctap1_stated.specs.Decision.{decisionOf, replyLeft}
+use Rattle.ctap1_stated.specs.Decision.{decisionOf, replyLeft, blockAfter}
 use Rattle.ctap1_stated.specs.Calls.{panelCalls}
 use Rattle.panel_stated.specs.Claims as Panel
 use Rattle.panel_stated.specs.Numbers.{presenceOf, presenceNumbers}
-use Rattle.panel_stated.specs.Exports.{madeNumbers, stepNumbers, decisionNumbers, decidedBy, frameNumbers, commandNumbers, blockAfter}
+use Rattle.panel_stated.specs.Exports.{madeNumbers, stepNumbers, decisionNumbers, decidedBy, frameNumbers, commandNumbers}
 
 -- 1. "Every frame, moment, answer and buffer length gets an answer. Nothing is asked of the caller beforehand." Every function ends and
 -- meets its contract on every input: the check of its crate. That none has a `requires`: the gate's look at the contracts.

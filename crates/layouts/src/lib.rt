@@ -1,13 +1,14 @@
 // The layout tests behind R7: whether an order is one of the two that decisions make.
+use signing_stated::Head;
 use signing_stated::Kind;
-use signing_stated::Order;
 ghost use mathlib.Core.Path.{_≡_};
-ghost use Rattle.signing_stated.specs.Orders.{isRegisterLayout, isAuthenticateLayout};
+ghost use Rattle.signing_stated.specs.Orders.{orderWith, isRegisterLayout, isAuthenticateLayout};
 ghost use Rattle.signing_stated.specs.Contracts.{HasLayout};
 
-fn is_register(to_sign: usize, bytes: [u8; 385]) -> bool
-    ensures { λ r. ⌜ r ≡ isRegisterLayout «to_sign» bytes ⌝ }
+fn is_register(to_sign: usize, block: &[u8; 385]) -> bool
+    ensures { λ r. ⌜ r ≡ isRegisterLayout «to_sign» (now (block .entry)) ⌝ }
 {
+    let bytes: &[u8] = block;
     if to_sign < 130 {
         return false;
     }
@@ -23,9 +24,10 @@ fn is_register(to_sign: usize, bytes: [u8; 385]) -> bool
     octets::all_zero(&bytes[to_sign..])
 }
 
-fn is_authenticate(to_sign: usize, certificate_length: usize, bytes: [u8; 385]) -> bool
-    ensures { λ r. ⌜ r ≡ isAuthenticateLayout «to_sign» «certificate_length» bytes ⌝ }
+fn is_authenticate(to_sign: usize, certificate_length: usize, block: &[u8; 385]) -> bool
+    ensures { λ r. ⌜ r ≡ isAuthenticateLayout «to_sign» «certificate_length» (now (block .entry)) ⌝ }
 {
+    let bytes: &[u8] = block;
     if to_sign != 69 {
         return false;
     }
@@ -39,13 +41,12 @@ fn is_authenticate(to_sign: usize, certificate_length: usize, bytes: [u8; 385]) 
 }
 
 // An order is whatever the caller hands in, so its layout is looked at before a byte of it is used.
-pub fn has_layout(order: Order) -> bool
-    ensures { λ r. ⌜ HasLayout order r ⌝ }
+pub fn has_layout(order: Head, block: &[u8; 385]) -> bool
+    ensures { λ r. ⌜ HasLayout (orderWith order (now (block .entry))) r ⌝ }
 {
     let kind = order.kind;
-    let bytes = order.bytes;
     match kind {
-        Kind::Register => is_register(order.to_sign, bytes),
-        Kind::Authenticate => is_authenticate(order.to_sign, order.certificate_length, bytes),
+        Kind::Register => is_register(order.to_sign, block),
+        Kind::Authenticate => is_authenticate(order.to_sign, order.certificate_length, block),
     }
 }

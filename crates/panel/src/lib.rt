@@ -13,7 +13,7 @@ use panel_stated::OrderNumbers;
 use panel_stated::PresenceRecord;
 use panel_stated::Stepped;
 use panel_stated::Wrote;
-use signing::Order;
+use signing::Head;
 ghost use Rattle.panel_stated.specs.Contracts.{BrinecandleRead, BrinecandleReadStrict, BrinecandleWrite, BrinecandleReadCommand, BrinecandleNew, BrinecandleGrantUp, BrinecandleConsumeUp, BrinecandleIsUpNeeded, BrinecandleDecide, BrinecandleFinish};
 
 // Reads any bytes as a frame; its data comes back as a place in the caller's frame. By cases, and each is a return of its own:
@@ -118,12 +118,18 @@ pub extern "C" fn brinecandle_decide(
 {
     let kept = plain_presence::record_lent(presence);
     let answers = plain_orders::hardware_lent(hardware);
-    let decision = ctap1::decide(frame, t, kept, answers, handle, certificate, x, y, reply);
-    let answer = decision.answer;
-    let order = decision.order;
-    let bytes = order.bytes;
-    plain_orders::put_block(answer, bytes, block);
-    plain_orders::decision_plain(decision)
+    plain_orders::decision_plain(ctap1::decide(
+        frame,
+        t,
+        kept,
+        answers,
+        handle,
+        certificate,
+        x,
+        y,
+        reply,
+        block,
+    ))
 }
 
 // Turns an order and its signature into a reply. The order is whatever the firmware hands in: a kind that is none is R7.
@@ -141,15 +147,14 @@ pub extern "C" fn brinecandle_finish(
     let numbered = plain_orders::kind_numbered(order.kind);
     match numbered {
         Kinded::As(kind) => {
-            let bytes = *block;
-            let made = Order {
+            let made = Head {
                 kind,
                 to_sign: order.to_sign,
                 certificate_length: order.certificate_length,
-                bytes,
             };
             plain_orders::finished_plain(signing::finish(
                 made,
+                block,
                 certificate,
                 is_signed == 1,
                 signature,

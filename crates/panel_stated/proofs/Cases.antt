@@ -27,7 +27,7 @@ use Rattle.command_stated.specs.declared.U2fCommand.{U2fCommand}
 use Rattle.command_stated.specs.declared.U2fCommand.the-variants as U2fCommand′
 use Rattle.panel_stated.specs.Words.{FrameSaid, CommandSaid, Wrote, Shaped, PresenceRecord, Made, Stepped, Asked, HardwareSaid, OrderNumbers, DecisionSaid, Kinded}
 use Rattle.panel_stated.specs.Numbers.{shapeOf, greatestNo, windowOf, windowNo, presenceOf, presenceNumbers, allowedOf, attestationOf, isYes, counterOf, hardwareOf, kindOf, decidedNo}
-use Rattle.panel_stated.specs.Exports.{noFrame, frameNumbers, lengthNumbers, ToWrite, writeNumbered, bufferAs, bareCommand, commandNumbers, noRecord, madeNumbers, askedNumbers, stepNumbers, bodyLength, orderAfter, blockAfter, blockLeft, decisionNumbers, ToFinish, orderFrom, finishNumbered}
+use Rattle.panel_stated.specs.Exports.{noFrame, frameNumbers, lengthNumbers, ToWrite, writeNumbered, bufferAs, bareCommand, commandNumbers, noRecord, madeNumbers, askedNumbers, stepNumbers, bodyLength, headAfter, handedNumbers, decisionNumbers, ToFinish, orderFrom, finishNumbered}
 use Rattle.panel_stated.specs.declared.Shaped.the-variants as Shaped′
 use mathlib.Core.Bool.{true, false, Bool}
 use Rattle.u2f_up_stated.specs.Moments.{touchOf, checkOf, askOf}
@@ -46,9 +46,9 @@ use Rattle.signing_stated.specs.declared.Finished.{Finished}
 use Rattle.signing_stated.specs.declared.Finished.the-variants as Finished′
 use Rattle.signing_stated.specs.declared.Kind.{Kind}
 use Rattle.signing_stated.specs.declared.Kind.the-variants as Kind′
-use Rattle.signing_stated.specs.declared.Order.{Order}
-use Rattle.ctap1_stated.specs.Words.{Result, decidedOf, decisionSaid}
-use Rattle.ctap1_stated.specs.Decision.{replyLeft}
+use Rattle.signing_stated.specs.declared.Head.{Head}
+use Rattle.ctap1_stated.specs.Words.{Result, WithBlock, decidedOf, decisionSaid, decisionWith}
+use Rattle.ctap1_stated.specs.Decision.{replyLeft, blockLeft, leftOf}
 use Rattle.ctap1_stated.specs.Decision.{decisionOf}
 use Rattle.ctap1_stated.specs.declared.Allowed.{Allowed}
 use Rattle.ctap1_stated.specs.declared.Allowed.the-variants as Allowed′
@@ -262,13 +262,13 @@ pub hardware-said : (n : HardwareSaid) (a : Allowed) (t : Attestation) (k : Coun
 hardware-said n a t k is-a is-t is-k = rw (is-a, is-t, is-k)
 
 -- ---- the decision
-pub order-said : (answer : Decided) (order : Order) (kind : ℕ) → answer ≡ Decided′.Order → kind ≡ kindNo (order .kind)
-    → _≡_ {A = OrderNumbers} (record { kind = kind; «to_sign» = order .«to_sign»; «certificate_length» = order .«certificate_length» }) (orderAfter (decidedOf answer) order)
+pub order-said : (answer : Decided) (order : Head) (kind : ℕ) → answer ≡ Decided′.Order → kind ≡ kindNo (order .kind)
+    → _≡_ {A = OrderNumbers} (record { kind = kind; «to_sign» = order .«to_sign»; «certificate_length» = order .«certificate_length» }) (headAfter (decidedOf answer) order)
 order-said answer order kind z is = rw (is, z)
 
 pub decided : (d : Decision) (answer long : ℕ) (order : OrderNumbers) (p : PresenceRecord)
-    → answer ≡ decidedNo (decidedOf (d .answer)) → long ≡ bodyLength (decidedOf (d .answer)) → order ≡ orderAfter (decidedOf (d .answer)) (d .order) → p ≡ presenceNumbers (d .presence)
-    → _≡_ {A = DecisionSaid} (record { answer = answer; taken = d .taken; length = long; order = order; presence = p }) (decisionNumbers (decisionSaid d))
+    → answer ≡ decidedNo (decidedOf (d .answer)) → long ≡ bodyLength (decidedOf (d .answer)) → order ≡ headAfter (decidedOf (d .answer)) (d .order) → p ≡ presenceNumbers (d .presence)
+    → _≡_ {A = DecisionSaid} (record { answer = answer; taken = d .taken; length = long; order = order; presence = p }) (handedNumbers (decisionSaid d))
 decided d answer long order p is-answer is-long is-order is-p = rw (is-answer, is-long, is-order, is-p)
 
 abbrev asked : (frame : List ℕ) (k : Hardware) (handle certificate x y : List ℕ) (room : ℕ) → Inputs
@@ -281,13 +281,12 @@ module _ (frame : List ℕ) (t : ℕ) (handle certificate x y : List ℕ) (n : P
       → decisionOf p t (asked frame k handle certificate x y room) ≡ decisionOf (presenceOf n) t (asked frame (hardwareOf h) handle certificate x y room)
   same room = rw (is-p, is-k)
 
-  module _ (room : ℕ) (d : Decision) (is-d : decisionSaid d ≡ decisionOf p t (asked frame k handle certificate x y room)) where
-    pub decide-answer : (r : DecisionSaid) → r ≡ decisionNumbers (decisionSaid d) → r ≡ decisionNumbers (decisionOf (presenceOf n) t (asked frame (hardwareOf h) handle certificate x y room))
-    decide-answer r is = is ∙ ap decisionNumbers (is-d ∙ same room)
+  module _ (room : ℕ) (d : Decision) (old new : List ℕ) (is-d : decisionWith d new ≡ leftOf (decisionOf p t (asked frame k handle certificate x y room)) old) where
+    pub decide-answer : (r : DecisionSaid) → r ≡ handedNumbers (decisionSaid d) → r ≡ decisionNumbers (decisionOf (presenceOf n) t (asked frame (hardwareOf h) handle certificate x y room))
+    decide-answer r is = is ∙ ap (λ (w : WithBlock). handedNumbers (w .said)) is-d ∙ ap decisionNumbers (same room)
 
-    pub decide-block : (old new : List ℕ) → new ≡ blockAfter (decidedOf (d .answer)) (d .order .bytes) old
-        → new ≡ blockLeft (decisionOf (presenceOf n) t (asked frame (hardwareOf h) handle certificate x y room)) old
-    decide-block old new is = is ∙ ap (λ (s : Result). blockLeft s old) (is-d ∙ same room)
+    pub decide-block : new ≡ blockLeft (decisionOf (presenceOf n) t (asked frame (hardwareOf h) handle certificate x y room)) old
+    decide-block = ap (λ (w : WithBlock). w .block) is-d ∙ ap (λ (s : Result). blockLeft s old) (same room)
 
   pub decide-reply : (old new : List ℕ) → new ≡ replyLeft (decisionOf p t (asked frame k handle certificate x y (length old))) old
       → new ≡ replyLeft (decisionOf (presenceOf n) t (asked frame (hardwareOf h) handle certificate x y (length old))) old

@@ -13,7 +13,8 @@ use Rattle.u2f_up_stated.specs.declared.Window.the-variants.{Closed, Opened}
 use Rattle.signing_stated.specs.Orders.{kindNo}
 use Rattle.ctap1_stated.specs.Words.{Given, Body, Ordered}
 use Rattle.panel_stated.specs.Numbers.{answerNo, decidedNo, greatestNo, windowOf, windowNo, presenceOf, presenceNumbers, shapeOf, kindOf, allowedOf, attestationOf, isYes, hardwareOf}
-use Rattle.panel_stated.specs.Exports.{ToWrite, ToFinish, inputsOf, writeAs, finishAs, writeNumbered, finishNumbered, orderAfter, frameNumbers, commandNumbers, lengthNumbers, askedNumbers, stepNumbers, madeNumbers, blockAfter, decisionNumbers, decidedBy, bodyLength}
+use Rattle.ctap1_stated.specs.Decision.{blockAfter}
+use Rattle.panel_stated.specs.Exports.{ToWrite, ToFinish, inputsOf, writeAs, finishAs, writeNumbered, finishNumbered, orderAfter, frameNumbers, commandNumbers, lengthNumbers, askedNumbers, stepNumbers, madeNumbers, decisionNumbers, decidedBy, bodyLength}
 use Rattle.panel_stated.specs.Claims
 use Rattle.panel_stated.specs.Terms.{IsNumbered, IsOfMoment, AfterWriting, AfterDeciding, Carries, register, authenticate}
 use Rattle.panel_stated.specs.declared.Shaped.{Shaped}
@@ -364,7 +365,6 @@ ResultsDetermined =
       step-plain = λ step a b. both-are a b;
       hardware-lent = λ said a b. both-are a b;
       kind-numbered = λ n a b. both-are a b;
-      put-block = λ answer bytes old a b. both-are a b;
       decision-plain = λ decision a b. both-are a b;
       finished-plain = λ finished a b. both-are a b;
       brinecandle-read = λ frame a b. both-are a b;

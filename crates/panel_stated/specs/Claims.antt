@@ -8,7 +8,7 @@ use Rattle.panel_stated.specs.Words.{PresenceRecord, HardwareSaid, Order
 use Rattle.panel_stated.specs.Words.{true, Hardware, FrameSaid, CommandSaid, Wrote, Made, Stepped, Asked, DecisionSaid}
 use Rattle.panel_stated.specs.Words.{Says, Command, Register, Authenticate, Version, Told, length, _+_, false, readOf, strictOf, commandOf, newOf, touchOf, checkOf, askOf, finishOf, Given, Body, Ordered, Result}
 use Rattle.panel_stated.specs.Exports.{orderAfter, ToWrite, ToDecide, ToFinish, decidedBy, writeNumbered, finishNumbered}
-use Rattle.panel_stated.specs.Contracts.{ShapeNumbered, FramePlain, WritePlain, CommandPlain, RecordLent, RecordPlain, MadePlain, AskedPlain, StepPlain, HardwareLent, KindNumbered, PutBlock, DecisionPlain, FinishedPlain}
+use Rattle.panel_stated.specs.Contracts.{ShapeNumbered, FramePlain, WritePlain, CommandPlain, RecordLent, RecordPlain, MadePlain, AskedPlain, StepPlain, HardwareLent, KindNumbered, DecisionPlain, FinishedPlain}
 use Rattle.panel_stated.specs.Contracts.{BrinecandleRead, BrinecandleReadStrict, BrinecandleWrite, BrinecandleReadCommand, BrinecandleNew, BrinecandleGrantUp, BrinecandleConsumeUp, BrinecandleIsUpNeeded, BrinecandleDecide, BrinecandleFinish}
 use Rattle.octets.specs.Bytes.{partOf}
 use Rattle.apdu_stated.specs.Reading.{dataOf}
@@ -24,7 +24,6 @@ use Rattle.u2f_up_stated.specs.declared.Step.{Step}
 use Rattle.ctap1_stated.specs.declared.Allowed.the-variants as Allowed′
 use Rattle.ctap1_stated.specs.declared.Attestation.the-variants as Attestation′
 use Rattle.ctap1_stated.specs.declared.Counter.the-variants as Counter′
-use Rattle.ctap1_stated.specs.declared.Decided.{Decided}
 use Rattle.ctap1_stated.specs.declared.Decision.{Decision}
 use Rattle.signing_stated.specs.declared.Finished.{Finished}
 use Rattle.signing_stated.specs.declared.Kind.the-variants as Kind′
@@ -309,7 +308,6 @@ pub record ResultsDetermined : Type 0 where
   pub step-plain : (step : Step) → AtMostOne (StepPlain step)
   pub hardware-lent : (said : HardwareSaid) → AtMostOne (HardwareLent said)
   pub kind-numbered : (n : ℕ) → AtMostOne (KindNumbered n)
-  pub put-block : (answer : Decided) (bytes old : List ℕ) → AtMostOne (PutBlock answer bytes old)
   pub decision-plain : (decision : Decision) → AtMostOne (DecisionPlain decision)
   pub finished-plain : (finished : Finished) → AtMostOne (FinishedPlain finished)
   pub brinecandle-read : (frame : List ℕ) → AtMostOne (BrinecandleRead frame)

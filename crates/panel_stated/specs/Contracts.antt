@@ -1,9 +1,9 @@
 -- What is promised of each public function of plain_frames, plain_presence, plain_orders and panel, over what it is lent, its
 -- result, and the final contents of what it writes.
-use Rattle.panel_stated.specs.Words.{ℕ, _≡_, List, Presence, Hardware, readOf, strictOf, commandOf, newOf, touchOf, checkOf, askOf, lengthOf, replyOf, replyLeft}
+use Rattle.panel_stated.specs.Words.{ℕ, _≡_, List, Presence, Hardware, readOf, strictOf, commandOf, newOf, touchOf, checkOf, askOf, lengthOf, replyOf, replyLeft, blockLeft}
 use Rattle.panel_stated.specs.Words.{PresenceRecord, HardwareSaid, FrameSaid, CommandSaid, Wrote, Made, Stepped, Asked, DecisionSaid, Shaped, Kinded}
 use Rattle.panel_stated.specs.Numbers.{presenceOf, presenceNumbers, hardwareOf, shapeOf, kindOf}
-use Rattle.panel_stated.specs.Exports.{frameNumbers, lengthNumbers, ToWrite, writeNumbered, bufferAs, commandNumbers, madeNumbers, askedNumbers, stepNumbers, blockAfter, blockLeft, decisionNumbers, ToDecide, decidedBy, ToFinish, finishNumbered}
+use Rattle.panel_stated.specs.Exports.{frameNumbers, lengthNumbers, ToWrite, writeNumbered, bufferAs, commandNumbers, madeNumbers, askedNumbers, stepNumbers, handedNumbers, decisionNumbers, ToDecide, decidedBy, ToFinish, finishNumbered}
 use Rattle.apdu_stated.specs.Answers.{readingOf}
 use Rattle.apdu_stated.specs.declared.Reading.{Reading}
 use Rattle.command_stated.specs.Command.{commandSaid}
@@ -12,8 +12,7 @@ use Rattle.u2f_up_stated.specs.Answers.{readyOf, outcomeOf, toldOf}
 use Rattle.u2f_up_stated.specs.declared.Ready.{Ready}
 use Rattle.u2f_up_stated.specs.declared.Answer.{Answer}
 use Rattle.u2f_up_stated.specs.declared.Step.{Step}
-use Rattle.ctap1_stated.specs.Words.{decidedOf, decisionSaid}
-use Rattle.ctap1_stated.specs.declared.Decided.{Decided}
+use Rattle.ctap1_stated.specs.Words.{decisionSaid}
 use Rattle.ctap1_stated.specs.declared.Decision.{Decision}
 use Rattle.signing_stated.specs.Finishing.{finishedOf}
 use Rattle.signing_stated.specs.declared.Finished.{Finished}
@@ -54,12 +53,8 @@ HardwareLent said r = r ≡ hardwareOf said
 abbrev pub KindNumbered : ℕ → Kinded → Type 0
 KindNumbered number r = r ≡ kindOf number
 
--- the lent block: `old` is what it held, `after` what it holds
-abbrev pub PutBlock : Decided → (bytes old after : List ℕ) → Type 0
-PutBlock answer bytes old after = after ≡ blockAfter (decidedOf answer) bytes old
-
 abbrev pub DecisionPlain : Decision → DecisionSaid → Type 0
-DecisionPlain decision r = r ≡ decisionNumbers (decisionSaid decision)
+DecisionPlain decision r = r ≡ handedNumbers (decisionSaid decision)
 
 abbrev pub FinishedPlain : Finished → Wrote → Type 0
 FinishedPlain finished r = r ≡ lengthNumbers (finishedOf finished)

@@ -1,9 +1,9 @@
 -- What each export answers, in plain numbers, by the outcome that the definitions of the other crates give for its call.
 -- A number that an answer has no use for is 0.
-use Rattle.panel_stated.specs.Words.{ℕ, _+_, Bool, false, List, length, Outcome, R, SW, Gives, ApduHeader, Presence, Kind, Order}
+use Rattle.panel_stated.specs.Words.{ℕ, _+_, Bool, false, List, length, Outcome, R, SW, Gives, ApduHeader, Presence, Kind, Head, Order, headOf}
 use Rattle.panel_stated.specs.Words.{PresenceRecord, HardwareSaid, OrderNumbers, FrameSaid, CommandSaid, Wrote, Made, Stepped, Asked, DecisionSaid, Shaped, Kinded}
 use Rattle.panel_stated.specs.Words.{Says, placeOf, partsOf, writeOf, bufferOf, Command, Register, Authenticate, Version, handlePlaceOf, Told}
-use Rattle.panel_stated.specs.Words.{kindNo, toSign, certificateLength, finishOf, Given, Body, Ordered, Result, decisionOf}
+use Rattle.panel_stated.specs.Words.{kindNo, finishOf, Given, Body, Ordered, Result, Handed, handedOf, decisionOf}
 use Rattle.panel_stated.specs.Numbers.{answerNo, decidedNo, presenceOf, presenceNumbers, isYes, hardwareOf, shapeOf, kindOf, noOrder}
 use Rattle.ctap1_stated.specs.Words.{Inputs}
 use Rattle.panel_stated.specs.declared.Shaped.the-variants as Shaped′
@@ -131,32 +131,29 @@ bodyLength (Gives (Body n)) = n
 bodyLength (Gives Ordered) = 0
 
 -- an order's kind, number of bytes to sign, and certificate length
+abbrev pub headAfter : Outcome Given → Head → OrderNumbers
+headAfter (R n) head = noOrder
+headAfter (SW n) head = noOrder
+headAfter (Gives (Body n)) head = noOrder
+headAfter (Gives Ordered) head =
+    record { kind = kindNo (head .kind); «to_sign» = head .«to_sign»; «certificate_length» = head .«certificate_length» }
+
 abbrev pub orderAfter : Outcome Given → Order → OrderNumbers
-orderAfter (R n) order = noOrder
-orderAfter (SW n) order = noOrder
-orderAfter (Gives (Body n)) order = noOrder
-orderAfter (Gives Ordered) order =
-    record { kind = kindNo (order .kind); «to_sign» = toSign order; «certificate_length» = certificateLength order }
+orderAfter o order = headAfter o (headOf order)
 
--- 01: "the bytes to sign in a block of 385 bytes"; every answer but an order leaves the lent block as it was
-abbrev pub blockAfter : Outcome Given → List ℕ → List ℕ → List ℕ
-blockAfter (R n) bytes old = old
-blockAfter (SW n) bytes old = old
-blockAfter (Gives (Body n)) bytes old = old
-blockAfter (Gives Ordered) bytes old = bytes
-
-abbrev pub blockLeft : Result → List ℕ → List ℕ
-blockLeft r old = blockAfter (r .answer) (r .order .bytes) old
+-- the block goes out beside these: `blockLeft`
+abbrev pub handedNumbers : Handed → DecisionSaid
+handedNumbers h =
+    record {
+      answer = decidedNo (h .answer);
+      taken = h .taken;
+      length = bodyLength (h .answer);
+      order = headAfter (h .answer) (h .head);
+      presence = presenceNumbers (h .presence);
+    }
 
 abbrev pub decisionNumbers : Result → DecisionSaid
-decisionNumbers r =
-    record {
-      answer = decidedNo (r .answer);
-      taken = r .taken;
-      length = bodyLength (r .answer);
-      order = orderAfter (r .answer) (r .order);
-      presence = presenceNumbers (r .presence);
-    }
+decisionNumbers r = handedNumbers (handedOf r)
 
 -- what the decision is lent, the record and the hardware's answers as numbers
 pub record ToDecide : Type 0 where

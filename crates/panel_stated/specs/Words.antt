@@ -15,7 +15,8 @@ pub use Rattle.u2f_up_stated.specs.declared.Window.{Window}
 pub use Rattle.u2f_up_stated.specs.declared.Window.the-variants.{Closed, Opened}
 pub use Rattle.u2f_up_stated.specs.declared.Presence.{Presence}
 pub use Rattle.signing_stated.specs.declared.Kind.{Kind}
-pub use Rattle.signing_stated.specs.declared.Order.{Order}
+pub use Rattle.signing_stated.specs.declared.Head.{Head}
+pub use Rattle.signing_stated.specs.Words.{Order, headOf}
 pub use Rattle.ctap1_stated.specs.declared.Allowed.{Allowed}
 pub use Rattle.ctap1_stated.specs.declared.Attestation.{Attestation}
 pub use Rattle.ctap1_stated.specs.declared.Counter.{Counter}
@@ -40,6 +41,5 @@ pub use Rattle.command_stated.specs.Command.{Command, Register, Authenticate, V
 pub use Rattle.u2f_up_stated.specs.Moments.{Told, newOf, touchOf, checkOf, askOf}
 pub use Rattle.signing_stated.specs.Orders.{kindNo, toSign, certificateLength}
 pub use Rattle.signing_stated.specs.Finishing.{finishOf, lengthOf, replyOf}
-pub use Rattle.ctap1_stated.specs.Words.{Given, Body, Ordered, Result}
-pub use Rattle.ctap1_stated.specs.Decision.{replyLeft}
-pub use Rattle.ctap1_stated.specs.Decision.{decisionOf}
+pub use Rattle.ctap1_stated.specs.Words.{Given, Body, Ordered, Result, Handed, handedOf}
+pub use Rattle.ctap1_stated.specs.Decision.{decisionOf, replyLeft, blockAfter, blockLeft}

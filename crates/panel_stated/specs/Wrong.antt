@@ -4,7 +4,8 @@ use Rattle.panel_stated.specs.Words.{ℕ, _+_, Bool, true, false, eqb, L
 use Rattle.panel_stated.specs.Words.{HardwareSaid, Hardware, DecisionSaid, PresenceRecord, OrderNumbers, FrameSaid, CommandSaid, Wrote, Made, Stepped, Asked, Shaped, Kinded}
 use Rattle.panel_stated.specs.Words.{Says, Command, Register, Authenticate, Version, Told, Result, Given, Body, Ordered, toSign, certificateLength}
 use Rattle.panel_stated.specs.Numbers.{greatestNo, presenceOf, presenceNumbers, allowedOf, attestationOf, hardwareOf, shapeOf, kindOf}
-use Rattle.panel_stated.specs.Exports.{ToFinish, finishNumbered, frameNumbers, commandNumbers, lengthNumbers, madeNumbers, askedNumbers, orderAfter, blockAfter, decisionNumbers}
+use Rattle.panel_stated.specs.Exports.{ToFinish, finishNumbered, frameNumbers, commandNumbers, lengthNumbers, madeNumbers, askedNumbers, orderAfter, decisionNumbers}
+use Rattle.ctap1_stated.specs.Decision.{blockAfter}
 use Rattle.ctap1_stated.specs.declared.Allowed.the-variants as Allowed′
 use Rattle.ctap1_stated.specs.declared.Attestation.the-variants as Attestation′
 use Rattle.ctap1_stated.specs.declared.Counter.the-variants as Counter′

@@ -11,13 +11,13 @@ use panel_stated::Kinded;
 use panel_stated::OrderNumbers;
 use panel_stated::Wrote;
 use signing_stated::Finished;
+use signing_stated::Head;
 use signing_stated::Kind;
-use signing_stated::Order;
 ghost use mathlib.Core.Path.{_≡_};
 ghost use Rattle.ctap1_stated.specs.Words.{decidedOf};
 ghost use Rattle.panel_stated.specs.Numbers.{allowedOf, attestationOf, counterOf, noOrder, decidedNo};
-ghost use Rattle.panel_stated.specs.Exports.{bodyLength, orderAfter};
-ghost use Rattle.panel_stated.specs.Contracts.{HardwareLent, KindNumbered, PutBlock, DecisionPlain, FinishedPlain};
+ghost use Rattle.panel_stated.specs.Exports.{bodyLength, headAfter};
+ghost use Rattle.panel_stated.specs.Contracts.{HardwareLent, KindNumbered, DecisionPlain, FinishedPlain};
 
 // The answer that is no refusal, no status word and not 0: what stands in the block is to be signed.
 const ORDER: u16 = 0x0100;
@@ -73,18 +73,6 @@ pub fn kind_numbered(number: u32) -> Kinded
     }
 }
 
-// An order's block goes out; after every other answer the lent block stays as it was.
-pub fn put_block(answer: Decided, bytes: [u8; 385], block: &mut [u8; 385])
-    ensures { λ _. ⌜ PutBlock answer bytes (now (block .entry)) (now (block .exit)) ⌝ }
-{
-    match answer {
-        Decided::Refused(_) => return,
-        Decided::Status(_) => return,
-        Decided::Body(_) => return,
-        Decided::Order => *block = bytes,
-    }
-}
-
 fn decided_number(answer: Decided) -> u16
     ensures { λ r. ⌜ r ≡ decidedNo (decidedOf answer) ⌝ }
 {
@@ -107,8 +95,8 @@ fn body_length(answer: Decided) -> usize
     }
 }
 
-fn order_said(answer: Decided, order: Order) -> OrderNumbers
-    ensures { λ r. ⌜ r ≡ orderAfter (decidedOf answer) order ⌝ }
+fn order_said(answer: Decided, order: Head) -> OrderNumbers
+    ensures { λ r. ⌜ r ≡ headAfter (decidedOf answer) order ⌝ }
 {
     let kind = order.kind;
     match answer {

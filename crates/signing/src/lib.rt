@@ -5,12 +5,13 @@
 // Authenticate  to sign: application (32) | presence | counter (4) | challenge (32)
 //               reply:   presence | counter (4) | signature (0 to 72)
 //
-// The decision makes an order; the signer signs its bytes; finishing turns order and signature into the reply.
+// The decision makes an order; the signer signs its bytes; finishing turns order and signature into the reply. An order's block is
+// the caller's: it is lent in, and its head goes back and forth by value.
 use outcome::ApduStatusCode;
 use outcome::Refusal;
 pub use signing_stated::Finished;
+pub use signing_stated::Head;
 pub use signing_stated::Kind;
-pub use signing_stated::Order;
 ghost use Prim.Native.Nat.{_+_, _-_, _≤_};
 ghost use mathlib.Core.Path.{_≡_};
 ghost use mathlib.Core.Bool.{true};
@@ -18,8 +19,8 @@ ghost use lib.Dec.{leb};
 ghost use lib.ListN.{length};
 ghost use Rattle.octets.specs.Bytes.{byte, laid};
 ghost use Rattle.signing_stated.specs.Layouts.{presenceByte, registerBody, authenticateBody};
-ghost use Rattle.signing_stated.specs.Orders.{certificateLength, isOfLayout, registerFieldsOf, authenticateFieldsOf};
-ghost use Rattle.signing_stated.specs.Finishing.{roomAsked, bodyOf};
+ghost use Rattle.signing_stated.specs.Orders.{orderWith, blankOrder, certificateLength, isOfLayout, registerFieldsOf, authenticateFieldsOf};
+ghost use Rattle.signing_stated.specs.Finishing.{roomOf, roomAsked, bodyOf, CountsHandle};
 ghost use Rattle.signing_stated.specs.Contracts.{KindNumber, Blank, RegisterOrder, AuthenticateOrder, HasRegisterRoom, HasAuthenticateRoom, Finish};
 
 // 05, public key, h and the longest signature: what a Register reply takes beside handle and certificate.
@@ -39,19 +40,26 @@ pub fn kind_number(kind: Kind) -> u8
     }
 }
 
-// What stands where there is no order: finishing it is R7.
-pub fn blank() -> Order
+// What stands where there is no order: with any block, finishing it is R7.
+pub fn blank() -> Head
     ensures { λ r. ⌜ Blank r ⌝ }
 {
-    Order {
+    Head {
         kind: Kind::Register,
         to_sign: 0,
         certificate_length: 0,
-        bytes: [0u8; 385],
     }
 }
 
-// The order of a Register. Parts of other lengths give the blank order: nothing half-made leaves this crate.
+fn unfit(block: &mut [u8; 385]) -> Head
+    ensures { λ r. ⌜ orderWith r (now (block .exit)) ≡ blankOrder ⌝ }
+{
+    *block = [0u8; 385];
+    blank()
+}
+
+// The order of a Register, its block written once it is whole. Parts of other lengths give the blank order: nothing half-made
+// leaves this crate.
 pub fn register_order(
     application: &[u8],
     challenge: &[u8],
@@ -59,27 +67,28 @@ pub fn register_order(
     x: &[u8; 32],
     y: &[u8; 32],
     certificate_length: usize,
-) -> Order
-    ensures { λ r. ⌜ RegisterOrder (record { application = now (application .entry); challenge = now (challenge .entry); handle = now (handle .entry); x = now (x .entry); y = now (y .entry) }) «certificate_length» r ⌝ }
+    block: &mut [u8; 385],
+) -> Head
+    ensures { λ r. ⌜ RegisterOrder (record { application = now (application .entry); challenge = now (challenge .entry); handle = now (handle .entry); x = now (x .entry); y = now (y .entry) }) «certificate_length» r (now (block .exit)) ⌝ }
 {
     if application.len() != 32 {
-        return blank();
+        return unfit(block);
     }
     if challenge.len() != 32 {
-        return blank();
+        return unfit(block);
     }
     if 255 < handle.len() {
-        return blank();
+        return unfit(block);
     }
     let mut key = [0u8; 65];
     fields::put_three(&mut key, &[0x04], x, y);
     let mut bytes = [0u8; 385];
     fields::put_five(&mut bytes, &[0x00], application, challenge, handle, &key);
-    Order {
+    *block = bytes;
+    Head {
         kind: Kind::Register,
         to_sign: 130 + handle.len(),
         certificate_length,
-        bytes,
     }
 }
 
@@ -95,25 +104,26 @@ pub fn authenticate_order(
     challenge: &[u8],
     present: bool,
     counter: u32,
-) -> Order
-    ensures { λ r. ⌜ AuthenticateOrder (record { application = now (application .entry); challenge = now (challenge .entry); present = present; counter = counter }) r ⌝ }
+    block: &mut [u8; 385],
+) -> Head
+    ensures { λ r. ⌜ AuthenticateOrder (record { application = now (application .entry); challenge = now (challenge .entry); present = present; counter = counter }) r (now (block .exit)) ⌝ }
 {
     if application.len() != 32 {
-        return blank();
+        return unfit(block);
     }
     if challenge.len() != 32 {
-        return blank();
+        return unfit(block);
     }
     let presence = presence_byte(present);
     let mut count = [0u8; 4];
     octets::put_word(&mut count, counter);
     let mut bytes = [0u8; 385];
     fields::put_four(&mut bytes, application, &[presence], &count, challenge);
-    Order {
+    *block = bytes;
+    Head {
         kind: Kind::Authenticate,
         to_sign: 69,
         certificate_length: 0,
-        bytes,
     }
 }
 
@@ -138,9 +148,9 @@ pub fn has_authenticate_room(room: usize) -> bool
     AUTHENTICATE_ROOM <= room
 }
 
-fn has_room(order: Order, room: usize) -> bool
-    requires { ⌜ isOfLayout order ≡ true ⌝ }
-    ensures { λ r. ⌜ r ≡ leb (roomAsked order) room ⌝ }
+fn has_room(order: Head, room: usize) -> bool
+    requires { ⌜ CountsHandle (order .kind) (order .«to_sign») ⌝ }
+    ensures { λ r. ⌜ r ≡ leb (roomOf (order .kind) order) room ⌝ }
 {
     let kind = order.kind;
     match kind {
@@ -151,67 +161,74 @@ fn has_room(order: Order, room: usize) -> bool
 
 fn put_register_body(
     to_sign: usize,
-    bytes: [u8; 385],
+    block: &[u8; 385],
     certificate: &[u8],
     signature: &[u8],
     reply: &mut [u8],
 ) -> usize
-    requires { ⌜ (130 ≤ «to_sign») × («to_sign» ≤ 385) × (byte bytes («to_sign» - 65) ≡ 0x04) ⌝ }
+    requires { ⌜ (130 ≤ «to_sign») × («to_sign» ≤ 385) × (byte (now block) («to_sign» - 65) ≡ 0x04) ⌝ }
     requires { ⌜ 67 + («to_sign» - 130) + length (now certificate) + length (now signature) ≤ length (now reply) ⌝ }
-    ensures { λ r. ⌜ r ≡ length (registerBody (registerFieldsOf «to_sign» bytes) (now (certificate .entry)) (now (signature .entry))) ⌝ }
-    ensures { λ _. ⌜ now (reply .exit) ≡ laid (registerBody (registerFieldsOf «to_sign» bytes) (now (certificate .entry)) (now (signature .entry))) (now (reply .entry)) ⌝ }
+    ensures { λ r. ⌜ r ≡ length (registerBody (registerFieldsOf «to_sign» (now (block .entry))) (now (certificate .entry)) (now (signature .entry))) ⌝ }
+    ensures { λ _. ⌜ now (reply .exit) ≡ laid (registerBody (registerFieldsOf «to_sign» (now (block .entry))) (now (certificate .entry)) (now (signature .entry))) (now (reply .entry)) ⌝ }
 {
     let h = to_sign - 130;
     let key = to_sign - 65;
-    let block: &[u8] = &bytes;
+    let bytes: &[u8] = block;
     fields::put_six(
         reply,
         &[0x05],
-        &block[key..to_sign],
+        &bytes[key..to_sign],
         &[h as u8],
-        &block[65..key],
+        &bytes[65..key],
         certificate,
         signature,
     );
     67 + h + certificate.len() + signature.len()
 }
 
-fn put_authenticate_body(bytes: [u8; 385], signature: &[u8], reply: &mut [u8]) -> usize
+fn put_authenticate_body(block: &[u8; 385], signature: &[u8], reply: &mut [u8]) -> usize
     requires { ⌜ 5 + length (now signature) ≤ length (now reply) ⌝ }
-    ensures { λ r. ⌜ r ≡ length (authenticateBody (authenticateFieldsOf bytes) (now (signature .entry))) ⌝ }
-    ensures { λ _. ⌜ now (reply .exit) ≡ laid (authenticateBody (authenticateFieldsOf bytes) (now (signature .entry))) (now (reply .entry)) ⌝ }
+    ensures { λ r. ⌜ r ≡ length (authenticateBody (authenticateFieldsOf (now (block .entry))) (now (signature .entry))) ⌝ }
+    ensures { λ _. ⌜ now (reply .exit) ≡ laid (authenticateBody (authenticateFieldsOf (now (block .entry))) (now (signature .entry))) (now (reply .entry)) ⌝ }
 {
+    let bytes: &[u8] = block;
     fields::put_three(reply, &[bytes[32]], &bytes[33..37], signature);
     5 + signature.len()
 }
 
-fn put_body(order: Order, certificate: &[u8], signature: &[u8], reply: &mut [u8]) -> usize
-    requires { ⌜ isOfLayout order ≡ true ⌝ }
-    requires { ⌜ length (now certificate) ≡ certificateLength order ⌝ }
-    requires { ⌜ roomAsked order ≤ length (now reply) ⌝ }
+fn put_body(
+    order: Head,
+    block: &[u8; 385],
+    certificate: &[u8],
+    signature: &[u8],
+    reply: &mut [u8],
+) -> usize
+    requires { ⌜ isOfLayout (orderWith order (now block)) ≡ true ⌝ }
+    requires { ⌜ length (now certificate) ≡ order .«certificate_length» ⌝ }
+    requires { ⌜ roomOf (order .kind) order ≤ length (now reply) ⌝ }
     requires { ⌜ length (now signature) ≤ 72 ⌝ }
-    ensures { λ r. ⌜ r ≡ length (bodyOf (order .kind) order (now (certificate .entry)) (now (signature .entry))) ⌝ }
-    ensures { λ _. ⌜ now (reply .exit) ≡ laid (bodyOf (order .kind) order (now (certificate .entry)) (now (signature .entry))) (now (reply .entry)) ⌝ }
+    ensures { λ r. ⌜ r ≡ length (bodyOf (order .kind) (orderWith order (now (block .entry))) (now (certificate .entry)) (now (signature .entry))) ⌝ }
+    ensures { λ _. ⌜ now (reply .exit) ≡ laid (bodyOf (order .kind) (orderWith order (now (block .entry))) (now (certificate .entry)) (now (signature .entry))) (now (reply .entry)) ⌝ }
 {
     let kind = order.kind;
-    let bytes = order.bytes;
     match kind {
-        Kind::Register => put_register_body(order.to_sign, bytes, certificate, signature, reply),
-        Kind::Authenticate => put_authenticate_body(bytes, signature, reply),
+        Kind::Register => put_register_body(order.to_sign, block, certificate, signature, reply),
+        Kind::Authenticate => put_authenticate_body(block, signature, reply),
     }
 }
 
-// Order, certificate, the signer's answer and the reply buffer to the reply. `signed` is false where the signer failed.
+// Order and block, certificate, the signer's answer and the reply buffer to the reply. `signed` is false where the signer failed.
 pub fn finish(
-    order: Order,
+    order: Head,
+    block: &[u8; 385],
     certificate: &[u8],
     signed: bool,
     signature: &[u8],
     reply: &mut [u8],
 ) -> Finished
-    ensures { λ r. ⌜ Finish (record { order = order; certificate = now (certificate .entry); signed = signed; signature = now (signature .entry); reply = now (reply .entry) }) r (now (reply .exit)) ⌝ }
+    ensures { λ r. ⌜ Finish (record { order = orderWith order (now (block .entry)); certificate = now (certificate .entry); signed = signed; signature = now (signature .entry); reply = now (reply .entry) }) r (now (reply .exit)) ⌝ }
 {
-    if !layouts::has_layout(order) {
+    if !layouts::has_layout(order, block) {
         return Finished::Refused(Refusal::R7);
     }
     if certificate.len() != order.certificate_length {
@@ -226,5 +243,5 @@ pub fn finish(
     if LONGEST_SIGNATURE < signature.len() {
         return Finished::Refused(Refusal::R3);
     }
-    Finished::Body(put_body(order, certificate, signature, reply))
+    Finished::Body(put_body(order, block, certificate, signature, reply))
 }

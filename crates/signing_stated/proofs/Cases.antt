@@ -6,11 +6,11 @@ use mathlib.Core.List.{List, [], _∷_, _++_, append-assoc, append-nil}
 use native.Mathlib.Omega.{arith}
 use borrow.Author.Tests.{eq-eqb, ne-eqb, le-leb, lt-leb, not-true, not-false, leb-true, leb-false}
 use lib.Dec.{eqb, leb}
-use lib.ListN.{length, take, drop, length-drop, replicate, length-append, length-replicate, drop-of-length-le}
-use lib.Seq.{take-all, drop-cons}
+use lib.ListN.{length, take, drop, replicate, length-append, length-replicate, drop-of-length-le}
+use lib.Seq.{drop-cons}
 use Rattle.octets.specs.Bytes.{byte, allZero, laid, bytes4}
-use Rattle.octets.proofs.Laws.{leb-same}
-use Rattle.signing_stated.specs.Orders.{Order, Kind, Register, Authenticate, isRegisterLayout, isAuthenticateLayout, isLayout, isOfLayout, toSign, certificateLength, block, blankOrder, registerOrderOf, authenticateOrderOf, registerFieldsOf, authenticateFieldsOf}
+use Rattle.octets.proofs.Laws.{leb-same, tail-is}
+use Rattle.signing_stated.specs.Orders.{Head, Order, headOf, orderWith, Kind, Register, Authenticate, isRegisterLayout, isAuthenticateLayout, isLayout, isOfLayout, toSign, certificateLength, block, blankOrder, registerOrderOf, authenticateOrderOf, registerFieldsOf, authenticateFieldsOf}
 use Rattle.octets.proofs.Laws.{laid-fits}
 use Rattle.signing_stated.specs.Layouts.{RegisterFields, AuthenticateFields, registerToSign, authenticateToSign, presenceByte, publicKey, registerBody, authenticateBody}
 use Rattle.signing_stated.proofs.Fit.{register-order-fit, authenticate-order-fit}
@@ -18,17 +18,13 @@ use Rattle.signing_stated.proofs.Shapes.{register-shaped}
 use Rattle.signing_stated.specs.Contracts.{Finish}
 use Rattle.signing_stated.specs.Terms.{part, RegisterLengths, AuthenticateLengths}
 use Rattle.signing_stated.proofs.Ways.{comes-to-r7, comes-to-r4, comes-to-r2, comes-to-6f00, comes-to-r3, comes-to-body}
-use Rattle.signing_stated.specs.Finishing.{registerRoom, authenticateRoom, roomOf, roomAsked, bodyOf, Finishing, Finished, Refused, Status, Body, finishOf, finishedOf, lengthOf, replyOf}
+use Rattle.signing_stated.specs.Finishing.{registerRoom, authenticateRoom, roomOf, roomAsked, CountsHandle, bodyOf, Finishing, Finished, Refused, Status, Body, finishOf, finishedOf, lengthOf, replyOf}
 use Rattle.octets.proofs.Laws.{length-part, parts-join}
 use Rattle.outcome.specs.Outcome.{Outcome, R, SW, Gives}
 use Rattle.outcome.specs.declared.ApduStatusCode.the-variants.{InternalException}
 use Rattle.outcome.specs.declared.Refusal.the-variants.{R2, R3, R4, R7}
 
 -- ---- the layout tests
--- the tail of a block, as `&bytes[n..]` has it
-tail : (n : ℕ) (b : List ℕ) → length b ≡ 385 → take (385 - n) (drop n b) ≡ drop n b
-tail n b e = take-all (385 - n) (drop n b) (omega (arith, length-drop n b))
-
 module _ (n : ℕ) (b : List ℕ) where
   pub too-few : n < 130 → false ≡ isRegisterLayout n b
   unfolding isRegisterLayout
@@ -49,10 +45,10 @@ module _ (n : ℕ) (b : List ℕ) where
         unfolding isRegisterLayout
         other-marker h = rw (le-leb 130 n few, le-leb n 385 many, eq-eqb (byte b 0) 0x00 first, ne-eqb (byte b (n - 65)) 0x04 h)
 
-        pub register-tail : (r : Bool) → byte b (n - 65) ≡ 0x04 → length b ≡ 385 → r ≡ allZero (take (385 - n) (drop n b)) → r ≡ isRegisterLayout n b
+        pub register-tail : (r : Bool) → byte b (n - 65) ≡ 0x04 → r ≡ allZero (take (length b - n) (drop n b)) → r ≡ isRegisterLayout n b
         unfolding isRegisterLayout
-        register-tail r h long e =
-            e ∙ rw (le-leb 130 n few, le-leb n 385 many, eq-eqb (byte b 0) 0x00 first, eq-eqb (byte b (n - 65)) 0x04 h, tail n b long)
+        register-tail r h e =
+            e ∙ rw (le-leb 130 n few, le-leb n 385 many, eq-eqb (byte b 0) 0x00 first, eq-eqb (byte b (n - 65)) 0x04 h, tail-is b n)
 
 module _ (n c : ℕ) (b : List ℕ) where
   pub other-length : (n ≡ 69 → ⊥) → false ≡ isAuthenticateLayout n c b
@@ -64,9 +60,9 @@ module _ (n c : ℕ) (b : List ℕ) where
     unfolding isAuthenticateLayout
     other-presence h = rw (eq-eqb n 69 long, lt-leb (byte b 32) 1 h)
 
-    module _ (present : byte b 32 ≤ 1) (whole : length b ≡ 385) (z : Bool) (is-z : z ≡ allZero (take (385 - 69) (drop 69 b))) where
+    module _ (present : byte b 32 ≤ 1) (z : Bool) (is-z : z ≡ allZero (take (length b - 69) (drop 69 b))) where
       zeros : z ≡ allZero (drop 69 b)
-      zeros = is-z ∙ ap allZero (tail 69 b whole)
+      zeros = is-z ∙ ap allZero (tail-is b 69)
 
       pub authenticate-tail : not z ≡ true → false ≡ isAuthenticateLayout n c b
       unfolding isAuthenticateLayout
@@ -130,6 +126,11 @@ module _ (f : AuthenticateFields) (r : Order) (is-blank : r ≡ blankOrder) wher
   unfolding authenticateOrderOf
   authenticate-challenge-unfit h = is-blank ∙ rw (ne-eqb (length (f .challenge)) 32 h, and-false)
 
+-- the head of a blank order over a block of zeros
+pub blank-whole : (h : Head) → h ≡ headOf blankOrder → orderWith h (replicate 385 0) ≡ blankOrder
+unfolding blankOrder block
+blank-whole h e = ap (λ (k : Head). orderWith k (replicate 385 0)) e
+
 module _ (a d h x y : List ℕ) (c : ℕ) (key bytes : List ℕ) where
   pub register-made : length a ≡ 32 → length d ≡ 32 → length h ≤ 255 → length x ≡ 32 → length y ≡ 32
       → key ≡ laid (0x04 ∷ [] ++ (x ++ y)) (replicate 65 0)
@@ -173,31 +174,39 @@ module _ (h c room : ℕ) where
   pub certificate-room : 139 ≤ room → h ≤ room - 139 → leb c (room - 139 - h) ≡ leb (registerRoom h c) room
   certificate-room enough left = leb-same c (room - 139 - h) (registerRoom h c) room (λ holds. omega arith) (λ fails. omega arith)
 
-module _ (o : Order) (room : ℕ) (r : Bool) where
-  pub register-room : o .kind ≡ Register → r ≡ leb (registerRoom (toSign o - 130) (certificateLength o)) room → r ≡ leb (roomAsked o) room
-  register-room k e = e ∙ ap (λ (kind : Kind). leb (roomOf kind o) room) (sym k)
+module _ (h : Head) (room : ℕ) (r : Bool) where
+  pub register-room : h .kind ≡ Register → r ≡ leb (registerRoom (h .«to_sign» - 130) (h .«certificate_length»)) room → r ≡ leb (roomOf (h .kind) h) room
+  register-room k e = e ∙ ap (λ (kind : Kind). leb (roomOf kind h) room) (sym k)
 
-  pub authenticate-room : o .kind ≡ Authenticate → r ≡ leb authenticateRoom room → r ≡ leb (roomAsked o) room
-  authenticate-room k e = e ∙ ap (λ (kind : Kind). leb (roomOf kind o) room) (sym k)
+  pub authenticate-room : h .kind ≡ Authenticate → r ≡ leb authenticateRoom room → r ≡ leb (roomOf (h .kind) h) room
+  authenticate-room k e = e ∙ ap (λ (kind : Kind). leb (roomOf kind h) room) (sym k)
 
-module _ (o : Order) (k : o .kind ≡ Register) (ok : isOfLayout o ≡ true) where
-  pub register-least : 130 ≤ toSign o
-  register-least = register-shaped o k ok .least
+-- the handle's length, by subtraction, of an order of its layout
+pub handle-counted : (kind : Kind) (n : ℕ) → kind ≡ Register → CountsHandle kind n → 130 ≤ n
+handle-counted kind n k counts = counts k
 
-  pub register-most : toSign o ≤ 385
-  register-most = register-shaped o k ok .most
+module _ (h : Head) (b : List ℕ) where
+  pub counts-handle : (ok : Bool) → ok ≡ isOfLayout (orderWith h b) → not ok ≡ false → h .kind ≡ Register → 130 ≤ h .«to_sign»
+  counts-handle ok is-ok told k = register-shaped (orderWith h b) k (sym is-ok ∙ not-false ok told) .least
 
-  pub register-marker : byte (o .bytes) (toSign o - 65) ≡ 0x04
-  register-marker = register-shaped o k ok .marker
+  module _ (k : h .kind ≡ Register) (ok : isOfLayout (orderWith h b) ≡ true) where
+    pub register-least : 130 ≤ h .«to_sign»
+    register-least = register-shaped (orderWith h b) k ok .least
 
-module _ (o : Order) (certificate signature reply : List ℕ) (asked : roomAsked o ≤ length reply) (short : length signature ≤ 72) where
-  pub register-body-fits : o .kind ≡ Register → length certificate ≡ certificateLength o
-      → 67 + (toSign o - 130) + length certificate + length signature ≤ length reply
+    pub register-most : h .«to_sign» ≤ 385
+    register-most = register-shaped (orderWith h b) k ok .most
+
+    pub register-marker : byte b (h .«to_sign» - 65) ≡ 0x04
+    register-marker = register-shaped (orderWith h b) k ok .marker
+
+module _ (h : Head) (certificate signature reply : List ℕ) (asked : roomOf (h .kind) h ≤ length reply) (short : length signature ≤ 72) where
+  pub register-body-fits : h .kind ≡ Register → length certificate ≡ h .«certificate_length»
+      → 67 + (h .«to_sign» - 130) + length certificate + length signature ≤ length reply
   register-body-fits k e =
-      let room : roomAsked o ≡ registerRoom (toSign o - 130) (certificateLength o) = ap (λ (kind : Kind). roomOf kind o) k in omega arith
+      let room : roomOf (h .kind) h ≡ registerRoom (h .«to_sign» - 130) (h .«certificate_length») = ap (λ (kind : Kind). roomOf kind h) k in omega arith
 
-  pub authenticate-body-fits : o .kind ≡ Authenticate → 5 + length signature ≤ length reply
-  authenticate-body-fits k = let room : roomAsked o ≡ authenticateRoom = ap (λ (kind : Kind). roomOf kind o) k in omega arith
+  pub authenticate-body-fits : h .kind ≡ Authenticate → 5 + length signature ≤ length reply
+  authenticate-body-fits k = let room : roomOf (h .kind) h ≡ authenticateRoom = ap (λ (kind : Kind). roomOf kind h) k in omega arith
 
 -- ---- bodies, as the code puts them together from parts of the block
 pub six : (a b c d e f : List ℕ) → a ++ b ++ c ++ d ++ e ++ f ≡ a ++ (b ++ (c ++ (d ++ (e ++ f))))
@@ -250,29 +259,29 @@ module _ (b signature : List ℕ) where
   pub authenticate-body-length : length b ≡ 385 → 5 + length signature ≡ length (authenticateBody (authenticateFieldsOf b) signature)
   authenticate-body-length whole = simp length-append (omega (arith, length-part 33 4 b (omega arith)))
 
-module _ (o : Order) (certificate signature : List ℕ) where
-  module _ (k : o .kind ≡ Register) where
-    its-body : registerBody (registerFieldsOf (toSign o) (o .bytes)) certificate signature ≡ bodyOf (o .kind) o certificate signature
-    its-body = ap (λ (kind : Kind). bodyOf kind o certificate signature) (sym k)
+module _ (h : Head) (b certificate signature : List ℕ) where
+  module _ (k : h .kind ≡ Register) where
+    its-body : registerBody (registerFieldsOf (h .«to_sign») b) certificate signature ≡ bodyOf (h .kind) (orderWith h b) certificate signature
+    its-body = ap (λ (kind : Kind). bodyOf kind (orderWith h b) certificate signature) (sym k)
 
-    pub register-length-said : (r : ℕ) → r ≡ length (registerBody (registerFieldsOf (toSign o) (o .bytes)) certificate signature)
-        → r ≡ length (bodyOf (o .kind) o certificate signature)
+    pub register-length-said : (r : ℕ) → r ≡ length (registerBody (registerFieldsOf (h .«to_sign») b) certificate signature)
+        → r ≡ length (bodyOf (h .kind) (orderWith h b) certificate signature)
     register-length-said r e = e ∙ ap length its-body
 
-    pub register-put : (old out : List ℕ) → out ≡ laid (registerBody (registerFieldsOf (toSign o) (o .bytes)) certificate signature) old
-        → out ≡ laid (bodyOf (o .kind) o certificate signature) old
+    pub register-put : (old out : List ℕ) → out ≡ laid (registerBody (registerFieldsOf (h .«to_sign») b) certificate signature) old
+        → out ≡ laid (bodyOf (h .kind) (orderWith h b) certificate signature) old
     register-put old out e = e ∙ ap (λ (body : List ℕ). laid body old) its-body
 
-  module _ (k : o .kind ≡ Authenticate) where
-    this-body : authenticateBody (authenticateFieldsOf (o .bytes)) signature ≡ bodyOf (o .kind) o certificate signature
-    this-body = ap (λ (kind : Kind). bodyOf kind o certificate signature) (sym k)
+  module _ (k : h .kind ≡ Authenticate) where
+    this-body : authenticateBody (authenticateFieldsOf b) signature ≡ bodyOf (h .kind) (orderWith h b) certificate signature
+    this-body = ap (λ (kind : Kind). bodyOf kind (orderWith h b) certificate signature) (sym k)
 
-    pub authenticate-length-said : (r : ℕ) → r ≡ length (authenticateBody (authenticateFieldsOf (o .bytes)) signature)
-        → r ≡ length (bodyOf (o .kind) o certificate signature)
+    pub authenticate-length-said : (r : ℕ) → r ≡ length (authenticateBody (authenticateFieldsOf b) signature)
+        → r ≡ length (bodyOf (h .kind) (orderWith h b) certificate signature)
     authenticate-length-said r e = e ∙ ap length this-body
 
-    pub authenticate-put : (old out : List ℕ) → out ≡ laid (authenticateBody (authenticateFieldsOf (o .bytes)) signature) old
-        → out ≡ laid (bodyOf (o .kind) o certificate signature) old
+    pub authenticate-put : (old out : List ℕ) → out ≡ laid (authenticateBody (authenticateFieldsOf b) signature) old
+        → out ≡ laid (bodyOf (h .kind) (orderWith h b) certificate signature) old
     authenticate-put old out e = e ∙ ap (λ (body : List ℕ). laid body old) this-body
 
 -- ---- finishing

@@ -12,7 +12,7 @@ use lib.ListN.{drop}
 use lib.Seq.{getD-drop}
 use Rattle.octets.specs.Bytes.{byte, allZero}
 use Rattle.octets.proofs.Laws.{both}
-use Rattle.signing_stated.specs.Orders.{Order, Kind, Register, Authenticate, isRegisterLayout, isAuthenticateLayout, isLayout, isOfLayout, toSign, certificateLength}
+use Rattle.signing_stated.specs.Orders.{headOf, Order, Kind, Register, Authenticate, isRegisterLayout, isAuthenticateLayout, isLayout, isOfLayout, toSign, certificateLength}
 use Rattle.signing_stated.specs.Finishing.{registerRoom, authenticateRoom, roomOf, roomAsked}
 use Rattle.signing_stated.specs.Terms.{AsksFor, register, authenticate, OfLayout}
 
@@ -110,7 +110,7 @@ module _ (o : Order) where
           let s = register-shaped o k ok in
           let h : ℕ = toSign o - 130 in
           let at : 65 + (toSign o - 130) ≡ toSign o - 65 = omega (arith, s .least) in
-          let asked : registerRoom (toSign o - 130) (certificateLength o) ≡ roomAsked o = ap (λ (kind : Kind). roomOf kind o) (sym k) in
+          let asked : registerRoom (toSign o - 130) (certificateLength o) ≡ roomAsked o = ap (λ (kind : Kind). roomOf kind (headOf o)) (sym k) in
           subst (λ (n : ℕ). AsksFor o n) asked
           (register (toSign o - 130)
           (record {
@@ -123,7 +123,7 @@ module _ (o : Order) where
           }))
       by-kind Authenticate k =
           let s = authenticate-shaped o k ok in
-          let asked : authenticateRoom ≡ roomAsked o = ap (λ (kind : Kind). roomOf kind o) (sym k) in
+          let asked : authenticateRoom ≡ roomAsked o = ap (λ (kind : Kind). roomOf kind (headOf o)) (sym k) in
           subst (λ (n : ℕ). AsksFor o n) asked
           (authenticate
           (record {
@@ -147,7 +147,7 @@ module _ (o : Order) where
               marker = ap (λ (n : ℕ). byte (o .bytes) n) at ∙ s .marker;
               rest = from-zeros (o .bytes) (toSign o) (λ i from. s .rest i (omega (arith, s .counts)));
             }),
-        ap (λ (kind : Kind). roomOf kind o) (s .kind) ∙ ap (λ (n : ℕ). registerRoom n (certificateLength o)) long,
+        ap (λ (kind : Kind). roomOf kind (headOf o)) (s .kind) ∙ ap (λ (n : ℕ). registerRoom n (certificateLength o)) long,
       )
   asked-for _ (authenticate s) = (
     ap (λ (kind : Kind). isLayout kind o) (s .kind)
@@ -158,7 +158,7 @@ module _ (o : Order) where
           rest = from-zeros (o .bytes) 69 (s .rest);
           no-certificate = s .no-certificate;
         }),
-    ap (λ (kind : Kind). roomOf kind o) (s .kind),
+    ap (λ (kind : Kind). roomOf kind (headOf o)) (s .kind),
   )
     where
       small : (byte (o .bytes) 32 ≡ 0x00) ⊎ (byte (o .bytes) 32 ≡ 0x01) → byte (o .bytes) 32 ≤ 1

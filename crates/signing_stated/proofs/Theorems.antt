@@ -15,7 +15,7 @@ use Rattle.octets.proofs.Laws.{laid-fits, length-laid}
 use Rattle.octets.proofs.Laws.{length-part}
 use Rattle.signing_stated.specs.Claims
 use Rattle.signing_stated.specs.Layouts.{RegisterFields, AuthenticateFields, registerToSign, authenticateToSign, registerBody, authenticateBody, presenceByte, isRegisterFit, isAuthenticateFit}
-use Rattle.signing_stated.specs.Orders.{Order, Kind, Register, Authenticate, AuthenticateParts, kindNo, toSign, certificateLength, blankOrder, registerOrderOf, authenticateOrderOf, authenticateOrderFor, block, isOfLayout, registerFieldsOf, authenticateFieldsOf}
+use Rattle.signing_stated.specs.Orders.{Head, Order, headOf, orderWith, Kind, Register, Authenticate, AuthenticateParts, kindNo, toSign, certificateLength, blankOrder, registerOrderOf, authenticateOrderOf, authenticateOrderFor, block, isOfLayout, registerFieldsOf, authenticateFieldsOf}
 use Rattle.signing_stated.specs.Finishing.{registerRoom, authenticateRoom, Finishing, Ended, finishOf, finishedOf, endOf, lengthOf, replyOf, roomAsked, bodyOf}
 use Rattle.signing_stated.specs.Terms.{part, RegisterLengths, AuthenticateLengths, PartsLengths, IsWhole, IsRegisterOrder, IsAuthenticateOrder, HoldsJust, RegisterShaped, AuthenticateShaped, register, authenticate}
 use Rattle.signing_stated.proofs.Fit.{register-fit, authenticate-fit, register-lengths, authenticate-lengths, register-order-fit, authenticate-order-fit}
@@ -42,8 +42,8 @@ ResultsDetermined =
     record {
       kind-number = λ k a b. both-are a b;
       blank = λ a b. both-are a b;
-      register-order = λ f c a b. both-are a b;
-      authenticate-order = λ p a b. both-are a b;
+      register-order = λ f c a b p q. apart a b (both-are _ _ p q);
+      authenticate-order = λ k a b p q. apart a b (both-are _ _ p q);
       has-layout = λ o a b. both-are a b;
       has-register-room = λ room h c a b. both-are a b;
       has-authenticate-room = λ room a b. both-are a b;
@@ -53,6 +53,9 @@ ResultsDetermined =
           let buffers : a .1 ≡ b .1 = p .leaves ∙ sym (q .leaves) in
           λ d. (answers d, buffers d);
     }
+  where
+    apart : (a b : Head × List ℕ) → orderWith (a .0) (a .1) ≡ orderWith (b .0) (b .1) → a ≡ b
+    apart a b e = λ d. (headOf (e d), e d .bytes)
 
 -- ---- orders
 block-length : (s : List ℕ) → length (block s) ≡ 385

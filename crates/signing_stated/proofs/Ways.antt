@@ -10,7 +10,7 @@ use lib.Dec.{eqb, ltb}
 use lib.ListN.{length, drop, length-append}
 use Rattle.outcome.specs.Outcome.{Outcome, R, SW, Gives}
 use Rattle.octets.proofs.Laws.{length-take-most}
-use Rattle.signing_stated.specs.Orders.{Order, Kind, Register, Authenticate, toSign, certificateLength, isOfLayout}
+use Rattle.signing_stated.specs.Orders.{headOf, Order, Kind, Register, Authenticate, toSign, certificateLength, isOfLayout}
 use Rattle.signing_stated.specs.Finishing.{Finishing, finishOf, roomOf, roomAsked, bodyOf}
 
 module _ (i : Finishing) where
@@ -119,7 +119,7 @@ module _ {i : Finishing} where
 
 -- a body is within the room asked for, whatever the order holds
 pub body-within : (k : Kind) (o : Order) (certificate signature : List ℕ) → length certificate ≡ certificateLength o
-    → length signature ≤ 72 → length (bodyOf k o certificate signature) ≤ roomOf k o
+    → length signature ≤ 72 → length (bodyOf k o certificate signature) ≤ roomOf k (headOf o)
 body-within Register o certificate signature its short =
     let n : ℕ = toSign o in
     simp length-append

@@ -11,7 +11,7 @@ use Rattle.outcome.specs.Notation.{AtMostOne}
 use Rattle.outcome.specs.Outcome.{Outcome, R, SW, Gives}
 use Rattle.octets.specs.Bytes.{byte}
 use Rattle.signing_stated.specs.Layouts.{RegisterFields, AuthenticateFields, registerToSign, authenticateToSign, registerBody, authenticateBody, isRegisterFit, isAuthenticateFit}
-use Rattle.signing_stated.specs.Orders.{Kind, Register, Authenticate, Order, AuthenticateParts, toSign, certificateLength, registerOrderOf, authenticateOrderOf}
+use Rattle.signing_stated.specs.Orders.{Kind, Register, Authenticate, Head, Order, AuthenticateParts, toSign, certificateLength, registerOrderOf, authenticateOrderOf}
 use Rattle.signing_stated.specs.Finishing.{Finishing, Finished, Ended}
 use Rattle.signing_stated.specs.Contracts.{KindNumber, Blank, RegisterOrder, AuthenticateOrder, HasLayout, HasRegisterRoom, HasAuthenticateRoom, Finish}
 use Rattle.signing_stated.specs.Terms.{part, RegisterLengths, PartsLengths, IsWhole, IsBlank, IsRegisterOrder, IsAuthenticateOrder, HoldsJust, RegisterShaped, AuthenticateShaped, AsksFor, OfLayout, keeping}
@@ -32,13 +32,13 @@ KindOneToOne number = (a b : Kind) → number a ≡ number b → a ≡ b
 abbrev pub FinishedOneToOne : (Finished → Outcome ℕ) → Type 0
 FinishedOneToOne view = (a b : Finished) → view a ≡ view b → a ≡ b
 
--- Two results that meet a contract are equal. 01: "Show that two results satisfying it are equal". For `finish` the result is
--- the answer and the reply buffer together: a contract silent on the buffer fails it.
+-- Two results that meet a contract are equal. 01: "Show that two results satisfying it are equal". For an order the result is its
+-- head and the lent block together, for `finish` the answer and the reply buffer: a contract silent on the buffer fails it.
 pub record ResultsDetermined : Type 0 where
   pub kind-number : (k : Kind) → AtMostOne (KindNumber k)
   pub blank : AtMostOne Blank
-  pub register-order : (f : RegisterFields) (c : ℕ) → AtMostOne (RegisterOrder f c)
-  pub authenticate-order : (p : AuthenticateParts) → AtMostOne (AuthenticateOrder p)
+  pub register-order : (f : RegisterFields) (c : ℕ) → AtMostOne (λ (r : Head × List ℕ). RegisterOrder f c (r .0) (r .1))
+  pub authenticate-order : (p : AuthenticateParts) → AtMostOne (λ (r : Head × List ℕ). AuthenticateOrder p (r .0) (r .1))
   pub has-layout : (o : Order) → AtMostOne (HasLayout o)
   pub has-register-room : (room h c : ℕ) → AtMostOne (HasRegisterRoom room h c)
   pub has-authenticate-room : (room : ℕ) → AtMostOne (HasAuthenticateRoom room)

@@ -1,25 +1,25 @@
 -- What is promised of each public function of crates signing and layouts, over what it is lent, its result, and the final contents of what
--- it writes.
+-- it writes: an order is the head that is handed back and the lent block after the call.
 use Prim.Native.Nat.{ℕ}
 use mathlib.Core.Bool.{Bool}
 use mathlib.Core.Path.{_≡_}
 use mathlib.Core.List.{List}
 use lib.Dec.{leb}
 use Rattle.signing_stated.specs.Layouts.{RegisterFields}
-use Rattle.signing_stated.specs.Orders.{Kind, Order, AuthenticateParts, kindNo, blankOrder, registerOrderOf, authenticateOrderFor, isOfLayout}
+use Rattle.signing_stated.specs.Orders.{Kind, Head, Order, headOf, orderWith, AuthenticateParts, kindNo, blankOrder, registerOrderOf, authenticateOrderFor, isOfLayout}
 use Rattle.signing_stated.specs.Finishing.{Finishing, Finished, finishOf, finishedOf, lengthOf, replyOf, registerRoom, authenticateRoom}
 
 abbrev pub KindNumber : Kind → ℕ → Type 0
 KindNumber kind r = r ≡ kindNo kind
 
-abbrev pub Blank : Order → Type 0
-Blank r = r ≡ blankOrder
+abbrev pub Blank : Head → Type 0
+Blank r = r ≡ headOf blankOrder
 
-abbrev pub RegisterOrder : RegisterFields → ℕ → Order → Type 0
-RegisterOrder fields certificate r = r ≡ registerOrderOf fields certificate
+abbrev pub RegisterOrder : RegisterFields → ℕ → Head → (block : List ℕ) → Type 0
+RegisterOrder fields certificate r block = orderWith r block ≡ registerOrderOf fields certificate
 
-abbrev pub AuthenticateOrder : AuthenticateParts → Order → Type 0
-AuthenticateOrder parts r = r ≡ authenticateOrderFor parts
+abbrev pub AuthenticateOrder : AuthenticateParts → Head → (block : List ℕ) → Type 0
+AuthenticateOrder parts r block = orderWith r block ≡ authenticateOrderFor parts
 
 -- of crate layouts
 abbrev pub HasLayout : Order → Bool → Type 0

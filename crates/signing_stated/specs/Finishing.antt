@@ -1,14 +1,15 @@
 -- Document 01, 'The decision', from "Finishing takes order, certificate, signer's answer and reply buffer", and
 -- 'Refusal numbers': "A 9000 body fills the front of the buffer; the rest stays".
-use Prim.Native.Nat.{ℕ, _+_, _-_}
+use Prim.Native.Nat.{ℕ, _+_, _-_, _≤_}
 use mathlib.Core.Bool.{Bool, not}
+use mathlib.Core.Path.{_≡_}
 use mathlib.Core.List.{List}
 use lib.Dec.{eqb, ltb}
 use lib.ListN.{length}
 use Rattle.outcome.specs.Notation.{if_then_else_}
 use Rattle.outcome.specs.Outcome.{Outcome, R, SW, Gives, statusNo, refusalNo}
 use Rattle.octets.specs.Bytes.{laid}
-use Rattle.signing_stated.specs.Orders.{Kind, Register, Authenticate, Order, toSign, certificateLength, isOfLayout, registerFieldsOf, authenticateFieldsOf}
+use Rattle.signing_stated.specs.Orders.{Kind, Register, Authenticate, Head, Order, headOf, toSign, certificateLength, isOfLayout, registerFieldsOf, authenticateFieldsOf}
 use Rattle.signing_stated.specs.Layouts.{registerBody, authenticateBody}
 pub use Rattle.signing_stated.specs.Words.{Finished, Refused, Status, Body}
 
@@ -28,12 +29,16 @@ abbrev pub authenticateRoom : ℕ
 authenticateRoom = 77
 
 -- the room that an order of its layout asks for. A Register order has 130 + h to sign, so h is what it has over 130
-abbrev pub roomOf : Kind → Order → ℕ
-roomOf Register o = registerRoom (toSign o - 130) (certificateLength o)
-roomOf Authenticate o = authenticateRoom
+abbrev pub roomOf : Kind → Head → ℕ
+roomOf Register h = registerRoom (h .«to_sign» - 130) (h .«certificate_length»)
+roomOf Authenticate h = authenticateRoom
 
 abbrev pub roomAsked : Order → ℕ
-roomAsked o = roomOf (o .kind) o
+roomAsked o = roomOf (o .kind) (headOf o)
+
+-- what the layout tests have seen of the number of bytes to sign: in a Register order it counts the handle's from 130 on
+abbrev pub CountsHandle : Kind → (size : ℕ) → Type 0
+CountsHandle kind size = kind ≡ Register → 130 ≤ size
 
 -- the body that an order of its layout comes to
 abbrev pub bodyOf : Kind → Order → (certificate signature : List ℕ) → List ℕ

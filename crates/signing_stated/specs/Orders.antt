@@ -8,7 +8,7 @@ use lib.Dec.{eqb, leb}
 use lib.ListN.{length, take, drop, replicate}
 use Rattle.outcome.specs.Notation.{if_then_else_}
 use Rattle.octets.specs.Bytes.{byte, laid, allZero, bytes4}
-pub use Rattle.signing_stated.specs.Words.{Kind, Register, Authenticate, Order}
+pub use Rattle.signing_stated.specs.Words.{Kind, Register, Authenticate, Head, Order, headOf, orderWith}
 use Rattle.signing_stated.specs.Layouts.{RegisterFields, AuthenticateFields, registerToSign, authenticateToSign, presenceByte, isRegisterFit, isAuthenticateFit}
 
 -- ours: DECISIONS, "kind numbers": the INS of the command that the order answers

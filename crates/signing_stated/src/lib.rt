@@ -8,12 +8,12 @@ pub enum Kind {
     Authenticate,
 }
 
-// What is to be signed, and what finishing has to know of the decision that made it.
-pub struct Order {
+// An order beside its block, which stands in the caller's memory: its kind, the number of bytes to sign, and the certificate
+// length. In specs/ an order holds its block.
+pub struct Head {
     pub kind: Kind,
     pub to_sign: usize,
     pub certificate_length: usize,
-    pub bytes: [u8; 385],
 }
 
 // What finishing comes to: a body of so many bytes at the front of the reply buffer, or why there is none.

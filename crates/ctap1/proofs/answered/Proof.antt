@@ -8,7 +8,7 @@ blank-requires : tie.Need-blank-requires
 blank-requires c κs = search needs
 
 returns : tie.Need-returns
-returns c = Cases.with-order _ _ _ _ _ (c .blank .ensures)
+returns c = Cases.with-head _ _ _ _ _ (c .blank .ensures)
 
 pub answered-spec : {M : Type 1} → statement M
 answered-spec = tie.close (tie.spec blank-requires returns)

@@ -23,7 +23,7 @@ same-length : tie.Need-same-length
 same-length c = search needs
 
 returns-2 : tie.Need-returns-2
-returns-2 c = (Cases.version-body _ _ _ _ (search needs) (Cases.with-order _ _ _ _ _ (c .blank .ensures)), search (needs, Cases.version-wrote))
+returns-2 c = (Cases.version-body _ _ _ _ (search needs) (Cases.with-head _ _ _ _ _ (c .blank .ensures)), search (needs, Cases.version-wrote))
 
 pub version-spec : {M : Type 1} → statement M
 version-spec =

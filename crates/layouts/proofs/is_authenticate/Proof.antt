@@ -6,8 +6,8 @@ use Rattle.layouts.proofs.is_authenticate.Tie as tie
 returns : tie.Need-returns
 returns c = search (needs, other-length)
 
-array-read-if2 : tie.Need-array-read-if2
-array-read-if2 c = search needs
+shared-slice-read-if2 : tie.Need-shared-slice-read-if2
+shared-slice-read-if2 c = search needs
 
 returns-2 : tie.Need-returns-2
 returns-2 c = search (needs, other-presence)
@@ -35,7 +35,7 @@ is-authenticate-spec =
     tie.close
     (tie.spec
     returns
-    array-read-if2
+    shared-slice-read-if2
     returns-2
     sub-all-zero
     part-all-zero-start

@@ -9,8 +9,8 @@ returns c = search (needs, too-few)
 returns-2 : tie.Need-returns-2
 returns-2 c = search (needs, too-many)
 
-array-read-if3 : tie.Need-array-read-if3
-array-read-if3 c = search needs
+shared-slice-read-if3 : tie.Need-shared-slice-read-if3
+shared-slice-read-if3 c = search needs
 
 returns-3 : tie.Need-returns-3
 returns-3 c = search (needs, other-first)
@@ -18,11 +18,14 @@ returns-3 c = search (needs, other-first)
 sub-if4 : tie.Need-sub-if4
 sub-if4 c = search needs
 
-array-read-if4 : tie.Need-array-read-if4
-array-read-if4 c = search needs
+shared-slice-read-if4 : tie.Need-shared-slice-read-if4
+shared-slice-read-if4 c = search needs
 
 returns-4 : tie.Need-returns-4
 returns-4 c = search (needs, other-marker)
+
+sub-all-zero : tie.Need-sub-all-zero
+sub-all-zero c = search needs
 
 part-all-zero-start : tie.Need-part-all-zero-start
 part-all-zero-start c = search needs
@@ -42,11 +45,12 @@ is-register-spec =
     (tie.spec
     returns
     returns-2
-    array-read-if3
+    shared-slice-read-if3
     returns-3
     sub-if4
-    array-read-if4
+    shared-slice-read-if4
     returns-4
+    sub-all-zero
     part-all-zero-start
     part-all-zero-end
     all-zero-requires

@@ -13,9 +13,6 @@ hardware-lent-requires c κs = search needs
 decide-requires : tie.Need-decide-requires
 decide-requires c κs = search needs
 
-put-block-requires : tie.Need-put-block-requires
-put-block-requires c κs = search needs
-
 decision-plain-requires : tie.Need-decision-plain-requires
 decision-plain-requires c κs = search needs
 
@@ -32,7 +29,6 @@ brinecandle-decide-spec =
     record-lent-requires
     hardware-lent-requires
     decide-requires
-    put-block-requires
     decision-plain-requires
     same-length
     returns)

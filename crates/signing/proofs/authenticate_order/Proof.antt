@@ -3,14 +3,14 @@ use borrow.Author.Needs.{needs}
 use Rattle.signing.proofs.authenticate_order.Statement.{statement}
 use Rattle.signing.proofs.authenticate_order.Tie as tie
 
-blank-requires : tie.Need-blank-requires
-blank-requires c κs = search needs
+unfit-requires : tie.Need-unfit-requires
+unfit-requires c κs = search needs
 
 returns : tie.Need-returns
 returns c = search (needs, authenticate-application-unfit)
 
-blank-requires-2 : tie.Need-blank-requires-2
-blank-requires-2 c κs = search needs
+unfit-requires-2 : tie.Need-unfit-requires-2
+unfit-requires-2 c κs = search needs
 
 returns-2 : tie.Need-returns-2
 returns-2 c = search (needs, authenticate-challenge-unfit)
@@ -43,9 +43,9 @@ pub authenticate-order-spec : {M : Type 1} → statement M
 authenticate-order-spec =
     tie.close
     (tie.spec
-    blank-requires
+    unfit-requires
     returns
-    blank-requires-2
+    unfit-requires-2
     returns-2
     presence-byte-requires
     slice-aggregate-put-word

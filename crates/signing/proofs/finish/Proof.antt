@@ -1,4 +1,4 @@
-use Rattle.signing_stated.proofs.Cases.{of-layout, enough, answers-r7, answers-r4, answers-r2, answers-6f00, answers-r3, answers-body}
+use Rattle.signing_stated.proofs.Cases.{of-layout, counts-handle, enough, answers-r7, answers-r4, answers-r2, answers-6f00, answers-r3, answers-body}
 use borrow.Author.Needs.{needs}
 use Rattle.signing.proofs.finish.Statement.{statement}
 use Rattle.signing.proofs.finish.Tie as tie
@@ -13,7 +13,7 @@ returns-2 : tie.Need-returns-2
 returns-2 c = search (needs, answers-r4)
 
 has-room-requires : tie.Need-has-room-requires
-has-room-requires c κs = search (needs, of-layout)
+has-room-requires c κs = search (needs, counts-handle)
 
 returns-3 : tie.Need-returns-3
 returns-3 c = search (needs, answers-r2)

@@ -1,4 +1,4 @@
-use Rattle.signing_stated.proofs.Cases.{register-least, register-room, authenticate-room}
+use Rattle.signing_stated.proofs.Cases.{handle-counted, register-room, authenticate-room}
 use borrow.Author.Needs.{needs}
 use Rattle.signing.proofs.has_room.Statement.{statement}
 use Rattle.signing.proofs.has_room.Tie as tie
@@ -7,7 +7,7 @@ enum-told : tie.Need-enum-told
 enum-told c = search needs
 
 sub-has-register-room : tie.Need-sub-has-register-room
-sub-has-register-room c = search (needs, register-least)
+sub-has-register-room c = search (needs, handle-counted)
 
 has-register-room-requires : tie.Need-has-register-room-requires
 has-register-room-requires c κs = search needs

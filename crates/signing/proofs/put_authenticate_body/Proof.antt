@@ -1,10 +1,10 @@
-use Rattle.signing_stated.proofs.Cases.{authenticate-written, authenticate-body-length}
+use Rattle.signing_stated.proofs.Cases.{authenticate-body-length, authenticate-written}
 use borrow.Author.Needs.{needs}
 use Rattle.signing.proofs.put_authenticate_body.Statement.{statement}
 use Rattle.signing.proofs.put_authenticate_body.Tie as tie
 
-array-read-t11 : tie.Need-array-read-t11
-array-read-t11 c = search needs
+shared-slice-read-t11 : tie.Need-shared-slice-read-t11
+shared-slice-read-t11 c = search needs
 
 slice-aggregate-put-three : tie.Need-slice-aggregate-put-three
 slice-aggregate-put-three c = search needs
@@ -34,7 +34,7 @@ pub put-authenticate-body-spec : {M : Type 1} → statement M
 put-authenticate-body-spec =
     tie.close
     (tie.spec
-    array-read-t11
+    shared-slice-read-t11
     slice-aggregate-put-three
     sub-put-three
     part-put-three-start

@@ -1,4 +1,4 @@
-use Rattle.signing_stated.proofs.Cases.{register-written, register-body-length}
+use Rattle.signing_stated.proofs.Cases.{register-body-length, register-written}
 use borrow.Author.Needs.{needs}
 use Rattle.signing.proofs.put_register_body.Statement.{statement}
 use Rattle.signing.proofs.put_register_body.Tie as tie
@@ -8,9 +8,6 @@ sub-h c = search needs
 
 sub-key : tie.Need-sub-key
 sub-key c = search needs
-
-slice-aggregate-block : tie.Need-slice-aggregate-block
-slice-aggregate-block c = search needs
 
 slice-aggregate-put-six : tie.Need-slice-aggregate-put-six
 slice-aggregate-put-six c = search needs
@@ -24,8 +21,8 @@ part-put-six-start c = search needs
 part-put-six-end : tie.Need-part-put-six-end
 part-put-six-end c = search needs
 
-cast-t22 : tie.Need-cast-t22
-cast-t22 c = search needs
+cast-t21 : tie.Need-cast-t21
+cast-t21 c = search needs
 
 slice-aggregate-put-six-2 : tie.Need-slice-aggregate-put-six-2
 slice-aggregate-put-six-2 c = search needs
@@ -63,12 +60,11 @@ put-register-body-spec =
     (tie.spec
     sub-h
     sub-key
-    slice-aggregate-block
     slice-aggregate-put-six
     sub-put-six
     part-put-six-start
     part-put-six-end
-    cast-t22
+    cast-t21
     slice-aggregate-put-six-2
     sub-put-six-2
     part-put-six-start-2

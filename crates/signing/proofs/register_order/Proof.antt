@@ -3,20 +3,20 @@ use borrow.Author.Needs.{needs}
 use Rattle.signing.proofs.register_order.Statement.{statement}
 use Rattle.signing.proofs.register_order.Tie as tie
 
-blank-requires : tie.Need-blank-requires
-blank-requires c κs = search needs
+unfit-requires : tie.Need-unfit-requires
+unfit-requires c κs = search needs
 
 returns : tie.Need-returns
 returns c = search (needs, register-application-unfit)
 
-blank-requires-2 : tie.Need-blank-requires-2
-blank-requires-2 c κs = search needs
+unfit-requires-2 : tie.Need-unfit-requires-2
+unfit-requires-2 c κs = search needs
 
 returns-2 : tie.Need-returns-2
 returns-2 c = search (needs, register-challenge-unfit)
 
-blank-requires-3 : tie.Need-blank-requires-3
-blank-requires-3 c κs = search needs
+unfit-requires-3 : tie.Need-unfit-requires-3
+unfit-requires-3 c κs = search needs
 
 returns-3 : tie.Need-returns-3
 returns-3 c = search (needs, register-handle-unfit)
@@ -42,8 +42,8 @@ slice-aggregate-put-five-3 c = search needs
 put-five-requires : tie.Need-put-five-requires
 put-five-requires c κs = search needs
 
-add-t29 : tie.Need-add-t29
-add-t29 c = search needs
+add-t34 : tie.Need-add-t34
+add-t34 c = search needs
 
 returns-4 : tie.Need-returns-4
 returns-4 c = search (needs, register-made)
@@ -52,11 +52,11 @@ pub register-order-spec : {M : Type 1} → statement M
 register-order-spec =
     tie.close
     (tie.spec
-    blank-requires
+    unfit-requires
     returns
-    blank-requires-2
+    unfit-requires-2
     returns-2
-    blank-requires-3
+    unfit-requires-3
     returns-3
     slice-aggregate-put-three
     slice-aggregate-put-three-2
@@ -65,5 +65,5 @@ register-order-spec =
     slice-aggregate-put-five-2
     slice-aggregate-put-five-3
     put-five-requires
-    add-t29
+    add-t34
     returns-4)
