@@ -1,8 +1,10 @@
 #ifndef STDBOOL_H
 #define STDBOOL_H
 
+#ifndef __cplusplus
 #define bool _Bool
 #define true 1
 #define false 0
+#endif
 
 #endif
