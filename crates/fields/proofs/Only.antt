@@ -15,6 +15,3 @@ WritesFour f g p q a b c d old = p a b c d old ∙ sym (q a b c d old)
 
 pub WritesFive : (f g : (a b c d e old : List ℕ) → List ℕ) → Claims.WritesFive f → Claims.WritesFive g → (a b c d e old : List ℕ) → f a b c d e old ≡ g a b c d e old
 WritesFive f g p q a b c d e old = p a b c d e old ∙ sym (q a b c d e old)
-
-pub WritesSix : (v w : (a b c d e f old : List ℕ) → List ℕ) → Claims.WritesSix v → Claims.WritesSix w → (a b c d e f old : List ℕ) → v a b c d e f old ≡ w a b c d e f old
-WritesSix v w p q a b c d e f old = p a b c d e f old ∙ sym (q a b c d e f old)

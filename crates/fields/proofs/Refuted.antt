@@ -30,9 +30,3 @@ turnsFive claim = let e : _≡_ {A = ℕ} 4 5 = ap (λ (l : List ℕ). byte l 4)
 
 pub leavesFive : Claims.WritesFive Wrong.leavesFive → ⊥
 leavesFive claim = let e : _≡_ {A = ℕ} 0 5 = ap (λ (l : List ℕ). byte l 4) (claim (1 ∷ []) (2 ∷ []) (3 ∷ []) (4 ∷ []) (5 ∷ []) (0 ∷ 0 ∷ 0 ∷ 0 ∷ 0 ∷ [])) in omega arith
-
-pub turnsSix : Claims.WritesSix Wrong.turnsSix → ⊥
-turnsSix claim = let e : _≡_ {A = ℕ} 5 6 = ap (λ (l : List ℕ). byte l 5) (claim (1 ∷ []) (2 ∷ []) (3 ∷ []) (4 ∷ []) (5 ∷ []) (6 ∷ []) (0 ∷ 0 ∷ 0 ∷ 0 ∷ 0 ∷ 0 ∷ [])) in omega arith
-
-pub leavesSix : Claims.WritesSix Wrong.leavesSix → ⊥
-leavesSix claim = let e : _≡_ {A = ℕ} 0 6 = ap (λ (l : List ℕ). byte l 5) (claim (1 ∷ []) (2 ∷ []) (3 ∷ []) (4 ∷ []) (5 ∷ []) (6 ∷ []) (0 ∷ 0 ∷ 0 ∷ 0 ∷ 0 ∷ 0 ∷ [])) in omega arith

@@ -17,9 +17,6 @@ WritesFour a b c d old = refl
 pub WritesFive : Claims.WritesFive (λ a b c d e old. laid (a ++ (b ++ (c ++ (d ++ e)))) old)
 WritesFive a b c d e old = refl
 
-pub WritesSix : Claims.WritesSix (λ a b c d e f old. laid (a ++ (b ++ (c ++ (d ++ (e ++ f))))) old)
-WritesSix a b c d e f old = refl
-
 pub ResultsDetermined : Claims.ResultsDetermined
 ResultsDetermined =
     record {
@@ -27,5 +24,4 @@ ResultsDetermined =
       put-three = λ a b c old p q. both-are p q;
       put-four = λ a b c d old p q. both-are p q;
       put-five = λ a b c d e old p q. both-are p q;
-      put-six = λ a b c d e f old p q. both-are p q;
     }

@@ -5,11 +5,11 @@ use mathlib.Core.Path.{_≡_}
 use Prim.Native.Nat.{ℕ}
 use Rattle.outcome.specs.Notation.{AtMostOne}
 use Rattle.octets.specs.Bytes.{laid}
-use Rattle.fields.specs.Contracts.{PutTwo, PutThree, PutFour, PutFive, PutSix}
+use Rattle.fields.specs.Contracts.{PutTwo, PutThree, PutFour, PutFive}
 
 -- 01, 'The decision': "Each field is written into the rest of the buffer after the field before". Of a writer of so many fields and the
--- buffer before, what the buffer holds afterwards. One that writes the last two in the other order (`turnsTwo` to `turnsSix`)
--- fails it where they differ, one that leaves the last out (`leavesTwo` to `leavesSix`) where it is not empty.
+-- buffer before, what the buffer holds afterwards. One that writes the last two in the other order (`turnsTwo` to `turnsFive`)
+-- fails it where they differ, one that leaves the last out (`leavesTwo` to `leavesFive`) where it is not empty.
 abbrev pub WritesTwo : ((a b old : List ℕ) → List ℕ) → Type 0
 WritesTwo write = (a b old : List ℕ) → write a b old ≡ laid (a ++ b) old
 
@@ -22,13 +22,9 @@ WritesFour write = (a b c d old : List ℕ) → write a b c d old ≡ laid (a ++
 abbrev pub WritesFive : ((a b c d e old : List ℕ) → List ℕ) → Type 0
 WritesFive write = (a b c d e old : List ℕ) → write a b c d e old ≡ laid (a ++ (b ++ (c ++ (d ++ e)))) old
 
-abbrev pub WritesSix : ((a b c d e f old : List ℕ) → List ℕ) → Type 0
-WritesSix write = (a b c d e f old : List ℕ) → write a b c d e f old ≡ laid (a ++ (b ++ (c ++ (d ++ (e ++ f))))) old
-
 -- 01: "Show that two results satisfying it are equal": of each writer, what the buffer holds afterwards.
 pub record ResultsDetermined : Type 0 where
   pub put-two : (a b old : List ℕ) → AtMostOne (PutTwo a b old)
   pub put-three : (a b c old : List ℕ) → AtMostOne (PutThree a b c old)
   pub put-four : (a b c d old : List ℕ) → AtMostOne (PutFour a b c d old)
   pub put-five : (a b c d e old : List ℕ) → AtMostOne (PutFive a b c d e old)
-  pub put-six : (a b c d e f old : List ℕ) → AtMostOne (PutSix a b c d e f old)

@@ -16,6 +16,3 @@ PutFour a b c d old after = after ≡ laid (a ++ (b ++ (c ++ d))) old
 
 abbrev pub PutFive : (a b c d e old after : List ℕ) → Type 0
 PutFive a b c d e old after = after ≡ laid (a ++ (b ++ (c ++ (d ++ e)))) old
-
-abbrev pub PutSix : (a b c d e f old after : List ℕ) → Type 0
-PutSix a b c d e f old after = after ≡ laid (a ++ (b ++ (c ++ (d ++ (e ++ f))))) old

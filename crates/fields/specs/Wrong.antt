@@ -26,9 +26,3 @@ turnsFive a b c d e old = laid (a ++ (b ++ (c ++ (e ++ d)))) old
 
 abbrev pub leavesFive : (a b c d e old : List ℕ) → List ℕ
 leavesFive a b c d e old = laid (a ++ (b ++ (c ++ d))) old
-
-abbrev pub turnsSix : (a b c d e f old : List ℕ) → List ℕ
-turnsSix a b c d e f old = laid (a ++ (b ++ (c ++ (d ++ (f ++ e))))) old
-
-abbrev pub leavesSix : (a b c d e f old : List ℕ) → List ℕ
-leavesSix a b c d e f old = laid (a ++ (b ++ (c ++ (d ++ e)))) old

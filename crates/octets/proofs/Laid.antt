@@ -2,8 +2,8 @@
 use Prim.Native.Nat.{ℕ, zero, suc, _+_, _-_, _≤_, _<_}
 use native.Mathlib.Numerals.{add-one}
 use mathlib.Core.Path.{_≡_, refl, ap, sym, _∙_}
-use mathlib.Core.List.{List, [], _∷_, _++_}
-use lib.ListN.{length, drop, take, getD, set}
+use mathlib.Core.List.{List, [], _∷_, _++_, append-nil}
+use lib.ListN.{length, drop, take, getD, set, drop-of-length-le}
 use native.Mathlib.Omega.{arith}
 use native.Mathlib.Nat.{le-of-suc-le-suc, not-suc-le-zero}
 use Rattle.octets.specs.Bytes.{laid}
@@ -54,3 +54,22 @@ laid-one b (y ∷ d) h = refl
 pub laid-no-room : (s d : List ℕ) → length d ≤ 0 → d ≡ laid s d
 laid-no-room s [] h = sym (laid-nil s)
 laid-no-room s (y ∷ d) h = absurd (not-suc-le-zero h)
+
+-- a longer front laid over a shorter one, and a shorter one over a longer: runs that overlap
+pub laid-more : (s d : List ℕ) (k m : ℕ) → k ≤ m → laid (take m s) (laid (take k s) d) ≡ laid (take m s) d
+laid-more s d zero m h = refl
+laid-more s d (suc k) zero h = absurd (not-suc-le-zero h)
+laid-more [] d (suc k) (suc m) h = refl
+laid-more (x ∷ s) [] (suc k) (suc m) h = refl
+laid-more (x ∷ s) (y ∷ d) (suc k) (suc m) h = ap (λ (l : List ℕ). x ∷ l) (laid-more s d k m (le-of-suc-le-suc h))
+
+pub laid-again : (s d : List ℕ) (k m : ℕ) → k ≤ m → laid (take k s) (laid (take m s) d) ≡ laid (take m s) d
+laid-again s d zero m h = refl
+laid-again s d (suc k) zero h = absurd (not-suc-le-zero h)
+laid-again [] d (suc k) (suc m) h = refl
+laid-again (x ∷ s) [] (suc k) (suc m) h = refl
+laid-again (x ∷ s) (y ∷ d) (suc k) (suc m) h = ap (λ (l : List ℕ). x ∷ l) (laid-again s d k m (le-of-suc-le-suc h))
+
+-- over as many bytes nothing of the buffer is left
+pub laid-whole : (s d : List ℕ) → length d ≡ length s → laid s d ≡ s
+laid-whole s d e = rw (laid-fits s d (omega arith), drop-of-length-le d {i = length s} (omega arith)) (append-nil s)

@@ -1,8 +1,14 @@
 // Bytes into and out of lent slices: what frames, orders and replies are written and read with.
 // Nothing here asks anything of its caller: a write stops where the buffer ends.
-ghost use Prim.Native.Nat.{max};
+ghost use Prim.Native.Nat.{_+_, _≤_};
 ghost use mathlib.Core.Path.{_≡_};
+ghost use lib.Dec.{eqb};
+ghost use lib.ListN.{length, take};
+ghost use Rattle.octets.specs.Bytes.{laid, allZero};
 ghost use Rattle.octets.specs.Contracts.{Wide, Pair, Put, PutByte, PutPair, PutWord, AllZero, Part};
+
+// So many bytes are moved or looked at together.
+const RUN: usize = 32;
 
 // A byte as a length.
 pub fn wide(b: u8) -> usize
@@ -30,6 +36,39 @@ pub fn put(dst: &mut [u8], src: &[u8])
         dst[i] = src[i];
         i += 1;
     }
+}
+
+// One run of src, from `at` on, to the same place of dst; by way of an array, so that the compiler moves it as a whole.
+fn put_run(dst: &mut [u8], src: &[u8], at: usize)
+    requires { ⌜ (at + 32 ≤ length (now src)) × (length (now src) ≤ length (now dst)) ⌝ }
+    requires { ⌜ laid (take at (now src)) (now dst) ≡ now dst ⌝ }
+    ensures { λ _. ⌜ now (dst .exit) ≡ laid (take (at + 32) (now (src .entry))) (now (dst .entry)) ⌝ }
+{
+    let mut held = [0u8; RUN];
+    put(&mut held, &src[at..at + RUN]);
+    put(&mut dst[at..at + RUN], &held);
+}
+
+// The same as `put`, in runs: the last one may write again what the one before it wrote. For fields that are often long.
+pub fn put_long(dst: &mut [u8], src: &[u8])
+    ensures { λ _. ⌜ Put (now (src .entry)) (now (dst .entry)) (now (dst .exit)) ⌝ }
+{
+    let n = src.len();
+    if n < RUN {
+        put(dst, src);
+        return;
+    }
+    if dst.len() < n {
+        put(dst, src);
+        return;
+    }
+    let last = n - RUN;
+    let mut i = 0;
+    while i < last {
+        put_run(dst, src, i);
+        i += RUN;
+    }
+    put_run(dst, src, last);
 }
 
 // Writes one byte at the front of dst.
@@ -63,24 +102,33 @@ pub fn put_word(dst: &mut [u8], n: u32)
     );
 }
 
-fn larger(a: u8, b: u8) -> u8
-    ensures { λ r. ⌜ r ≡ max a b ⌝ }
+// The bytes or-ed together: 0 where each is. There is no way out of the loop before its end, so that the compiler can take many
+// bytes at a time.
+fn joined(s: &[u8]) -> u8
+    ensures { λ r. ⌜ eqb r 0 ≡ allZero (now (s .entry)) ⌝ }
 {
-    if a < b { b } else { a }
+    let mut bits = 0;
+    let mut i = 0;
+    while i < s.len() {
+        bits = bits | s[i];
+        i += 1;
+    }
+    bits
 }
 
-// Whether every byte is 0: whether the largest is. There is no way out of the loop before its end, so that the compiler can
-// take many bytes at a time.
+// Whether every byte is 0. A longer string is looked at in whole runs, the last one apart: nothing is left to go through byte by
+// byte.
 pub fn all_zero(s: &[u8]) -> bool
     ensures { λ r. ⌜ AllZero (now (s .entry)) r ⌝ }
 {
-    let mut most = 0;
-    let mut i = 0;
-    while i < s.len() {
-        most = larger(most, s[i]);
-        i += 1;
+    let n = s.len();
+    if n < RUN {
+        return joined(s) == 0;
     }
-    most == 0
+    if joined(&s[n - RUN..]) != 0 {
+        return false;
+    }
+    joined(&s[0..n / RUN * RUN]) == 0
 }
 
 // The bytes from start up to and without end, as a part of s; none where there are no such bytes.

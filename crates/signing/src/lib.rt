@@ -174,15 +174,9 @@ fn put_register_body(
     let h = to_sign - 130;
     let key = to_sign - 65;
     let bytes: &[u8] = block;
-    fields::put_six(
-        reply,
-        &[0x05],
-        &bytes[key..to_sign],
-        &[h as u8],
-        &bytes[65..key],
-        certificate,
-        signature,
-    );
+    let mut head = [0u8; 67];
+    fields::put_three(&mut head, &[0x05], &bytes[key..to_sign], &[h as u8]);
+    fields::put_long_four(reply, &head, &bytes[65..key], certificate, signature);
     67 + h + certificate.len() + signature.len()
 }
 

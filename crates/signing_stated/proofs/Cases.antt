@@ -11,7 +11,7 @@ use lib.Seq.{drop-cons}
 use Rattle.octets.specs.Bytes.{byte, allZero, laid, bytes4}
 use Rattle.octets.proofs.Laws.{leb-same, tail-is}
 use Rattle.signing_stated.specs.Orders.{Head, Order, headOf, orderWith, Kind, Register, Authenticate, isRegisterLayout, isAuthenticateLayout, isLayout, isOfLayout, toSign, certificateLength, block, blankOrder, registerOrderOf, authenticateOrderOf, registerFieldsOf, authenticateFieldsOf}
-use Rattle.octets.proofs.Laws.{laid-fits}
+use Rattle.octets.proofs.Laws.{laid-fits, laid-whole}
 use Rattle.signing_stated.specs.Layouts.{RegisterFields, AuthenticateFields, registerToSign, authenticateToSign, presenceByte, publicKey, registerBody, authenticateBody}
 use Rattle.signing_stated.proofs.Fit.{register-order-fit, authenticate-order-fit}
 use Rattle.signing_stated.proofs.Shapes.{register-shaped}
@@ -209,7 +209,7 @@ module _ (h : Head) (certificate signature reply : List ℕ) (asked : roomOf (h 
   authenticate-body-fits k = let room : roomOf (h .kind) h ≡ authenticateRoom = ap (λ (kind : Kind). roomOf kind h) k in omega arith
 
 -- ---- bodies, as the code puts them together from parts of the block
-pub six : (a b c d e f : List ℕ) → a ++ b ++ c ++ d ++ e ++ f ≡ a ++ (b ++ (c ++ (d ++ (e ++ f))))
+pub six : (a b c d e f : List ℕ) → a ++ b ++ c ++ d ++ e ++ f ≡ a ++ (b ++ c) ++ (d ++ (e ++ f))
 six a b c d e f = simp append-assoc
 
 module _ (n : ℕ) (b : List ℕ) (few : 130 ≤ n) (many : n ≤ 385) (whole : length b ≡ 385) where
@@ -232,18 +232,27 @@ module _ (n : ℕ) (b : List ℕ) (few : 130 ≤ n) (many : n ≤ 385) (whole : 
   handle-length = length-part 65 (n - 130) b (omega arith)
 
   module _ (certificate signature : List ℕ) where
-    pub register-written : (old out : List ℕ) → byte b (n - 65) ≡ 0x04
-        → out ≡ laid (0x05 ∷ [] ++ (take (n - (n - 65)) (drop (n - 65) b) ++ ((n - 130) ∷ [] ++ (take (n - 65 - 65) (drop 65 b) ++ (certificate ++ signature))))) old
+    -- the first 67 bytes are put together apart from the rest
+    pub register-written : (old out head room : List ℕ) → byte b (n - 65) ≡ 0x04 → length room ≡ 67
+        → head ≡ laid (0x05 ∷ [] ++ (take (n - (n - 65)) (drop (n - 65) b) ++ (n - 130) ∷ [])) room
+        → out ≡ laid (head ++ (take (n - 65 - 65) (drop 65 b) ++ (certificate ++ signature))) old
         → out ≡ laid (registerBody (registerFieldsOf n b) certificate signature) old
-    register-written old out marker e =
+    register-written old out head room marker long is-head e =
         let key : List ℕ = publicKey (part (n - 64) 32 b) (part (n - 32) 32 b) in
         let handle : List ℕ = part 65 (n - 130) b in
-        let grouped : registerBody (registerFieldsOf n b) certificate signature ≡ 0x05 ∷ [] ++ (key ++ (length handle ∷ [] ++ (handle ++ (certificate ++ signature)))) =
+        let front : List ℕ = 0x05 ∷ [] ++ (key ++ length handle ∷ []) in
+        let sixty-seven : length front ≡ 67 =
+        simp length-append (omega (arith, length-part (n - 64) 32 b (omega arith), length-part (n - 32) 32 b (omega arith))) in
+        let head-is : head ≡ front =
+        is-head
+        ∙ ap (λ (k : List ℕ). laid (0x05 ∷ [] ++ (k ++ (n - 130) ∷ [])) room) (key-is marker)
+        ∙ ap (λ (h : ℕ). laid (0x05 ∷ [] ++ (key ++ h ∷ [])) room) (sym handle-length)
+        ∙ laid-whole front room (long ∙ sym sixty-seven) in
+        let grouped : registerBody (registerFieldsOf n b) certificate signature ≡ front ++ (handle ++ (certificate ++ signature)) =
         six (0x05 ∷ []) key (length handle ∷ []) handle certificate signature in
         e
-        ∙ ap (λ (k : List ℕ). laid (0x05 ∷ [] ++ (k ++ ((n - 130) ∷ [] ++ (take (n - 65 - 65) (drop 65 b) ++ (certificate ++ signature))))) old) (key-is marker)
-        ∙ ap (λ (h : List ℕ). laid (0x05 ∷ [] ++ (key ++ ((n - 130) ∷ [] ++ (h ++ (certificate ++ signature))))) old) handle-is
-        ∙ ap (λ (h : ℕ). laid (0x05 ∷ [] ++ (key ++ (h ∷ [] ++ (handle ++ (certificate ++ signature))))) old) (sym handle-length)
+        ∙ ap (λ (f : List ℕ). laid (f ++ (take (n - 65 - 65) (drop 65 b) ++ (certificate ++ signature))) old) head-is
+        ∙ ap (λ (h : List ℕ). laid (front ++ (h ++ (certificate ++ signature))) old) handle-is
         ∙ ap (λ (body : List ℕ). laid body old) (sym grouped)
 
     pub register-body-length : 67 + (n - 130) + length certificate + length signature ≡ length (registerBody (registerFieldsOf n b) certificate signature)

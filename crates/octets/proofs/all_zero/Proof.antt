@@ -1,76 +1,107 @@
--- `all_zero` meets its contract. The loop's invariant: the answer is that of the largest byte so far and of the rest.
-use Prim.Native.Nat.{ℕ, suc, _+_, _-_, _≤_, _<_, max}
+-- `all_zero` meets its contract: the last run is zero, and so are the whole runs that reach into it.
+use Prim.Native.Nat.{ℕ, zero, suc, _+_, _-_, _*_, _/_, _≤_}
 use mathlib.Core.Path.{_≡_, refl, sym, ap, _∙_}
-use mathlib.Core.Bool.{true, false, _&&_, and-assoc, and-true}
-use mathlib.Core.List.{List}
-use native.Mathlib.Numerals.{add-one}
+use mathlib.Core.Bool.{Bool, true, false, _&&_, and-assoc, and-true, and-false}
+use mathlib.Core.List.{List, [], _∷_}
 use native.Mathlib.Omega.{arith}
-use native.Mathlib.Decide.{ℕ-discrete}
+use native.Mathlib.Nat.{le-of-suc-le-suc}
 use borrow.Author.Needs.{needs}
 use borrow.Author.Tests.{eq-eqb, ne-eqb}
 use lib.Dec.{eqb}
-use lib.ListN.{length, drop, getD, drop-of-length-le}
-use lib.Seq.{drop-cons}
+use lib.ListN.{length, take, drop}
+use lib.Seq.{drop-drop}
 use Rattle.octets.specs.Bytes.{allZero}
+use Rattle.octets.proofs.Tails.{tail-is}
+use Rattle.octets.proofs.Tests.{both}
 use Rattle.octets.proofs.all_zero.Statement.{statement}
 use Rattle.octets.proofs.all_zero.Tie as tie
+use Rattle.octets.proofs.all_zero.Reads as reads
+use Rattle.octets.proofs.all_zero.Lts as lts
+use Rattle.octets.proofs.joined.Reads as joined-reads
 
-both-zero : (a b : ℕ) → eqb (max a b) 0 ≡ eqb a 0 && eqb b 0
-both-zero a b = go (ℕ-discrete a 0)
-  where
-    go : Dec (a ≡ 0) → eqb (max a b) 0 ≡ eqb a 0 && eqb b 0
-    go (yes z) = let same : max a b ≡ b = omega arith in rw (same, eq-eqb a 0 z)
-    go (no n) = rw (ne-eqb a 0 n, ne-eqb (max a b) 0 (λ z. n (omega arith)))
+split : (k : ℕ) (s : List ℕ) → allZero s ≡ allZero (take k s) && allZero (drop k s)
+split zero s = refl
+split (suc k) [] = refl
+split (suc k) (x ∷ s) = ap (λ (b : Bool). eqb x 0 && b) (split k s) ∙ sym (and-assoc (eqb x 0) (allZero (take k s)) (allZero (drop k s)))
 
-module _ (s : List ℕ) (most i : ℕ) (so-far : eqb most 0 && allZero (drop i s) ≡ allZero s) where
-  one-more : (next : ℕ) → i < length s → next ≡ max most (getD s i 0) → eqb next 0 && allZero (drop (i + 1) s) ≡ allZero s
-  one-more next h e =
-      let b = getD s i 0 in
-      ap (λ (k : ℕ). eqb k 0 && allZero (drop (i + 1) s)) e
-      ∙ rw (both-zero most b, add-one) (and-assoc (eqb most 0) (eqb b 0) (allZero (drop (suc i) s)))
-      ∙ ap (λ (l : List ℕ). eqb most 0 && allZero l) (sym (drop-cons s i 0 h))
-      ∙ so-far
+module _ (s : List ℕ) (long : 32 ≤ length s) where
+  last : allZero s ≡ allZero (take (length s - 32) s) && allZero (take (length s - (length s - 32)) (drop (length s - 32) s))
+  last = rw tail-is (split (length s - 32) s)
 
-  all-passed : length s ≤ i → eqb most 0 ≡ allZero s
-  all-passed h = sym (and-true (eqb most 0)) ∙ ap (λ (l : List ℕ). eqb most 0 && allZero l) (sym (drop-of-length-le s h)) ∙ so-far
+  last-not : (r : ℕ) → eqb r 0 ≡ allZero (take (length s - (length s - 32)) (drop (length s - 32) s)) → (r ≡ 0 → ⊥) → false ≡ allZero s
+  last-not r e f = sym (last ∙ rw (← e, ne-eqb r 0 f) (and-false (allZero (take (length s - 32) s))))
 
-abbrev Inv-loop : tie.InvT-loop
-Inv-loop s most₀ i₀ most i = (i ≤ length s) × (eqb most 0 && allZero (drop i s) ≡ allZero s)
+  -- a later tail of a tail that is zero
+  later : (k : ℕ) → length s - 32 ≤ k → allZero (drop (length s - 32) s) ≡ true → allZero (drop k s) ≡ true
+  later k h e =
+      let more = k - (length s - 32) in
+      let place : length s - 32 + more ≡ k = omega arith in
+      let tail = drop (length s - 32) s in
+      ap (λ (i : ℕ). allZero (drop i s)) (sym place)
+      ∙ ap allZero (sym (drop-drop more (length s - 32) s))
+      ∙ both (allZero (take more tail)) (allZero (drop more tail)) (sym (split more tail) ∙ e) .1
 
-abbrev μ-loop : tie.MeasureT-loop
-μ-loop s most₀ i₀ most i = length s - i
+  whole-runs : (r runs : ℕ) → eqb r 0 ≡ allZero (take (length s - (length s - 32)) (drop (length s - 32) s)) → r ≡ 0
+      → eqb runs 0 ≡ allZero (take (length s / 32 * 32 - 0) (drop 0 s)) → eqb runs 0 ≡ allZero s
+  whole-runs r runs e f g =
+      let k = length s / 32 * 32 in
+      let tail : allZero (drop (length s - 32) s) ≡ true = ap allZero (sym (tail-is s (length s - 32))) ∙ sym e ∙ eq-eqb r 0 f in
+      let none : k - 0 ≡ k = omega arith in
+      g ∙ rw none (sym (and-true (allZero (take k s)))) ∙ sym (split k s ∙ ap (λ (b : Bool). allZero (take k s) && b) (later k (omega arith) tail))
 
-loop-holds : tie.Need-loop-holds Inv-loop μ-loop
-loop-holds c = (search needs, refl)
+joined-requires : tie.Need-joined-requires
+joined-requires c κs = search needs
 
-shared-slice-read-larger : tie.Need-shared-slice-read-larger Inv-loop μ-loop
-shared-slice-read-larger c = search needs
+returns : tie.Need-returns
+returns c = search needs
 
-larger-requires : tie.Need-larger-requires Inv-loop μ-loop
-larger-requires c κs = search needs
+sub-joined : tie.Need-sub-joined
+sub-joined c = search needs
 
-add-i : tie.Need-add-i Inv-loop μ-loop
-add-i c = search needs
+part-joined-start : tie.Need-part-joined-start
+part-joined-start c = search needs
 
-loop-less : tie.Need-loop-less Inv-loop μ-loop
-loop-less c = search needs
+part-joined-end : tie.Need-part-joined-end
+part-joined-end c = search needs
 
-loop-again : tie.Need-loop-again Inv-loop μ-loop
-loop-again c = (search needs, search (needs, one-more))
+joined-requires-2 : tie.Need-joined-requires-2
+joined-requires-2 c κs = search needs
 
-returns : tie.Need-returns Inv-loop μ-loop
-returns c = search (needs, all-passed)
+returns-2 : tie.Need-returns-2
+returns-2 c = search (needs, last-not)
+
+mul-joined : tie.Need-mul-joined
+mul-joined c = search needs
+
+sub-joined-2 : tie.Need-sub-joined-2
+sub-joined-2 c = search needs
+
+part-joined-start-2 : tie.Need-part-joined-start-2
+part-joined-start-2 c = search needs
+
+part-joined-end-2 : tie.Need-part-joined-end-2
+part-joined-end-2 c = search needs
+
+joined-requires-3 : tie.Need-joined-requires-3
+joined-requires-3 c κs = search needs
+
+returns-3 : tie.Need-returns-3
+returns-3 c = search (needs, whole-runs)
 
 pub all-zero-spec : {M : Type 1} → statement M
 all-zero-spec =
     tie.close
     (tie.spec
-    Inv-loop
-    μ-loop
-    loop-holds
-    shared-slice-read-larger
-    larger-requires
-    add-i
-    loop-less
-    loop-again
-    returns)
+    joined-requires
+    returns
+    sub-joined
+    part-joined-start
+    part-joined-end
+    joined-requires-2
+    returns-2
+    mul-joined
+    sub-joined-2
+    part-joined-start-2
+    part-joined-end-2
+    joined-requires-3
+    returns-3)
