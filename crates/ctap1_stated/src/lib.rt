@@ -5,17 +5,18 @@ use outcome::Refusal;
 use signing_stated::Head;
 use u2f_up_stated::Presence;
 
-// Whether CTAP1 is allowed.
+// Whether CTAP1 is allowed. The cases of this and of the next stand in the order of their numbers in C, so that nothing is left of
+// the conversion but a test.
 pub enum Allowed {
-    Yes,
     No,
+    Yes,
     Failed,
 }
 
 // The attestation that a Register is signed with.
 pub enum Attestation {
-    Present,
     Missing,
+    Present,
     Failed,
 }
 

@@ -21,7 +21,7 @@ fn is_register(to_sign: usize, block: &[u8; 385]) -> bool
     if bytes[to_sign - 65] != 0x04 {
         return false;
     }
-    octets::all_zero(&bytes[to_sign..])
+    octets::all_zero_long(&bytes[to_sign..])
 }
 
 fn is_authenticate(to_sign: usize, certificate_length: usize, block: &[u8; 385]) -> bool

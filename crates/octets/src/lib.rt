@@ -54,21 +54,19 @@ pub fn put_long(dst: &mut [u8], src: &[u8])
     ensures { λ _. ⌜ Put (now (src .entry)) (now (dst .entry)) (now (dst .exit)) ⌝ }
 {
     let n = src.len();
-    if n < RUN {
-        put(dst, src);
-        return;
+    if RUN <= n {
+        if n <= dst.len() {
+            let last = n - RUN;
+            let mut i = 0;
+            while i < last {
+                put_run(dst, src, i);
+                i += RUN;
+            }
+            put_run(dst, src, last);
+            return;
+        }
     }
-    if dst.len() < n {
-        put(dst, src);
-        return;
-    }
-    let last = n - RUN;
-    let mut i = 0;
-    while i < last {
-        put_run(dst, src, i);
-        i += RUN;
-    }
-    put_run(dst, src, last);
+    put(dst, src);
 }
 
 // Writes one byte at the front of dst.
@@ -116,19 +114,25 @@ fn joined(s: &[u8]) -> u8
     bits
 }
 
-// Whether every byte is 0. A longer string is looked at in whole runs, the last one apart: nothing is left to go through byte by
-// byte.
+// Whether every byte is 0.
 pub fn all_zero(s: &[u8]) -> bool
+    ensures { λ r. ⌜ AllZero (now (s .entry)) r ⌝ }
+{
+    joined(s) == 0
+}
+
+// The same in whole runs, the last one apart: nothing is left to go through byte by byte. For strings of any length.
+pub fn all_zero_long(s: &[u8]) -> bool
     ensures { λ r. ⌜ AllZero (now (s .entry)) r ⌝ }
 {
     let n = s.len();
     if n < RUN {
-        return joined(s) == 0;
+        return all_zero(s);
     }
-    if joined(&s[n - RUN..]) != 0 {
+    if !all_zero(&s[n - RUN..]) {
         return false;
     }
-    joined(&s[0..n / RUN * RUN]) == 0
+    all_zero(&s[0..n / RUN * RUN])
 }
 
 // The bytes from start up to and without end, as a part of s; none where there are no such bytes.

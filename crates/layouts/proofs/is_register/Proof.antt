@@ -24,17 +24,17 @@ shared-slice-read-if4 c = search needs
 returns-4 : tie.Need-returns-4
 returns-4 c = search (needs, other-marker)
 
-sub-all-zero : tie.Need-sub-all-zero
-sub-all-zero c = search needs
+sub-all-zero-long : tie.Need-sub-all-zero-long
+sub-all-zero-long c = search needs
 
-part-all-zero-start : tie.Need-part-all-zero-start
-part-all-zero-start c = search needs
+part-all-zero-long-start : tie.Need-part-all-zero-long-start
+part-all-zero-long-start c = search needs
 
-part-all-zero-end : tie.Need-part-all-zero-end
-part-all-zero-end c = search needs
+part-all-zero-long-end : tie.Need-part-all-zero-long-end
+part-all-zero-long-end c = search needs
 
-all-zero-requires : tie.Need-all-zero-requires
-all-zero-requires c κs = search needs
+all-zero-long-requires : tie.Need-all-zero-long-requires
+all-zero-long-requires c κs = search needs
 
 returns-5 : tie.Need-returns-5
 returns-5 c = search (needs, register-tail)
@@ -50,8 +50,8 @@ is-register-spec =
     sub-if4
     shared-slice-read-if4
     returns-4
-    sub-all-zero
-    part-all-zero-start
-    part-all-zero-end
-    all-zero-requires
+    sub-all-zero-long
+    part-all-zero-long-start
+    part-all-zero-long-end
+    all-zero-long-requires
     returns-5)

@@ -34,24 +34,6 @@ Inv-loop dst₀ src n last i₀ dst i = (i ≤ length src) × (dst ≡ laid (tak
 abbrev μ-loop : tie.MeasureT-loop
 μ-loop dst₀ src n last i₀ dst i = length src - i
 
-put-requires : tie.Need-put-requires Inv-loop μ-loop
-put-requires c κs = search needs
-
-same-length : tie.Need-same-length Inv-loop μ-loop
-same-length c = search needs
-
-returns : tie.Need-returns Inv-loop μ-loop
-returns c = search needs
-
-put-requires-2 : tie.Need-put-requires-2 Inv-loop μ-loop
-put-requires-2 c κs = search needs
-
-same-length-2 : tie.Need-same-length-2 Inv-loop μ-loop
-same-length-2 c = search needs
-
-returns-2 : tie.Need-returns-2 Inv-loop μ-loop
-returns-2 c = search needs
-
 loop-holds : tie.Need-loop-holds Inv-loop μ-loop
 loop-holds c = (search needs, refl, refl)
 
@@ -70,11 +52,20 @@ loop-again c = (search needs, search (needs, one-more), search needs)
 put-run-requires-2 : tie.Need-put-run-requires-2 Inv-loop μ-loop
 put-run-requires-2 c κs = search (needs, there)
 
-same-length-3 : tie.Need-same-length-3 Inv-loop μ-loop
-same-length-3 c = search needs
+same-length : tie.Need-same-length Inv-loop μ-loop
+same-length c = search needs
 
-returns-3 : tie.Need-returns-3 Inv-loop μ-loop
-returns-3 c = search (needs, ends)
+returns : tie.Need-returns Inv-loop μ-loop
+returns c = search (needs, ends)
+
+put-requires : tie.Need-put-requires Inv-loop μ-loop
+put-requires c κs = search needs
+
+same-length-2 : tie.Need-same-length-2 Inv-loop μ-loop
+same-length-2 c = search needs
+
+returns-2 : tie.Need-returns-2 Inv-loop μ-loop
+returns-2 c = search needs
 
 pub put-long-spec : {M : Type 1} → statement M
 put-long-spec =
@@ -82,17 +73,14 @@ put-long-spec =
     (tie.spec
     Inv-loop
     μ-loop
-    put-requires
-    same-length
-    returns
-    put-requires-2
-    same-length-2
-    returns-2
     loop-holds
     put-run-requires
     add-i
     loop-less
     loop-again
     put-run-requires-2
-    same-length-3
-    returns-3)
+    same-length
+    returns
+    put-requires
+    same-length-2
+    returns-2)
