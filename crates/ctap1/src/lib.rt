@@ -20,10 +20,10 @@ ghost use lib.ListN.{length};
 ghost use Rattle.outcome.specs.Outcome.{Gives, statusNo, refusalNo};
 ghost use Rattle.apdu_stated.specs.Answers.{saysOf};
 ghost use Rattle.command_stated.specs.Command.{flagsNo, commandOf};
-ghost use Rattle.u2f_up_stated.specs.Moments.{checkedOf};
+ghost use Rattle.u2f_up_stated.specs.Moments.{settleOf, checkedOf};
 ghost use Rattle.ctap1_stated.specs.Words.{isPresent, Ordered, handedOf, decisionSaid, decisionWith};
-ghost use Rattle.ctap1_stated.specs.Path.{versionPath, enrolmentOrder, registerPath, countedEnding, loginPath, commandPath};
-ghost use Rattle.ctap1_stated.specs.Decision.{refusalResult, statusResult, orderResult, ended, touchChecked, along, replyLeft, leftOf};
+ghost use Rattle.ctap1_stated.specs.Path.{Status, versionPath, enrolmentOrder, registerPath, countedEnding, loginPath, commandPath};
+ghost use Rattle.ctap1_stated.specs.Decision.{refusalResult, statusResult, orderResult, ended, touchChecked, along, onMoment, replyLeft, leftOf};
 ghost use Rattle.ctap1_stated.specs.Contracts.{Decide};
 
 fn refused(why: Refusal, kept: Presence) -> Decision
@@ -269,9 +269,20 @@ fn commanded(
     }
 }
 
+// The answer where CTAP1 is not allowed, once the moment is settled.
+fn forbidden(status: ApduStatusCode, kept: Presence, t: u64) -> Decision
+    ensures { λ r. ⌜ decisionSaid r ≡ handedOf (onMoment kept t (Status (statusNo status)) (settleOf kept t)) ⌝ }
+{
+    match u2f_up::settle(kept, t) {
+        Ready::Refused(why) => refused(why, kept),
+        Ready::Record(settled) => answered(status, settled),
+    }
+}
+
 // What a frame is answered at moment t: a refusal, a status word, Version's body, or an order to sign. `handle` and
 // `certificate` are the new handle and the attestation certificate that a Register would use, x and y its public key. The block is
-// written for an order alone.
+// written for an order alone. Whether CTAP1 is allowed is looked at before the moment, which answers before it all the same: so
+// the answer is tested where it is at hand.
 pub fn decide(
     frame: &[u8],
     t: u64,
@@ -286,14 +297,13 @@ pub fn decide(
 ) -> Decision
     ensures { λ r. ⌜ Decide presence t (record { frame = now (frame .entry); hardware = hardware; newHandle = now (handle .entry); certificate = now (certificate .entry); x = now (x .entry); y = now (y .entry); room = length (now (reply .entry)) }) (record { reply = now (reply .entry); block = now (block .entry) }) r (record { reply = now (reply .exit); block = now (block .exit) }) ⌝ }
 {
-    let ready = u2f_up::settle(presence, t);
     let allowed = hardware.allowed;
-    match ready {
-        Ready::Refused(why) => refused(why, presence),
-        Ready::Record(settled) => match allowed {
-            Allowed::Failed => answered(ApduStatusCode::InternalException, settled),
-            Allowed::No => answered(ApduStatusCode::CommandNotAllowed, settled),
-            Allowed::Yes => commanded(
+    match allowed {
+        Allowed::Failed => forbidden(ApduStatusCode::InternalException, presence, t),
+        Allowed::No => forbidden(ApduStatusCode::CommandNotAllowed, presence, t),
+        Allowed::Yes => match u2f_up::settle(presence, t) {
+            Ready::Refused(why) => refused(why, presence),
+            Ready::Record(settled) => commanded(
                 frame,
                 t,
                 presence,

@@ -1,47 +1,47 @@
--- `decide` meets its contract: the moment first, then by whether CTAP1 is allowed.
+-- `decide` meets its contract: by whether CTAP1 is allowed, the moment first in each case.
 use borrow.Author.Needs.{needs}
 use Rattle.ctap1_stated.proofs.Tops as Tops
 use Rattle.ctap1.proofs.decide.Statement.{statement}
 use Rattle.ctap1.proofs.decide.Tie as tie
 
-settle-requires : tie.Need-settle-requires
-settle-requires c κs = search needs
-
-enum-known-ready : tie.Need-enum-known-ready
-enum-known-ready c = search needs
-
-refused-requires : tie.Need-refused-requires
-refused-requires c κs = search needs
-
-enum-known-ready-2 : tie.Need-enum-known-ready-2
-enum-known-ready-2 c = search needs
-
 enum-told : tie.Need-enum-told
 enum-told c = search needs
 
-answered-requires : tie.Need-answered-requires
-answered-requires c κs = search needs
+forbidden-requires : tie.Need-forbidden-requires
+forbidden-requires c κs = search needs
 
 enum-told-2 : tie.Need-enum-told-2
 enum-told-2 c = search needs
 
-answered-requires-2 : tie.Need-answered-requires-2
-answered-requires-2 c κs = search needs
+forbidden-requires-2 : tie.Need-forbidden-requires-2
+forbidden-requires-2 c κs = search needs
 
 enum-told-3 : tie.Need-enum-told-3
 enum-told-3 c = search needs
+
+settle-requires : tie.Need-settle-requires
+settle-requires c κs = search needs
+
+enum-known-why : tie.Need-enum-known-why
+enum-known-why c = search needs
+
+refused-requires : tie.Need-refused-requires
+refused-requires c κs = search needs
+
+enum-known-settled : tie.Need-enum-known-settled
+enum-known-settled c = search needs
 
 commanded-requires : tie.Need-commanded-requires
 commanded-requires c κs = search needs
 
 returns : tie.Need-returns
-returns c = (search (needs, Tops.not-settled), search (needs, Tops.not-settled-kept))
+returns c = (search (needs, Tops.allowed-failed), search (needs, Tops.failed-kept))
 
 returns-2 : tie.Need-returns-2
-returns-2 c = (search (needs, Tops.allowed-failed), search (needs, Tops.failed-kept))
+returns-2 c = (search (needs, Tops.allowed-no), search (needs, Tops.no-kept))
 
 returns-3 : tie.Need-returns-3
-returns-3 c = (search (needs, Tops.allowed-no), search (needs, Tops.no-kept))
+returns-3 c = (search (needs, Tops.not-settled), search (needs, Tops.not-settled-kept))
 
 same-length : tie.Need-same-length
 same-length c = search needs
@@ -53,15 +53,15 @@ pub decide-spec : {M : Type 1} → statement M
 decide-spec =
     tie.close
     (tie.spec
-    settle-requires
-    enum-known-ready
-    refused-requires
-    enum-known-ready-2
     enum-told
-    answered-requires
+    forbidden-requires
     enum-told-2
-    answered-requires-2
+    forbidden-requires-2
     enum-told-3
+    settle-requires
+    enum-known-why
+    refused-requires
+    enum-known-settled
     commanded-requires
     returns
     returns-2
