@@ -3,12 +3,9 @@
 use apdu::Apdu;
 use command::Ctap1Flags;
 use command::U2fCommand;
-pub use ctap1_stated::Allowed;
-pub use ctap1_stated::Attestation;
-pub use ctap1_stated::Counter;
 pub use ctap1_stated::Decided;
 pub use ctap1_stated::Decision;
-pub use ctap1_stated::Hardware;
+pub use ctap1_stated::HardwareSaid;
 use outcome::ApduStatusCode;
 use outcome::Refusal;
 use signing::Head;
@@ -20,11 +17,19 @@ ghost use lib.ListN.{length};
 ghost use Rattle.outcome.specs.Outcome.{Gives, statusNo, refusalNo};
 ghost use Rattle.apdu_stated.specs.Answers.{saysOf};
 ghost use Rattle.command_stated.specs.Command.{flagsNo, commandOf};
-ghost use Rattle.u2f_up_stated.specs.Moments.{settleOf, checkedOf};
-ghost use Rattle.ctap1_stated.specs.Words.{isPresent, Ordered, handedOf, decisionSaid, decisionWith};
-ghost use Rattle.ctap1_stated.specs.Path.{Status, versionPath, enrolmentOrder, registerPath, countedEnding, loginPath, commandPath};
-ghost use Rattle.ctap1_stated.specs.Decision.{refusalResult, statusResult, orderResult, ended, touchChecked, along, onMoment, replyLeft, leftOf};
+ghost use Rattle.u2f_up_stated.specs.Moments.{checkedOf};
+ghost use Rattle.ctap1_stated.specs.Words.{Ordered, handedOf, decisionSaid, decisionWith};
+ghost use Rattle.ctap1_stated.specs.Numbers.{hardwareOf};
+ghost use Rattle.ctap1_stated.specs.Path.{versionPath, enrolmentOrder, registerPath, countedEnding, loginPath, commandPath};
+ghost use Rattle.ctap1_stated.specs.Decision.{refusalResult, statusResult, orderResult, ended, touchChecked, along, replyLeft, leftOf};
 ghost use Rattle.ctap1_stated.specs.Contracts.{Decide};
+
+// The hardware's answers by their numbers: no and yes, and the attestation that is there. Every other number is a failure, or no.
+const NO: u32 = 0;
+
+const YES: u32 = 1;
+
+const PRESENT: u32 = 1;
 
 fn refused(why: Refusal, kept: Presence) -> Decision
     ensures { λ r. ⌜ decisionSaid r ≡ handedOf (refusalResult (refusalNo why) kept) ⌝ }
@@ -56,16 +61,6 @@ fn ordered(order: Head, settled: Presence, taken: bool) -> Decision
         presence: settled,
         order,
         taken,
-    }
-}
-
-fn is_present(attestation: Attestation) -> bool
-    ensures { λ r. ⌜ r ≡ isPresent attestation ⌝ }
-{
-    match attestation {
-        Attestation::Present => true,
-        Attestation::Missing => false,
-        Attestation::Failed => false,
     }
 }
 
@@ -116,7 +111,7 @@ fn register(
     frame: &[u8],
     t: u64,
     kept: Presence,
-    hardware: Hardware,
+    hardware: HardwareSaid,
     handle: &[u8],
     certificate: &[u8],
     x: &[u8; 32],
@@ -126,7 +121,7 @@ fn register(
     settled: Presence,
     block: &mut [u8; 385],
 ) -> Decision
-    ensures { λ r. ⌜ decisionWith r (now (block .exit)) ≡ leftOf (along (registerPath (record { frame = now (frame .entry); hardware = hardware; newHandle = now (handle .entry); certificate = now (certificate .entry); x = now (x .entry); y = now (y .entry); room = room }) (saysOf says)) kept settled t) (now (block .entry)) ⌝ }
+    ensures { λ r. ⌜ decisionWith r (now (block .exit)) ≡ leftOf (along (registerPath (record { frame = now (frame .entry); hardware = hardwareOf hardware; newHandle = now (handle .entry); certificate = now (certificate .entry); x = now (x .entry); y = now (y .entry); room = room }) (saysOf says)) kept settled t) (now (block .entry)) ⌝ }
 {
     if !signing::has_register_room(room, handle.len(), certificate.len()) {
         return refused(Refusal::R2, kept);
@@ -136,14 +131,13 @@ fn register(
     if !found.yes {
         return answered(ApduStatusCode::CondUseNotSatisfied, after);
     }
-    if !hardware.stored {
+    if hardware.stored != YES {
         return answered(ApduStatusCode::InternalException, after);
     }
     if 255 < handle.len() {
         return answered(ApduStatusCode::InternalException, after);
     }
-    let attestation = hardware.attestation;
-    if !is_present(attestation) {
+    if hardware.attestation != PRESENT {
         return answered(ApduStatusCode::InternalException, after);
     }
     enrol(frame, says, handle, certificate, x, y, after, block)
@@ -151,42 +145,46 @@ fn register(
 
 // The counter is taken last: no check comes after it.
 fn counted(
-    counter: Counter,
+    hardware: HardwareSaid,
     frame: &[u8],
     says: Apdu,
     present: bool,
     settled: Presence,
     block: &mut [u8; 385],
 ) -> Decision
-    ensures { λ r. ⌜ decisionWith r (now (block .exit)) ≡ leftOf (ended (countedEnding (now (frame .entry)) (saysOf says) present counter) settled) (now (block .entry)) ⌝ }
+    ensures { λ r. ⌜ decisionWith r (now (block .exit)) ≡ leftOf (ended (countedEnding (now (frame .entry)) (saysOf says) present (hardwareOf hardware .counter)) settled) (now (block .entry)) ⌝ }
 {
-    match counter {
-        Counter::Failed => answered(ApduStatusCode::WrongData, settled),
-        Counter::Offered(n) => {
-            let application = command::application(frame, says);
-            let challenge = command::challenge(frame, says);
-            let order = signing::authenticate_order(application, challenge, present, n, block);
-            ordered(order, settled, true)
-        }
+    if hardware.counted != YES {
+        return answered(ApduStatusCode::WrongData, settled);
     }
+    let application = command::application(frame, says);
+    let challenge = command::challenge(frame, says);
+    let order = signing::authenticate_order(
+        application,
+        challenge,
+        present,
+        hardware.counter,
+        block,
+    );
+    ordered(order, settled, true)
 }
 
 fn enforce(
-    counter: Counter,
+    hardware: HardwareSaid,
     frame: &[u8],
     says: Apdu,
     t: u64,
     settled: Presence,
     block: &mut [u8; 385],
 ) -> Decision
-    ensures { λ r. ⌜ decisionWith r (now (block .exit)) ≡ leftOf (touchChecked (checkedOf settled t) (countedEnding (now (frame .entry)) (saysOf says) true counter)) (now (block .entry)) ⌝ }
+    ensures { λ r. ⌜ decisionWith r (now (block .exit)) ≡ leftOf (touchChecked (checkedOf settled t) (countedEnding (now (frame .entry)) (saysOf says) true (hardwareOf hardware .counter))) (now (block .entry)) ⌝ }
 {
     let found = u2f_up::touch_check(settled, t);
     let after = found.presence;
     if !found.yes {
         return answered(ApduStatusCode::CondUseNotSatisfied, after);
     }
-    counted(counter, frame, says, true, after, block)
+    counted(hardware, frame, says, true, after, block)
 }
 
 // A check-only 6985 is the good answer: it looks at no touch, asks for no room and leaves the windows alone.
@@ -194,18 +192,17 @@ fn authenticate(
     frame: &[u8],
     t: u64,
     kept: Presence,
-    hardware: Hardware,
+    hardware: HardwareSaid,
     room: usize,
     flags: Ctap1Flags,
     says: Apdu,
     settled: Presence,
     block: &mut [u8; 385],
 ) -> Decision
-    ensures { λ r. ⌜ decisionWith r (now (block .exit)) ≡ leftOf (along (loginPath (now (frame .entry)) hardware room (flagsNo flags) (saysOf says)) kept settled t) (now (block .entry)) ⌝ }
+    ensures { λ r. ⌜ decisionWith r (now (block .exit)) ≡ leftOf (along (loginPath (now (frame .entry)) (hardwareOf hardware) room (flagsNo flags) (saysOf says)) kept settled t) (now (block .entry)) ⌝ }
 {
-    let counter = hardware.counter;
     let p1 = command::flags_number(flags);
-    if !hardware.good {
+    if hardware.good != YES {
         return answered(ApduStatusCode::WrongData, settled);
     }
     if p1 == 0x07 {
@@ -215,16 +212,16 @@ fn authenticate(
         return refused(Refusal::R2, kept);
     }
     if p1 == 0x03 {
-        return enforce(counter, frame, says, t, settled, block);
+        return enforce(hardware, frame, says, t, settled, block);
     }
-    counted(counter, frame, says, false, settled, block)
+    counted(hardware, frame, says, false, settled, block)
 }
 
 fn commanded(
     frame: &[u8],
     t: u64,
     kept: Presence,
-    hardware: Hardware,
+    hardware: HardwareSaid,
     handle: &[u8],
     certificate: &[u8],
     x: &[u8; 32],
@@ -233,8 +230,8 @@ fn commanded(
     settled: Presence,
     block: &mut [u8; 385],
 ) -> Decision
-    ensures { λ r. ⌜ decisionWith r (now (block .exit)) ≡ leftOf (along (commandPath (record { frame = now (frame .entry); hardware = hardware; newHandle = now (handle .entry); certificate = now (certificate .entry); x = now (x .entry); y = now (y .entry); room = length (now (reply .entry)) }) (commandOf (now (frame .entry)))) kept settled t) (now (block .entry)) ⌝ }
-    ensures { λ _. ⌜ now (reply .exit) ≡ replyLeft (along (commandPath (record { frame = now (frame .entry); hardware = hardware; newHandle = now (handle .entry); certificate = now (certificate .entry); x = now (x .entry); y = now (y .entry); room = length (now (reply .entry)) }) (commandOf (now (frame .entry)))) kept settled t) (now (reply .entry)) ⌝ }
+    ensures { λ r. ⌜ decisionWith r (now (block .exit)) ≡ leftOf (along (commandPath (record { frame = now (frame .entry); hardware = hardwareOf hardware; newHandle = now (handle .entry); certificate = now (certificate .entry); x = now (x .entry); y = now (y .entry); room = length (now (reply .entry)) }) (commandOf (now (frame .entry)))) kept settled t) (now (block .entry)) ⌝ }
+    ensures { λ _. ⌜ now (reply .exit) ≡ replyLeft (along (commandPath (record { frame = now (frame .entry); hardware = hardwareOf hardware; newHandle = now (handle .entry); certificate = now (certificate .entry); x = now (x .entry); y = now (y .entry); room = length (now (reply .entry)) }) (commandOf (now (frame .entry)))) kept settled t) (now (reply .entry)) ⌝ }
 {
     let room = reply.len();
     let read = command::read_command(frame);
@@ -269,25 +266,14 @@ fn commanded(
     }
 }
 
-// The answer where CTAP1 is not allowed, once the moment is settled.
-fn forbidden(status: ApduStatusCode, kept: Presence, t: u64) -> Decision
-    ensures { λ r. ⌜ decisionSaid r ≡ handedOf (onMoment kept t (Status (statusNo status)) (settleOf kept t)) ⌝ }
-{
-    match u2f_up::settle(kept, t) {
-        Ready::Refused(why) => refused(why, kept),
-        Ready::Record(settled) => answered(status, settled),
-    }
-}
-
 // What a frame is answered at moment t: a refusal, a status word, Version's body, or an order to sign. `handle` and
 // `certificate` are the new handle and the attestation certificate that a Register would use, x and y its public key. The block is
-// written for an order alone. Whether CTAP1 is allowed is looked at before the moment, which answers before it all the same: so
-// the answer is tested where it is at hand.
+// written for an order alone.
 pub fn decide(
     frame: &[u8],
     t: u64,
     presence: Presence,
-    hardware: Hardware,
+    hardware: HardwareSaid,
     handle: &[u8],
     certificate: &[u8],
     x: &[u8; 32],
@@ -295,15 +281,20 @@ pub fn decide(
     reply: &mut [u8],
     block: &mut [u8; 385],
 ) -> Decision
-    ensures { λ r. ⌜ Decide presence t (record { frame = now (frame .entry); hardware = hardware; newHandle = now (handle .entry); certificate = now (certificate .entry); x = now (x .entry); y = now (y .entry); room = length (now (reply .entry)) }) (record { reply = now (reply .entry); block = now (block .entry) }) r (record { reply = now (reply .exit); block = now (block .exit) }) ⌝ }
+    ensures { λ r. ⌜ Decide presence t (record { frame = now (frame .entry); hardware = hardwareOf hardware; newHandle = now (handle .entry); certificate = now (certificate .entry); x = now (x .entry); y = now (y .entry); room = length (now (reply .entry)) }) (record { reply = now (reply .entry); block = now (block .entry) }) r (record { reply = now (reply .exit); block = now (block .exit) }) ⌝ }
 {
+    let ready = u2f_up::settle(presence, t);
     let allowed = hardware.allowed;
-    match allowed {
-        Allowed::Failed => forbidden(ApduStatusCode::InternalException, presence, t),
-        Allowed::No => forbidden(ApduStatusCode::CommandNotAllowed, presence, t),
-        Allowed::Yes => match u2f_up::settle(presence, t) {
-            Ready::Refused(why) => refused(why, presence),
-            Ready::Record(settled) => commanded(
+    match ready {
+        Ready::Refused(why) => refused(why, presence),
+        Ready::Record(settled) => {
+            if YES < allowed {
+                return answered(ApduStatusCode::InternalException, settled);
+            }
+            if allowed == NO {
+                return answered(ApduStatusCode::CommandNotAllowed, settled);
+            }
+            commanded(
                 frame,
                 t,
                 presence,
@@ -315,7 +306,7 @@ pub fn decide(
                 reply,
                 settled,
                 block,
-            ),
-        },
+            )
+        }
     }
 }

@@ -3,6 +3,7 @@ use Prim.Native.Nat.{ℕ, _<_, _≤_}
 use mathlib.Core.Path.{_≡_, sym, ap, _∙_}
 use mathlib.Core.Bool.{Bool, true, false, not}
 use mathlib.Core.List.{List}
+use native.Mathlib.Decide.{ℕ-discrete}
 use borrow.Author.Tests.{lt-ltb, le-ltb, leb-true, leb-false, eq-eqb, ne-eqb, not-true, not-false}
 use lib.Dec.{leb, ltb}
 use lib.ListN.{length}
@@ -19,9 +20,9 @@ use Rattle.signing_stated.specs.declared.Head.{Head}
 use Rattle.signing_stated.specs.Words.{Order, orderWith}
 use Rattle.signing_stated.specs.Finishing.{registerRoom, authenticateRoom}
 use Rattle.ctap1_stated.specs.Words.{Inputs, Enrolment, Hardware, isPresent, Given, Counter, Handed, WithBlock, handedOf}
+use Rattle.ctap1_stated.specs.Numbers.{isYes, attestationOf, counterOf}
 use Rattle.ctap1_stated.specs.Decision.{refusalResult, statusResult, bodyResult, orderResult, along, ended, touchChecked, versionBytes, replyLeft, leftOf}
 use Rattle.ctap1_stated.specs.Path.{versionPath, registerPath, registerEnding, enrolmentOrder, registerOrdered, signingOrder, countedEnding, loginPath}
-use Rattle.ctap1_stated.specs.declared.Counter.the-variants as Counter′
 
 -- a decision's fields: only the order's head comes from a call
 abbrev said : Outcome Given → Presence → Head → Bool → Handed
@@ -63,6 +64,25 @@ module _ (kept settled : Presence) (old : List ℕ) where
   unfolding versionPath
   version-wrote new h e = e ∙ rw (le-ltb (length old) 6 h)
 
+-- ---- the hardware's answers by their numbers
+pub yes-said : (k : ℕ) → k ≡ 1 → isYes k ≡ true
+yes-said k e = eq-eqb k 1 e
+
+pub no-said : (k : ℕ) → (k ≡ 1 → ⊥) → isYes k ≡ false
+no-said k n = ne-eqb k 1 n
+
+pub there : (a : ℕ) → a ≡ 1 → isPresent (attestationOf a) ≡ true
+unfolding attestationOf
+there a e = rw e
+
+pub not-there : (a : ℕ) → (a ≡ 1 → ⊥) → isPresent (attestationOf a) ≡ false
+unfolding attestationOf
+not-there a n = by (ℕ-discrete a 0)
+  where
+    by : Dec (a ≡ 0) → isPresent (attestationOf a) ≡ false
+    by (yes z) = rw (eq-eqb a 0 z)
+    by (no z) = rw (ne-eqb a 0 z, ne-eqb a 1 n)
+
 -- ---- Register
 module _ (i : Inputs) (kept : Presence) (t : ℕ) (said : Says) (settled : Presence) (old : List ℕ) (b : Bool) (is-b : b ≡ leb (registerRoom (length (i .newHandle)) (length (i .certificate))) (i .room)) where
   pub register-no-room : (r : Handed) → not b ≡ true → r ≡ handedOf (refusalResult 2 kept) → beside r old ≡ leftOf (along (registerPath i said) kept settled t) old
@@ -78,23 +98,23 @@ module _ (i : Inputs) (kept : Presence) (t : ℕ) (said : Says) (settled : Prese
     register-no-touch r n e = with-block r _ old e ∙ rw (roomy, ← is-found, n)
 
     module _ (touch : not (found .yes) ≡ false) where
-      pub register-not-stored : (r : Handed) → not (i .hardware .stored) ≡ true → r ≡ handedOf (statusResult 0x6f00 (found .presence)) → beside r old ≡ leftOf (along (registerPath i said) kept settled t) old
+      pub register-not-stored : (r : Handed) → i .hardware .stored ≡ false → r ≡ handedOf (statusResult 0x6f00 (found .presence)) → beside r old ≡ leftOf (along (registerPath i said) kept settled t) old
       unfolding registerPath registerEnding
       register-not-stored r n e = with-block r _ old e ∙ rw (roomy, ← is-found, touch, n)
 
-      module _ (stored : not (i .hardware .stored) ≡ false) where
+      module _ (stored : i .hardware .stored ≡ true) where
         pub register-long : (r : Handed) → 255 < length (i .newHandle) → r ≡ handedOf (statusResult 0x6f00 (found .presence)) → beside r old ≡ leftOf (along (registerPath i said) kept settled t) old
         unfolding registerPath registerEnding
         register-long r h e = with-block r _ old e ∙ rw (roomy, ← is-found, touch, stored, lt-ltb 255 (length (i .newHandle)) h)
 
-        module _ (fits : length (i .newHandle) ≤ 255) (p : Bool) (is-p : p ≡ isPresent (i .hardware .attestation)) where
-          pub register-no-attestation : (r : Handed) → not p ≡ true → r ≡ handedOf (statusResult 0x6f00 (found .presence)) → beside r old ≡ leftOf (along (registerPath i said) kept settled t) old
+        module _ (fits : length (i .newHandle) ≤ 255) where
+          pub register-no-attestation : (r : Handed) → isPresent (i .hardware .attestation) ≡ false → r ≡ handedOf (statusResult 0x6f00 (found .presence)) → beside r old ≡ leftOf (along (registerPath i said) kept settled t) old
           unfolding registerPath registerEnding
-          register-no-attestation r n e = with-block r _ old e ∙ rw (roomy, ← is-found, touch, stored, le-ltb 255 (length (i .newHandle)) fits, ← is-p, n)
+          register-no-attestation r n e = with-block r _ old e ∙ rw (roomy, ← is-found, touch, stored, le-ltb 255 (length (i .newHandle)) fits, n)
 
-          pub register-order : (x : WithBlock) → not p ≡ false → x ≡ leftOf (orderResult (registerOrdered i said) (found .presence) false) old → x ≡ leftOf (along (registerPath i said) kept settled t) old
+          pub register-order : (x : WithBlock) → isPresent (i .hardware .attestation) ≡ true → x ≡ leftOf (orderResult (registerOrdered i said) (found .presence) false) old → x ≡ leftOf (along (registerPath i said) kept settled t) old
           unfolding registerPath registerEnding
-          register-order x n e = e ∙ rw (roomy, ← is-found, touch, stored, le-ltb 255 (length (i .newHandle)) fits, ← is-p, n)
+          register-order x n e = e ∙ rw (roomy, ← is-found, touch, stored, le-ltb 255 (length (i .newHandle)) fits, n)
 
 -- an order is the head that is handed back and the lent block
 ordered : (o q : Order) (p : Presence) (taken : Bool) (r : Handed) (old : List ℕ) → o ≡ q → r ≡ handedOf (orderResult o p taken) → beside r (o .bytes) ≡ leftOf (orderResult q p taken) old
@@ -108,17 +128,17 @@ unfolding enrolmentOrder
 ordered-register frame said n p r old application challenge block h is-a is-c is-o e = ordered (orderWith h block) _ p false r old (is-o ∙ rw (is-a, is-c)) e
 
 -- ---- Authenticate
-module _ (frame : List ℕ) (said : Says) (present : Bool) (p : Presence) (r : Handed) (old : List ℕ) (c : Counter) where
-  pub counted-failed : c ≡ Counter′.Failed → r ≡ handedOf (statusResult 0x6a80 p) → beside r old ≡ leftOf (ended (countedEnding frame said present c) p) old
+module _ (frame : List ℕ) (said : Says) (present : Bool) (p : Presence) (r : Handed) (old : List ℕ) (k n : ℕ) where
+  pub counted-failed : (k ≡ 1 → ⊥) → r ≡ handedOf (statusResult 0x6a80 p) → beside r old ≡ leftOf (ended (countedEnding frame said present (counterOf k n)) p) old
   unfolding countedEnding
-  counted-failed z e = with-block r _ old e ∙ rw z
+  counted-failed z e = with-block r _ old e ∙ rw (ne-eqb k 1 z)
 
-  pub counted-order : (n : ℕ) (application challenge block : List ℕ) (h : Head) → c ≡ Counter′.Offered n
+  pub counted-order : (application challenge block : List ℕ) (h : Head) → k ≡ 1
       → application ≡ applicationOf frame said → challenge ≡ challengeOf frame said
       → orderWith h block ≡ authenticateOrderOf (record { application = application; presence = presenceByte present; counter = bytes4 n; challenge = challenge })
-      → r ≡ handedOf (orderResult (orderWith h block) p true) → beside r block ≡ leftOf (ended (countedEnding frame said present c) p) old
+      → r ≡ handedOf (orderResult (orderWith h block) p true) → beside r block ≡ leftOf (ended (countedEnding frame said present (counterOf k n)) p) old
   unfolding countedEnding
-  counted-order n application challenge block h z is-a is-c is-o e = ordered (orderWith h block) (signingOrder frame said present n) p true r old (is-o ∙ rw (is-a, is-c)) e ∙ rw z
+  counted-order application challenge block h z is-a is-c is-o e = ordered (orderWith h block) (signingOrder frame said present n) p true r old (is-o ∙ rw (is-a, is-c)) e ∙ rw (eq-eqb k 1 z)
 
 module _ (c : Counter) (frame : List ℕ) (said : Says) (settled : Presence) (t : ℕ) (old : List ℕ) (found : Finding) (is-found : found ≡ checkedOf settled t) where
   pub enforced-no-touch : (r : Handed) → not (found .yes) ≡ true → r ≡ handedOf (statusResult 0x6985 (found .presence)) → beside r old ≡ leftOf (touchChecked (checkedOf settled t) (countedEnding frame said true c)) old
@@ -128,11 +148,11 @@ module _ (c : Counter) (frame : List ℕ) (said : Says) (settled : Presence) (t 
   enforced-touch x n e = e ∙ rw (← is-found, n)
 
 module _ (frame : List ℕ) (hardware : Hardware) (room : ℕ) (kept : Presence) (t : ℕ) (n : ℕ) (said : Says) (settled : Presence) (old : List ℕ) (p1 : ℕ) (is-p1 : p1 ≡ n) where
-  pub auth-bad : (r : Handed) → not (hardware .good) ≡ true → r ≡ handedOf (statusResult 0x6a80 settled) → beside r old ≡ leftOf (along (loginPath frame hardware room n said) kept settled t) old
+  pub auth-bad : (r : Handed) → hardware .good ≡ false → r ≡ handedOf (statusResult 0x6a80 settled) → beside r old ≡ leftOf (along (loginPath frame hardware room n said) kept settled t) old
   unfolding loginPath
   auth-bad r g e = with-block r _ old e ∙ rw g
 
-  module _ (good : not (hardware .good) ≡ false) where
+  module _ (good : hardware .good ≡ true) where
     pub auth-check-only : (r : Handed) → p1 ≡ 0x07 → r ≡ handedOf (statusResult 0x6985 settled) → beside r old ≡ leftOf (along (loginPath frame hardware room n said) kept settled t) old
     unfolding loginPath
     auth-check-only r z e = with-block r _ old e ∙ rw (good, eq-eqb n 0x07 (sym is-p1 ∙ z))

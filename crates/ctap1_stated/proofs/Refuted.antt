@@ -1,7 +1,7 @@
 -- Each wrong program of specs/Wrong.antt, and the claim that is false of it, at one input or at a run of a few calls.
 use Prim.Native.Nat.{ℕ, _+_, _^_, _<_, _≤_}
 use mathlib.Core.Path.{_≡_, refl, ap, sym, _∙_}
-use mathlib.Core.Bool.{true, false, true≢false, false≢true}
+use mathlib.Core.Bool.{Bool, true, false, true≢false, false≢true}
 use mathlib.Core.List.{List, [], _∷_, _++_}
 use mathlib.Core.Logic.{_⊎_, inr, ⊎-elim}
 use native.Mathlib.Omega.{arith}
@@ -335,3 +335,29 @@ pub ordersAloneSpend : Claims.Demand3OfThePanel Wrong.ordersAloneSpend → ⊥
 unfolding decisionOf pathOf allowedPath commandPath versionPath registerPath loginPath registerEnding countedEnding settleOf checkedOf after history foretold unspent lastMoment touchOf checkOf grantedOf
 ordersAloneSpend d =
     found-not (sym (rw register-read at (d 1000 (omega arith) (omega arith) (TouchAt 1 ∷ CheckAt 0 ∷ []) .foretells (DecideAt 2 (lent registerFrame notStored [] 139)))))
+
+-- ---- the hardware's answers
+pub unknownIsAllowed : Claims.AllowedNumbers Wrong.unknownIsAllowed → ⊥
+unknownIsAllowed p = let e : Allowed′.Yes ≡ Allowed′.Failed = p .failed 3 (omega arith) in let z : _≡_ {A = ℕ} 0 1 = cc in omega arith
+
+pub unknownIsPresent : Claims.AttestationNumbers Wrong.unknownIsPresent → ⊥
+unknownIsPresent p =
+    let e : Attestation′.Present ≡ Attestation′.Failed = p .failed 3 (omega arith) in let z : _≡_ {A = ℕ} 0 1 = cc in omega arith
+
+pub unknownIsYes : Claims.YesNumbers Wrong.unknownIsYes → ⊥
+unknownIsYes p = let e : _≡_ {A = Bool} true false = p .other 2 (λ e. omega arith) in let z : _≡_ {A = ℕ} 0 1 = cc in omega arith
+
+pub lowestBitIsYes : Claims.YesNumbers Wrong.lowestBitIsYes → ⊥
+lowestBitIsYes p = let e : _≡_ {A = Bool} true false = p .other 255 (λ e. omega arith) in let z : _≡_ {A = ℕ} 0 1 = cc in omega arith
+
+pub storedForGood : Claims.HardwareNumbers Wrong.storedForGood → ⊥
+storedForGood p =
+    let e : _≡_ {A = Bool} true false = p .not-good (record { allowed = 1; attestation = 1; stored = 1; good = 0; counted = 1; counter = 0 }) (λ e. omega arith) in
+    let z : _≡_ {A = ℕ} 0 1 = cc in
+    omega arith
+
+pub unknownIsCounted : Claims.HardwareNumbers Wrong.unknownIsCounted → ⊥
+unknownIsCounted p =
+    let e : Counter′.Offered 0 ≡ Counter′.Failed = p .failed (record { allowed = 1; attestation = 1; stored = 1; good = 1; counted = 2; counter = 0 }) (λ e. omega arith) in
+    let z : _≡_ {A = ℕ} 0 1 = cc in
+    omega arith

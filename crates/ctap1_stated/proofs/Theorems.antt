@@ -6,6 +6,7 @@ use mathlib.Core.Logic.{_↔_, _⊎_, inl, inr}
 use mathlib.Core.List.{List, [], _∷_, _++_}
 use mathlib.Core.Option.{Option, some}
 use native.Mathlib.Omega.{arith}
+use borrow.Author.Tests.{eq-eqb, ne-eqb}
 use lib.ListN.{length, drop}
 use Rattle.outcome.specs.Outcome.{Outcome, R, Gives}
 use Rattle.outcome.proofs.Laws.{gives-same, sw-gives, r-gives, r-sw, both-are}
@@ -22,6 +23,7 @@ use Rattle.u2f_up_stated.proofs.Laws.{demand-3, servers-next, named-later, name
 use Rattle.signing_stated.specs.Orders.{kindNo, certificateLength, blankOrder, isOfLayout}
 use Rattle.signing_stated.specs.Finishing.{roomAsked}
 use Rattle.ctap1_stated.specs.Words.{Inputs, Given, Body, Ordered, Result, Allowed, Decision, WithBlock}
+use Rattle.ctap1_stated.specs.Numbers.{allowedOf, attestationOf, isYes, hardwareOf}
 use Rattle.ctap1_stated.specs.Path.{roleOf}
 use Rattle.ctap1_stated.specs.Decision.{statusResult, versionBytes, decisionOf, replyLeft}
 use Rattle.ctap1_stated.specs.Calls.{PanelCall, DecideAt, panelCalls, seen}
@@ -278,3 +280,30 @@ ResultsDetermined = record {
       let replies : x .1 .reply ≡ y .1 .reply = both-are _ _ (hx .1) (hy .1) in
       λ d. (decisions d, record { reply = replies d; block = same d .block });
 }
+
+-- ---- the hardware's answers by their numbers
+pub AllowedNumbers : Claims.AllowedNumbers allowedOf
+unfolding allowedOf
+AllowedNumbers =
+    record { refused = refl; granted = refl; failed = λ n from. rw (ne-eqb n 0 (λ e. omega arith), ne-eqb n 1 (λ e. omega arith)) }
+
+pub AttestationNumbers : Claims.AttestationNumbers attestationOf
+unfolding attestationOf
+AttestationNumbers =
+    record { missing = refl; present = refl; failed = λ n from. rw (ne-eqb n 0 (λ e. omega arith), ne-eqb n 1 (λ e. omega arith)) }
+
+pub YesNumbers : Claims.YesNumbers isYes
+YesNumbers = record { granted = refl; other = λ n e. ne-eqb n 1 e }
+
+pub HardwareNumbers : Claims.HardwareNumbers hardwareOf
+HardwareNumbers =
+    record {
+      allowed = λ n. refl;
+      attestation = λ n. refl;
+      stored = λ n e. eq-eqb (n .stored) 1 e;
+      not-stored = λ n e. ne-eqb (n .stored) 1 e;
+      good = λ n e. eq-eqb (n .good) 1 e;
+      not-good = λ n e. ne-eqb (n .good) 1 e;
+      offered = λ n e. rw e;
+      failed = λ n e. rw (ne-eqb (n .counted) 1 e);
+    }

@@ -1,13 +1,16 @@
 -- The decision's outer checks, in both its results: what is handed back with the lent block, and the reply buffer. It mentions no
 -- function.
-use Prim.Native.Nat.{ℕ}
+use Prim.Native.Nat.{ℕ, _<_, _≤_}
 use mathlib.Core.Path.{_≡_, refl, ap, sym, _∙_}
 use mathlib.Core.Bool.{Bool, true, false, not}
 use mathlib.Core.List.{List}
+use native.Mathlib.Omega.{arith}
+use native.Mathlib.Decide.{ℕ-discrete}
+use borrow.Author.Tests.{ne-eqb}
 use lib.Dec.{ltb, eqb}
 use lib.ListN.{length}
 use Rattle.outcome.specs.Notation.{if_then_else_}
-use Rattle.outcome.specs.Outcome.{Outcome, R, SW, Gives, statusNo, refusalNo}
+use Rattle.outcome.specs.Outcome.{Outcome, statusNo, refusalNo}
 use Rattle.outcome.specs.declared.ApduStatusCode.{ApduStatusCode}
 use Rattle.outcome.specs.declared.Refusal.{Refusal}
 use Rattle.apdu_stated.specs.Answers.{Says, saysOf}
@@ -24,6 +27,7 @@ use Rattle.u2f_up_stated.specs.declared.Ready.{Ready}
 use Rattle.u2f_up_stated.specs.declared.Ready.the-variants as Ready′
 use Rattle.signing_stated.specs.Finishing.{registerRoom, authenticateRoom}
 use Rattle.ctap1_stated.specs.Words.{Inputs, Hardware, Result, Allowed, Handed, WithBlock, handedOf}
+use Rattle.ctap1_stated.specs.Numbers.{allowedOf}
 use Rattle.ctap1_stated.specs.Decision.{refusalResult, statusResult, ended, touchChecked, along, onMoment, decisionOf, replyLeft, leftOf}
 use Rattle.ctap1_stated.specs.Path.{Ending, Internal, WrongData, Orders, Path, NoRoom, Status, SixBytes, Signs, Touch, versionPath, registerPath, registerEnding, countedEnding, loginPath, commandPath, allowedPath, pathOf}
 use Rattle.ctap1_stated.specs.declared.Allowed.the-variants as Allowed′
@@ -131,62 +135,22 @@ module _ (i : Inputs) (kept : Presence) (t : ℕ) (settled : Presence) (c : U2fC
     unfolding commandPath
     version-left new e q = q ∙ ap (λ (x : Result). replyLeft x old) (version-any (i .room) kept settled t ∙ here U2fCommand′.Version e)
 
--- ---- by whether CTAP1 is allowed, and by the moment
-module _ (kept : Presence) (t n : ℕ) where
-  forbidden : Outcome Presence → Result
-  forbidden o = onMoment kept t (Status n) o
+-- ---- by the moment, and by whether CTAP1 is allowed
+failed-is : (k : ℕ) → 1 < k → allowedOf k ≡ Allowed′.Failed
+unfolding allowedOf
+failed-is k h = rw (ne-eqb k 0 (λ e. absurd (omega arith)), ne-eqb k 1 (λ e. absurd (omega arith)))
 
-  module _ (s : Ready) (is-s : readyOf s ≡ settleOf kept t) where
-    pub forbidden-refused : (why : Refusal) (r : Handed) → s ≡ Ready′.Refused why → r ≡ handedOf (refusalResult (refusalNo why) kept) → r ≡ handedOf (onMoment kept t (Status n) (settleOf kept t))
-    unfolding forbidden
-    forbidden-refused why r e q = q ∙ ap (λ (o : Outcome Presence). handedOf (forbidden o)) (ap readyOf (sym e) ∙ is-s)
+no-is : (k : ℕ) → k ≡ 0 → allowedOf k ≡ Allowed′.No
+unfolding allowedOf
+no-is k e = rw e
 
-    pub forbidden-status : (p : Presence) (r : Handed) → s ≡ Ready′.Record p → r ≡ handedOf (statusResult n p) → r ≡ handedOf (onMoment kept t (Status n) (settleOf kept t))
-    unfolding forbidden
-    forbidden-status p r e q = q ∙ ap (λ (o : Outcome Presence). handedOf (forbidden o)) (ap readyOf (sym e) ∙ is-s)
-
-  -- neither buffer is written
-  forbidden-left : (o : Outcome Presence) (old : List ℕ) → beside (handedOf (onMoment kept t (Status n) o)) old ≡ leftOf (onMoment kept t (Status n) o) old
-  forbidden-left (R m) old = refl
-  forbidden-left (SW m) old = refl
-  forbidden-left (Gives p) old = refl
-
-  forbidden-keeps : (o : Outcome Presence) (old : List ℕ) → old ≡ replyLeft (onMoment kept t (Status n) o) old
-  forbidden-keeps (R m) old = refl
-  forbidden-keeps (SW m) old = refl
-  forbidden-keeps (Gives p) old = refl
-
-module _ (i : Inputs) (kept : Presence) (t : ℕ) where
-  by-path : (path : Path) → pathOf i ≡ path → onMoment kept t path (settleOf kept t) ≡ decisionOf kept t i
-  unfolding decisionOf
-  by-path path e = ap (λ (x : Path). onMoment kept t x (settleOf kept t)) (sym e)
-
-  module _ (n : ℕ) (e : pathOf i ≡ Status n) where
-    said-so : (r : Handed) (old : List ℕ) → r ≡ handedOf (onMoment kept t (Status n) (settleOf kept t)) → beside r old ≡ leftOf (decisionOf kept t i) old
-    said-so r old q = with-block r _ old q ∙ forbidden-left kept t n (settleOf kept t) old ∙ ap (λ (x : Result). leftOf x old) (by-path (Status n) e)
-
-    stays : (old : List ℕ) → old ≡ replyLeft (decisionOf kept t i) old
-    stays old = forbidden-keeps kept t n (settleOf kept t) old ∙ ap (λ (x : Result). replyLeft x old) (by-path (Status n) e)
-
-  failed-path : i .hardware .allowed ≡ Allowed′.Failed → pathOf i ≡ Status 0x6f00
-  unfolding pathOf allowedPath
-  failed-path is = ap (λ (a : Allowed). allowedPath a i) is
-
-  no-path : i .hardware .allowed ≡ Allowed′.No → pathOf i ≡ Status 0x6986
-  unfolding pathOf allowedPath
-  no-path is = ap (λ (a : Allowed). allowedPath a i) is
-
-  pub allowed-failed : (r : Handed) (old : List ℕ) → i .hardware .allowed ≡ Allowed′.Failed → r ≡ handedOf (onMoment kept t (Status 0x6f00) (settleOf kept t)) → beside r old ≡ leftOf (decisionOf kept t i) old
-  allowed-failed r old is q = said-so 0x6f00 (failed-path is) r old q
-
-  pub allowed-no : (r : Handed) (old : List ℕ) → i .hardware .allowed ≡ Allowed′.No → r ≡ handedOf (onMoment kept t (Status 0x6986) (settleOf kept t)) → beside r old ≡ leftOf (decisionOf kept t i) old
-  allowed-no r old is q = said-so 0x6986 (no-path is) r old q
-
-  pub failed-kept : (old : List ℕ) → i .hardware .allowed ≡ Allowed′.Failed → old ≡ replyLeft (decisionOf kept t i) old
-  failed-kept old is = stays 0x6f00 (failed-path is) old
-
-  pub no-kept : (old : List ℕ) → i .hardware .allowed ≡ Allowed′.No → old ≡ replyLeft (decisionOf kept t i) old
-  no-kept old is = stays 0x6986 (no-path is) old
+yes-is : (k : ℕ) → k ≤ 1 → (k ≡ 0 → ⊥) → allowedOf k ≡ Allowed′.Yes
+unfolding allowedOf
+yes-is k h n = by (ℕ-discrete k 0)
+  where
+    by : Dec (k ≡ 0) → allowedOf k ≡ Allowed′.Yes
+    by (yes z) = absurd (n z)
+    by (no z) = let one : k ≡ 1 = omega arith in rw one
 
 module _ (i : Inputs) (kept : Presence) (t : ℕ) (s : Ready) (is-s : readyOf s ≡ settleOf kept t) where
   settles : (d : Ready) → s ≡ d → onMoment kept t (pathOf i) (readyOf d) ≡ decisionOf kept t i
@@ -199,7 +163,7 @@ module _ (i : Inputs) (kept : Presence) (t : ℕ) (s : Ready) (is-s : readyOf s 
   pub not-settled-kept : (why : Refusal) (old : List ℕ) → s ≡ Ready′.Refused why → old ≡ replyLeft (decisionOf kept t i) old
   not-settled-kept why old e = ap (λ (x : Result). replyLeft x old) (settles (Ready′.Refused why) e)
 
-  module _ (p : Presence) (e : s ≡ Ready′.Record p) where
+  module _ (p : Presence) (e : s ≡ Ready′.Record p) (k : ℕ) (is-k : i .hardware .allowed ≡ allowedOf k) where
     here-by : (a : Allowed) → i .hardware .allowed ≡ a → along (allowedPath a i) kept p t ≡ decisionOf kept t i
     unfolding pathOf
     here-by a is = ap (λ (b : Allowed). along (allowedPath b i) kept p t) (sym is) ∙ settles (Ready′.Record p) e
@@ -210,10 +174,26 @@ module _ (i : Inputs) (kept : Presence) (t : ℕ) (s : Ready) (is-s : readyOf s 
     left-by : (a : Allowed) (old new : List ℕ) → i .hardware .allowed ≡ a → new ≡ replyLeft (along (allowedPath a i) kept p t) old → new ≡ replyLeft (decisionOf kept t i) old
     left-by a old new is q = q ∙ ap (λ (x : Result). replyLeft x old) (here-by a is)
 
-    pub allowed-yes : (x : WithBlock) (old : List ℕ) → i .hardware .allowed ≡ Allowed′.Yes → x ≡ leftOf (along (commandPath i (commandOf (i .frame))) kept p t) old → x ≡ leftOf (decisionOf kept t i) old
+    pub allowed-failed : (r : Handed) (old : List ℕ) → 1 < k → r ≡ handedOf (statusResult 0x6f00 p) → beside r old ≡ leftOf (decisionOf kept t i) old
     unfolding allowedPath
-    allowed-yes x old is q = q ∙ lands-by Allowed′.Yes old is
+    allowed-failed r old h q = with-block r _ old q ∙ lands-by Allowed′.Failed old (is-k ∙ failed-is k h)
 
-    pub yes-left : (old new : List ℕ) → i .hardware .allowed ≡ Allowed′.Yes → new ≡ replyLeft (along (commandPath i (commandOf (i .frame))) kept p t) old → new ≡ replyLeft (decisionOf kept t i) old
+    pub allowed-no : (r : Handed) (old : List ℕ) → k ≡ 0 → r ≡ handedOf (statusResult 0x6986 p) → beside r old ≡ leftOf (decisionOf kept t i) old
     unfolding allowedPath
-    yes-left old new is q = left-by Allowed′.Yes old new is q
+    allowed-no r old z q = with-block r _ old q ∙ lands-by Allowed′.No old (is-k ∙ no-is k z)
+
+    pub allowed-yes : (x : WithBlock) (old : List ℕ) → k ≤ 1 → (k ≡ 0 → ⊥) → x ≡ leftOf (along (commandPath i (commandOf (i .frame))) kept p t) old → x ≡ leftOf (decisionOf kept t i) old
+    unfolding allowedPath
+    allowed-yes x old h n q = q ∙ lands-by Allowed′.Yes old (is-k ∙ yes-is k h n)
+
+    pub failed-kept : (old : List ℕ) → 1 < k → old ≡ replyLeft (decisionOf kept t i) old
+    unfolding allowedPath
+    failed-kept old h = left-by Allowed′.Failed old old (is-k ∙ failed-is k h) refl
+
+    pub no-kept : (old : List ℕ) → k ≡ 0 → old ≡ replyLeft (decisionOf kept t i) old
+    unfolding allowedPath
+    no-kept old z = left-by Allowed′.No old old (is-k ∙ no-is k z) refl
+
+    pub yes-left : (old new : List ℕ) → k ≤ 1 → (k ≡ 0 → ⊥) → new ≡ replyLeft (along (commandPath i (commandOf (i .frame))) kept p t) old → new ≡ replyLeft (decisionOf kept t i) old
+    unfolding allowedPath
+    yes-left old new h n q = left-by Allowed′.Yes old new (is-k ∙ yes-is k h n) q

@@ -3,11 +3,14 @@
 -- of a record, a moment and all that is lent.
 use mathlib.Core.Logic.{_↔_, _⊎_}
 use mathlib.Core.Option.{some}
-use Rattle.ctap1_stated.specs.Words.{AtMostOne, R, SW, Gives, [], _∷_, _++_, drop, ℕ, _+_, _*_, _<_, _≤_, _≡_, true, false, List, length, Presence, Decision, Decided, Inputs, Body, Ordered, Result, decidedOf}
+use Rattle.ctap1_stated.specs.Words.{AtMostOne, R, SW, Gives, [], _∷_, _++_, drop, ℕ, _+_, _*_, _<_, _≤_, _≡_, Bool, true, false, List, length, Presence, Decision, Decided, Inputs, Allowed, Attestation, Hardware, HardwareSaid, Body, Ordered, Result, decidedOf}
+use Rattle.ctap1_stated.specs.Numbers.{allowedOf, attestationOf}
 use Rattle.ctap1_stated.specs.Calls.{PanelCall, DecideAt, callsWith}
 use Rattle.ctap1_stated.specs.Contracts.{Buffers, Decide}
 use Rattle.ctap1_stated.specs.Terms.{Decider, AreBlocks, result, movedAt, spentAt, Comes, OrdersPresent, checkOnlyAnswer}
 use Rattle.ctap1_stated.specs.Table.{Answers}
+use Rattle.ctap1_stated.specs.declared.Allowed.the-variants as Allowed′
+use Rattle.ctap1_stated.specs.declared.Attestation.the-variants as Attestation′
 use Rattle.ctap1_stated.specs.declared.Counter.the-variants as Counter′
 use Rattle.octets.specs.Bytes.{byte}
 use Rattle.apdu_stated.specs.Answers.{Says}
@@ -133,6 +136,42 @@ KeepsToItsRole decide = Keeps (callsWith decide)
 -- alone (`ordersAloneSpend`).
 abbrev pub Demand3OfThePanel : Caller PanelCall → Type 0
 Demand3OfThePanel 𝒞 = Up.Demand3 𝒞
+
+-- ---- the hardware's answers by their numbers
+
+-- 01, The decision: "whether CTAP1 is allowed (yes, no, failed)": 1, 0, and every other number. A table that takes an unknown
+-- number for yes (`unknownIsAllowed`) fails it.
+pub record AllowedNumbers (allowed : ℕ → Allowed) : Type 0 where
+  pub refused : allowed 0 ≡ Allowed′.No
+  pub granted : allowed 1 ≡ Allowed′.Yes
+  pub failed : (n : ℕ) → 2 ≤ n → allowed n ≡ Allowed′.Failed
+
+-- 01, The decision, 5: "the attestation is missing or failed": 0, every number from 2 on; present is 1. A table that takes an
+-- unknown number for present (`unknownIsPresent`) fails it.
+pub record AttestationNumbers (attestation : ℕ → Attestation) : Type 0 where
+  pub missing : attestation 0 ≡ Attestation′.Missing
+  pub present : attestation 1 ≡ Attestation′.Present
+  pub failed : (n : ℕ) → 2 ≤ n → attestation n ≡ Attestation′.Failed
+
+-- Of a question with yes or no 1 is yes and every other number no, the cautious answer: not stored, not good, a counter or a signer
+-- that failed. Ours; DECISIONS, "Unknown numbers are the cautious answer". A table that takes whatever is not 0 for yes
+-- (`unknownIsYes`) fails it, at 2, and one that looks at the lowest bit (`lowestBitIsYes`), at 255.
+pub record YesNumbers (yes : ℕ → Bool) : Type 0 where
+  pub granted : yes 1 ≡ true
+  pub other : (n : ℕ) → (n ≡ 1 → ⊥) → yes n ≡ false
+
+-- The hardware's answers. 01, The decision: "the hardware's answers"; 6: "counter answer failed". Answers that change places
+-- (`storedForGood`) fail it, where the new handle is stored and the given one is not good; and a counter that is offered whatever is
+-- not 0 (`unknownIsCounted`).
+pub record HardwareNumbers (lend : HardwareSaid → Hardware) : Type 0 where
+  pub allowed : (n : HardwareSaid) → lend n .allowed ≡ allowedOf (n .allowed)  -- by `AllowedNumbers`
+  pub attestation : (n : HardwareSaid) → lend n .attestation ≡ attestationOf (n .attestation)  -- by `AttestationNumbers`
+  pub stored : (n : HardwareSaid) → n .stored ≡ 1 → lend n .stored ≡ true
+  pub not-stored : (n : HardwareSaid) → (n .stored ≡ 1 → ⊥) → lend n .stored ≡ false
+  pub good : (n : HardwareSaid) → n .good ≡ 1 → lend n .good ≡ true
+  pub not-good : (n : HardwareSaid) → (n .good ≡ 1 → ⊥) → lend n .good ≡ false
+  pub offered : (n : HardwareSaid) → n .counted ≡ 1 → lend n .counter ≡ Counter′.Offered (n .counter)
+  pub failed : (n : HardwareSaid) → (n .counted ≡ 1 → ⊥) → lend n .counter ≡ Counter′.Failed
 
 -- ---- two results that satisfy the contract are equal
 abbrev pub DecidedOneToOne : Type 0

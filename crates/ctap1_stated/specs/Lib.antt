@@ -1,4 +1,5 @@
 pub mod Words
+pub mod Numbers
 pub mod Path
 pub mod Decision
 pub mod Calls

@@ -15,6 +15,7 @@ pub use Rattle.ctap1_stated.specs.declared.Attestation.{Attestation}
 use Rattle.ctap1_stated.specs.declared.Attestation.the-variants as Attestation′
 pub use Rattle.ctap1_stated.specs.declared.Counter.{Counter}
 pub use Rattle.ctap1_stated.specs.declared.Hardware.{Hardware}
+pub use Rattle.ctap1_stated.specs.declared.HardwareSaid.{HardwareSaid}
 pub use Rattle.ctap1_stated.specs.declared.Decided.{Decided}
 use Rattle.ctap1_stated.specs.declared.Decided.the-variants as Decided′
 pub use Rattle.ctap1_stated.specs.declared.Decision.{Decision}

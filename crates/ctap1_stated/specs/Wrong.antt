@@ -1,6 +1,9 @@
 -- Wrong programs, each with one fault. proofs/Refuted.antt shows of each that a claim is false of it.
+use Prim.Native.Nat.{_%_}
+use lib.Dec.{leb}
 use Rattle.ctap1_stated.specs.Words.{ℕ, _+_, Bool, true, false, not, List, [], _∷_, ltb, eqb, length, if_then_else_, Outcome, R, SW, Gives}
-use Rattle.ctap1_stated.specs.Words.{Presence, Order, Inputs, Allowed, Attestation, Counter, Given, Body, Ordered, Result, isPresent}
+use Rattle.ctap1_stated.specs.Words.{Presence, Order, Inputs, Hardware, HardwareSaid, Allowed, Attestation, Counter, Given, Body, Ordered, Result, isPresent}
+use Rattle.ctap1_stated.specs.Numbers.{allowedOf, attestationOf, hardwareOf}
 use Rattle.ctap1_stated.specs.Path.{Ending, Internal, WrongData, Orders, Path, NoRoom, Status, SixBytes, Signs, Touch, registerOrdered, registerEnding, countedEnding, registerPath, authenticatePath, commandPath, pathOf}
 use Rattle.ctap1_stated.specs.Decision.{refusalResult, statusResult, ended, along, onMoment, decisionOf}
 use Rattle.ctap1_stated.specs.Calls.{PanelCall, TouchAt, CheckAt, AskAt, DecideAt, callOf, panelDoes, toldBy}
@@ -315,3 +318,37 @@ orderSeen (Gives g) = Gives true
 
 abbrev pub ordersAloneSpend : Caller PanelCall
 ordersAloneSpend = record { asCall = callOf; does = doesBy (λ x r. record { outcome = orderSeen (r .answer); presence = r .presence }) }
+
+-- ---- the hardware's answers
+-- "yes, no, failed": a number that is neither yes nor no counts as allowed
+abbrev pub unknownIsAllowed : ℕ → Allowed
+unknownIsAllowed n = if leb 2 n then Allowed′.Yes else allowedOf n
+
+-- "the attestation is missing or failed": a number that is neither counts as present
+abbrev pub unknownIsPresent : ℕ → Attestation
+unknownIsPresent n = if leb 2 n then Attestation′.Present else attestationOf n
+
+-- "Unknown numbers are the cautious answer": whatever is not 0 is yes, as C has it; and the lowest bit, as a bool of C's is passed
+abbrev pub unknownIsYes : ℕ → Bool
+unknownIsYes n = not (eqb n 0)
+
+abbrev pub lowestBitIsYes : ℕ → Bool
+lowestBitIsYes n = eqb (n % 2) 1
+
+-- "the hardware's answers": whether the new handle was stored taken for whether the given one is good
+abbrev pub storedForGood : HardwareSaid → Hardware
+storedForGood n =
+    let h = hardwareOf n in
+    record { allowed = h .allowed; stored = h .stored; attestation = h .attestation; good = h .stored; counter = h .counter }
+
+-- "counter answer failed": a counter offered by any number but 0
+abbrev pub unknownIsCounted : HardwareSaid → Hardware
+unknownIsCounted n =
+    let h = hardwareOf n in
+    record {
+      allowed = h .allowed;
+      stored = h .stored;
+      attestation = h .attestation;
+      good = h .good;
+      counter = if eqb (n .counted) 0 then Counter′.Failed else Counter′.Offered (n .counter);
+    }

@@ -5,29 +5,40 @@ use outcome::Refusal;
 use signing_stated::Head;
 use u2f_up_stated::Presence;
 
-// Whether CTAP1 is allowed. The cases of this and of the next stand in the order of their numbers in C, so that nothing is left of
-// the conversion but a test.
+// The hardware's answers as the panel hands them in. allowed: 0 no, 1 yes, else failed. attestation: 0 missing, 1 present, else failed.
+// stored (the new handle) and good (the given one): 1 yes, else no. The counter is offered where `counted` is 1, else its reading
+// failed. An answer that the path does not reach is not looked at.
+#[repr(C)]
+pub struct HardwareSaid {
+    pub allowed: u32,
+    pub attestation: u32,
+    pub stored: u32,
+    pub good: u32,
+    pub counted: u32,
+    pub counter: u32,
+}
+
+// What those numbers stand for, in which the statements are written: whether CTAP1 is allowed,
 pub enum Allowed {
-    No,
     Yes,
+    No,
     Failed,
 }
 
-// The attestation that a Register is signed with.
+// the attestation that a Register is signed with,
 pub enum Attestation {
-    Missing,
     Present,
+    Missing,
     Failed,
 }
 
-// The counter that an Authenticate would carry.
+// the counter that an Authenticate would carry,
 pub enum Counter {
     Offered(u32),
     Failed,
 }
 
-// What the panel's hardware answers: whether CTAP1 is allowed, whether the new handle was stored, the attestation, whether
-// the given handle is good, and the counter. An answer that the path does not reach is not looked at.
+// and all five answers.
 pub struct Hardware {
     pub allowed: Allowed,
     pub stored: bool,

@@ -1,9 +1,9 @@
 // The calls of the pipe panel that write: frames, decisions and finishings; and an order that was kept elsewhere. `reply` is the
 // lent part of the reply buffer.
 use answers::Answer;
+use ctap1_stated::HardwareSaid;
 use panel_calls::Panel;
 use panel_stated::DecisionSaid;
-use panel_stated::HardwareSaid;
 use panel_stated::OrderNumbers;
 use panel_stated::PresenceRecord;
 

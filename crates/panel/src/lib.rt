@@ -2,11 +2,11 @@
 // the same in C, and .ci/header compares the two. The structs stand in panel_stated, the conversions in plain_frames,
 // plain_presence and plain_orders.
 use apdu::Reading;
+use ctap1::HardwareSaid;
 use panel_stated::Asked;
 use panel_stated::CommandSaid;
 use panel_stated::DecisionSaid;
 use panel_stated::FrameSaid;
-use panel_stated::HardwareSaid;
 use panel_stated::Kinded;
 use panel_stated::Made;
 use panel_stated::OrderNumbers;
@@ -117,12 +117,11 @@ pub extern "C" fn brinecandle_decide(
     ensures { λ r. ⌜ BrinecandleDecide (record { frame = now (frame .entry); moment = t; presence = presence; hardware = hardware; newHandle = now (handle .entry); certificate = now (certificate .entry); x = now (x .entry); y = now (y .entry); reply = now (reply .entry); block = now (block .entry) }) r (now (reply .exit)) (now (block .exit)) ⌝ }
 {
     let kept = plain_presence::record_lent(presence);
-    let answers = plain_orders::hardware_lent(hardware);
     plain_orders::decision_plain(ctap1::decide(
         frame,
         t,
         kept,
-        answers,
+        hardware,
         handle,
         certificate,
         x,

@@ -214,32 +214,6 @@ module _ (n : PresenceRecord) (p : Presence) (t : ℕ) (is-p : p ≡ presenceOf 
   ask-at a r is does = is ∙ ap askedNumbers (does ∙ ap (λ (q : Presence). askOf q t .outcome) is-p)
 
 -- ---- numbers that stand for cases
-module _ (number : ℕ) where
-  pub allowed-no : number ≡ 0 → Allowed′.No ≡ allowedOf number
-  unfolding allowedOf
-  allowed-no e = rw e
-
-  pub allowed-yes : number ≡ 1 → Allowed′.Yes ≡ allowedOf number
-  unfolding allowedOf
-  allowed-yes e = rw e
-
-  pub attestation-missing : number ≡ 0 → Attestation′.Missing ≡ attestationOf number
-  unfolding attestationOf
-  attestation-missing e = rw e
-
-  pub attestation-present : number ≡ 1 → Attestation′.Present ≡ attestationOf number
-  unfolding attestationOf
-  attestation-present e = rw e
-
-  module _ (zero : number ≡ 0 → ⊥) (one : number ≡ 1 → ⊥) where
-    pub allowed-failed : Allowed′.Failed ≡ allowedOf number
-    unfolding allowedOf
-    allowed-failed = rw (ne-eqb number 0 zero, ne-eqb number 1 one)
-
-    pub attestation-failed : Attestation′.Failed ≡ attestationOf number
-    unfolding attestationOf
-    attestation-failed = rw (ne-eqb number 0 zero, ne-eqb number 1 one)
-
 -- a kind's number is that kind
 pub kinded : (k : Kind) (number : ℕ) → number ≡ kindNo k → Kinded′.As k ≡ kindOf number
 unfolding kindOf
@@ -249,17 +223,6 @@ kinded Kind′.Authenticate number e = rw e
 pub no-kind : (number : ℕ) → (number ≡ 1 → ⊥) → (number ≡ 2 → ⊥) → Kinded′.Nothing ≡ kindOf number
 unfolding kindOf
 no-kind number a b = rw (ne-eqb number 1 a, ne-eqb number 2 b)
-
-module _ (counted n : ℕ) where
-  pub counter-offered : counted ≡ 1 → Counter′.Offered n ≡ counterOf counted n
-  counter-offered e = rw e
-
-  pub counter-failed : (counted ≡ 1 → ⊥) → Counter′.Failed ≡ counterOf counted n
-  counter-failed not = rw (ne-eqb counted 1 not)
-
-pub hardware-said : (n : HardwareSaid) (a : Allowed) (t : Attestation) (k : Counter) → a ≡ allowedOf (n .allowed) → t ≡ attestationOf (n .attestation) → k ≡ counterOf (n .counted) (n .counter)
-    → _≡_ {A = Hardware} (record { allowed = a; stored = isYes (n .stored); attestation = t; good = isYes (n .good); counter = k }) (hardwareOf n)
-hardware-said n a t k is-a is-t is-k = rw (is-a, is-t, is-k)
 
 -- ---- the decision
 pub order-said : (answer : Decided) (order : Head) (kind : ℕ) → answer ≡ Decided′.Order → kind ≡ kindNo (order .kind)
@@ -275,21 +238,21 @@ abbrev asked : (frame : List ℕ) (k : Hardware) (handle certificate x y : List 
 asked frame k handle certificate x y room =
     record { frame = frame; hardware = k; newHandle = handle; certificate = certificate; x = x; y = y; room = room }
 
--- a decision on lent numbers is the decision on the record and the answers that they stand for
-module _ (frame : List ℕ) (t : ℕ) (handle certificate x y : List ℕ) (n : PresenceRecord) (h : HardwareSaid) (p : Presence) (k : Hardware) (is-p : p ≡ presenceOf n) (is-k : k ≡ hardwareOf h) where
+-- a decision on lent numbers is the decision on the record that they stand for
+module _ (frame : List ℕ) (t : ℕ) (handle certificate x y : List ℕ) (n : PresenceRecord) (k : Hardware) (p : Presence) (is-p : p ≡ presenceOf n) where
   same : (room : ℕ)
-      → decisionOf p t (asked frame k handle certificate x y room) ≡ decisionOf (presenceOf n) t (asked frame (hardwareOf h) handle certificate x y room)
-  same room = rw (is-p, is-k)
+      → decisionOf p t (asked frame k handle certificate x y room) ≡ decisionOf (presenceOf n) t (asked frame k handle certificate x y room)
+  same room = rw is-p
 
   module _ (room : ℕ) (d : Decision) (old new : List ℕ) (is-d : decisionWith d new ≡ leftOf (decisionOf p t (asked frame k handle certificate x y room)) old) where
-    pub decide-answer : (r : DecisionSaid) → r ≡ handedNumbers (decisionSaid d) → r ≡ decisionNumbers (decisionOf (presenceOf n) t (asked frame (hardwareOf h) handle certificate x y room))
+    pub decide-answer : (r : DecisionSaid) → r ≡ handedNumbers (decisionSaid d) → r ≡ decisionNumbers (decisionOf (presenceOf n) t (asked frame k handle certificate x y room))
     decide-answer r is = is ∙ ap (λ (w : WithBlock). handedNumbers (w .said)) is-d ∙ ap decisionNumbers (same room)
 
-    pub decide-block : new ≡ blockLeft (decisionOf (presenceOf n) t (asked frame (hardwareOf h) handle certificate x y room)) old
+    pub decide-block : new ≡ blockLeft (decisionOf (presenceOf n) t (asked frame k handle certificate x y room)) old
     decide-block = ap (λ (w : WithBlock). w .block) is-d ∙ ap (λ (s : Result). blockLeft s old) (same room)
 
   pub decide-reply : (old new : List ℕ) → new ≡ replyLeft (decisionOf p t (asked frame k handle certificate x y (length old))) old
-      → new ≡ replyLeft (decisionOf (presenceOf n) t (asked frame (hardwareOf h) handle certificate x y (length old))) old
+      → new ≡ replyLeft (decisionOf (presenceOf n) t (asked frame k handle certificate x y (length old))) old
   decide-reply old new is = is ∙ ap (λ (s : Result). replyLeft s old) (same (length old))
 
 -- ---- finishing

@@ -35,23 +35,6 @@ KindNumbers f g p q (suc zero) = p .register ∙ sym (q .register)
 KindNumbers f g p q (suc (suc zero)) = p .authenticate ∙ sym (q .authenticate)
 KindNumbers f g p q (suc (suc (suc n))) = p .none (suc (suc (suc n))) (inr (omega arith)) ∙ sym (q .none (suc (suc (suc n))) (inr (omega arith)))
 
-pub AllowedNumbers : Determines Claims.AllowedNumbers
-AllowedNumbers f g p q zero = p .refused ∙ sym (q .refused)
-AllowedNumbers f g p q (suc zero) = p .granted ∙ sym (q .granted)
-AllowedNumbers f g p q (suc (suc n)) = p .failed (suc (suc n)) (omega arith) ∙ sym (q .failed (suc (suc n)) (omega arith))
-
-pub AttestationNumbers : Determines Claims.AttestationNumbers
-AttestationNumbers f g p q zero = p .missing ∙ sym (q .missing)
-AttestationNumbers f g p q (suc zero) = p .present ∙ sym (q .present)
-AttestationNumbers f g p q (suc (suc n)) = p .failed (suc (suc n)) (omega arith) ∙ sym (q .failed (suc (suc n)) (omega arith))
-
-pub YesNumbers : Determines Claims.YesNumbers
-YesNumbers f g p q n = by-number (ℕ-discrete n 1)
-  where
-    by-number : Dec (n ≡ 1) → f n ≡ g n
-    by-number (yes e) = ap f e ∙ p .granted ∙ sym (q .granted) ∙ sym (ap g e)
-    by-number (no e) = p .other n e ∙ sym (q .other n e)
-
 -- ---- records
 presence-equal : (a b : Presence) → a .w ≡ b .w → a .prompt ≡ b .prompt → a .touch ≡ b .touch → a .last ≡ b .last → a ≡ b
 presence-equal a b w p t l = λ d. record { w = w d; prompt = p d; touch = t d; last = l d }
@@ -139,26 +122,6 @@ DecisionNumbers f g p q r =
     by-answer (SW n) e = (p .status r n e .0 ∙ sym (q .status r n e .0), p .status r n e .1 ∙ sym (q .status r n e .1))
     by-answer (Gives (Body n)) e = (p .body r n e .0 ∙ sym (q .body r n e .0), p .body r n e .1 ∙ sym (q .body r n e .1))
     by-answer (Gives Ordered) e = (p .ordered r e .0 ∙ sym (q .ordered r e .0), p .ordered r e .1 ∙ sym (q .ordered r e .1))
-
-hardware-equal : (a b : Hardware) → a .allowed ≡ b .allowed → a .stored ≡ b .stored → a .attestation ≡ b .attestation → a .good ≡ b .good
-    → a .counter ≡ b .counter → a ≡ b
-hardware-equal a b l s t g c = λ d. record { allowed = l d; stored = s d; attestation = t d; good = g d; counter = c d }
-
-pub HardwareNumbers : Determines Claims.HardwareNumbers
-HardwareNumbers f g p q n =
-    hardware-equal (f n) (g n) (p .allowed n ∙ sym (q .allowed n)) (by-stored (ℕ-discrete (n .stored) 1)) (p .attestation n ∙ sym (q .attestation n)) (by-good (ℕ-discrete (n .good) 1)) (by-counted (ℕ-discrete (n .counted) 1))
-  where
-    by-stored : Dec (n .stored ≡ 1) → f n .stored ≡ g n .stored
-    by-stored (yes e) = p .stored n e ∙ sym (q .stored n e)
-    by-stored (no e) = p .not-stored n e ∙ sym (q .not-stored n e)
-
-    by-good : Dec (n .good ≡ 1) → f n .good ≡ g n .good
-    by-good (yes e) = p .good n e ∙ sym (q .good n e)
-    by-good (no e) = p .not-good n e ∙ sym (q .not-good n e)
-
-    by-counted : Dec (n .counted ≡ 1) → f n .counter ≡ g n .counter
-    by-counted (yes e) = p .offered n e ∙ sym (q .offered n e)
-    by-counted (no e) = p .failed n e ∙ sym (q .failed n e)
 
 -- ---- answers: of every outcome that an export has (`EveryOutcomeNumbered`)
 pub AnswerTells : (f g : Outcome Bool → ℕ) → Claims.AnswerTells f → Claims.AnswerTells g → (o : Outcome Bool) → IsNumbered o → f o ≡ g o

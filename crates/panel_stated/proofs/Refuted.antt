@@ -93,19 +93,6 @@ pub unknownIsAuthenticate : Claims.KindNumbers Wrong.unknownIsAuthenticate → �
 unknownIsAuthenticate p =
     let e : Kinded′.As Kind′.Authenticate ≡ Kinded′.Nothing = p .none 3 (inr (omega arith)) in let z : _≡_ {A = ℕ} 0 1 = cc in omega arith
 
-pub unknownIsAllowed : Claims.AllowedNumbers Wrong.unknownIsAllowed → ⊥
-unknownIsAllowed p = let e : Allowed′.Yes ≡ Allowed′.Failed = p .failed 3 (omega arith) in let z : _≡_ {A = ℕ} 0 1 = cc in omega arith
-
-pub unknownIsPresent : Claims.AttestationNumbers Wrong.unknownIsPresent → ⊥
-unknownIsPresent p =
-    let e : Attestation′.Present ≡ Attestation′.Failed = p .failed 3 (omega arith) in let z : _≡_ {A = ℕ} 0 1 = cc in omega arith
-
-pub unknownIsYes : Claims.YesNumbers Wrong.unknownIsYes → ⊥
-unknownIsYes p = let e : _≡_ {A = Bool} true false = p .other 2 (λ e. omega arith) in let z : _≡_ {A = ℕ} 0 1 = cc in omega arith
-
-pub lowestBitIsYes : Claims.YesNumbers Wrong.lowestBitIsYes → ⊥
-lowestBitIsYes p = let e : _≡_ {A = Bool} true false = p .other 255 (λ e. omega arith) in let z : _≡_ {A = ℕ} 0 1 = cc in omega arith
-
 -- an Authenticate order of zeros
 abbrev login : Order
 login = record { kind = Kind′.Authenticate; «to_sign» = 69; «certificate_length» = 0; bytes = replicate 385 0 }
@@ -178,17 +165,6 @@ runsAtItsNumber p =
     omega arith
 
 -- ---- the hardware, and orders of no kind
-pub storedForGood : Claims.HardwareNumbers Wrong.storedForGood → ⊥
-storedForGood p =
-    let e : _≡_ {A = Bool} true false = p .not-good (record { allowed = 1; attestation = 1; stored = 1; good = 0; counted = 1; counter = 0 }) (λ e. omega arith) in
-    let z : _≡_ {A = ℕ} 0 1 = cc in
-    omega arith
-
-pub unknownIsCounted : Claims.HardwareNumbers Wrong.unknownIsCounted → ⊥
-unknownIsCounted p =
-    let e : Counter′.Offered 0 ≡ Counter′.Failed = p .failed (record { allowed = 1; attestation = 1; stored = 1; good = 1; counted = 2; counter = 0 }) (λ e. omega arith) in
-    let z : _≡_ {A = ℕ} 0 1 = cc in
-    omega arith
 
 pub noKindIsR2 : Claims.OthersRefused writeNumbered Wrong.noKindIsR2 → ⊥
 noKindIsR2 p =

@@ -191,32 +191,6 @@ pub KindNumbers : Claims.KindNumbers kindOf
 unfolding kindOf
 KindNumbers = record { register = refl; authenticate = refl; none = λ n out. sym (no-kind-at n out) }
 
-pub AllowedNumbers : Claims.AllowedNumbers allowedOf
-unfolding allowedOf
-AllowedNumbers =
-    record { refused = refl; granted = refl; failed = λ n from. sym (Cases.allowed-failed n (λ e. omega arith) (λ e. omega arith)) }
-
-pub AttestationNumbers : Claims.AttestationNumbers attestationOf
-unfolding attestationOf
-AttestationNumbers =
-    record { missing = refl; present = refl; failed = λ n from. sym (Cases.attestation-failed n (λ e. omega arith) (λ e. omega arith)) }
-
-pub YesNumbers : Claims.YesNumbers isYes
-YesNumbers = record { granted = refl; other = λ n e. ne-eqb n 1 e }
-
-pub HardwareNumbers : Claims.HardwareNumbers hardwareOf
-HardwareNumbers =
-    record {
-      allowed = λ n. refl;
-      attestation = λ n. refl;
-      stored = λ n e. eq-eqb (n .stored) 1 e;
-      not-stored = λ n e. ne-eqb (n .stored) 1 e;
-      good = λ n e. eq-eqb (n .good) 1 e;
-      not-good = λ n e. ne-eqb (n .good) 1 e;
-      offered = λ n e. sym (Cases.counter-offered (n .counted) (n .counter) e);
-      failed = λ n e. sym (Cases.counter-failed (n .counted) (n .counter) e);
-    }
-
 pub OthersRefused : Claims.OthersRefused writeNumbered finishNumbered
 OthersRefused =
     record {
@@ -363,7 +337,6 @@ ResultsDetermined =
       made-plain = λ ready a b. both-are a b;
       asked-plain = λ answer a b. both-are a b;
       step-plain = λ step a b. both-are a b;
-      hardware-lent = λ said a b. both-are a b;
       kind-numbered = λ n a b. both-are a b;
       decision-plain = λ decision a b. both-are a b;
       finished-plain = λ finished a b. both-are a b;

@@ -8,7 +8,7 @@ use Rattle.panel_stated.specs.Words.{PresenceRecord, HardwareSaid, Order
 use Rattle.panel_stated.specs.Words.{true, Hardware, FrameSaid, CommandSaid, Wrote, Made, Stepped, Asked, DecisionSaid}
 use Rattle.panel_stated.specs.Words.{Says, Command, Register, Authenticate, Version, Told, length, _+_, false, readOf, strictOf, commandOf, newOf, touchOf, checkOf, askOf, finishOf, Given, Body, Ordered, Result}
 use Rattle.panel_stated.specs.Exports.{orderAfter, ToWrite, ToDecide, ToFinish, decidedBy, writeNumbered, finishNumbered}
-use Rattle.panel_stated.specs.Contracts.{ShapeNumbered, FramePlain, WritePlain, CommandPlain, RecordLent, RecordPlain, MadePlain, AskedPlain, StepPlain, HardwareLent, KindNumbered, DecisionPlain, FinishedPlain}
+use Rattle.panel_stated.specs.Contracts.{ShapeNumbered, FramePlain, WritePlain, CommandPlain, RecordLent, RecordPlain, MadePlain, AskedPlain, StepPlain, KindNumbered, DecisionPlain, FinishedPlain}
 use Rattle.panel_stated.specs.Contracts.{BrinecandleRead, BrinecandleReadStrict, BrinecandleWrite, BrinecandleReadCommand, BrinecandleNew, BrinecandleGrantUp, BrinecandleConsumeUp, BrinecandleIsUpNeeded, BrinecandleDecide, BrinecandleFinish}
 use Rattle.octets.specs.Bytes.{partOf}
 use Rattle.apdu_stated.specs.Reading.{dataOf}
@@ -131,40 +131,6 @@ pub record KindNumbers (kind : ℕ → Kinded) : Type 0 where
   pub register : kind 1 ≡ Kinded′.As Kind′.Register
   pub authenticate : kind 2 ≡ Kinded′.As Kind′.Authenticate
   pub none : (n : ℕ) → (n ≡ 0) ⊎ (3 ≤ n) → kind n ≡ Kinded′.Nothing
-
--- 01, The decision: "whether CTAP1 is allowed (yes, no, failed)": 1, 0, and every other number. A table that takes an unknown
--- number for yes (`unknownIsAllowed`) fails it.
-pub record AllowedNumbers (allowed : ℕ → Allowed) : Type 0 where
-  pub refused : allowed 0 ≡ Allowed′.No
-  pub granted : allowed 1 ≡ Allowed′.Yes
-  pub failed : (n : ℕ) → 2 ≤ n → allowed n ≡ Allowed′.Failed
-
--- 01, The decision, 5: "the attestation is missing or failed": 0, every number from 2 on; present is 1. A table that takes an
--- unknown number for present (`unknownIsPresent`) fails it.
-pub record AttestationNumbers (attestation : ℕ → Attestation) : Type 0 where
-  pub missing : attestation 0 ≡ Attestation′.Missing
-  pub present : attestation 1 ≡ Attestation′.Present
-  pub failed : (n : ℕ) → 2 ≤ n → attestation n ≡ Attestation′.Failed
-
--- Of a question with yes or no 1 is yes and every other number no, the cautious answer: not stored, not good, a counter or a signer
--- that failed. Ours; DECISIONS, "Unknown numbers are the cautious answer". A table that takes whatever is not 0 for yes
--- (`unknownIsYes`) fails it, at 2, and one that looks at the lowest bit (`lowestBitIsYes`), at 255.
-pub record YesNumbers (yes : ℕ → Bool) : Type 0 where
-  pub granted : yes 1 ≡ true
-  pub other : (n : ℕ) → (n ≡ 1 → ⊥) → yes n ≡ false
-
--- The hardware's answers. 01, The decision: "the hardware's answers"; 6: "counter answer failed". Answers that change places
--- (`storedForGood`) fail it, where the new handle is stored and the given one is not good; and a counter that is offered whatever is
--- not 0 (`unknownIsCounted`).
-pub record HardwareNumbers (lend : HardwareSaid → Hardware) : Type 0 where
-  pub allowed : (n : HardwareSaid) → lend n .allowed ≡ allowedOf (n .allowed)  -- by `AllowedNumbers`
-  pub attestation : (n : HardwareSaid) → lend n .attestation ≡ attestationOf (n .attestation)  -- by `AttestationNumbers`
-  pub stored : (n : HardwareSaid) → n .stored ≡ 1 → lend n .stored ≡ true
-  pub not-stored : (n : HardwareSaid) → (n .stored ≡ 1 → ⊥) → lend n .stored ≡ false
-  pub good : (n : HardwareSaid) → n .good ≡ 1 → lend n .good ≡ true
-  pub not-good : (n : HardwareSaid) → (n .good ≡ 1 → ⊥) → lend n .good ≡ false
-  pub offered : (n : HardwareSaid) → n .counted ≡ 1 → lend n .counter ≡ Counter′.Offered (n .counter)
-  pub failed : (n : HardwareSaid) → (n .counted ≡ 1 → ⊥) → lend n .counter ≡ Counter′.Failed
 
 -- Ours: OPEN POINTS, "a shape number outside 1..8 is R5", "Over plain numbers any other kind is R7". A finisher that refuses an order of
 -- no kind for its room (`noKindIsR2`) fails it.
@@ -306,7 +272,6 @@ pub record ResultsDetermined : Type 0 where
   pub made-plain : (ready : Ready) → AtMostOne (MadePlain ready)
   pub asked-plain : (answer : Answer) → AtMostOne (AskedPlain answer)
   pub step-plain : (step : Step) → AtMostOne (StepPlain step)
-  pub hardware-lent : (said : HardwareSaid) → AtMostOne (HardwareLent said)
   pub kind-numbered : (n : ℕ) → AtMostOne (KindNumbered n)
   pub decision-plain : (decision : Decision) → AtMostOne (DecisionPlain decision)
   pub finished-plain : (finished : Finished) → AtMostOne (FinishedPlain finished)

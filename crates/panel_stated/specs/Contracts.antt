@@ -47,9 +47,6 @@ abbrev pub StepPlain : Step → Stepped → Type 0
 StepPlain step r = r ≡ stepNumbers (toldOf step)
 
 -- ---- plain_orders
-abbrev pub HardwareLent : HardwareSaid → Hardware → Type 0
-HardwareLent said r = r ≡ hardwareOf said
-
 abbrev pub KindNumbered : ℕ → Kinded → Type 0
 KindNumbered number r = r ≡ kindOf number
 

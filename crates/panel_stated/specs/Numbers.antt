@@ -1,12 +1,10 @@
 -- Document 01, 'Forms that change': "exported to it over plain numbers and byte slices". Which number stands for what:
--- answers, windows and records, the hardware's answers, shapes and kinds.
+-- answers, windows and records, shapes and kinds. The hardware's answers are ctap1_stated's, which takes them as numbers.
 use Rattle.panel_stated.specs.Words.{ℕ, zero, suc, _+_, Bool, eqb, if_then_else_, Outcome, R, SW, Gives}
 use Rattle.panel_stated.specs.Words.{Instruction, Le1, Lc1Data, Lc1DataLe1, Lc3Data, Lc3DataLe1, Lc3DataLe2, Le3}
-use Rattle.panel_stated.specs.Words.{Window, Closed, Opened, Presence, Allowed, Attestation, Counter, Hardware}
-use Rattle.panel_stated.specs.Words.{PresenceRecord, HardwareSaid, OrderNumbers, Shaped, Kinded, Given, Body, Ordered}
-use Rattle.ctap1_stated.specs.declared.Allowed.the-variants as Allowed′
-use Rattle.ctap1_stated.specs.declared.Attestation.the-variants as Attestation′
-use Rattle.ctap1_stated.specs.declared.Counter.the-variants as Counter′
+use Rattle.panel_stated.specs.Words.{Window, Closed, Opened, Presence}
+pub use Rattle.ctap1_stated.specs.Numbers.{allowedOf, attestationOf, isYes, counterOf, hardwareOf}
+use Rattle.panel_stated.specs.Words.{PresenceRecord, OrderNumbers, Shaped, Kinded, Given, Body, Ordered}
 use Rattle.signing_stated.specs.declared.Kind.the-variants.{Register, Authenticate}
 use Rattle.panel_stated.specs.declared.Shaped.the-variants as Shaped′
 use Rattle.panel_stated.specs.declared.Kinded.the-variants as Kinded′
@@ -45,38 +43,6 @@ presenceOf n = record { w = n .w; prompt = windowOf (n .prompt); touch = windowO
 -- the numbers that a record goes out as
 abbrev pub presenceNumbers : Presence → PresenceRecord
 presenceNumbers p = record { w = p .w; prompt = windowNo (p .prompt); touch = windowNo (p .touch); last = p .last }
-
--- 01, The decision: "whether CTAP1 is allowed (yes, no, failed)"
-unfoldable pub allowedOf : ℕ → Allowed
-allowedOf n =
-    if eqb n 0 then Allowed′.No
-    else if eqb n 1 then Allowed′.Yes
-    else Allowed′.Failed
-
--- 01, The decision, 5: "the attestation is missing or failed"
-unfoldable pub attestationOf : ℕ → Attestation
-attestationOf n =
-    if eqb n 0 then Attestation′.Missing
-    else if eqb n 1 then Attestation′.Present
-    else Attestation′.Failed
-
--- ours: DECISIONS, "Unknown numbers are the cautious answer": of a question with yes or no 1 is yes, any other number no
-abbrev pub isYes : ℕ → Bool
-isYes n = eqb n 1
-
--- 01, The decision, 6: "counter answer failed"; "the counter of 32 bits"
-abbrev pub counterOf : (counted counter : ℕ) → Counter
-counterOf counted n = if isYes counted then Counter′.Offered n else Counter′.Failed
-
-abbrev pub hardwareOf : HardwareSaid → Hardware
-hardwareOf n =
-    record {
-      allowed = allowedOf (n .allowed);
-      stored = isYes (n .stored);
-      attestation = attestationOf (n .attestation);
-      good = isYes (n .good);
-      counter = counterOf (n .counted) (n .counter);
-    }
 
 -- 01, 'Eight frame shapes', the column "no"; ours: OPEN POINTS, "a shape number outside 1..8 is R5"
 unfoldable pub shapeOf : ℕ → Shaped

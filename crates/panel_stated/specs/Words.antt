@@ -22,7 +22,7 @@ pub use Rattle.ctap1_stated.specs.declared.Attestation.{Attestation}
 pub use Rattle.ctap1_stated.specs.declared.Counter.{Counter}
 pub use Rattle.ctap1_stated.specs.declared.Hardware.{Hardware}
 pub use Rattle.panel_stated.specs.declared.PresenceRecord.{PresenceRecord}
-pub use Rattle.panel_stated.specs.declared.HardwareSaid.{HardwareSaid}
+pub use Rattle.ctap1_stated.specs.declared.HardwareSaid.{HardwareSaid}
 pub use Rattle.panel_stated.specs.declared.OrderNumbers.{OrderNumbers}
 pub use Rattle.panel_stated.specs.declared.FrameSaid.{FrameSaid}
 pub use Rattle.panel_stated.specs.declared.CommandSaid.{CommandSaid}

@@ -77,21 +77,6 @@ kindsAlike n = if eqb n 2 then Kinded′.As Kind′.Register else kindOf n
 abbrev pub unknownIsAuthenticate : ℕ → Kinded
 unknownIsAuthenticate n = if leb 3 n then Kinded′.As Kind′.Authenticate else kindOf n
 
--- "yes, no, failed": a number that is neither yes nor no counts as allowed
-abbrev pub unknownIsAllowed : ℕ → Allowed
-unknownIsAllowed n = if leb 2 n then Allowed′.Yes else allowedOf n
-
--- "the attestation is missing or failed": a number that is neither counts as present
-abbrev pub unknownIsPresent : ℕ → Attestation
-unknownIsPresent n = if leb 2 n then Attestation′.Present else attestationOf n
-
--- "Unknown numbers are the cautious answer": whatever is not 0 is yes, as C has it; and the lowest bit, as a bool of C's is passed
-abbrev pub unknownIsYes : ℕ → Bool
-unknownIsYes n = not (eqb n 0)
-
-abbrev pub lowestBitIsYes : ℕ → Bool
-lowestBitIsYes n = eqb (n % 2) 1
-
 -- an order's certificate length goes out as the number of bytes to sign
 abbrev pub certificateLengthAsToSign : Outcome Given → Order → OrderNumbers
 certificateLengthAsToSign o order =
@@ -182,24 +167,6 @@ takenUnsaid r =
 -- "a window as one number": the same in a run, from the making on
 abbrev pub runsAtItsNumber : PresenceRecord → Presence
 runsAtItsNumber n = openedAtItsNumber n
-
--- "the hardware's answers": whether the new handle was stored taken for whether the given one is good
-abbrev pub storedForGood : HardwareSaid → Hardware
-storedForGood n =
-    let h = hardwareOf n in
-    record { allowed = h .allowed; stored = h .stored; attestation = h .attestation; good = h .stored; counter = h .counter }
-
--- "counter answer failed": a counter offered by any number but 0
-abbrev pub unknownIsCounted : HardwareSaid → Hardware
-unknownIsCounted n =
-    let h = hardwareOf n in
-    record {
-      allowed = h .allowed;
-      stored = h .stored;
-      attestation = h .attestation;
-      good = h .good;
-      counter = if eqb (n .counted) 0 then Counter′.Failed else Counter′.Offered (n .counter);
-    }
 
 -- "Over plain numbers any other kind is R7": refused for its room
 abbrev pub noKindIsR2 : ToFinish → Outcome (List ℕ)

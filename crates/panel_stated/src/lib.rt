@@ -69,18 +69,6 @@ pub struct Asked {
     pub yes: bool,
 }
 
-// The hardware's answers. allowed: 0 no, 1 yes, else failed. attestation: 0 missing, 1 present, else failed. stored and good: 1
-// yes, else no. The counter is offered where `counted` is 1, else its reading failed.
-#[repr(C)]
-pub struct HardwareSaid {
-    pub allowed: u32,
-    pub attestation: u32,
-    pub stored: u32,
-    pub good: u32,
-    pub counted: u32,
-    pub counter: u32,
-}
-
 // An order beside its block. kind: 1 Register, 2 Authenticate, as their INS; 0 where there is no order.
 #[repr(C)]
 pub struct OrderNumbers {

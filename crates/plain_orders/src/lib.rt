@@ -1,12 +1,7 @@
-// The hardware's answers from plain numbers, and decisions and orders as plain numbers.
-use ctap1_stated::Allowed;
-use ctap1_stated::Attestation;
-use ctap1_stated::Counter;
+// Decisions and orders as plain numbers.
 use ctap1_stated::Decided;
 use ctap1_stated::Decision;
-use ctap1_stated::Hardware;
 use panel_stated::DecisionSaid;
-use panel_stated::HardwareSaid;
 use panel_stated::Kinded;
 use panel_stated::OrderNumbers;
 use panel_stated::Wrote;
@@ -15,53 +10,12 @@ use signing_stated::Head;
 use signing_stated::Kind;
 ghost use mathlib.Core.Path.{_≡_};
 ghost use Rattle.ctap1_stated.specs.Words.{decidedOf};
-ghost use Rattle.panel_stated.specs.Numbers.{allowedOf, attestationOf, counterOf, noOrder, decidedNo};
+ghost use Rattle.panel_stated.specs.Numbers.{noOrder, decidedNo};
 ghost use Rattle.panel_stated.specs.Exports.{bodyLength, headAfter};
-ghost use Rattle.panel_stated.specs.Contracts.{HardwareLent, KindNumbered, DecisionPlain, FinishedPlain};
+ghost use Rattle.panel_stated.specs.Contracts.{KindNumbered, DecisionPlain, FinishedPlain};
 
 // The answer that is no refusal, no status word and not 0: what stands in the block is to be signed.
 const ORDER: u16 = 0x0100;
-
-fn allowed_of(number: u32) -> Allowed
-    ensures { λ r. ⌜ r ≡ allowedOf number ⌝ }
-{
-    match number {
-        0 => Allowed::No,
-        1 => Allowed::Yes,
-        _ => Allowed::Failed,
-    }
-}
-
-fn attestation_of(number: u32) -> Attestation
-    ensures { λ r. ⌜ r ≡ attestationOf number ⌝ }
-{
-    match number {
-        0 => Attestation::Missing,
-        1 => Attestation::Present,
-        _ => Attestation::Failed,
-    }
-}
-
-fn counter_of(counted: u32, counter: u32) -> Counter
-    ensures { λ r. ⌜ r ≡ counterOf counted counter ⌝ }
-{
-    if counted == 1 {
-        return Counter::Offered(counter);
-    }
-    Counter::Failed
-}
-
-pub fn hardware_lent(said: HardwareSaid) -> Hardware
-    ensures { λ r. ⌜ HardwareLent said r ⌝ }
-{
-    Hardware {
-        allowed: allowed_of(said.allowed),
-        stored: said.stored == 1,
-        attestation: attestation_of(said.attestation),
-        good: said.good == 1,
-        counter: counter_of(said.counted, said.counter),
-    }
-}
 
 pub fn kind_numbered(number: u32) -> Kinded
     ensures { λ r. ⌜ KindNumbered number r ⌝ }

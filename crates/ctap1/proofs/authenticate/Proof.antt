@@ -11,13 +11,13 @@ answered-requires : tie.Need-answered-requires
 answered-requires c κs = search needs
 
 returns : tie.Need-returns
-returns c = search (needs, Cases.auth-bad)
+returns c = search (needs, Cases.auth-bad, Cases.no-said)
 
 answered-requires-2 : tie.Need-answered-requires-2
 answered-requires-2 c κs = search needs
 
 returns-2 : tie.Need-returns-2
-returns-2 c = search (needs, Cases.auth-check-only)
+returns-2 c = search (needs, Cases.auth-check-only, Cases.yes-said)
 
 has-authenticate-room-requires : tie.Need-has-authenticate-room-requires
 has-authenticate-room-requires c κs = search needs
@@ -26,19 +26,19 @@ refused-requires : tie.Need-refused-requires
 refused-requires c κs = search needs
 
 returns-3 : tie.Need-returns-3
-returns-3 c = search (needs, Cases.auth-no-room)
+returns-3 c = search (needs, Cases.auth-no-room, Cases.yes-said)
 
 enforce-requires : tie.Need-enforce-requires
 enforce-requires c κs = search needs
 
 returns-4 : tie.Need-returns-4
-returns-4 c = search (needs, Cases.auth-enforced)
+returns-4 c = search (needs, Cases.auth-enforced, Cases.yes-said)
 
 counted-requires : tie.Need-counted-requires
 counted-requires c κs = search needs
 
 returns-5 : tie.Need-returns-5
-returns-5 c = search (needs, Cases.auth-free)
+returns-5 c = search (needs, Cases.auth-free, Cases.yes-said)
 
 pub authenticate-spec : {M : Type 1} → statement M
 authenticate-spec =

@@ -4,14 +4,11 @@ use Rattle.ctap1_stated.proofs.Cases as Cases
 use Rattle.ctap1.proofs.counted.Statement.{statement}
 use Rattle.ctap1.proofs.counted.Tie as tie
 
-enum-told : tie.Need-enum-told
-enum-told c = search needs
-
 answered-requires : tie.Need-answered-requires
 answered-requires c κs = search needs
 
-enum-known-counter : tie.Need-enum-known-counter
-enum-known-counter c = search needs
+returns : tie.Need-returns
+returns c = search (needs, Cases.counted-failed)
 
 application-requires : tie.Need-application-requires
 application-requires c κs = search needs
@@ -25,9 +22,6 @@ authenticate-order-requires c κs = search needs
 ordered-requires : tie.Need-ordered-requires
 ordered-requires c κs = search needs
 
-returns : tie.Need-returns
-returns c = search (needs, Cases.counted-failed)
-
 returns-2 : tie.Need-returns-2
 returns-2 c = search (needs, Cases.counted-order)
 
@@ -35,12 +29,10 @@ pub counted-spec : {M : Type 1} → statement M
 counted-spec =
     tie.close
     (tie.spec
-    enum-told
     answered-requires
-    enum-known-counter
+    returns
     application-requires
     challenge-requires
     authenticate-order-requires
     ordered-requires
-    returns
     returns-2)

@@ -1,44 +1,35 @@
--- `decide` meets its contract: by whether CTAP1 is allowed, the moment first in each case.
+-- `decide` meets its contract: the moment first, then by whether CTAP1 is allowed.
 use borrow.Author.Needs.{needs}
 use Rattle.ctap1_stated.proofs.Tops as Tops
 use Rattle.ctap1.proofs.decide.Statement.{statement}
 use Rattle.ctap1.proofs.decide.Tie as tie
 
-enum-told : tie.Need-enum-told
-enum-told c = search needs
-
-forbidden-requires : tie.Need-forbidden-requires
-forbidden-requires c κs = search needs
-
-enum-told-2 : tie.Need-enum-told-2
-enum-told-2 c = search needs
-
-forbidden-requires-2 : tie.Need-forbidden-requires-2
-forbidden-requires-2 c κs = search needs
-
-enum-told-3 : tie.Need-enum-told-3
-enum-told-3 c = search needs
-
 settle-requires : tie.Need-settle-requires
 settle-requires c κs = search needs
 
-enum-known-why : tie.Need-enum-known-why
-enum-known-why c = search needs
+enum-known-ready : tie.Need-enum-known-ready
+enum-known-ready c = search needs
 
 refused-requires : tie.Need-refused-requires
 refused-requires c κs = search needs
 
-enum-known-settled : tie.Need-enum-known-settled
-enum-known-settled c = search needs
+enum-known-ready-2 : tie.Need-enum-known-ready-2
+enum-known-ready-2 c = search needs
 
-commanded-requires : tie.Need-commanded-requires
-commanded-requires c κs = search needs
+answered-requires : tie.Need-answered-requires
+answered-requires c κs = search needs
 
 returns : tie.Need-returns
 returns c = (search (needs, Tops.allowed-failed), search (needs, Tops.failed-kept))
 
+answered-requires-2 : tie.Need-answered-requires-2
+answered-requires-2 c κs = search needs
+
 returns-2 : tie.Need-returns-2
 returns-2 c = (search (needs, Tops.allowed-no), search (needs, Tops.no-kept))
+
+commanded-requires : tie.Need-commanded-requires
+commanded-requires c κs = search needs
 
 returns-3 : tie.Need-returns-3
 returns-3 c = (search (needs, Tops.not-settled), search (needs, Tops.not-settled-kept))
@@ -53,18 +44,15 @@ pub decide-spec : {M : Type 1} → statement M
 decide-spec =
     tie.close
     (tie.spec
-    enum-told
-    forbidden-requires
-    enum-told-2
-    forbidden-requires-2
-    enum-told-3
     settle-requires
-    enum-known-why
+    enum-known-ready
     refused-requires
-    enum-known-settled
-    commanded-requires
+    enum-known-ready-2
+    answered-requires
     returns
+    answered-requires-2
     returns-2
+    commanded-requires
     returns-3
     same-length
     returns-4)

@@ -26,28 +26,25 @@ answered-requires-2 : tie.Need-answered-requires-2
 answered-requires-2 c κs = search needs
 
 returns-3 : tie.Need-returns-3
-returns-3 c = search (needs, Cases.register-not-stored)
+returns-3 c = search (needs, Cases.register-not-stored, Cases.no-said)
 
 answered-requires-3 : tie.Need-answered-requires-3
 answered-requires-3 c κs = search needs
 
 returns-4 : tie.Need-returns-4
-returns-4 c = search (needs, Cases.register-long)
-
-is-present-requires : tie.Need-is-present-requires
-is-present-requires c κs = search needs
+returns-4 c = search (needs, Cases.register-long, Cases.yes-said)
 
 answered-requires-4 : tie.Need-answered-requires-4
 answered-requires-4 c κs = search needs
 
 returns-5 : tie.Need-returns-5
-returns-5 c = search (needs, Cases.register-no-attestation)
+returns-5 c = search (needs, Cases.register-no-attestation, Cases.yes-said, Cases.not-there)
 
 enrol-requires : tie.Need-enrol-requires
 enrol-requires c κs = search needs
 
 returns-6 : tie.Need-returns-6
-returns-6 c = search (needs, Cases.register-order)
+returns-6 c = search (needs, Cases.register-order, Cases.yes-said, Cases.there)
 
 pub register-spec : {M : Type 1} → statement M
 register-spec =
@@ -63,7 +60,6 @@ register-spec =
     returns-3
     answered-requires-3
     returns-4
-    is-present-requires
     answered-requires-4
     returns-5
     enrol-requires

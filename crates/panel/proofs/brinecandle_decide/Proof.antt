@@ -7,9 +7,6 @@ use Rattle.panel.proofs.brinecandle_decide.Tie as tie
 record-lent-requires : tie.Need-record-lent-requires
 record-lent-requires c κs = search needs
 
-hardware-lent-requires : tie.Need-hardware-lent-requires
-hardware-lent-requires c κs = search needs
-
 decide-requires : tie.Need-decide-requires
 decide-requires c κs = search needs
 
@@ -27,7 +24,6 @@ brinecandle-decide-spec =
     tie.close
     (tie.spec
     record-lent-requires
-    hardware-lent-requires
     decide-requires
     decision-plain-requires
     same-length
