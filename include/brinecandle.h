@@ -37,6 +37,11 @@
 #ifndef BRINECANDLE_H
 #define BRINECANDLE_H
 
+/* docs/CHANGES.md says when these move */
+#define BRINECANDLE_VERSION_MAJOR 0
+#define BRINECANDLE_VERSION_MINOR 3
+#define BRINECANDLE_VERSION "0.3"
+
 #include <stdbool.h>
 #include <stddef.h>
 #include <stdint.h>
