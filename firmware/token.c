@@ -36,8 +36,15 @@ static size_t board_receive(uint8_t *to, size_t most); /* a frame's length, whic
 static void board_send(const uint8_t *bytes, size_t length);
 static bool board_goes_on(void);
 
-/* a new key for an application, stored: its handle, and x and y of its public key */
-static bool board_make_key(const uint8_t application[32], uint8_t handle[HANDLE], uint8_t x[32], uint8_t y[32]);
+/* A new key: its handle, and x and y of its public key. One struct, since three pointers could be swapped unseen. */
+struct new_key {
+    uint8_t handle[HANDLE];
+    uint8_t x[32];
+    uint8_t y[32];
+};
+
+/* a new key for an application, stored */
+static bool board_make_key(const uint8_t application[32], struct new_key *to);
 /* whether a handle is one of ours, and for this application */
 static bool board_is_ours(const uint8_t application[32], const uint8_t *handle, size_t length);
 /* a signature's length, with the attestation key or the handle's; 0 where it failed */
@@ -55,9 +62,7 @@ static struct {
     uint64_t turns; /* of the tick, and its latest value */
     uint32_t tick;
     uint8_t frame[FRAME];
-    uint8_t handle[HANDLE];
-    uint8_t x[32];
-    uint8_t y[32];
+    struct new_key key;
     uint8_t signature[SIGNATURE];
     uint8_t reply[REPLY + 2]; /* two more for the status word */
 } token;
@@ -112,12 +117,12 @@ static void answer(size_t length, uint64_t t)
         .frame_length = length,
         .t = t,
         .hardware = {.allowed = BRINECANDLE_YES, .attestation = BRINECANDLE_YES},
-        .handle = token.handle,
+        .handle = token.key.handle,
         .handle_length = HANDLE,
         .certificate = certificate,
         .certificate_length = CERTIFICATE,
-        .x = token.x,
-        .y = token.y,
+        .x = token.key.x,
+        .y = token.key.y,
         .reply = token.reply,
         .reply_length = REPLY,
     };
@@ -133,7 +138,7 @@ static void answer(size_t length, uint64_t t)
         /* a key is made only for a Register that comes to an order */
         lent.hardware.stored = BRINECANDLE_YES;
         if (brinecandle_panel_try(&token.panel, lent).answer == BRINECANDLE_ORDER
-            && !board_make_key(application, token.handle, token.x, token.y))
+            && !board_make_key(application, &token.key))
             lent.hardware.stored = 0;
     }
     struct brinecandle_decided decided = brinecandle_panel_decide(&token.panel, lent);
@@ -248,14 +253,14 @@ static void board_light(bool blinks)
     board.sent_length = 0;
 }
 
-static bool board_make_key(const uint8_t application[32], uint8_t handle[HANDLE], uint8_t x[32], uint8_t y[32])
+static bool board_make_key(const uint8_t application[32], struct new_key *to)
 {
     board.keys++;
     for (size_t i = 0; i < 32; i++) {
-        handle[i] = application[i];
-        handle[32 + i] = (uint8_t)board.keys;
-        x[i] = 0x11;
-        y[i] = 0x22;
+        to->handle[i] = application[i];
+        to->handle[32 + i] = (uint8_t)board.keys;
+        to->x[i] = 0x11;
+        to->y[i] = 0x22;
     }
     return true;
 }
