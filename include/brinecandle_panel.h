@@ -55,6 +55,7 @@ struct brinecandle_decided {
     size_t length; /* of the body, with BRINECANDLE_OK */
 };
 
+BRINECANDLE_TAKE_IT
 static inline bool brinecandle_is_refusal(uint16_t answer)
 {
     return 0 < answer && answer <= BRINECANDLE_LAST_REFUSAL;
@@ -70,6 +71,7 @@ static inline uint16_t brinecandle_panel_new(struct brinecandle_panel *panel, ui
     return made.answer;
 }
 
+BRINECANDLE_TAKE_IT
 static inline struct brinecandle_asked brinecandle_panel_goes_on(struct brinecandle_panel *panel, struct brinecandle_touch touch)
 {
     struct brinecandle_asked said = {touch.answer, touch.yes};
