@@ -44,6 +44,9 @@
 #ifdef WATCH
 #include "watch.h" /* firmware/test: looks at the whole of what every call hands back */
 #endif
+#ifdef INTERRUPT
+#include "interrupt.h" /* firmware/test: signals come while it waits */
+#endif
 #include "brinecandle_panel.h"
 
 enum { ROOM = 1024, ROOM_MOST = 131072, LINE_MOST = 1048576, WORDS_MOST = 13, PIPE = 65536 };

@@ -36,12 +36,29 @@ static size_t board_receive(uint8_t *to, size_t most); /* a frame's length, whic
 static void board_send(const uint8_t *bytes, size_t length);
 static bool board_goes_on(void);
 
-/* a new key for an application, stored: its handle, and x and y of its public key */
-static bool board_make_key(const uint8_t application[32], uint8_t handle[HANDLE], uint8_t x[32], uint8_t y[32]);
+/* A new key: its handle, and x and y of its public key. One struct, since three pointers could be swapped unseen. */
+struct new_key {
+    uint8_t handle[HANDLE];
+    uint8_t x[32];
+    uint8_t y[32];
+};
+
+/* a new key for an application, stored */
+static bool board_make_key(const uint8_t application[32], struct new_key *to);
 /* whether a handle is one of ours, and for this application */
 static bool board_is_ours(const uint8_t application[32], const uint8_t *handle, size_t length);
-/* a signature's length, with the attestation key or the handle's; 0 where it failed */
-static size_t board_sign(uint32_t kind, const uint8_t *bytes, size_t length, uint8_t signature[SIGNATURE]);
+
+/* What is signed, and with which key: for a Register the attestation key, for an Authenticate the one that the frame's handle stands for. */
+struct signing {
+    uint32_t kind;
+    const uint8_t *handle;
+    size_t handle_length;
+    const uint8_t *bytes;
+    size_t length;
+};
+
+/* a signature's length; 0 where it failed */
+static size_t board_sign(struct signing what, uint8_t signature[SIGNATURE]);
 /* the counter's next number, and that it is used up: both survive a restart */
 static bool board_counter(uint32_t *next);
 static bool board_counter_used(uint32_t number);
@@ -55,9 +72,7 @@ static struct {
     uint64_t turns; /* of the tick, and its latest value */
     uint32_t tick;
     uint8_t frame[FRAME];
-    uint8_t handle[HANDLE];
-    uint8_t x[32];
-    uint8_t y[32];
+    struct new_key key;
     uint8_t signature[SIGNATURE];
     uint8_t reply[REPLY + 2]; /* two more for the status word */
 } token;
@@ -82,13 +97,20 @@ static void tell(uint16_t status, size_t length)
     board_send(token.reply, length + 2);
 }
 
-static void sign_and_tell(struct brinecandle_decided decided, uint32_t counter)
+/* The frame still stands where it was decided on, and its handle with it. */
+static void sign_and_tell(struct brinecandle_decided decided, struct brinecandle_command command, uint32_t counter)
 {
     bool is_register = token.panel.order.kind == BRINECANDLE_KIND_REGISTER;
     size_t signed_length = 0;
     /* a number that could not be written down as used up must not be signed */
     if (!decided.taken || board_counter_used(counter))
-        signed_length = board_sign(token.panel.order.kind, token.panel.block, token.panel.order.to_sign, token.signature);
+        signed_length = board_sign((struct signing){
+            .kind = token.panel.order.kind,
+            .handle = token.frame + command.handle,
+            .handle_length = command.handle_end - command.handle,
+            .bytes = token.panel.block,
+            .length = token.panel.order.to_sign,
+        }, token.signature);
     struct brinecandle_wrote wrote = brinecandle_panel_finish(&token.panel, (struct brinecandle_signed){
         .certificate = certificate,
         .certificate_length = is_register ? CERTIFICATE : 0,
@@ -112,12 +134,12 @@ static void answer(size_t length, uint64_t t)
         .frame_length = length,
         .t = t,
         .hardware = {.allowed = BRINECANDLE_YES, .attestation = BRINECANDLE_YES},
-        .handle = token.handle,
+        .handle = token.key.handle,
         .handle_length = HANDLE,
         .certificate = certificate,
         .certificate_length = CERTIFICATE,
-        .x = token.x,
-        .y = token.y,
+        .x = token.key.x,
+        .y = token.key.y,
         .reply = token.reply,
         .reply_length = REPLY,
     };
@@ -133,12 +155,12 @@ static void answer(size_t length, uint64_t t)
         /* a key is made only for a Register that comes to an order */
         lent.hardware.stored = BRINECANDLE_YES;
         if (brinecandle_panel_try(&token.panel, lent).answer == BRINECANDLE_ORDER
-            && !board_make_key(application, token.handle, token.x, token.y))
+            && !board_make_key(application, &token.key))
             lent.hardware.stored = 0;
     }
     struct brinecandle_decided decided = brinecandle_panel_decide(&token.panel, lent);
     if (decided.answer == BRINECANDLE_ORDER)
-        sign_and_tell(decided, lent.hardware.counter);
+        sign_and_tell(decided, command, lent.hardware.counter);
     else if (!brinecandle_is_refusal(decided.answer))
         tell(decided.answer, decided.length);
     else
@@ -159,7 +181,7 @@ int main(void)
         if (board_pressed())
             said = brinecandle_panel_touch(&token.panel, t);
         size_t length = board_receive(token.frame, FRAME);
-        if (FRAME < length)
+        if (FRAME < length) /* no command, and more than there is room for */
             tell(BRINECANDLE_WRONG_LENGTH, 0);
         else if (length)
             answer(length, t);
@@ -248,14 +270,14 @@ static void board_light(bool blinks)
     board.sent_length = 0;
 }
 
-static bool board_make_key(const uint8_t application[32], uint8_t handle[HANDLE], uint8_t x[32], uint8_t y[32])
+static bool board_make_key(const uint8_t application[32], struct new_key *to)
 {
     board.keys++;
     for (size_t i = 0; i < 32; i++) {
-        handle[i] = application[i];
-        handle[32 + i] = (uint8_t)board.keys;
-        x[i] = 0x11;
-        y[i] = 0x22;
+        to->handle[i] = application[i];
+        to->handle[32 + i] = (uint8_t)board.keys;
+        to->x[i] = 0x11;
+        to->y[i] = 0x22;
     }
     return true;
 }
@@ -270,13 +292,14 @@ static bool board_is_ours(const uint8_t application[32], const uint8_t *handle, 
     return 1 <= handle[32] && handle[32] <= board.keys;
 }
 
-static size_t board_sign(uint32_t kind, const uint8_t *bytes, size_t length, uint8_t signature[SIGNATURE])
+/* tells which key it was: 0 the attestation key, else the number in the handle */
+static size_t board_sign(struct signing what, uint8_t signature[SIGNATURE])
 {
-    (void)bytes;
     signature[0] = 0x30;
-    signature[1] = (uint8_t)kind;
-    signature[2] = (uint8_t)length;
-    return 3;
+    signature[1] = (uint8_t)what.kind;
+    signature[2] = (uint8_t)what.length;
+    signature[3] = what.kind == BRINECANDLE_KIND_REGISTER ? 0 : what.handle[what.handle_length - 1];
+    return 4;
 }
 
 static bool board_counter(uint32_t *next)

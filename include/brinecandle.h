@@ -32,10 +32,16 @@
  * Whatever a function's own text does not name stays as it was: after R1 to R7 every buffer and the record, after an order or
  * a status word other than 0x9000 the reply buffer. Numbers that an answer has no use for are 0.
  *
- * Not told apart by the compiler: handle and certificate, x and y, two lengths. Take the wrapper, where they have names.
+ * Not told apart by the compiler: handle and certificate, x and y, two lengths. Take the wrapper, where they have names; of a
+ * decision and a finishing it also has the bare calls with names (brinecandle_decide_lent, brinecandle_finish_signed).
  */
 #ifndef BRINECANDLE_H
 #define BRINECANDLE_H
+
+/* docs/CHANGES.md says when these move */
+#define BRINECANDLE_VERSION_MAJOR 0
+#define BRINECANDLE_VERSION_MINOR 3
+#define BRINECANDLE_VERSION "0.3"
 
 #include <stdbool.h>
 #include <stddef.h>

@@ -55,6 +55,7 @@ struct brinecandle_decided {
     size_t length; /* of the body, with BRINECANDLE_OK */
 };
 
+BRINECANDLE_TAKE_IT
 static inline bool brinecandle_is_refusal(uint16_t answer)
 {
     return 0 < answer && answer <= BRINECANDLE_LAST_REFUSAL;
@@ -70,6 +71,7 @@ static inline uint16_t brinecandle_panel_new(struct brinecandle_panel *panel, ui
     return made.answer;
 }
 
+BRINECANDLE_TAKE_IT
 static inline struct brinecandle_asked brinecandle_panel_goes_on(struct brinecandle_panel *panel, struct brinecandle_touch touch)
 {
     struct brinecandle_asked said = {touch.answer, touch.yes};
@@ -98,11 +100,23 @@ static inline struct brinecandle_asked brinecandle_panel_ask(const struct brinec
     return brinecandle_is_up_needed(panel->presence, t);
 }
 
-static inline struct brinecandle_decision brinecandle_panel_at(struct brinecandle_presence presence, struct brinecandle_lent lent,
-                                                               uint8_t *block)
+/* brinecandle_decide and brinecandle_finish, lent by name: for a firmware that keeps record and order by itself, since nothing is
+ * kept here. */
+BRINECANDLE_TAKE_IT
+static inline struct brinecandle_decision brinecandle_decide_lent(struct brinecandle_presence presence, struct brinecandle_lent lent,
+                                                                  uint8_t block[BRINECANDLE_BLOCK])
 {
     return brinecandle_decide(lent.frame, lent.frame_length, lent.t, presence, lent.hardware, lent.handle, lent.handle_length,
                               lent.certificate, lent.certificate_length, lent.x, lent.y, lent.reply, lent.reply_length, block);
+}
+
+BRINECANDLE_TAKE_IT
+static inline struct brinecandle_wrote brinecandle_finish_signed(struct brinecandle_order order,
+                                                                 const uint8_t block[BRINECANDLE_BLOCK],
+                                                                 struct brinecandle_signed with)
+{
+    return brinecandle_finish(order, block, with.certificate, with.certificate_length, with.is_signed, with.signature,
+                              with.signature_length, with.reply, with.reply_length);
 }
 
 /* A dry run: what brinecandle_panel_decide would answer, with nothing changed: not the panel, and not the reply in the end, of which
@@ -115,7 +129,7 @@ static inline struct brinecandle_decided brinecandle_panel_try(const struct brin
     size_t kept = lent.reply_length < sizeof front ? lent.reply_length : sizeof front;
     for (size_t i = 0; i < kept; i++)
         front[i] = lent.reply[i];
-    struct brinecandle_decision decision = brinecandle_panel_at(panel->presence, lent, block);
+    struct brinecandle_decision decision = brinecandle_decide_lent(panel->presence, lent, block);
     for (size_t i = 0; i < kept; i++)
         lent.reply[i] = front[i];
     struct brinecandle_decided said = {decision.answer, decision.taken, decision.length};
@@ -127,7 +141,7 @@ static inline struct brinecandle_decided brinecandle_panel_try(const struct brin
 BRINECANDLE_TAKE_IT
 static inline struct brinecandle_decided brinecandle_panel_decide(struct brinecandle_panel *panel, struct brinecandle_lent lent)
 {
-    struct brinecandle_decision decision = brinecandle_panel_at(panel->presence, lent, panel->block);
+    struct brinecandle_decision decision = brinecandle_decide_lent(panel->presence, lent, panel->block);
     struct brinecandle_decided said = {decision.answer, decision.taken, decision.length};
     panel->presence = decision.presence;
     if (!brinecandle_is_refusal(decision.answer))
@@ -140,9 +154,7 @@ static inline struct brinecandle_decided brinecandle_panel_decide(struct brineca
 BRINECANDLE_TAKE_IT
 static inline struct brinecandle_wrote brinecandle_panel_finish(struct brinecandle_panel *panel, struct brinecandle_signed with)
 {
-    struct brinecandle_wrote wrote = brinecandle_finish(panel->order, panel->block, with.certificate, with.certificate_length,
-                                                        with.is_signed, with.signature, with.signature_length, with.reply,
-                                                        with.reply_length);
+    struct brinecandle_wrote wrote = brinecandle_finish_signed(panel->order, panel->block, with);
     if (!brinecandle_is_refusal(wrote.answer)) {
         struct brinecandle_order none = {BRINECANDLE_NO_KIND, 0, 0};
         panel->order = none;

@@ -18,6 +18,7 @@ from panel import Panel, given
 TOUCH_WINDOW = 5000
 STEP = 100  # milliseconds between one call and the next
 NONCE = 16
+HANDLE = 64  # nonce, sealed key and its tag
 
 
 def ecdsa(key, message):
@@ -59,12 +60,14 @@ class Attestation:
 
 
 class KeyStore:
-    """A handle is the private key itself, sealed for its application: 64 bytes, and nothing is kept."""
+    """A handle is the private key itself, sealed for its application, and nothing is kept."""
 
     def __init__(self):
         self.seal = AESGCM(AESGCM.generate_key(256))
+        self.made = 0  # keys
 
     def new(self, application):
+        self.made += 1
         key = ec.generate_private_key(ec.SECP256R1())
         nonce = os.urandom(NONCE)
         secret = key.private_numbers().private_value.to_bytes(32, "big")
@@ -116,21 +119,28 @@ class Device(CtapDevice):
         return self.answer(data)
 
     def answer(self, frame):
-        key, handle = self.key_for(frame)
-        decided = self.panel.call("decide", self.clock(), 1, frame, handle, True, self.attestation.certificate, 1,
-                                  *coordinates(key), key is not None, self.counter, True)
+        now = self.clock()
+        key, handle = self.key_for(frame, now)
+        decided = self.panel.call("decide", *self.lent(frame, now, key, handle))
         if decided[0] == "order":
             decided = self.carry_out(key, *decided[1:])
         status, *body = decided
         return b"".join(map(given, body)) + bytes.fromhex(status)
 
-    def key_for(self, frame):
+    def lent(self, frame, now, key, handle):
+        """What a decision is lent, and a dry run too."""
+        return (now, 1, frame, handle, True, self.attestation.certificate, 1, *coordinates(key), key is not None, self.counter, True)
+
+    def key_for(self, frame, now):
         """The key that a command is about, and the handle of a new one."""
         command, *places = self.panel.call("command", frame)
         places = map(int, places)
         if command == "register":
             _challenge, application = places
-            return self.keys.new(frame[application:application + 32])
+            # a key is made only where the decision will come to an order; no more than the handle's length decides that
+            unmade = None, bytes(HANDLE)
+            will_be = self.panel.call("try", *self.lent(frame, now, *unmade))
+            return self.keys.new(frame[application:application + 32]) if will_be[0] == "order" else unmade
         if command == "authenticate":
             _p1, _challenge, application, handle, end = places
             return self.keys.open(frame[handle:end], frame[application:application + 32]), b""

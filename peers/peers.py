@@ -12,13 +12,12 @@ from fido2.attestation import InvalidSignature as InvalidEnrolment
 from fido2.ctap1 import APDU, ApduError, Ctap1, SignatureData
 
 from building import quietly
-from hardware import Attestation, Device
+from hardware import HANDLE, Attestation, Device
 from panel import Refusal
 from server import ORIGIN, Server, is_known, server_enrolment, server_login
 
 APPLICATION = sha256(ORIGIN.encode()).digest()
 OTHER_APPLICATION = sha256(b"https://example.org").digest()
-HANDLE = 64
 ROOM = 1024
 
 
@@ -135,12 +134,14 @@ def handles(device):
 
 
 def lapsed_touch(device):
-    """fido2 comes too late for a touch"""
+    """fido2 comes too late for a touch, and no key is made until it comes in time"""
     register = lambda: Ctap1(device).register(os.urandom(32), APPLICATION)
     assert status(register) == 0x6985 and device.touch()
     device.now += 5000
-    assert status(register) == 0x6985
-    say("6985, a touch, five seconds: 6985 again")
+    assert status(register) == 0x6985 and device.keys.made == 0
+    say("6985, a touch, five seconds: 6985 again; no key was made")
+    assert device.touch() and status(register) == APDU.OK and device.keys.made == 1
+    say("a touch, 9000: one key was made")
 
 
 def too_long(device):

@@ -1,0 +1,73 @@
+/* For firmware/test: what no line of the panel on a pipe can lend. Null pointers with length 0, and memory of zeros as record, order and
+ * panel: the header says what each of them is answered, and that none of it makes an order. The first that is not so is named. */
+#include <unistd.h>
+
+#include "brinecandle_panel.h"
+
+static void held(bool is, const char *what)
+{
+    if (is)
+        return;
+    size_t length = 0;
+    while (what[length])
+        length++;
+    if (write(STDERR_FILENO, what, length) < 0 || write(STDERR_FILENO, "\n", 1) < 0)
+        _exit(4);
+    _exit(3);
+}
+
+static const uint8_t enrol[5 + 64] = {0, BRINECANDLE_U2F_REGISTER, 0, 0, 64};
+static const uint8_t x[32], y[32];
+static uint8_t block[BRINECANDLE_BLOCK], reply[139];
+
+/* A Register with neither handle nor certificate, all answers yes. */
+static struct brinecandle_decision enrolled(struct brinecandle_presence presence, uint8_t *to, size_t room)
+{
+    const struct brinecandle_hardware yes = {.allowed = BRINECANDLE_YES, .attestation = BRINECANDLE_YES, .stored = BRINECANDLE_YES};
+    return brinecandle_decide(enrol, sizeof enrol, 100, presence, yes, 0, 0, 0, 0, x, y, to, room, block);
+}
+
+static void null_pointers(void)
+{
+    const struct brinecandle_presence touched = {.w = 5000, .touch = 51, .last = 50};
+    held(brinecandle_read(0, 0).answer == BRINECANDLE_WRONG_DATA, "read of no frame");
+    held(brinecandle_read_strict(0, 0).answer == BRINECANDLE_WRONG_DATA, "strict of no frame");
+    held(brinecandle_read_command(0, 0).answer == BRINECANDLE_WRONG_DATA, "command of no frame");
+    held(brinecandle_write(0, 3, 0, 0, 1, 0, 0, 0, reply, sizeof reply).length == 4, "write of no data");
+    held(brinecandle_write(0, 3, 0, 0, 1, 0, 0, 0, 0, 0).answer == BRINECANDLE_R2, "write into no buffer");
+    held(brinecandle_decide(0, 0, 1, touched, (struct brinecandle_hardware){.allowed = BRINECANDLE_YES}, 0, 0, 0, 0, x, y, 0, 0, block).answer
+             == BRINECANDLE_R1, "decide on no frame, too early");
+    held(brinecandle_decide(0, 0, 50, touched, (struct brinecandle_hardware){.allowed = BRINECANDLE_YES}, 0, 0, 0, 0, x, y, 0, 0, block).answer
+             == BRINECANDLE_WRONG_DATA, "decide on no frame");
+    held(enrolled(touched, 0, 0).answer == BRINECANDLE_R2, "decide with no buffer");
+    struct brinecandle_order order = enrolled(touched, reply, sizeof reply).order;
+    held(order.kind == BRINECANDLE_KIND_REGISTER && order.to_sign == 130, "decide with neither handle nor certificate");
+    held(brinecandle_finish(order, block, 0, 0, BRINECANDLE_YES, 0, 0, 0, 0).answer == BRINECANDLE_R2, "finish with no buffer");
+    held(brinecandle_finish(order, block, 0, 0, 0, 0, 0, reply, sizeof reply).answer == BRINECANDLE_INTERNAL_EXCEPTION, "finish, not signed");
+    held(brinecandle_finish(order, block, 0, 0, BRINECANDLE_YES, 0, 0, reply, sizeof reply).length == 67, "finish with an empty signature");
+}
+
+static void zeros(void)
+{
+    static struct brinecandle_presence none;
+    static struct brinecandle_panel panel;
+    static struct brinecandle_decision decision;
+    held(enrolled((struct brinecandle_presence){.w = 5000}, reply, sizeof reply).answer == BRINECANDLE_COND_USE_NOT_SATISFIED,
+         "a record of zeros with w set has no touch");
+    held(enrolled(none, reply, sizeof reply).answer == BRINECANDLE_R6, "a record of zeros");
+    held(decision.answer != BRINECANDLE_ORDER && decision.answer != BRINECANDLE_OK && !brinecandle_is_refusal(decision.answer),
+         "a decision of zeros");
+    held(brinecandle_finish(decision.order, block, 0, 0, BRINECANDLE_YES, 0, 0, reply, sizeof reply).answer == BRINECANDLE_R7, "an order of zeros");
+    held(brinecandle_panel_touch(&panel, 1).answer == BRINECANDLE_R6, "a panel of zeros, touched");
+    held(brinecandle_panel_ask(&panel, 1).answer == BRINECANDLE_R6, "a panel of zeros, asked");
+    held(brinecandle_panel_try(&panel, (struct brinecandle_lent){.x = x, .y = y}).answer == BRINECANDLE_R6, "a panel of zeros, tried");
+    held(brinecandle_panel_finish(&panel, (struct brinecandle_signed){.is_signed = BRINECANDLE_YES}).answer == BRINECANDLE_R7,
+         "a panel of zeros, finished");
+}
+
+int main(void)
+{
+    null_pointers();
+    zeros();
+    return 0;
+}
