@@ -1,4 +1,4 @@
-# For the scripts of bench/, firmware/, oracle/ and peers/, which stand at the repository's root when they use it. Sourced, by sh or bash.
+# For the scripts of .ci/, bench/, firmware/, oracle/ and peers/, which stand at the repository's root when they use it. Sourced, by sh or bash.
 
 # `--help` prints the script's first comment; an option that it does not have, or a word too many, ends it with a line and 2.
 options() { # SCRIPT MOST-WORDS WORD..
