@@ -1,6 +1,6 @@
 -- The claims of specs/Claims.antt, each under its own name.
 use Prim.Native.Nat.{ℕ, _+_, _*_, _<_, _≤_}
-use mathlib.Core.Path.{_≡_, refl, ap, ap₂, sym, _∙_}
+use mathlib.Core.Path.{_≡_, refl, ap, sym, _∙_}
 use mathlib.Core.Bool.{Bool, true, false, true≢false}
 use mathlib.Core.Logic.{_↔_, _⊎_, inl, inr}
 use mathlib.Core.List.{List, [], _∷_, _++_}
@@ -22,7 +22,7 @@ use Rattle.u2f_up_stated.specs.declared.Presence.{Presence}
 use Rattle.u2f_up_stated.proofs.Laws.{demand-3, servers-next, named-later, named-counts, count, length-those}
 use Rattle.signing_stated.specs.Orders.{kindNo, certificateLength, blankOrder, isOfLayout}
 use Rattle.signing_stated.specs.Finishing.{roomAsked}
-use Rattle.ctap1_stated.specs.Words.{Inputs, Given, Body, Ordered, Result, Allowed, Decision, WithBlock}
+use Rattle.ctap1_stated.specs.Words.{Inputs, Given, Body, Ordered, Result, Allowed, WithBlock}
 use Rattle.ctap1_stated.specs.Numbers.{allowedOf, attestationOf, isYes, hardwareOf}
 use Rattle.ctap1_stated.specs.Path.{roleOf}
 use Rattle.ctap1_stated.specs.Decision.{statusResult, versionBytes, decisionOf, replyLeft}

@@ -25,8 +25,8 @@ use Rattle.command_stated.specs.Command.{Register, Authenticate, flagsNo, comma
 use Rattle.command_stated.specs.declared.Ctap1Flags.{Ctap1Flags}
 use Rattle.command_stated.specs.declared.U2fCommand.{U2fCommand}
 use Rattle.command_stated.specs.declared.U2fCommand.the-variants as U2fCommand′
-use Rattle.panel_stated.specs.Words.{FrameSaid, CommandSaid, Wrote, Shaped, PresenceRecord, Made, Stepped, Asked, HardwareSaid, OrderNumbers, DecisionSaid, Kinded}
-use Rattle.panel_stated.specs.Numbers.{shapeOf, greatestNo, windowOf, windowNo, presenceOf, presenceNumbers, allowedOf, attestationOf, isYes, counterOf, hardwareOf, kindOf, decidedNo}
+use Rattle.panel_stated.specs.Words.{FrameSaid, CommandSaid, Wrote, Shaped, PresenceRecord, Made, Stepped, Asked, OrderNumbers, DecisionSaid, Kinded}
+use Rattle.panel_stated.specs.Numbers.{shapeOf, greatestNo, windowOf, windowNo, presenceOf, presenceNumbers, isYes, kindOf, decidedNo}
 use Rattle.panel_stated.specs.Exports.{noFrame, frameNumbers, lengthNumbers, ToWrite, writeNumbered, bufferAs, bareCommand, commandNumbers, noRecord, madeNumbers, askedNumbers, stepNumbers, bodyLength, headAfter, handedNumbers, decisionNumbers, ToFinish, orderFrom, finishNumbered}
 use Rattle.panel_stated.specs.declared.Shaped.the-variants as Shaped′
 use mathlib.Core.Bool.{true, false, Bool}
@@ -50,12 +50,6 @@ use Rattle.signing_stated.specs.declared.Head.{Head}
 use Rattle.ctap1_stated.specs.Words.{Result, WithBlock, decidedOf, decisionSaid, decisionWith}
 use Rattle.ctap1_stated.specs.Decision.{replyLeft, blockLeft, leftOf}
 use Rattle.ctap1_stated.specs.Decision.{decisionOf}
-use Rattle.ctap1_stated.specs.declared.Allowed.{Allowed}
-use Rattle.ctap1_stated.specs.declared.Allowed.the-variants as Allowed′
-use Rattle.ctap1_stated.specs.declared.Attestation.{Attestation}
-use Rattle.ctap1_stated.specs.declared.Attestation.the-variants as Attestation′
-use Rattle.ctap1_stated.specs.declared.Counter.{Counter}
-use Rattle.ctap1_stated.specs.declared.Counter.the-variants as Counter′
 use Rattle.ctap1_stated.specs.declared.Decided.{Decided}
 use Rattle.ctap1_stated.specs.declared.Decided.the-variants as Decided′
 use Rattle.ctap1_stated.specs.declared.Decision.{Decision}

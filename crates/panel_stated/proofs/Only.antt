@@ -1,10 +1,9 @@
 -- Only the definitions meet the claims: two functions that meet one agree on every input.
 use Prim.Native.Nat.{ℕ, zero, suc}
-use mathlib.Core.Bool.{Bool, true, false}
-use mathlib.Core.Path.{_≡_, refl, ap, sym, _∙_}
+use mathlib.Core.Bool.{Bool}
+use mathlib.Core.Path.{_≡_, refl, sym, _∙_}
 use mathlib.Core.Logic.{inl, inr}
 use native.Mathlib.Omega.{arith}
-use native.Mathlib.Decide.{ℕ-discrete}
 use Rattle.outcome.specs.Notation.{Determines, Determines2, Determines3}
 use Rattle.outcome.specs.Outcome.{Outcome, R, SW, Gives}
 use Rattle.command_stated.specs.Command.{Register, Authenticate, Version}
@@ -12,7 +11,7 @@ use Rattle.u2f_up_stated.specs.declared.Presence.{Presence}
 use Rattle.ctap1_stated.specs.Words.{Given, Body, Ordered}
 use Rattle.signing_stated.specs.declared.Kind.{Kind}
 use Rattle.signing_stated.specs.declared.Kind.the-variants as Kind′
-use Rattle.panel_stated.specs.Words.{Hardware, DecisionSaid, PresenceRecord}
+use Rattle.panel_stated.specs.Words.{DecisionSaid, PresenceRecord}
 use Rattle.panel_stated.specs.Terms.{IsNumbered, AreOf64Bits}
 use Rattle.panel_stated.specs.Claims
 

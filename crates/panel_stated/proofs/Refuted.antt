@@ -16,9 +16,6 @@ use Rattle.u2f_up_stated.specs.Moments.{checkOf, settleOf, checkedOf, fresh}
 use Rattle.u2f_up_stated.specs.declared.Window.the-variants.{Closed, Opened}
 use Rattle.u2f_up_stated.specs.declared.Presence.{Presence}
 use Rattle.ctap1_stated.specs.Words.{Ordered}
-use Rattle.ctap1_stated.specs.declared.Allowed.the-variants as Allowed′
-use Rattle.ctap1_stated.specs.declared.Attestation.the-variants as Attestation′
-use Rattle.ctap1_stated.specs.declared.Counter.the-variants as Counter′
 use Rattle.signing_stated.specs.Orders.{isAuthenticateLayout}
 use Rattle.signing_stated.specs.Finishing.{finishOf}
 use Rattle.signing_stated.specs.declared.Kind.the-variants as Kind′

@@ -2,10 +2,10 @@
 -- proofs/Only.antt that no others meet the claims named '..Numbers', proofs/Refuted.antt that the wrong programs of
 -- specs/Wrong.antt do not.
 use mathlib.Core.Logic.{_↔_, _⊎_}
-use Rattle.panel_stated.specs.Words.{ℕ, _≡_, _≤_, _<_, Bool, List, AtMostOne, Outcome, R, SW, Gives, lastRefusal, Closed, Opened, Presence, Allowed, Attestation, Order}
+use Rattle.panel_stated.specs.Words.{ℕ, _≡_, _≤_, _<_, Bool, List, AtMostOne, Outcome, R, SW, Gives, lastRefusal, Closed, Opened, Presence, Order}
 use Rattle.panel_stated.specs.Words.{Instruction, Le1, Lc1Data, Lc1DataLe1, Lc3Data, Lc3DataLe1, Lc3DataLe2, Le3}
-use Rattle.panel_stated.specs.Words.{PresenceRecord, HardwareSaid, OrderNumbers, Shaped, Kinded}
-use Rattle.panel_stated.specs.Words.{true, Hardware, FrameSaid, CommandSaid, Wrote, Made, Stepped, Asked, DecisionSaid}
+use Rattle.panel_stated.specs.Words.{PresenceRecord, OrderNumbers, Shaped, Kinded}
+use Rattle.panel_stated.specs.Words.{FrameSaid, CommandSaid, Wrote, Made, Stepped, Asked, DecisionSaid}
 use Rattle.panel_stated.specs.Words.{Says, Command, Register, Authenticate, Version, Told, length, _+_, false, readOf, strictOf, commandOf, newOf, touchOf, checkOf, askOf, finishOf, Given, Body, Ordered, Result}
 use Rattle.panel_stated.specs.Exports.{orderAfter, ToWrite, ToDecide, ToFinish, decidedBy, writeNumbered, finishNumbered}
 use Rattle.panel_stated.specs.Contracts.{ShapeNumbered, FramePlain, WritePlain, CommandPlain, RecordLent, RecordPlain, MadePlain, AskedPlain, StepPlain, KindNumbered, DecisionPlain, FinishedPlain}
@@ -13,7 +13,7 @@ use Rattle.panel_stated.specs.Contracts.{BrinecandleRead, BrinecandleRea
 use Rattle.octets.specs.Bytes.{partOf}
 use Rattle.apdu_stated.specs.Reading.{dataOf}
 use Rattle.command_stated.specs.Command.{challengeOf, applicationOf, handleOf}
-use Rattle.panel_stated.specs.Numbers.{presenceNumbers, isYes, allowedOf, attestationOf}
+use Rattle.panel_stated.specs.Numbers.{presenceNumbers, isYes}
 use Rattle.u2f_up_stated.specs.Runs.{Caller, Keeps, after, next}
 use Rattle.panel_stated.specs.Terms.{numbersAfter, IsNumbered, IsOfMoment, AreOf64Bits, Carries, AfterWriting, AfterDeciding}
 use Rattle.apdu_stated.specs.declared.Reading.{Reading}
@@ -21,9 +21,6 @@ use Rattle.command_stated.specs.declared.U2fCommand.{U2fCommand}
 use Rattle.u2f_up_stated.specs.declared.Ready.{Ready}
 use Rattle.u2f_up_stated.specs.declared.Answer.{Answer}
 use Rattle.u2f_up_stated.specs.declared.Step.{Step}
-use Rattle.ctap1_stated.specs.declared.Allowed.the-variants as Allowed′
-use Rattle.ctap1_stated.specs.declared.Attestation.the-variants as Attestation′
-use Rattle.ctap1_stated.specs.declared.Counter.the-variants as Counter′
 use Rattle.ctap1_stated.specs.declared.Decision.{Decision}
 use Rattle.signing_stated.specs.declared.Finished.{Finished}
 use Rattle.signing_stated.specs.declared.Kind.the-variants as Kind′

@@ -1,8 +1,8 @@
 -- What is promised of each public function of plain_frames, plain_presence, plain_orders and panel, over what it is lent, its
 -- result, and the final contents of what it writes.
-use Rattle.panel_stated.specs.Words.{ℕ, _≡_, List, Presence, Hardware, readOf, strictOf, commandOf, newOf, touchOf, checkOf, askOf, lengthOf, replyOf, replyLeft, blockLeft}
-use Rattle.panel_stated.specs.Words.{PresenceRecord, HardwareSaid, FrameSaid, CommandSaid, Wrote, Made, Stepped, Asked, DecisionSaid, Shaped, Kinded}
-use Rattle.panel_stated.specs.Numbers.{presenceOf, presenceNumbers, hardwareOf, shapeOf, kindOf}
+use Rattle.panel_stated.specs.Words.{ℕ, _≡_, List, Presence, readOf, strictOf, commandOf, newOf, touchOf, checkOf, askOf, lengthOf, replyOf, replyLeft, blockLeft}
+use Rattle.panel_stated.specs.Words.{PresenceRecord, FrameSaid, CommandSaid, Wrote, Made, Stepped, Asked, DecisionSaid, Shaped, Kinded}
+use Rattle.panel_stated.specs.Numbers.{presenceOf, presenceNumbers, shapeOf, kindOf}
 use Rattle.panel_stated.specs.Exports.{frameNumbers, lengthNumbers, ToWrite, writeNumbered, bufferAs, commandNumbers, madeNumbers, askedNumbers, stepNumbers, handedNumbers, decisionNumbers, ToDecide, decidedBy, ToFinish, finishNumbered}
 use Rattle.apdu_stated.specs.Answers.{readingOf}
 use Rattle.apdu_stated.specs.declared.Reading.{Reading}

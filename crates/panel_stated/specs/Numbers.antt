@@ -1,6 +1,6 @@
 -- Document 01, 'Forms that change': "exported to it over plain numbers and byte slices". Which number stands for what:
 -- answers, windows and records, shapes and kinds. The hardware's answers are ctap1_stated's, which takes them as numbers.
-use Rattle.panel_stated.specs.Words.{ℕ, zero, suc, _+_, Bool, eqb, if_then_else_, Outcome, R, SW, Gives}
+use Rattle.panel_stated.specs.Words.{ℕ, zero, suc, _+_, eqb, if_then_else_, Outcome, R, SW, Gives}
 use Rattle.panel_stated.specs.Words.{Instruction, Le1, Lc1Data, Lc1DataLe1, Lc3Data, Lc3DataLe1, Lc3DataLe2, Le3}
 use Rattle.panel_stated.specs.Words.{Window, Closed, Opened, Presence}
 pub use Rattle.ctap1_stated.specs.Numbers.{allowedOf, attestationOf, isYes, counterOf, hardwareOf}

@@ -1,7 +1,7 @@
 -- `joined` meets its contract. The loop's invariant: the answer is that of the bytes joined so far and of the rest.
 use Prim.Native.Nat.{ℕ, suc, _+_, _-_, _≤_, _<_}
 use mathlib.Core.Path.{_≡_, refl, sym, ap, _∙_}
-use mathlib.Core.Bool.{true, false, _&&_, and-assoc, and-true}
+use mathlib.Core.Bool.{_&&_, and-assoc, and-true}
 use mathlib.Core.List.{List}
 use native.Mathlib.Numerals.{add-one}
 use native.Mathlib.Omega.{arith}

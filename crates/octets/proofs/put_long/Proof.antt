@@ -1,19 +1,15 @@
 -- `put_long` meets its contract. The loop's invariant is that of `put`: the first i bytes of src are laid over dst.
-use Prim.Native.Nat.{ℕ, _+_, _-_, _≤_, _<_}
-use mathlib.Core.Path.{_≡_, refl, sym, ap, _∙_}
+use Prim.Native.Nat.{ℕ, _+_, _-_, _≤_}
+use mathlib.Core.Path.{_≡_, refl, _∙_}
 use mathlib.Core.List.{List}
 use native.Mathlib.Omega.{arith}
 use borrow.Author.Needs.{needs}
 use lib.ListN.{length, take}
 use lib.Seq.{take-all}
 use Rattle.octets.specs.Bytes.{laid}
-use Rattle.octets.proofs.Laid.{length-laid, laid-more, laid-again}
+use Rattle.octets.proofs.Laid.{laid-more, laid-again}
 use Rattle.octets.proofs.put_long.Statement.{statement}
 use Rattle.octets.proofs.put_long.Tie as tie
-use Rattle.octets.proofs.put_long.Reads as reads
-use Rattle.octets.proofs.put_long.Lts as lts
-use Rattle.octets.proofs.put.Reads as put-reads
-use Rattle.octets.proofs.put_run.Reads as put-run-reads
 
 module _ (src dst₀ dst : List ℕ) (i : ℕ) (so-far : dst ≡ laid (take i src) dst₀) where
   there : (k : ℕ) → k ≤ i → laid (take k src) dst ≡ dst

@@ -11,9 +11,6 @@ use Rattle.octets.proofs.Laid.{laid-append, laid-fits, laid-whole}
 use Rattle.octets.proofs.Parts.{length-part}
 use Rattle.octets.proofs.put_run.Statement.{statement}
 use Rattle.octets.proofs.put_run.Tie as tie
-use Rattle.octets.proofs.put_run.Reads as reads
-use Rattle.octets.proofs.put_run.Lts as lts
-use Rattle.octets.proofs.put.Reads as put-reads
 
 module _ (s d held after zs : List ℕ) (at : ℕ) (long : at + 32 ≤ length s) (fits : length s ≤ length d) where
   run-laid : laid (take at s) d ≡ d → length zs ≡ 32 → held ≡ laid (take (at + 32 - at) (drop at s)) zs
