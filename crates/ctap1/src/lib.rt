@@ -159,13 +159,8 @@ fn counted(
     }
     let application = command::application(frame, says);
     let challenge = command::challenge(frame, says);
-    let order = signing::authenticate_order(
-        application,
-        challenge,
-        present,
-        hardware.counter,
-        block,
-    );
+    let n = hardware.counter;
+    let order = signing::authenticate_order(application, challenge, present, n, block);
     ordered(order, settled, true)
 }
 

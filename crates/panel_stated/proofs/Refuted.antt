@@ -12,7 +12,7 @@ use Rattle.apdu_stated.specs.Reading.{readOf, lengthsOf, sayOf}
 use Rattle.u2f_up_stated.specs.History.{Call, Checking}
 use Rattle.u2f_up_stated.specs.Runs.{own, after, doneBy}
 use Rattle.panel_stated.specs.Terms.{numbersAfter}
-use Rattle.u2f_up_stated.specs.Moments.{checkOf, settleOf, checkedOf, fresh}
+use Rattle.u2f_up_stated.specs.Moments.{checkOf, settleOf, checkedOf, fresh, movedTo}
 use Rattle.u2f_up_stated.specs.declared.Window.the-variants.{Closed, Opened}
 use Rattle.u2f_up_stated.specs.declared.Presence.{Presence}
 use Rattle.ctap1_stated.specs.Words.{Ordered}
@@ -117,8 +117,18 @@ registerWithP1 p = let e : _≡_ {A = ℕ} 3 0 = ap (λ (c : CommandSaid). c .p1
 pub lengthBesideRefusal : Claims.LengthNumbers Wrong.lengthBesideRefusal → ⊥
 lengthBesideRefusal p = let e : _≡_ {A = ℕ} 1 0 = ap (λ (w : Wrote). w .length) (p .refused 2) in omega arith
 
+pub lengthUnsaid : Claims.LengthNumbers Wrong.lengthUnsaid → ⊥
+lengthUnsaid p = let e : _≡_ {A = ℕ} 0 1 = ap (λ (w : Wrote). w .length) (p .given 1) in omega arith
+
 pub yesBesideRefusal : Claims.AskedNumbers Wrong.yesBesideRefusal → ⊥
 yesBesideRefusal p = let e : _≡_ {A = Bool} true false = ap (λ (a : Asked). a .yes) (p .refused 1) in let z : _≡_ {A = ℕ} 0 1 = cc in omega arith
+
+pub alwaysNo : Claims.AskedNumbers Wrong.alwaysNo → ⊥
+alwaysNo p = let e : _≡_ {A = Bool} false true = ap (λ (a : Asked). a .yes) (p .given true) in let z : _≡_ {A = ℕ} 0 1 = cc in omega arith
+
+pub lastMomentLost : Claims.StepNumbers Wrong.lastMomentLost → ⊥
+lastMomentLost p =
+    let e : _≡_ {A = ℕ} 0 7 = ap (λ (s : Stepped). s .presence .last) (p .given true (movedTo (fresh 5000) 7)) in omega arith
 
 pub stepYesBesideRefusal : Claims.StepNumbers Wrong.stepYesBesideRefusal → ⊥
 stepYesBesideRefusal p =
@@ -126,6 +136,9 @@ stepYesBesideRefusal p =
 
 pub madeBesideRefusal : Claims.MadeNumbers Wrong.madeBesideRefusal → ⊥
 madeBesideRefusal p = let e : _≡_ {A = ℕ} 1 0 = ap (λ (m : Made). m .presence .w) (p .refused 6) in omega arith
+
+pub madeWithoutRecord : Claims.MadeNumbers Wrong.madeWithoutRecord → ⊥
+madeWithoutRecord p = let e : _≡_ {A = ℕ} 0 5000 = ap (λ (m : Made). m .presence .w) (p .given (fresh 5000)) in omega arith
 
 pub ordersAlike : Claims.OrderNumbersExactly Wrong.ordersAlike → ⊥
 ordersAlike p = let e : _≡_ {A = ℕ} 1 2 = ap (λ (n : OrderNumbers). n .kind) (p .authenticate login refl) in omega arith

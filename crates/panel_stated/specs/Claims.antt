@@ -184,28 +184,28 @@ pub record CommandNumbers (plain : Outcome Command → CommandSaid) : Type 0 whe
         «handle_end» = s .dataAt + s .lc;
       }
 
--- A written length, or 0 beside a refusal or a status word. A table that says a length beside a refusal (`lengthBesideRefusal`)
--- fails it.
+-- A written length, or 0 beside a refusal or a status word. A table that says a length beside a refusal (`lengthBesideRefusal`), or
+-- never one (`lengthUnsaid`), fails it.
 pub record LengthNumbers (plain : Outcome ℕ → Wrote) : Type 0 where
   pub refused : (n : ℕ) → plain (R n) ≡ record { answer = n; length = 0 }
   pub status : (n : ℕ) → plain (SW n) ≡ record { answer = n; length = 0 }
   pub given : (n : ℕ) → plain (Gives n) ≡ record { answer = 0x9000; length = n }
 
 -- What a touch, a check or an ask says: `yes` beside 9000 alone. A table that says yes beside a refusal (`yesBesideRefusal`) fails it:
--- the firmware would take a refused touch for an accepted one.
+-- the firmware would take a refused touch for an accepted one. So does one that never says yes (`alwaysNo`).
 pub record AskedNumbers (plain : Outcome Bool → Asked) : Type 0 where
   pub refused : (n : ℕ) → plain (R n) ≡ record { answer = n; yes = false }
   pub status : (n : ℕ) → plain (SW n) ≡ record { answer = n; yes = false }
   pub given : (b : Bool) → plain (Gives b) ≡ record { answer = 0x9000; yes = b }
 
--- The same beside the record after the call. `stepYesBesideRefusal` fails it.
+-- The same beside the record after the call. `stepYesBesideRefusal` fails it, and a record without its last moment (`lastMomentLost`).
 pub record StepNumbers (plain : Told → Stepped) : Type 0 where
   pub refused : (n : ℕ) (p : Presence) → plain (record { outcome = R n; presence = p }) ≡ record { answer = n; yes = false; presence = presenceNumbers p }
   pub status : (n : ℕ) (p : Presence) → plain (record { outcome = SW n; presence = p }) ≡ record { answer = n; yes = false; presence = presenceNumbers p }
   pub given : (b : Bool) (p : Presence) → plain (record { outcome = Gives b; presence = p }) ≡ record { answer = 0x9000; yes = b; presence = presenceNumbers p }
 
 -- 01: "a refused making hands back no record": four zeros, which no call takes, since W is 0. A making that hands back a fresh record
--- beside its refusal (`madeBesideRefusal`) fails it.
+-- beside its refusal (`madeBesideRefusal`) fails it, as does one that never hands one back (`madeWithoutRecord`).
 pub record MadeNumbers (plain : Outcome Presence → Made) : Type 0 where
   pub refused : (n : ℕ) → plain (R n) ≡ record { answer = n; presence = record { w = 0; prompt = 0; touch = 0; last = 0 } }
   pub status : (n : ℕ) → plain (SW n) ≡ record { answer = n; presence = record { w = 0; prompt = 0; touch = 0; last = 0 } }

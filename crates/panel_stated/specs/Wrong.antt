@@ -4,7 +4,7 @@ use Rattle.panel_stated.specs.Words.{ℕ, _+_, Bool, true, false, eqb, L
 use Rattle.panel_stated.specs.Words.{DecisionSaid, PresenceRecord, OrderNumbers, FrameSaid, CommandSaid, Wrote, Made, Stepped, Asked, Shaped, Kinded}
 use Rattle.panel_stated.specs.Words.{Says, Command, Register, Authenticate, Version, Told, Result, Given, Body, Ordered, toSign, certificateLength}
 use Rattle.panel_stated.specs.Numbers.{greatestNo, presenceOf, presenceNumbers, shapeOf, kindOf}
-use Rattle.panel_stated.specs.Exports.{ToFinish, finishNumbered, frameNumbers, commandNumbers, lengthNumbers, madeNumbers, askedNumbers, orderAfter, decisionNumbers}
+use Rattle.panel_stated.specs.Exports.{ToFinish, finishNumbered, frameNumbers, commandNumbers, lengthNumbers, madeNumbers, askedNumbers, orderAfter, decisionNumbers, stepNumbers}
 use Rattle.ctap1_stated.specs.Decision.{blockAfter}
 use Rattle.signing_stated.specs.declared.Kind.the-variants as Kind′
 use Rattle.panel_stated.specs.declared.Shaped.the-variants as Shaped′
@@ -108,11 +108,26 @@ lengthBesideRefusal (R n) = record { answer = n; length = 1 }
 lengthBesideRefusal (SW n) = lengthNumbers (SW n)
 lengthBesideRefusal (Gives n) = lengthNumbers (Gives n)
 
+-- what was written has no length
+abbrev pub lengthUnsaid : Outcome ℕ → Wrote
+lengthUnsaid o = record { answer = lengthNumbers o .answer; length = 0 }
+
 -- yes beside a refusal
 abbrev pub yesBesideRefusal : Outcome Bool → Asked
 yesBesideRefusal (R n) = record { answer = n; yes = true }
 yesBesideRefusal (SW n) = askedNumbers (SW n)
 yesBesideRefusal (Gives b) = askedNumbers (Gives b)
+
+-- every answer is no
+abbrev pub alwaysNo : Outcome Bool → Asked
+alwaysNo o = record { answer = askedNumbers o .answer; yes = false }
+
+-- the record after a call without its last moment
+abbrev pub lastMomentLost : Told → Stepped
+lastMomentLost told =
+    let step = stepNumbers told in
+    let p = step .presence in
+    record { answer = step .answer; yes = step .yes; presence = record { w = p .w; prompt = p .prompt; touch = p .touch; last = 0 } }
 
 abbrev pub stepYesBesideRefusal : Told → Stepped
 stepYesBesideRefusal told =
@@ -124,6 +139,10 @@ abbrev pub madeBesideRefusal : Outcome Presence → Made
 madeBesideRefusal (R n) = record { answer = n; presence = record { w = 1; prompt = 0; touch = 0; last = 0 } }
 madeBesideRefusal (SW n) = madeNumbers (SW n)
 madeBesideRefusal (Gives p) = madeNumbers (Gives p)
+
+-- a making that hands back no record, whether refused or not
+abbrev pub madeWithoutRecord : Outcome Presence → Made
+madeWithoutRecord o = record { answer = madeNumbers o .answer; presence = record { w = 0; prompt = 0; touch = 0; last = 0 } }
 
 -- every order numbered as a Register
 abbrev pub ordersAlike : Outcome Given → Order → OrderNumbers

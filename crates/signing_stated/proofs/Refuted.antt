@@ -34,6 +34,9 @@ counted (Gives n) = n
 pub kindsAlike : Claims.KindNumbers Wrong.kindsAlike → ⊥
 kindsAlike p = let e : _≡_ {A = ℕ} 1 2 = p .authenticate in omega arith
 
+pub kindsTurned : Claims.KindNumbers Wrong.kindsTurned → ⊥
+kindsTurned p = let e : _≡_ {A = ℕ} 2 1 = p .register in omega arith
+
 pub r4SaidAsR2 : Claims.FinishedOneToOne Wrong.r4SaidAsR2 → ⊥
 r4SaidAsR2 p = let e : Refused R2 ≡ Refused R4 = p (Refused R2) (Refused R4) refl in let z : _≡_ {A = ℕ} 0 1 = cc in omega arith
 

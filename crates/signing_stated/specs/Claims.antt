@@ -19,7 +19,7 @@ use Rattle.signing_stated.specs.Terms.{part, RegisterLengths, PartsLengt
 -- ---- numbers and results
 
 -- Ours; DECISIONS, "kind numbers": the INS of the command that the order answers. A table that numbers both kinds 01
--- (`kindsAlike`) fails it.
+-- (`kindsAlike`) or each as the other (`kindsTurned`) fails it.
 pub record KindNumbers (number : Kind → ℕ) : Type 0 where
   pub register : number Register ≡ 0x01
   pub authenticate : number Authenticate ≡ 0x02

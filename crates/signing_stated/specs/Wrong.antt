@@ -19,6 +19,11 @@ use Rattle.signing_stated.specs.Terms.{keeping}
 abbrev pub kindsAlike : Kind → ℕ
 kindsAlike kind = 0x01
 
+-- and each under the other's INS
+abbrev pub kindsTurned : Kind → ℕ
+kindsTurned Register = 0x02
+kindsTurned Authenticate = 0x01
+
 -- 01, 'Refusal numbers': R4 said as R2
 abbrev pub r4SaidAsR2 : Finished → Outcome ℕ
 r4SaidAsR2 (Refused R1) = R 1
