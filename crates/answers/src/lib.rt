@@ -1,6 +1,4 @@
 // Answers of the pipe panel, as values: a crate that answers calls makes one of numbers alone, and `said` puts it into words.
-ghost use Prim.Native.Nat.{_≤_};
-ghost use lib.ListN.{length};
 
 // The words, and their numbers from 8 on. The numbers below are those of refusals, and 0 is no word; all others are status words.
 const WORDS: [u8; 141] =
@@ -62,29 +60,11 @@ pub fn with_numbers(word: u16, count: usize, numbers: [u64; 5]) -> Answer {
     }
 }
 
-// The word at place k of the list.
-fn word_at<'a>(list: &'a [u8], k: u16) -> &'a [u8] {
-    let mut at = 0;
-    let mut left = k;
-    while at < list.len() {
-        let end = text::find(list, at, b';');
-        if left == 0 {
-            return octets::part(list, at, end);
-        }
-        if list.len() <= end {
-            break;
-        }
-        at = end + 1;
-        left -= 1;
-    }
-    octets::part(list, 0, 0)
-}
-
 fn word(out: &mut [u8], word: u16) -> usize {
     match word {
         0 => 0,
         1..=7 => spell::numbers(out, 0, b"R", &[word as u64], 1),
-        8..=19 => spell::put(out, 0, word_at(&WORDS, word - 8)),
+        8..=19 => spell::put(out, 0, lists::item(&WORDS, (word - 8) as usize)),
         _ => spell::bytes(out, 0, b"", &[(word / 256) as u8, (word % 256) as u8]),
     }
 }

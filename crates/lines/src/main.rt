@@ -1,7 +1,6 @@
 // Runs case files on the panel of crate `pipe`. Its arguments name them: each line is a comment (#), a name for bytes (NAME = HEX,
 // or NAME = HEX * TIMES), a call (>) or the answer that it must get (<). Prints each answer that is another, each line that is
 // none of these, and how many calls each file had.
-mod report;
 mod run;
 
 ghost use mathlib.Core.Path.{_≡_};
@@ -14,13 +13,14 @@ fn file_space() -> [u8; 262144]
     [0; 262144]
 }
 
-fn store_space() -> [u8; 262144]
-    ensures { λ r. ⌜ 262144 ≡ length r ⌝ }
+// The names of a file, and behind them a call and its answer.
+fn line_space() -> [u8; 524288]
+    ensures { λ r. ⌜ 524288 ≡ length r ⌝ }
 {
-    [0; 262144]
+    [0; 524288]
 }
 
-fn line_space() -> [u8; 270336]
+fn answer_space() -> [u8; 270336]
     ensures { λ r. ⌜ 270336 ≡ length r ⌝ }
 {
     [0; 270336]
@@ -33,20 +33,10 @@ fn reply_space() -> [u8; 131072]
 }
 
 fn run_text(name: &[u8], text: &[u8]) {
-    let mut store = store_space();
-    let mut work = line_space();
-    let mut raw = line_space();
-    let mut out = line_space();
+    let mut space = line_space();
     let mut reply = reply_space();
-    run::lines(
-        name,
-        text,
-        &mut store,
-        &mut work,
-        &mut raw,
-        &mut reply,
-        &mut out,
-    );
+    let mut out = answer_space();
+    run::lines(name, text, &mut space, &mut reply, &mut out);
 }
 
 fn run_file(name: &[u8]) {

@@ -7,10 +7,10 @@ use Rattle.calls.proofs.taken.Statement.{statement}
 use Rattle.calls.proofs.taken.Tie as tie
 
 abbrev Inv-loop : tie.InvT-loop
-Inv-loop line marks letters numbers₀ raw₀ k₀ numbers raw k = length raw ≡ length raw₀
+Inv-loop line₀ letters words₀ k₀ line words k = length line ≡ length line₀
 
 abbrev μ-loop : tie.MeasureT-loop
-μ-loop line marks letters numbers₀ raw₀ k₀ numbers raw k = length letters - k
+μ-loop line₀ letters words₀ k₀ line words k = length letters - k
 
 loop-holds : tie.Need-loop-holds Inv-loop μ-loop
 loop-holds c = search needs
@@ -21,29 +21,35 @@ same-length c = search needs
 returns : tie.Need-returns Inv-loop μ-loop
 returns c = search needs
 
-shared-slice-read-into : tie.Need-shared-slice-read-into Inv-loop μ-loop
-shared-slice-read-into c = search needs
+mul-start : tie.Need-mul-start Inv-loop μ-loop
+mul-start c = search needs
 
-add-word : tie.Need-add-word Inv-loop μ-loop
-add-word c = search needs
+add-start : tie.Need-add-start Inv-loop μ-loop
+add-start c = search needs
 
-word-requires : tie.Need-word-requires Inv-loop μ-loop
-word-requires c κs = search needs
+mul-start-2 : tie.Need-mul-start-2 Inv-loop μ-loop
+mul-start-2 c = search needs
 
-mul-into : tie.Need-mul-into Inv-loop μ-loop
-mul-into c = search needs
+element-copy-out-start : tie.Need-element-copy-out-start Inv-loop μ-loop
+element-copy-out-start c = search needs
 
-add-into : tie.Need-add-into Inv-loop μ-loop
-add-into c = search needs
+mul-end : tie.Need-mul-end Inv-loop μ-loop
+mul-end c = search needs
 
-mul-into-2 : tie.Need-mul-into-2 Inv-loop μ-loop
-mul-into-2 c = search needs
+add-end : tie.Need-add-end Inv-loop μ-loop
+add-end c = search needs
 
-element-copy-out-into : tie.Need-element-copy-out-into Inv-loop μ-loop
-element-copy-out-into c = search needs
+mul-end-2 : tie.Need-mul-end-2 Inv-loop μ-loop
+mul-end-2 c = search needs
 
-into-requires : tie.Need-into-requires Inv-loop μ-loop
-into-requires c κs = search needs
+element-copy-out-end : tie.Need-element-copy-out-end Inv-loop μ-loop
+element-copy-out-end c = search needs
+
+shared-slice-read-within : tie.Need-shared-slice-read-within Inv-loop μ-loop
+shared-slice-read-within c = search needs
+
+within-requires : tie.Need-within-requires Inv-loop μ-loop
+within-requires c κs = search needs
 
 enum-known-said : tie.Need-enum-known-said Inv-loop μ-loop
 enum-known-said c = search needs
@@ -57,11 +63,11 @@ same-length-2 c = search needs
 returns-2 : tie.Need-returns-2 Inv-loop μ-loop
 returns-2 c = search needs
 
-mul-numbers : tie.Need-mul-numbers Inv-loop μ-loop
-mul-numbers c = search needs
+mul-words : tie.Need-mul-words Inv-loop μ-loop
+mul-words c = search needs
 
-element-write-numbers : tie.Need-element-write-numbers Inv-loop μ-loop
-element-write-numbers c = search needs
+element-write-words : tie.Need-element-write-words Inv-loop μ-loop
+element-write-words c = search needs
 
 add-k : tie.Need-add-k Inv-loop μ-loop
 add-k c = search needs
@@ -87,20 +93,22 @@ taken-spec =
     loop-holds
     same-length
     returns
-    shared-slice-read-into
-    add-word
-    word-requires
-    mul-into
-    add-into
-    mul-into-2
-    element-copy-out-into
-    into-requires
+    mul-start
+    add-start
+    mul-start-2
+    element-copy-out-start
+    mul-end
+    add-end
+    mul-end-2
+    element-copy-out-end
+    shared-slice-read-within
+    within-requires
     enum-known-said
     enum-told
     same-length-2
     returns-2
-    mul-numbers
-    element-write-numbers
+    mul-words
+    element-write-words
     add-k
     loop-less
     loop-again

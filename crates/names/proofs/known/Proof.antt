@@ -5,10 +5,13 @@ use Rattle.names.proofs.known.Statement.{statement}
 use Rattle.names.proofs.known.Tie as tie
 
 abbrev Inv-loop : tie.InvT-loop
-Inv-loop store marks count name k₀ k = k ≤ 250
+Inv-loop space desk name k₀ k = k ≤ 250
 
 abbrev μ-loop : tie.MeasureT-loop
-μ-loop store marks count name k₀ k = k
+μ-loop space desk name k₀ k = k
+
+element-copy-out-k : tie.Need-element-copy-out-k Inv-loop μ-loop
+element-copy-out-k c = search needs
 
 returns : tie.Need-returns Inv-loop μ-loop
 returns c = search needs
@@ -67,6 +70,7 @@ known-spec =
     (tie.spec
     Inv-loop
     μ-loop
+    element-copy-out-k
     returns
     loop-holds
     mul-part

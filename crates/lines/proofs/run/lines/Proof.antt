@@ -1,5 +1,5 @@
 -- `lines` is safe and ends: each turn passes a line, and no buffer changes its length.
-use Prim.Native.Nat.{_≤_, _-_}
+use Prim.Native.Nat.{_-_}
 use mathlib.Core.Path.{_≡_}
 use borrow.Author.Needs.{needs}
 use lib.ListN.{length}
@@ -7,15 +7,16 @@ use Rattle.lines.proofs.run.lines.Statement.{statement}
 use Rattle.lines.proofs.run.lines.Tie as tie
 
 abbrev Inv-loop : tie.InvT-loop
-Inv-loop name text store₀ work₀ raw₀ reply₀ out₀ marks₀ block₀ run₀ held₀ at₀ store work raw reply out marks block run held at =
-    (at ≤ length text) × (length store ≡ length store₀) × (length work ≡ length work₀) × (length raw ≡ length raw₀) × (length reply ≡ length reply₀) × (length out ≡ length out₀)
+Inv-loop name text space₀ reply₀ out₀ desk₀ panel₀ block₀ at₀ space reply out desk panel block at = (length space ≡ length space₀) × (length reply ≡ length reply₀) × (length out ≡ length out₀)
 
 abbrev μ-loop : tie.MeasureT-loop
-μ-loop name text store₀ work₀ raw₀ reply₀ out₀ marks₀ block₀ run₀ held₀ at₀ store work raw reply out marks block run held at =
-    length text - at
+μ-loop name text space₀ reply₀ out₀ desk₀ panel₀ block₀ at₀ space reply out desk panel block at = length text - at
 
-fresh-requires : tie.Need-fresh-requires Inv-loop μ-loop
-fresh-requires c κs = search needs
+desk-requires : tie.Need-desk-requires Inv-loop μ-loop
+desk-requires c κs = search needs
+
+desk-requires-2 : tie.Need-desk-requires-2 Inv-loop μ-loop
+desk-requires-2 c κs = search needs
 
 loop-holds : tie.Need-loop-holds Inv-loop μ-loop
 loop-holds c = search needs
@@ -23,8 +24,11 @@ loop-holds c = search needs
 find-requires : tie.Need-find-requires Inv-loop μ-loop
 find-requires c κs = search needs
 
-lined-requires : tie.Need-lined-requires Inv-loop μ-loop
-lined-requires c κs = search needs
+line-requires : tie.Need-line-requires Inv-loop μ-loop
+line-requires c κs = search needs
+
+ran-requires : tie.Need-ran-requires Inv-loop μ-loop
+ran-requires c κs = search needs
 
 line-after-requires : tie.Need-line-after-requires Inv-loop μ-loop
 line-after-requires c κs = search needs
@@ -47,12 +51,6 @@ same-length-2 c = search needs
 same-length-3 : tie.Need-same-length-3 Inv-loop μ-loop
 same-length-3 c = search needs
 
-same-length-4 : tie.Need-same-length-4 Inv-loop μ-loop
-same-length-4 c = search needs
-
-same-length-5 : tie.Need-same-length-5 Inv-loop μ-loop
-same-length-5 c = search needs
-
 returns : tie.Need-returns Inv-loop μ-loop
 returns c = search needs
 
@@ -62,10 +60,12 @@ lines-spec =
     (tie.spec
     Inv-loop
     μ-loop
-    fresh-requires
+    desk-requires
+    desk-requires-2
     loop-holds
     find-requires
-    lined-requires
+    line-requires
+    ran-requires
     line-after-requires
     loop-less
     loop-again
@@ -73,6 +73,4 @@ lines-spec =
     same-length
     same-length-2
     same-length-3
-    same-length-4
-    same-length-5
     returns)

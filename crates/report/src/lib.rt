@@ -1,5 +1,9 @@
-// What is printed.
+// What the line program prints.
 use libc::STDOUT_FILENO;
+
+// The words for each fault, by its number; no fault is 0.
+const FAULTS: [u8; 149] =
+    *b";a name that nothing has;too long;neither call, answer, name nor comment;no bytes in hex;too many names;a call with no answer;an answer with no call;";
 
 fn say(words: &[u8]) {
     io::write_all(STDOUT_FILENO, words);
@@ -20,17 +24,13 @@ pub fn line(name: &[u8], line: u64, words: &[u8], more: &[u8]) {
     say(b"\n");
 }
 
-// What is wrong with a line, by its number in `names`.
+pub const NO_ANSWER: u8 = 6;
+
+pub const NO_CALL: u8 = 7;
+
+// What is wrong with a line: its number here or in `names`.
 pub fn damage(name: &[u8], at: u64, fault: u8) {
-    match fault {
-        1 => line(name, at, b"a name that nothing has", b""),
-        2 => line(name, at, b"too long", b""),
-        3 => line(name, at, b"neither call, answer, name nor comment", b""),
-        4 => line(name, at, b"no bytes in hex", b""),
-        5 => line(name, at, b"too many names", b""),
-        6 => line(name, at, b"a call with no answer", b""),
-        _ => line(name, at, b"an answer with no call", b""),
-    }
+    line(name, at, lists::item(&FAULTS, fault as usize), b"");
 }
 
 // NAME: CALLS calls, OTHERS answered otherwise, DAMAGED damaged lines

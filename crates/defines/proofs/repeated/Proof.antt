@@ -2,20 +2,20 @@
 use mathlib.Core.Path.{_≡_}
 use borrow.Author.Needs.{needs}
 use lib.ListN.{length}
-use Rattle.names.proofs.repeated.Statement.{statement}
-use Rattle.names.proofs.repeated.Tie as tie
+use Rattle.defines.proofs.repeated.Statement.{statement}
+use Rattle.defines.proofs.repeated.Tie as tie
 
 abbrev Inv-loop : tie.InvT-loop
-Inv-loop store₀ to bytes times end₀ left₀ store end left = length store ≡ length store₀
+Inv-loop space₀ from to times end₀ left₀ space end left = length space ≡ length space₀
 
 abbrev μ-loop : tie.MeasureT-loop
-μ-loop store₀ to bytes times end₀ left₀ store end left = left
+μ-loop space₀ from to times end₀ left₀ space end left = left
 
 loop-holds : tie.Need-loop-holds Inv-loop μ-loop
 loop-holds c = search needs
 
-put-requires : tie.Need-put-requires Inv-loop μ-loop
-put-requires c κs = search needs
+again-requires : tie.Need-again-requires Inv-loop μ-loop
+again-requires c κs = search needs
 
 sub-left : tie.Need-sub-left Inv-loop μ-loop
 sub-left c = search needs
@@ -39,7 +39,7 @@ repeated-spec =
     Inv-loop
     μ-loop
     loop-holds
-    put-requires
+    again-requires
     sub-left
     loop-less
     loop-again

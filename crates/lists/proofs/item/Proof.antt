@@ -1,9 +1,9 @@
--- `word_at` is safe and ends: each turn passes a word.
+-- `item` is safe and ends: each turn passes an entry.
 use Prim.Native.Nat.{_≤_, _-_}
 use borrow.Author.Needs.{needs}
 use lib.ListN.{length}
-use Rattle.answers.proofs.word_at.Statement.{statement}
-use Rattle.answers.proofs.word_at.Tie as tie
+use Rattle.lists.proofs.item.Statement.{statement}
+use Rattle.lists.proofs.item.Tie as tie
 
 abbrev Inv-loop : tie.InvT-loop
 Inv-loop list k at₀ left₀ at left = at ≤ length list
@@ -41,8 +41,8 @@ part-requires-2 c κs = search needs
 returns-2 : tie.Need-returns-2 Inv-loop μ-loop
 returns-2 c = search needs
 
-pub word-at-spec : {M : Type 1} → statement M
-word-at-spec =
+pub item-spec : {M : Type 1} → statement M
+item-spec =
     tie.close
     (tie.spec
     Inv-loop

@@ -2,14 +2,14 @@
 use Prim.Native.Nat.{_≤_, _-_}
 use borrow.Author.Needs.{needs}
 use lib.ListN.{length}
-use Rattle.calls.proofs.lookup.Statement.{statement}
-use Rattle.calls.proofs.lookup.Tie as tie
+use Rattle.lists.proofs.lookup.Statement.{statement}
+use Rattle.lists.proofs.lookup.Tie as tie
 
 abbrev Inv-loop : tie.InvT-loop
-Inv-loop list name at₀ call₀ at call = (at ≤ length list) × (call ≤ at)
+Inv-loop list name at₀ place₀ at place = (at ≤ length list) × (place ≤ at)
 
 abbrev μ-loop : tie.MeasureT-loop
-μ-loop list name at₀ call₀ at call = length list - at
+μ-loop list name at₀ place₀ at place = length list - at
 
 loop-holds : tie.Need-loop-holds Inv-loop μ-loop
 loop-holds c = search needs
@@ -38,8 +38,8 @@ returns-2 c = search needs
 add-at : tie.Need-add-at Inv-loop μ-loop
 add-at c = search needs
 
-add-call : tie.Need-add-call Inv-loop μ-loop
-add-call c = search needs
+add-place : tie.Need-add-place Inv-loop μ-loop
+add-place c = search needs
 
 loop-less : tie.Need-loop-less Inv-loop μ-loop
 loop-less c = search needs
@@ -68,7 +68,7 @@ lookup-spec =
     returns
     returns-2
     add-at
-    add-call
+    add-place
     loop-less
     loop-again
     returns-3

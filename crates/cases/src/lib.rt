@@ -1,0 +1,176 @@
+// A case file, line by line: names, calls and the answers that they must get. What runs the calls stands on this. One desk of
+// numbers and one space of bytes go through a whole file (`names` says what it keeps in them).
+// The line's number.
+const LINE: usize = 504;
+
+// The call that waits for its answer: its line, or 0, and where it stands in the file.
+const CALL: usize = 505;
+
+const FROM: usize = 506;
+
+const TO: usize = 507;
+
+// The sums.
+const CALLS: usize = 508;
+
+const OTHERS: usize = 509;
+
+const DAMAGED: usize = 510;
+
+// A call and the answer that it must get, spelled out one after the other in the space: the call's line, or 0 where there is no
+// such pair; where the call starts, where it ends and the answer starts, and where that ends.
+pub struct Pair {
+    pub call: usize,
+    pub start: usize,
+    pub middle: usize,
+    pub end: usize,
+}
+
+// Each file starts with no name, no call and no sum.
+pub fn desk() -> [usize; 512] {
+    [0; 512]
+}
+
+fn more(desk: &mut [usize; 512], k: usize) {
+    if k < 512 {
+        desk[k] = std::num::wrapping_add_usize(desk[k], 1);
+    }
+}
+
+fn damaged(desk: &mut [usize; 512], name: &[u8], line: usize, fault: u8) {
+    report::damage(name, line as u64, fault);
+    more(desk, DAMAGED);
+}
+
+fn none() -> Pair {
+    Pair {
+        call: 0,
+        start: 0,
+        middle: 0,
+        end: 0,
+    }
+}
+
+// A line that is neither a call nor an answer.
+fn named(desk: &mut [usize; 512], name: &[u8], line: &[u8], space: &mut [u8]) {
+    let fault = defines::define(line, desk, space);
+    if fault == 0 {
+        return;
+    }
+    let at = desk[LINE];
+    damaged(desk, name, at, fault);
+}
+
+// A call waits for its answer; one that waited before it has none.
+fn called(desk: &mut [usize; 512], name: &[u8], from: usize, to: usize) {
+    waited(desk, name);
+    desk[CALL] = desk[LINE];
+    desk[FROM] = std::num::wrapping_add_usize(from, 2);
+    desk[TO] = to;
+}
+
+fn waited(desk: &mut [usize; 512], name: &[u8]) {
+    let waiting = desk[CALL];
+    if waiting != 0 {
+        damaged(desk, name, waiting, report::NO_ANSWER);
+    }
+}
+
+// Both lines are spelled out before the call is made: a damaged one changes nothing.
+fn paired(
+    desk: &mut [usize; 512],
+    name: &[u8],
+    call: usize,
+    waiting: &[u8],
+    wanted: &[u8],
+    space: &mut [u8],
+) -> Pair {
+    let start = desk[names::FILLED];
+    let asked = names::spelled(waiting, desk, space, start);
+    if asked.fault != 0 {
+        damaged(desk, name, call, asked.fault);
+        return none();
+    }
+    let answer = names::spelled(wanted, desk, space, asked.end);
+    if answer.fault != 0 {
+        let at = desk[LINE];
+        damaged(desk, name, at, answer.fault);
+        return none();
+    }
+    Pair {
+        call,
+        start,
+        middle: asked.end,
+        end: answer.end,
+    }
+}
+
+// An answer: of the call that waits, which is over then.
+fn told(
+    desk: &mut [usize; 512],
+    name: &[u8],
+    text: &[u8],
+    wanted: &[u8],
+    space: &mut [u8],
+) -> Pair {
+    let call = desk[CALL];
+    if call == 0 {
+        let alone = desk[LINE];
+        damaged(desk, name, alone, report::NO_CALL);
+        return none();
+    }
+    desk[CALL] = 0;
+    let waiting = octets::part(text, desk[FROM], desk[TO]);
+    paired(desk, name, call, waiting, wanted, space)
+}
+
+// The line from `from` up to `to` of the file's text.
+pub fn line(
+    desk: &mut [usize; 512],
+    name: &[u8],
+    text: &[u8],
+    from: usize,
+    to: usize,
+    space: &mut [u8],
+) -> Pair {
+    more(desk, LINE);
+    let line = octets::part(text, from, to);
+    match first(line) {
+        b'#' => none(),
+        b'>' => {
+            called(desk, name, from, to);
+            none()
+        }
+        b'<' => told(desk, name, text, octets::part(line, 2, line.len()), space),
+        _ => {
+            named(desk, name, line, space);
+            none()
+        }
+    }
+}
+
+// An empty line is as good as a comment.
+fn first(line: &[u8]) -> u8 {
+    if line.len() == 0 {
+        return b'#';
+    }
+    line[0]
+}
+
+// The answer that a call got, held to the one that it must get.
+pub fn answered(desk: &mut [usize; 512], name: &[u8], call: usize, wanted: &[u8], said: &[u8]) {
+    more(desk, CALLS);
+    if check::same(wanted, said) {
+        return;
+    }
+    more(desk, OTHERS);
+    report::line(name, call as u64, b"wanted ", wanted);
+    report::line(name, call as u64, b"said   ", said);
+}
+
+pub fn ended(desk: &mut [usize; 512], name: &[u8]) {
+    waited(desk, name);
+    let calls = desk[CALLS] as u64;
+    let others = desk[OTHERS] as u64;
+    report::sums(name, calls, others, desk[DAMAGED] as u64);
+}
