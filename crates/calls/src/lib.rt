@@ -1,6 +1,12 @@
 // A line of the pipe panel's language (firmware/panel.c has it) as a call and its words. The crates that answer calls stand on
 // this.
+use text::Desk;
 use text::Said;
+
+// Each call's name, and a letter for each of its words: `one` says what they stand for. The crates that answer calls know them by
+// their places here, from 0 on.
+const CALLS: [u8; 165] =
+    *b"new n;touch n;check n;ask n;record ;resume nwwn;room r;fill b;reply ;read x;strict x;command x;write bbbb44x;decide n4xx4x4kk444;finish x4x;hold 4nno;data x;parts x;";
 
 const ROOM_MOST: u64 = 131072;
 
@@ -45,31 +51,31 @@ fn within(letter: u8, line: &mut [u8], start: usize, end: usize) -> Said {
 }
 
 // Reads each word by its letter; false where a word is not what its letter takes.
-fn taken(line: &mut [u8], letters: &[u8], words: &mut [u64; 64]) -> bool {
+fn taken(line: &mut [u8], letters: &[u8], desk: &mut Desk) -> bool {
     let mut k = 0;
     while k < letters.len() {
         if 15 <= k {
             return false;
         }
-        let start = words[2 * k + 18] as usize;
-        let end = words[2 * k + 19] as usize;
+        let start = desk[2 * k + 18];
+        let end = desk[2 * k + 19];
         let said = within(letters[k], line, start, end);
         let Said::Is(n) = said else {
             return false;
         };
-        words[k] = n;
+        desk[k] = n as usize;
         k += 1;
     }
     true
 }
 
 // The bytes of word k after the name, of which the number says how many there are.
-pub fn given<'a>(line: &'a [u8], words: &[u64; 64], k: usize) -> &'a [u8] {
+pub fn given<'a>(line: &'a [u8], desk: &Desk, k: usize) -> &'a [u8] {
     if 15 <= k {
         return octets::part(line, 0, 0);
     }
-    let start = words[2 * k + 18] as usize;
-    let end = std::num::wrapping_add_usize(start, words[k] as usize);
+    let start = desk[2 * k + 18];
+    let end = std::num::wrapping_add_usize(start, desk[k]);
     octets::part(line, start, end)
 }
 
@@ -80,29 +86,29 @@ pub struct Call {
 }
 
 // What is wrong with a call's words, or 0.
-fn fault(line: &mut [u8], letters: &[u8], count: usize, words: &mut [u64; 64]) -> u16 {
+fn fault(line: &mut [u8], letters: &[u8], count: usize, desk: &mut Desk) -> u16 {
     if count != letters.len() {
         return OTHER_COUNT;
     }
-    if taken(line, letters, words) {
+    if taken(line, letters, desk) {
         return 0;
     }
     OTHER_WORD
 }
 
 // A line as a call: its words are marked and read. Words that say bytes become them, so the line is spent.
-pub fn read(list: &[u8], line: &mut [u8], words: &mut [u64; 64]) -> Call {
-    let count = text::cut(line, words);
-    let found = lists::lookup(list, text::word(line, words, 0));
+pub fn read(line: &mut [u8], desk: &mut Desk) -> Call {
+    let count = text::cut(line, desk);
+    let found = lists::lookup(&CALLS, text::word(line, desk, 0));
     if !found.is {
         return Call {
             call: 0,
             fault: NO_CALL,
         };
     }
-    let letters = octets::part(list, found.start, found.end);
+    let letters = octets::part(&CALLS, found.start, found.end);
     Call {
         call: found.place,
-        fault: fault(line, letters, count - 1, words),
+        fault: fault(line, letters, count - 1, desk),
     }
 }

@@ -1,21 +1,22 @@
 // A case file, line by line: names, calls and the answers that they must get. What runs the calls stands on this. One desk of
 // numbers and one space of bytes go through a whole file (`names` says what it keeps in them).
+use text::Desk;
 // The line's number.
-const LINE: usize = 504;
+const LINE: usize = 66;
 
 // The call that waits for its answer: its line, or 0, and where it stands in the file.
-const CALL: usize = 505;
+const CALL: usize = 67;
 
-const FROM: usize = 506;
+const FROM: usize = 68;
 
-const TO: usize = 507;
+const TO: usize = 69;
 
 // The sums.
-const CALLS: usize = 508;
+const CALLS: usize = 70;
 
-const OTHERS: usize = 509;
+const OTHERS: usize = 71;
 
-const DAMAGED: usize = 510;
+const DAMAGED: usize = 72;
 
 // A call and the answer that it must get, spelled out one after the other in the space: the call's line, or 0 where there is no
 // such pair; where the call starts, where it ends and the answer starts, and where that ends.
@@ -26,18 +27,13 @@ pub struct Pair {
     pub end: usize,
 }
 
-// Each file starts with no name, no call and no sum.
-pub fn desk() -> [usize; 512] {
-    [0; 512]
-}
-
-fn more(desk: &mut [usize; 512], k: usize) {
-    if k < 512 {
+fn more(desk: &mut Desk, k: usize) {
+    if k < 640 {
         desk[k] = std::num::wrapping_add_usize(desk[k], 1);
     }
 }
 
-fn damaged(desk: &mut [usize; 512], name: &[u8], line: usize, fault: u8) {
+fn damaged(desk: &mut Desk, name: &[u8], line: usize, fault: u8) {
     report::damage(name, line as u64, fault);
     more(desk, DAMAGED);
 }
@@ -52,7 +48,7 @@ fn none() -> Pair {
 }
 
 // A line that is neither a call nor an answer.
-fn named(desk: &mut [usize; 512], name: &[u8], line: &[u8], space: &mut [u8]) {
+fn named(desk: &mut Desk, name: &[u8], line: &[u8], space: &mut [u8]) {
     let fault = defines::define(line, desk, space);
     if fault == 0 {
         return;
@@ -62,14 +58,14 @@ fn named(desk: &mut [usize; 512], name: &[u8], line: &[u8], space: &mut [u8]) {
 }
 
 // A call waits for its answer; one that waited before it has none.
-fn called(desk: &mut [usize; 512], name: &[u8], from: usize, to: usize) {
+fn called(desk: &mut Desk, name: &[u8], from: usize, to: usize) {
     waited(desk, name);
     desk[CALL] = desk[LINE];
     desk[FROM] = std::num::wrapping_add_usize(from, 2);
     desk[TO] = to;
 }
 
-fn waited(desk: &mut [usize; 512], name: &[u8]) {
+fn waited(desk: &mut Desk, name: &[u8]) {
     let waiting = desk[CALL];
     if waiting != 0 {
         damaged(desk, name, waiting, report::NO_ANSWER);
@@ -78,7 +74,7 @@ fn waited(desk: &mut [usize; 512], name: &[u8]) {
 
 // Both lines are spelled out before the call is made: a damaged one changes nothing.
 fn paired(
-    desk: &mut [usize; 512],
+    desk: &mut Desk,
     name: &[u8],
     call: usize,
     waiting: &[u8],
@@ -106,13 +102,7 @@ fn paired(
 }
 
 // An answer: of the call that waits, which is over then.
-fn told(
-    desk: &mut [usize; 512],
-    name: &[u8],
-    text: &[u8],
-    wanted: &[u8],
-    space: &mut [u8],
-) -> Pair {
+fn told(desk: &mut Desk, name: &[u8], text: &[u8], wanted: &[u8], space: &mut [u8]) -> Pair {
     let call = desk[CALL];
     if call == 0 {
         let alone = desk[LINE];
@@ -126,7 +116,7 @@ fn told(
 
 // The line from `from` up to `to` of the file's text.
 pub fn line(
-    desk: &mut [usize; 512],
+    desk: &mut Desk,
     name: &[u8],
     text: &[u8],
     from: usize,
@@ -158,7 +148,7 @@ fn first(line: &[u8]) -> u8 {
 }
 
 // The answer that a call got, held to the one that it must get.
-pub fn answered(desk: &mut [usize; 512], name: &[u8], call: usize, wanted: &[u8], said: &[u8]) {
+pub fn answered(desk: &mut Desk, name: &[u8], call: usize, wanted: &[u8], said: &[u8]) {
     more(desk, CALLS);
     if check::same(wanted, said) {
         return;
@@ -168,7 +158,7 @@ pub fn answered(desk: &mut [usize; 512], name: &[u8], call: usize, wanted: &[u8]
     report::line(name, call as u64, b"said   ", said);
 }
 
-pub fn ended(desk: &mut [usize; 512], name: &[u8]) {
+pub fn ended(desk: &mut Desk, name: &[u8]) {
     waited(desk, name);
     let calls = desk[CALLS] as u64;
     let others = desk[OTHERS] as u64;

@@ -13,30 +13,24 @@ fn file_space() -> [u8; 262144]
     [0; 262144]
 }
 
-// The names of a file, and behind them a call and its answer.
+// For the names of a file, and behind them a call and its answer.
 fn line_space() -> [u8; 524288]
     ensures { λ r. ⌜ 524288 ≡ length r ⌝ }
 {
     [0; 524288]
 }
 
-fn answer_space() -> [u8; 270336]
-    ensures { λ r. ⌜ 270336 ≡ length r ⌝ }
+// For the reply buffer, an order's block and an answer in words.
+fn out_space() -> [u8; 401408]
+    ensures { λ r. ⌜ 401408 ≡ length r ⌝ }
 {
-    [0; 270336]
-}
-
-fn reply_space() -> [u8; 131072]
-    ensures { λ r. ⌜ 131072 ≡ length r ⌝ }
-{
-    [0; 131072]
+    [0; 401408]
 }
 
 fn run_text(name: &[u8], text: &[u8]) {
     let mut space = line_space();
-    let mut reply = reply_space();
-    let mut out = answer_space();
-    run::lines(name, text, &mut space, &mut reply, &mut out);
+    let mut out = out_space();
+    run::lines(name, text, &mut space, &mut out);
 }
 
 fn run_file(name: &[u8]) {

@@ -1,6 +1,6 @@
 // Names for byte strings, and lines spelled out by them, in one lent space: each name and what it stands for, one after the other,
-// and behind them whatever is spelled out. The desk holds numbers: where each name starts, at an even place, and after it where
-// what it stands for does; from COUNT on this crate has two places, and its callers the rest.
+// and behind them whatever is spelled out. The desk has where each name starts, and after that where what it stands for does.
+use text::Desk;
 ghost use Prim.Native.Nat.{_≤_, _<_};
 ghost use lib.ListN.{length};
 
@@ -19,13 +19,16 @@ pub const TOO_MANY: u8 = 5;
 const MOST: usize = 250;
 
 // How many names there are.
-const COUNT: usize = 502;
+const COUNT: usize = 64;
 
 // How far they fill the space.
-pub const FILLED: usize = 503;
+pub const FILLED: usize = 65;
+
+// From where on the desk says where the names start.
+const MARKS: usize = 128;
 
 // The latest name that is the same, counted from 1; 0 where there is none.
-fn known(space: &[u8], desk: &[usize; 512], name: &[u8]) -> usize
+fn known(space: &[u8], desk: &Desk, name: &[u8]) -> usize
     ensures { λ r. ⌜ r ≤ 250 ⌝ }
 {
     let mut k = desk[COUNT];
@@ -33,7 +36,10 @@ fn known(space: &[u8], desk: &[usize; 512], name: &[u8]) -> usize
         return 0;
     }
     while 0 < k {
-        if check::same(name, octets::part(space, desk[2 * k - 2], desk[2 * k - 1])) {
+        if check::same(
+            name,
+            octets::part(space, desk[MARKS + 2 * k - 2], desk[MARKS + 2 * k - 1]),
+        ) {
             return k;
         }
         k -= 1;
@@ -42,14 +48,14 @@ fn known(space: &[u8], desk: &[usize; 512], name: &[u8]) -> usize
 }
 
 // One name more: it ends at `middle`, and what it stands for at `end`.
-pub fn enter(desk: &mut [usize; 512], middle: usize, end: usize) -> u8 {
+pub fn enter(desk: &mut Desk, middle: usize, end: usize) -> u8 {
     let count = desk[COUNT];
     if MOST <= count {
         return TOO_MANY;
     }
-    desk[2 * count] = desk[FILLED];
-    desk[2 * count + 1] = middle;
-    desk[2 * count + 2] = end;
+    desk[MARKS + 2 * count] = desk[FILLED];
+    desk[MARKS + 2 * count + 1] = middle;
+    desk[MARKS + 2 * count + 2] = end;
     desk[COUNT] = count + 1;
     desk[FILLED] = end;
     0
@@ -97,7 +103,7 @@ struct Piece {
     fault: u8,
 }
 
-fn next_piece(line: &[u8], at: usize, desk: &[usize; 512], space: &mut [u8], to: usize) -> Piece
+fn next_piece(line: &[u8], at: usize, desk: &Desk, space: &mut [u8], to: usize) -> Piece
     requires { ⌜ at < length (now line) ⌝ }
     ensures { λ r. ⌜ at < r .next ⌝ }
 {
@@ -120,7 +126,7 @@ fn next_piece(line: &[u8], at: usize, desk: &[usize; 512], space: &mut [u8], to:
             fault: UNKNOWN,
         };
     }
-    let end = again(space, desk[2 * k - 1], desk[2 * k], to);
+    let end = again(space, desk[MARKS + 2 * k - 1], desk[MARKS + 2 * k], to);
     Piece {
         next,
         end,
@@ -129,7 +135,7 @@ fn next_piece(line: &[u8], at: usize, desk: &[usize; 512], space: &mut [u8], to:
 }
 
 // Spells a line out, into the space from `to` on.
-pub fn spelled(line: &[u8], desk: &[usize; 512], space: &mut [u8], to: usize) -> Spelling {
+pub fn spelled(line: &[u8], desk: &Desk, space: &mut [u8], to: usize) -> Spelling {
     let mut at = 0;
     let mut end = to;
     while at < line.len() {

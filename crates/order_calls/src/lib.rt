@@ -1,28 +1,40 @@
-// The calls of the pipe panel that write: frames, decisions and finishings; and an order that was kept elsewhere. `reply` is the
-// lent part of the reply buffer.
+// The calls of the pipe panel that write frames and finish orders; and an order that was kept elsewhere. `out` has the reply
+// buffer, of which so much as the room says is lent on, and the block of the order that is held (`answers` says where).
 use answers::Answer;
 use panel_calls::CERTIFICATE;
 use panel_calls::KIND;
+use panel_calls::ROOM;
 use panel_calls::TO_SIGN;
-use panel_stated::DecisionSaid;
-use panel_stated::HardwareSaid;
 use panel_stated::OrderNumbers;
+use text::Desk;
 
-fn order(desk: &[u64; 64]) -> OrderNumbers {
+fn order(desk: &Desk) -> OrderNumbers {
     OrderNumbers {
         kind: (desk[KIND] % 0x1_0000_0000) as u32,
-        to_sign: desk[TO_SIGN] as usize,
-        certificate_length: desk[CERTIFICATE] as usize,
+        to_sign: desk[TO_SIGN],
+        certificate_length: desk[CERTIFICATE],
     }
 }
 
-fn keep(desk: &mut [u64; 64], kind: u64, to_sign: u64, certificate: u64) {
+// The order that is held, but for its block.
+pub fn keep(desk: &mut Desk, kind: usize, to_sign: usize, certificate: usize) {
     desk[KIND] = kind;
     desk[TO_SIGN] = to_sign;
     desk[CERTIFICATE] = certificate;
 }
 
-pub fn write(desk: &[u64; 64], line: &[u8], reply: &mut [u8]) -> Answer {
+// The order's block, with bytes over its front.
+pub fn keep_block(out: &mut [u8], bytes: &[u8]) {
+    if answers::SAID <= out.len() {
+        octets::put(&mut out[answers::BLOCK..answers::SAID], bytes);
+    }
+}
+
+pub fn write(desk: &Desk, line: &[u8], out: &mut [u8]) -> Answer {
+    let room = desk[ROOM];
+    if out.len() < room {
+        return answers::bare(0);
+    }
     let said = panel::brinecandle_write(
         (desk[0] % 256) as u8,
         (desk[1] % 256) as u8,
@@ -31,87 +43,26 @@ pub fn write(desk: &[u64; 64], line: &[u8], reply: &mut [u8]) -> Answer {
         (desk[4] % 0x1_0000_0000) as u32,
         calls::given(line, desk, 6),
         (desk[5] % 0x1_0000_0000) as u32,
-        reply,
+        &mut out[0..room],
     );
     panel_calls::wrote(said.answer, said.length)
 }
 
-fn hardware(desk: &[u64; 64]) -> HardwareSaid {
-    HardwareSaid {
-        allowed: (desk[1] % 0x1_0000_0000) as u32,
-        attestation: (desk[6] % 0x1_0000_0000) as u32,
-        stored: (desk[4] % 0x1_0000_0000) as u32,
-        good: (desk[9] % 0x1_0000_0000) as u32,
-        counted: (desk[11] % 0x1_0000_0000) as u32,
-        counter: (desk[10] % 0x1_0000_0000) as u32,
-    }
-}
-
-fn ordered(order: OrderNumbers, taken: bool) -> Answer {
-    Answer {
-        word: answers::ORDER,
-        count: 2,
-        numbers: [order.kind as u64, taken as u64, 0, 0, 0],
-        has_bytes: true,
-        bytes: order.to_sign,
-        after: order.certificate_length as u64,
-    }
-}
-
-// A refused decision keeps the order held; any other puts its own, or none, in the place.
-fn decided(desk: &mut [u64; 64], decision: DecisionSaid) -> Answer {
-    let presence = decision.presence;
-    let order = decision.order;
-    panel_calls::keep(desk, presence);
-    if decision.answer <= 7 {
-        return answers::bare(decision.answer);
-    }
-    keep(
-        desk,
-        order.kind as u64,
-        order.to_sign as u64,
-        order.certificate_length as u64,
-    );
-    if decision.answer == 0x0100 {
-        return ordered(order, decision.taken);
-    }
-    panel_calls::wrote(decision.answer, decision.length)
-}
-
-pub fn decide(
-    desk: &mut [u64; 64],
-    line: &[u8],
-    reply: &mut [u8],
-    block: &mut [u8; 385],
-) -> Answer {
-    let mut x = [0u8; 32];
-    let mut y = [0u8; 32];
-    octets::put(&mut x, calls::given(line, desk, 7));
-    octets::put(&mut y, calls::given(line, desk, 8));
-    let decision = panel::brinecandle_decide(
-        calls::given(line, desk, 2),
-        desk[0],
-        panel_calls::presence(desk),
-        hardware(desk),
-        calls::given(line, desk, 3),
-        calls::given(line, desk, 5),
-        &x,
-        &y,
-        reply,
-        block,
-    );
-    decided(desk, decision)
-}
-
 // An order is over once it is finished with 9000 or a status word.
-pub fn finish(desk: &mut [u64; 64], line: &[u8], reply: &mut [u8], block: &[u8; 385]) -> Answer {
+pub fn finish(desk: &mut Desk, line: &[u8], out: &mut [u8]) -> Answer {
+    let room = desk[ROOM];
+    if out.len() < room {
+        return answers::bare(0);
+    }
+    let mut block = [0u8; 385];
+    octets::put(&mut block, octets::part(out, answers::BLOCK, answers::SAID));
     let said = panel::brinecandle_finish(
         order(desk),
-        block,
+        &block,
         calls::given(line, desk, 0),
         (desk[1] % 0x1_0000_0000) as u32,
         calls::given(line, desk, 2),
-        reply,
+        &mut out[0..room],
     );
     if said.answer <= 7 {
         return answers::bare(said.answer);
@@ -120,8 +71,8 @@ pub fn finish(desk: &mut [u64; 64], line: &[u8], reply: &mut [u8], block: &[u8; 
     panel_calls::wrote(said.answer, said.length)
 }
 
-pub fn hold(desk: &mut [u64; 64], line: &[u8], block: &mut [u8; 385]) -> Answer {
-    octets::put(block, calls::given(line, desk, 3));
+pub fn hold(desk: &mut Desk, line: &[u8], out: &mut [u8]) -> Answer {
+    keep_block(out, calls::given(line, desk, 3));
     let kind = desk[0];
     let to_sign = desk[1];
     let certificate = desk[2];

@@ -1,6 +1,7 @@
 // The calls of the pipe panel on the presence record and on frames, answered as firmware/panel.c answers them, over the same
-// exports. What the panel holds stands on the desk, behind the words of the line (`text` and `calls` say where those are).
+// exports. What the panel holds stands on the desk, behind the words of the line.
 use panel_stated::PresenceRecord;
+use text::Desk;
 
 mod frames;
 mod touches;
@@ -28,25 +29,25 @@ pub const TO_SIGN: usize = 54;
 
 pub const CERTIFICATE: usize = 55;
 
-// Before the first record W is 0, so every call on it is R6.
-pub fn desk() -> [u64; 64] {
-    let mut desk = [0u64; 64];
+// Nothing is held, and no line was read. Before the first record W is 0, so every call on it is R6.
+pub fn fresh() -> Desk {
+    let mut desk = [0usize; 640];
     desk[ROOM] = 1024;
     desk
 }
 
-pub fn presence(desk: &[u64; 64]) -> PresenceRecord {
+pub fn presence(desk: &Desk) -> PresenceRecord {
     PresenceRecord {
-        w: desk[W],
-        prompt: desk[PROMPT],
-        touch: desk[TOUCH],
-        last: desk[LAST],
+        w: desk[W] as u64,
+        prompt: desk[PROMPT] as u64,
+        touch: desk[TOUCH] as u64,
+        last: desk[LAST] as u64,
     }
 }
 
-pub fn keep(desk: &mut [u64; 64], p: PresenceRecord) {
-    desk[W] = p.w;
-    desk[PROMPT] = p.prompt;
-    desk[TOUCH] = p.touch;
-    desk[LAST] = p.last;
+pub fn keep(desk: &mut Desk, p: PresenceRecord) {
+    desk[W] = p.w as usize;
+    desk[PROMPT] = p.prompt as usize;
+    desk[TOUCH] = p.touch as usize;
+    desk[LAST] = p.last as usize;
 }

@@ -5,6 +5,7 @@ use answers::Answer;
 use panel_stated::Made;
 use panel_stated::PresenceRecord;
 use panel_stated::Stepped;
+use text::Desk;
 
 // yes, no, or a refusal.
 fn yes(said: u16, yes: bool) -> Answer {
@@ -14,7 +15,7 @@ fn yes(said: u16, yes: bool) -> Answer {
     answers::bare(if yes { answers::YES } else { answers::NO })
 }
 
-fn stepped(desk: &mut [u64; 64], touched: Stepped) -> Answer {
+fn stepped(desk: &mut Desk, touched: Stepped) -> Answer {
     let presence = touched.presence;
     keep(desk, presence);
     yes(touched.answer, touched.yes)
@@ -30,7 +31,7 @@ fn record(p: PresenceRecord) -> Answer {
 }
 
 // A refused making keeps the old record.
-fn made(desk: &mut [u64; 64], made: Made) -> Answer {
+fn made(desk: &mut Desk, made: Made) -> Answer {
     if made.answer != 0x9000 {
         return answers::bare(made.answer);
     }
@@ -60,21 +61,21 @@ fn ask(presence: PresenceRecord, t: u64) -> Answer {
 }
 
 // Any values may stand in a record that was kept elsewhere.
-fn resume(desk: &mut [u64; 64]) -> Answer {
+fn resume(desk: &mut Desk) -> Answer {
     let kept = PresenceRecord {
-        w: desk[0],
-        prompt: window(desk[1]),
-        touch: window(desk[2]),
-        last: desk[3],
+        w: desk[0] as u64,
+        prompt: window(desk[1] as u64),
+        touch: window(desk[2] as u64),
+        last: desk[3] as u64,
     };
     keep(desk, kept);
     answers::bare(answers::OK)
 }
 
 // new, touch, check, ask, record and resume.
-pub fn on_record(desk: &mut [u64; 64], call: usize) -> Answer {
+pub fn on_record(desk: &mut Desk, call: usize) -> Answer {
     let p = presence(desk);
-    let n = desk[0];
+    let n = desk[0] as u64;
     match call {
         0 => made(desk, panel::brinecandle_new(n)),
         1 => stepped(desk, panel::brinecandle_grant_up(p, n)),

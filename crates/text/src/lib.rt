@@ -3,6 +3,10 @@
 ghost use Prim.Native.Nat.{_≤_, _<_};
 ghost use lib.ListN.{length};
 
+// The numbers of the line program, in one place, so that its functions lend few things: from 0 on those that the words of a line
+// say, and from 16 to 47 where the words start and end. `panel_calls` has the places from 48 on, `names` and `cases` those from 64.
+pub type Desk = [usize; 640];
+
 // What a word says, or that it is none of what was asked for.
 pub enum Said {
     Is(u64),
@@ -24,7 +28,7 @@ pub fn find(text: &[u8], at: usize, byte: u8) -> usize
 }
 
 // A space ends a word and starts the next, as long as there is a mark left.
-fn mark(b: u8, i: usize, count: usize, words: &mut [u64; 64]) -> usize
+fn mark(b: u8, i: usize, count: usize, desk: &mut Desk) -> usize
     requires { ⌜ (count ≤ 15) × (i < 18446744073709551615) ⌝ }
     ensures { λ r. ⌜ r ≤ 15 ⌝ }
 {
@@ -34,32 +38,32 @@ fn mark(b: u8, i: usize, count: usize, words: &mut [u64; 64]) -> usize
     if 15 <= count {
         return count;
     }
-    words[2 * count + 17] = i as u64;
-    words[2 * count + 18] = (i + 1) as u64;
+    desk[2 * count + 17] = i;
+    desk[2 * count + 18] = i + 1;
     count + 1
 }
 
 // Cuts a line into its words, which stand between single spaces; says how many there are. Where each of them starts and ends goes
-// to the places from 16 to 47. Those before are for the numbers that the words say, those behind for callers.
-pub fn cut(line: &[u8], words: &mut [u64; 64]) -> usize
+// to the desk.
+pub fn cut(line: &[u8], desk: &mut Desk) -> usize
     ensures { λ r. ⌜ 1 ≤ r ⌝ }
 {
     let mut count = 0;
     let mut i = 0;
-    words[16] = 0;
+    desk[16] = 0;
     while i < line.len() {
-        count = mark(line[i], i, count, words);
+        count = mark(line[i], i, count, desk);
         i += 1;
     }
-    words[2 * count + 17] = line.len() as u64;
+    desk[2 * count + 17] = line.len();
     count + 1
 }
 
-pub fn word<'a>(line: &'a [u8], words: &[u64; 64], k: usize) -> &'a [u8] {
+pub fn word<'a>(line: &'a [u8], desk: &Desk, k: usize) -> &'a [u8] {
     if 16 <= k {
         return octets::part(line, 0, 0);
     }
-    octets::part(line, words[2 * k + 16] as usize, words[2 * k + 17] as usize)
+    octets::part(line, desk[2 * k + 16], desk[2 * k + 17])
 }
 
 // The value of a digit, of either case; 16 for what is none.

@@ -7,10 +7,10 @@ use Rattle.calls.proofs.taken.Statement.{statement}
 use Rattle.calls.proofs.taken.Tie as tie
 
 abbrev Inv-loop : tie.InvT-loop
-Inv-loop line₀ letters words₀ k₀ line words k = length line ≡ length line₀
+Inv-loop line₀ letters desk₀ k₀ line desk k = length line ≡ length line₀
 
 abbrev μ-loop : tie.MeasureT-loop
-μ-loop line₀ letters words₀ k₀ line words k = length letters - k
+μ-loop line₀ letters desk₀ k₀ line desk k = length letters - k
 
 loop-holds : tie.Need-loop-holds Inv-loop μ-loop
 loop-holds c = search needs
@@ -63,11 +63,11 @@ same-length-2 c = search needs
 returns-2 : tie.Need-returns-2 Inv-loop μ-loop
 returns-2 c = search needs
 
-mul-words : tie.Need-mul-words Inv-loop μ-loop
-mul-words c = search needs
+mul-desk : tie.Need-mul-desk Inv-loop μ-loop
+mul-desk c = search needs
 
-element-write-words : tie.Need-element-write-words Inv-loop μ-loop
-element-write-words c = search needs
+element-write-desk : tie.Need-element-write-desk Inv-loop μ-loop
+element-write-desk c = search needs
 
 add-k : tie.Need-add-k Inv-loop μ-loop
 add-k c = search needs
@@ -107,8 +107,8 @@ taken-spec =
     enum-told
     same-length-2
     returns-2
-    mul-words
-    element-write-words
+    mul-desk
+    element-write-desk
     add-k
     loop-less
     loop-again

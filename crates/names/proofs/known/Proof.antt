@@ -22,6 +22,9 @@ loop-holds c = search needs
 mul-part : tie.Need-mul-part Inv-loop μ-loop
 mul-part c = search needs
 
+add-part : tie.Need-add-part Inv-loop μ-loop
+add-part c = search needs
+
 sub-part : tie.Need-sub-part Inv-loop μ-loop
 sub-part c = search needs
 
@@ -33,6 +36,9 @@ element-copy-out-part c = search needs
 
 mul-part-3 : tie.Need-mul-part-3 Inv-loop μ-loop
 mul-part-3 c = search needs
+
+add-part-2 : tie.Need-add-part-2 Inv-loop μ-loop
+add-part-2 c = search needs
 
 sub-part-2 : tie.Need-sub-part-2 Inv-loop μ-loop
 sub-part-2 c = search needs
@@ -74,10 +80,12 @@ known-spec =
     returns
     loop-holds
     mul-part
+    add-part
     sub-part
     mul-part-2
     element-copy-out-part
     mul-part-3
+    add-part-2
     sub-part-2
     mul-part-4
     element-copy-out-part-2

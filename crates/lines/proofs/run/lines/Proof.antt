@@ -7,16 +7,13 @@ use Rattle.lines.proofs.run.lines.Statement.{statement}
 use Rattle.lines.proofs.run.lines.Tie as tie
 
 abbrev Inv-loop : tie.InvT-loop
-Inv-loop name text space₀ reply₀ out₀ desk₀ panel₀ block₀ at₀ space reply out desk panel block at = (length space ≡ length space₀) × (length reply ≡ length reply₀) × (length out ≡ length out₀)
+Inv-loop name text space₀ out₀ desk₀ at₀ space out desk at = (length space ≡ length space₀) × (length out ≡ length out₀)
 
 abbrev μ-loop : tie.MeasureT-loop
-μ-loop name text space₀ reply₀ out₀ desk₀ panel₀ block₀ at₀ space reply out desk panel block at = length text - at
+μ-loop name text space₀ out₀ desk₀ at₀ space out desk at = length text - at
 
-desk-requires : tie.Need-desk-requires Inv-loop μ-loop
-desk-requires c κs = search needs
-
-desk-requires-2 : tie.Need-desk-requires-2 Inv-loop μ-loop
-desk-requires-2 c κs = search needs
+fresh-requires : tie.Need-fresh-requires Inv-loop μ-loop
+fresh-requires c κs = search needs
 
 loop-holds : tie.Need-loop-holds Inv-loop μ-loop
 loop-holds c = search needs
@@ -48,9 +45,6 @@ same-length c = search needs
 same-length-2 : tie.Need-same-length-2 Inv-loop μ-loop
 same-length-2 c = search needs
 
-same-length-3 : tie.Need-same-length-3 Inv-loop μ-loop
-same-length-3 c = search needs
-
 returns : tie.Need-returns Inv-loop μ-loop
 returns c = search needs
 
@@ -60,8 +54,7 @@ lines-spec =
     (tie.spec
     Inv-loop
     μ-loop
-    desk-requires
-    desk-requires-2
+    fresh-requires
     loop-holds
     find-requires
     line-requires
@@ -72,5 +65,4 @@ lines-spec =
     ended-requires
     same-length
     same-length-2
-    same-length-3
     returns)
