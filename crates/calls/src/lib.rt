@@ -70,13 +70,13 @@ fn taken(line: &mut [u8], letters: &[u8], desk: &mut Desk) -> bool {
 }
 
 // The bytes of word k after the name, of which the number says how many there are.
-pub fn given<'a>(line: &'a [u8], desk: &Desk, k: usize) -> &'a [u8] {
+pub fn given<'a>(space: &'a [u8], desk: &Desk, k: usize) -> &'a [u8] {
     if 15 <= k {
-        return octets::part(line, 0, 0);
+        return octets::part(space, 0, 0);
     }
-    let start = desk[2 * k + 18];
+    let start = std::num::wrapping_add_usize(desk[text::START], desk[2 * k + 18]);
     let end = std::num::wrapping_add_usize(start, desk[k]);
-    octets::part(line, start, end)
+    octets::part(space, start, end)
 }
 
 // A call's place in the list, or the number of the words that say why it is none.
@@ -96,19 +96,36 @@ fn fault(line: &mut [u8], letters: &[u8], count: usize, desk: &mut Desk) -> u16 
     OTHER_WORD
 }
 
-// A line as a call: its words are marked and read. Words that say bytes become them, so the line is spent.
-pub fn read(line: &mut [u8], desk: &mut Desk) -> Call {
+fn line(line: &mut [u8], desk: &mut Desk) -> Call {
     let count = text::cut(line, desk);
     let found = lists::lookup(&CALLS, text::word(line, desk, 0));
     if !found.is {
-        return Call {
-            call: 0,
-            fault: NO_CALL,
-        };
+        return no_call();
     }
     let letters = octets::part(&CALLS, found.start, found.end);
     Call {
         call: found.place,
         fault: fault(line, letters, count - 1, desk),
     }
+}
+
+fn no_call() -> Call {
+    Call {
+        call: 0,
+        fault: NO_CALL,
+    }
+}
+
+// The line that the desk points at as a call: its words are marked and read. Words that say bytes become them, so the line is
+// spent.
+pub fn read(space: &mut [u8], desk: &mut Desk) -> Call {
+    let start = desk[text::START];
+    let end = desk[text::END];
+    if end < start {
+        return no_call();
+    }
+    if space.len() < end {
+        return no_call();
+    }
+    line(&mut space[start..end], desk)
 }

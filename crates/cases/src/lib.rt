@@ -1,6 +1,7 @@
 // A case file, line by line: names, calls and the answers that they must get. What runs the calls stands on this. One desk of
 // numbers and one space of bytes go through a whole file (`names` says what it keeps in them).
 use text::Desk;
+ghost use Prim.Native.Nat.{_≤_};
 // The line's number.
 const LINE: usize = 66;
 
@@ -18,14 +19,11 @@ const OTHERS: usize = 71;
 
 const DAMAGED: usize = 72;
 
-// A call and the answer that it must get, spelled out one after the other in the space: the call's line, or 0 where there is no
-// such pair; where the call starts, where it ends and the answer starts, and where that ends.
-pub struct Pair {
-    pub call: usize,
-    pub start: usize,
-    pub middle: usize,
-    pub end: usize,
-}
+// The call that is to be made, spelled out, and behind it the answer that it must get: its line, or 0 where there is none, and
+// where the answer ends. `text` has the places for where the call starts and ends.
+pub const PAIR: usize = 73;
+
+const WANTED: usize = 74;
 
 fn more(desk: &mut Desk, k: usize) {
     if k < 640 {
@@ -36,15 +34,6 @@ fn more(desk: &mut Desk, k: usize) {
 fn damaged(desk: &mut Desk, name: &[u8], line: usize, fault: u8) {
     report::damage(name, line as u64, fault);
     more(desk, DAMAGED);
-}
-
-fn none() -> Pair {
-    Pair {
-        call: 0,
-        start: 0,
-        middle: 0,
-        end: 0,
-    }
 }
 
 // A line that is neither a call nor an answer.
@@ -80,62 +69,46 @@ fn paired(
     waiting: &[u8],
     wanted: &[u8],
     space: &mut [u8],
-) -> Pair {
+) {
     let start = desk[names::FILLED];
     let asked = names::spelled(waiting, desk, space, start);
     if asked.fault != 0 {
         damaged(desk, name, call, asked.fault);
-        return none();
+        return;
     }
     let answer = names::spelled(wanted, desk, space, asked.end);
     if answer.fault != 0 {
         let at = desk[LINE];
         damaged(desk, name, at, answer.fault);
-        return none();
+        return;
     }
-    Pair {
-        call,
-        start,
-        middle: asked.end,
-        end: answer.end,
-    }
+    desk[text::START] = start;
+    desk[text::END] = asked.end;
+    desk[WANTED] = answer.end;
+    desk[PAIR] = call;
 }
 
 // An answer: of the call that waits, which is over then.
-fn told(desk: &mut Desk, name: &[u8], text: &[u8], wanted: &[u8], space: &mut [u8]) -> Pair {
+fn told(desk: &mut Desk, name: &[u8], text: &[u8], wanted: &[u8], space: &mut [u8]) {
     let call = desk[CALL];
     if call == 0 {
         let alone = desk[LINE];
         damaged(desk, name, alone, report::NO_CALL);
-        return none();
+        return;
     }
     desk[CALL] = 0;
     let waiting = octets::part(text, desk[FROM], desk[TO]);
-    paired(desk, name, call, waiting, wanted, space)
+    paired(desk, name, call, waiting, wanted, space);
 }
 
 // The line from `from` up to `to` of the file's text.
-pub fn line(
-    desk: &mut Desk,
-    name: &[u8],
-    text: &[u8],
-    from: usize,
-    to: usize,
-    space: &mut [u8],
-) -> Pair {
-    more(desk, LINE);
+fn line(desk: &mut Desk, name: &[u8], text: &[u8], from: usize, to: usize, space: &mut [u8]) {
     let line = octets::part(text, from, to);
     match first(line) {
-        b'#' => none(),
-        b'>' => {
-            called(desk, name, from, to);
-            none()
-        }
+        b'#' => return,
+        b'>' => called(desk, name, from, to),
         b'<' => told(desk, name, text, octets::part(line, 2, line.len()), space),
-        _ => {
-            named(desk, name, line, space);
-            none()
-        }
+        _ => named(desk, name, line, space),
     }
 }
 
@@ -147,15 +120,28 @@ fn first(line: &[u8]) -> u8 {
     line[0]
 }
 
+// Takes the line that starts at `from`, and says where it ends.
+pub fn next(desk: &mut Desk, name: &[u8], text: &[u8], from: usize, space: &mut [u8]) -> usize
+    ensures { λ r. ⌜ from ≤ r ⌝ }
+{
+    let to = text::find(text, from, b'\n');
+    more(desk, LINE);
+    desk[PAIR] = 0;
+    line(desk, name, text, from, to, space);
+    to
+}
+
 // The answer that a call got, held to the one that it must get.
-pub fn answered(desk: &mut Desk, name: &[u8], call: usize, wanted: &[u8], said: &[u8]) {
+pub fn answered(desk: &mut Desk, name: &[u8], space: &[u8], said: &[u8]) {
     more(desk, CALLS);
+    let wanted = octets::part(space, desk[text::END], desk[WANTED]);
     if check::same(wanted, said) {
         return;
     }
     more(desk, OTHERS);
-    report::line(name, call as u64, b"wanted ", wanted);
-    report::line(name, call as u64, b"said   ", said);
+    let call = desk[PAIR] as u64;
+    report::line(name, call, b"wanted ", wanted);
+    report::line(name, call, b"said   ", said);
 }
 
 pub fn ended(desk: &mut Desk, name: &[u8]) {

@@ -49,18 +49,18 @@ fn decided(desk: &mut Desk, decision: DecisionSaid) -> Answer {
     panel_calls::wrote(decision.answer, decision.length)
 }
 
-fn asked(desk: &Desk, line: &[u8], reply: &mut [u8], block: &mut [u8; 385]) -> DecisionSaid {
+fn asked(desk: &Desk, space: &[u8], reply: &mut [u8], block: &mut [u8; 385]) -> DecisionSaid {
     let mut x = [0u8; 32];
     let mut y = [0u8; 32];
-    octets::put(&mut x, calls::given(line, desk, 7));
-    octets::put(&mut y, calls::given(line, desk, 8));
+    octets::put(&mut x, calls::given(space, desk, 7));
+    octets::put(&mut y, calls::given(space, desk, 8));
     panel::brinecandle_decide(
-        calls::given(line, desk, 2),
+        calls::given(space, desk, 2),
         desk[0] as u64,
         panel_calls::presence(desk),
         hardware(desk),
-        calls::given(line, desk, 3),
-        calls::given(line, desk, 5),
+        calls::given(space, desk, 3),
+        calls::given(space, desk, 5),
         &x,
         &y,
         reply,
@@ -75,13 +75,13 @@ fn keep_block(out: &mut [u8], answer: u16, block: &[u8; 385]) {
     }
 }
 
-pub fn decide(desk: &mut Desk, line: &[u8], out: &mut [u8]) -> Answer {
+pub fn decide(desk: &mut Desk, space: &[u8], out: &mut [u8]) -> Answer {
     let room = desk[ROOM];
     if out.len() < room {
         return answers::bare(0);
     }
     let mut block = [0u8; 385];
-    let decision = asked(desk, line, &mut out[0..room], &mut block);
+    let decision = asked(desk, space, &mut out[0..room], &mut block);
     keep_block(out, decision.answer, &block);
     decided(desk, decision)
 }

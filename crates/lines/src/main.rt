@@ -1,58 +1,56 @@
 // Runs case files on the panel of crate `pipe`. Its arguments name them: each line is a comment (#), a name for bytes (NAME = HEX,
 // or NAME = HEX * TIMES), a call (>) or the answer that it must get (<). Prints each answer that is another, each line that is
 // none of these, and how many calls each file had.
-mod run;
-
-ghost use mathlib.Core.Path.{_≡_};
+use text::Desk;
+ghost use Prim.Native.Nat.{_<_, _≤_};
 ghost use lib.ListN.{length};
 
-// What each says of the length saves the caller a proof.
-fn file_space() -> [u8; 262144]
-    ensures { λ r. ⌜ 262144 ≡ length r ⌝ }
-{
-    [0; 262144]
+fn ran(desk: &mut Desk, name: &[u8], space: &mut [u8], out: &mut [u8]) {
+    if desk[cases::PAIR] == 0 {
+        return;
+    }
+    let end = pipe::answer(desk, space, out);
+    cases::answered(desk, name, space, octets::part(out, answers::SAID, end));
 }
 
-// For the names of a file, and behind them a call and its answer.
-fn line_space() -> [u8; 524288]
-    ensures { λ r. ⌜ 524288 ≡ length r ⌝ }
+// Where the line after the one from `at` to `end` begins.
+fn line_after(text: &[u8], at: usize, end: usize) -> usize
+    requires { ⌜ (at < length (now text)) × (at ≤ end) ⌝ }
+    ensures { λ r. ⌜ at < r ⌝ }
 {
-    [0; 524288]
+    if text.len() <= end {
+        return text.len();
+    }
+    end + 1
 }
 
-// For the reply buffer, an order's block and an answer in words.
-fn out_space() -> [u8; 401408]
-    ensures { λ r. ⌜ 401408 ≡ length r ⌝ }
-{
-    [0; 401408]
-}
-
-fn run_text(name: &[u8], text: &[u8]) {
-    let mut space = line_space();
-    let mut out = out_space();
-    run::lines(name, text, &mut space, &mut out);
+// A file on a fresh panel.
+fn lines(name: &[u8], text: &[u8], space: &mut [u8], out: &mut [u8]) {
+    let mut desk = pipe::fresh();
+    let mut at = 0;
+    while at < text.len() {
+        let end = cases::next(&mut desk, name, text, at, space);
+        ran(&mut desk, name, space, out);
+        at = line_after(text, at, end);
+    }
+    cases::ended(&mut desk, name);
 }
 
 fn run_file(name: &[u8]) {
-    let mut space = file_space();
-    let file = os::open_read(name);
-    let n = io::read_full(file, &mut space);
-    libc::close(file);
+    let mut text = files::file_space();
+    let n = files::read(name, &mut text);
     if n == 0 {
-        report::line(name, 0, b"no such file, or an empty one", b"");
         return;
     }
-    if n == space.len() {
-        report::line(name, 0, b"too long a file", b"");
-        return;
-    }
-    run_text(name, &space[..n]);
+    let mut space = files::line_space();
+    let mut out = files::out_space();
+    lines(name, octets::part(&text, 0, n), &mut space, &mut out);
 }
 
 fn run_argument(i: usize) {
     let mut space = io::buffer();
     let n = os::arg(i, &mut space);
-    run_file(&space[..n]);
+    run_file(octets::part(&space, 0, n));
 }
 
 fn main() {

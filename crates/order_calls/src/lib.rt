@@ -30,7 +30,7 @@ pub fn keep_block(out: &mut [u8], bytes: &[u8]) {
     }
 }
 
-pub fn write(desk: &Desk, line: &[u8], out: &mut [u8]) -> Answer {
+pub fn write(desk: &Desk, space: &[u8], out: &mut [u8]) -> Answer {
     let room = desk[ROOM];
     if out.len() < room {
         return answers::bare(0);
@@ -41,7 +41,7 @@ pub fn write(desk: &Desk, line: &[u8], out: &mut [u8]) -> Answer {
         (desk[2] % 256) as u8,
         (desk[3] % 256) as u8,
         (desk[4] % 0x1_0000_0000) as u32,
-        calls::given(line, desk, 6),
+        calls::given(space, desk, 6),
         (desk[5] % 0x1_0000_0000) as u32,
         &mut out[0..room],
     );
@@ -49,7 +49,7 @@ pub fn write(desk: &Desk, line: &[u8], out: &mut [u8]) -> Answer {
 }
 
 // An order is over once it is finished with 9000 or a status word.
-pub fn finish(desk: &mut Desk, line: &[u8], out: &mut [u8]) -> Answer {
+pub fn finish(desk: &mut Desk, space: &[u8], out: &mut [u8]) -> Answer {
     let room = desk[ROOM];
     if out.len() < room {
         return answers::bare(0);
@@ -59,9 +59,9 @@ pub fn finish(desk: &mut Desk, line: &[u8], out: &mut [u8]) -> Answer {
     let said = panel::brinecandle_finish(
         order(desk),
         &block,
-        calls::given(line, desk, 0),
+        calls::given(space, desk, 0),
         (desk[1] % 0x1_0000_0000) as u32,
-        calls::given(line, desk, 2),
+        calls::given(space, desk, 2),
         &mut out[0..room],
     );
     if said.answer <= 7 {
@@ -71,8 +71,8 @@ pub fn finish(desk: &mut Desk, line: &[u8], out: &mut [u8]) -> Answer {
     panel_calls::wrote(said.answer, said.length)
 }
 
-pub fn hold(desk: &mut Desk, line: &[u8], out: &mut [u8]) -> Answer {
-    keep_block(out, calls::given(line, desk, 3));
+pub fn hold(desk: &mut Desk, space: &[u8], out: &mut [u8]) -> Answer {
+    keep_block(out, calls::given(space, desk, 3));
     let kind = desk[0];
     let to_sign = desk[1];
     let certificate = desk[2];

@@ -7,6 +7,11 @@ ghost use lib.ListN.{length};
 // say, and from 16 to 47 where the words start and end. `panel_calls` has the places from 48 on, `names` and `cases` those from 64.
 pub type Desk = [usize; 640];
 
+// Where the line that is to be answered starts and ends, in the space that is lent beside the desk.
+pub const START: usize = 56;
+
+pub const END: usize = 57;
+
 // What a word says, or that it is none of what was asked for.
 pub enum Said {
     Is(u64),

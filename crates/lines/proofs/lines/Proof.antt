@@ -3,8 +3,8 @@ use Prim.Native.Nat.{_-_}
 use mathlib.Core.Path.{_≡_}
 use borrow.Author.Needs.{needs}
 use lib.ListN.{length}
-use Rattle.lines.proofs.run.lines.Statement.{statement}
-use Rattle.lines.proofs.run.lines.Tie as tie
+use Rattle.lines.proofs.lines.Statement.{statement}
+use Rattle.lines.proofs.lines.Tie as tie
 
 abbrev Inv-loop : tie.InvT-loop
 Inv-loop name text space₀ out₀ desk₀ at₀ space out desk at = (length space ≡ length space₀) × (length out ≡ length out₀)
@@ -18,11 +18,8 @@ fresh-requires c κs = search needs
 loop-holds : tie.Need-loop-holds Inv-loop μ-loop
 loop-holds c = search needs
 
-find-requires : tie.Need-find-requires Inv-loop μ-loop
-find-requires c κs = search needs
-
-line-requires : tie.Need-line-requires Inv-loop μ-loop
-line-requires c κs = search needs
+next-requires : tie.Need-next-requires Inv-loop μ-loop
+next-requires c κs = search needs
 
 ran-requires : tie.Need-ran-requires Inv-loop μ-loop
 ran-requires c κs = search needs
@@ -56,8 +53,7 @@ lines-spec =
     μ-loop
     fresh-requires
     loop-holds
-    find-requires
-    line-requires
+    next-requires
     ran-requires
     line-after-requires
     loop-less
