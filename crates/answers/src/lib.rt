@@ -34,6 +34,9 @@ pub const BLOCK: usize = 131072;
 
 pub const SAID: usize = 131457;
 
+// The desk's place for how much of the reply buffer is lent.
+pub const ROOM: usize = 52;
+
 // A word, then numbers, then so many bytes of the reply or, of an order, of its block, then a number more where it is not NOTHING.
 pub struct Answer {
     pub word: u16,

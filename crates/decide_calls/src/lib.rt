@@ -1,7 +1,7 @@
 // The call of the pipe panel that decides. `out` has the reply buffer, of which so much as the room says is lent on, and the block
 // of the order that is held (`answers` says where).
 use answers::Answer;
-use panel_calls::ROOM;
+use answers::ROOM;
 use panel_stated::DecisionSaid;
 use panel_stated::HardwareSaid;
 use panel_stated::OrderNumbers;

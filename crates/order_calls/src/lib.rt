@@ -1,9 +1,9 @@
 // The calls of the pipe panel that write frames and finish orders; and an order that was kept elsewhere. `out` has the reply
 // buffer, of which so much as the room says is lent on, and the block of the order that is held (`answers` says where).
 use answers::Answer;
+use answers::ROOM;
 use panel_calls::CERTIFICATE;
 use panel_calls::KIND;
-use panel_calls::ROOM;
 use panel_calls::TO_SIGN;
 use panel_stated::OrderNumbers;
 use text::Desk;

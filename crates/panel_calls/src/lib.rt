@@ -19,10 +19,7 @@ const TOUCH: usize = 50;
 
 const LAST: usize = 51;
 
-// How much of the reply buffer is lent.
-pub const ROOM: usize = 52;
-
-// The three numbers of the order that is held beside its block.
+// The three numbers, behind the room (`answers` has its place), of the order that is held beside its block.
 pub const KIND: usize = 53;
 
 pub const TO_SIGN: usize = 54;
@@ -32,7 +29,7 @@ pub const CERTIFICATE: usize = 55;
 // Nothing is held, and no line was read. Before the first record W is 0, so every call on it is R6.
 pub fn fresh() -> Desk {
     let mut desk = [0usize; 640];
-    desk[ROOM] = 1024;
+    desk[answers::ROOM] = 1024;
     desk
 }
 

@@ -1,50 +1,13 @@
 // The panel on a pipe, without the pipe: a line in, its answer out. firmware/panel.c is the same in C, over the archive. Calls are
 // matched by their places in the list of `calls`.
 use answers::Answer;
-use panel_calls::ROOM;
 pub use panel_calls::fresh;
 use text::Desk;
-
-// Every byte of the reply buffer.
-fn fill(out: &mut [u8], b: usize) {
-    let mut i = 0;
-    while i < out.len() {
-        if answers::BLOCK <= i {
-            return;
-        }
-        out[i] = (b % 256) as u8;
-        i += 1;
-    }
-}
-
-fn holding(room: usize) -> Answer {
-    Answer {
-        word: answers::HOLDS,
-        count: 0,
-        numbers: [0; 5],
-        has_bytes: true,
-        bytes: room,
-        after: spell::NOTHING,
-    }
-}
-
-// The calls on the reply buffer itself: room, fill and reply.
-fn on_buffer(desk: &mut Desk, call: usize, out: &mut [u8]) -> Answer {
-    if call == 6 {
-        desk[ROOM] = desk[0];
-        return answers::bare(answers::OK);
-    }
-    if call == 7 {
-        fill(out, desk[0]);
-        return answers::bare(answers::OK);
-    }
-    holding(desk[ROOM])
-}
 
 fn answered(desk: &mut Desk, call: usize, space: &[u8], out: &mut [u8]) -> Answer {
     match call {
         0..=5 => panel_calls::on_record(desk, call),
-        6..=8 => on_buffer(desk, call, out),
+        6..=8 => buffer_calls::on_buffer(desk, call, out),
         9..=11 => panel_calls::on_frame(call, calls::given(space, desk, 0)),
         12 => order_calls::write(desk, space, out),
         13 => decide_calls::decide(desk, space, out),

@@ -3,8 +3,8 @@ use Prim.Native.Nat.{_-_}
 use mathlib.Core.Path.{_≡_}
 use borrow.Author.Needs.{needs}
 use lib.ListN.{length}
-use Rattle.lines.proofs.lines.Statement.{statement}
-use Rattle.lines.proofs.lines.Tie as tie
+use Rattle.run.proofs.lines.Statement.{statement}
+use Rattle.run.proofs.lines.Tie as tie
 
 abbrev Inv-loop : tie.InvT-loop
 Inv-loop name text space₀ out₀ desk₀ at₀ space out desk at = (length space ≡ length space₀) × (length out ≡ length out₀)
