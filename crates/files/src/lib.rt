@@ -29,11 +29,11 @@ pub fn read(name: &[u8], space: &mut [u8]) -> usize {
     let n = io::read_full(file, space);
     libc::close(file);
     if n == 0 {
-        report::line(name, 0, b"no such file, or an empty one", b"");
+        report::say_line(name, 0, b"no such file, or an empty one", b"");
         return 0;
     }
     if n == space.len() {
-        report::line(name, 0, b"too long a file", b"");
+        report::say_line(name, 0, b"too long a file", b"");
         return 0;
     }
     n

@@ -19,7 +19,7 @@ const TOUCH: usize = 50;
 
 const LAST: usize = 51;
 
-// The three numbers, behind the room (`answers` has its place), of the order that is held beside its block.
+// The three numbers of the order that is held, but for its block.
 pub const KIND: usize = 53;
 
 pub const TO_SIGN: usize = 54;

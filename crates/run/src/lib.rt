@@ -4,11 +4,11 @@ ghost use Prim.Native.Nat.{_<_, _≤_};
 ghost use lib.ListN.{length};
 
 fn ran(desk: &mut Desk, name: &[u8], space: &mut [u8], out: &mut [u8]) {
-    if desk[cases::PAIR] == 0 {
+    if desk[report::PAIR] == 0 {
         return;
     }
     let end = pipe::answer(desk, space, out);
-    cases::answered(desk, name, space, octets::part(out, answers::SAID, end));
+    report::answered(desk, name, space, octets::part(out, answers::SAID, end));
 }
 
 // Where the line after the one from `at` to `end` begins.
@@ -31,5 +31,5 @@ pub fn lines(name: &[u8], text: &[u8], space: &mut [u8], out: &mut [u8]) {
         ran(&mut desk, name, space, out);
         at = line_after(text, at, end);
     }
-    cases::ended(&mut desk, name);
+    report::ended(&mut desk, name);
 }

@@ -4,7 +4,8 @@ ghost use Prim.Native.Nat.{_≤_, _<_};
 ghost use lib.ListN.{length};
 
 // The numbers of the line program, in one place, so that its functions lend few things: from 0 on those that the words of a line
-// say, and from 16 to 47 where the words start and end. `panel_calls` has the places from 48 on, `names` and `cases` those from 64.
+// say, and from 16 to 47 where the words start and end. What the panel holds stands from 48 on (`panel_calls`, `answers`), what a
+// case file needs from 64 on (`names`, `report`, `cases`).
 pub type Desk = [usize; 640];
 
 // Where the line that is to be answered starts and ends, in the space that is lent beside the desk.

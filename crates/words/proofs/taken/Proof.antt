@@ -3,8 +3,8 @@ use Prim.Native.Nat.{_-_}
 use mathlib.Core.Path.{_≡_}
 use borrow.Author.Needs.{needs}
 use lib.ListN.{length}
-use Rattle.calls.proofs.taken.Statement.{statement}
-use Rattle.calls.proofs.taken.Tie as tie
+use Rattle.words.proofs.taken.Statement.{statement}
+use Rattle.words.proofs.taken.Tie as tie
 
 abbrev Inv-loop : tie.InvT-loop
 Inv-loop line₀ letters desk₀ k₀ line desk k = length line ≡ length line₀
