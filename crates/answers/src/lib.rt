@@ -1,6 +1,4 @@
 // Answers of the pipe panel, as values: a crate that answers calls makes one of numbers alone, and `said` puts it into words.
-ghost use Prim.Native.Nat.{_≤_};
-ghost use lib.ListN.{length};
 
 // The words, and their numbers from 8 on. The numbers below are those of refusals, and 0 is no word; all others are status words.
 const WORDS: [u8; 141] =
@@ -30,7 +28,16 @@ pub const OTHER_WORD: u16 = 18;
 
 pub const NO_RECORD: u16 = 19;
 
-// A word, then numbers, then so many bytes of what is lent, then a number more where it is not NOTHING.
+// What goes out stands in one lent buffer: the reply buffer first, then the block of the order that is held, then the answer in
+// words.
+pub const BLOCK: usize = 131072;
+
+pub const SAID: usize = 131457;
+
+// The desk's place for how much of the reply buffer is lent.
+pub const ROOM: usize = 52;
+
+// A word, then numbers, then so many bytes of the reply or, of an order, of its block, then a number more where it is not NOTHING.
 pub struct Answer {
     pub word: u16,
     pub count: usize,
@@ -62,47 +69,32 @@ pub fn with_numbers(word: u16, count: usize, numbers: [u64; 5]) -> Answer {
     }
 }
 
-// The word at place k of the list.
-fn word_at<'a>(list: &'a [u8], k: u16) -> &'a [u8] {
-    let mut at = 0;
-    let mut left = k;
-    while at < list.len() {
-        let end = text::find(list, at, b';');
-        if left == 0 {
-            return octets::part(list, at, end);
-        }
-        if list.len() <= end {
-            break;
-        }
-        at = end + 1;
-        left -= 1;
-    }
-    octets::part(list, 0, 0)
-}
-
 fn word(out: &mut [u8], word: u16) -> usize {
     match word {
-        0 => 0,
-        1..=7 => spell::numbers(out, 0, b"R", &[word as u64], 1),
-        8..=19 => spell::put(out, 0, word_at(&WORDS, word - 8)),
-        _ => spell::bytes(out, 0, b"", &[(word / 256) as u8, (word % 256) as u8]),
+        0 => SAID,
+        1..=7 => spell::numbers(out, SAID, b"R", &[word as u64], 1),
+        8..=19 => spell::put(out, SAID, lists::item(&WORDS, (word - 8) as usize)),
+        _ => spell::bytes(out, SAID, b"", &[(word / 256) as u8, (word % 256) as u8]),
     }
 }
 
-// The answer at the front of out; where it ends. Its bytes are those at the front of `lent`.
-pub fn said(out: &mut [u8], answer: Answer, lent: &[u8]) -> usize {
+// The answer in words, from SAID on; where it ends.
+pub fn said(out: &mut [u8], answer: Answer) -> usize {
     let numbers = answer.numbers;
     let start = word(out, answer.word);
     let end = spell::numbers(out, start, b"", &numbers, answer.count);
     if !answer.has_bytes {
         return end;
     }
-    bytes(out, end, answer, octets::part(lent, 0, answer.bytes))
+    bytes(out, end, answer)
 }
 
-fn bytes(out: &mut [u8], at: usize, answer: Answer, given: &[u8]) -> usize {
+fn bytes(out: &mut [u8], at: usize, answer: Answer) -> usize {
     let spaces = if answer.word == HOLDS { 0 } else { 1 };
-    let end = spell::bytes(out, at, octets::part(b" ", 0, spaces), given);
+    let from = if answer.word == ORDER { BLOCK } else { 0 };
+    let start = spell::put(out, at, octets::part(b" ", 0, spaces));
+    let to = std::num::wrapping_add_usize(from, answer.bytes);
+    let end = spell::within(out, start, from, to);
     if answer.after == spell::NOTHING {
         return end;
     }

@@ -1,74 +1,21 @@
 // Runs case files on the panel of crate `pipe`. Its arguments name them: each line is a comment (#), a name for bytes (NAME = HEX,
 // or NAME = HEX * TIMES), a call (>) or the answer that it must get (<). Prints each answer that is another, each line that is
 // none of these, and how many calls each file had.
-mod report;
-mod run;
-
-ghost use mathlib.Core.Path.{_≡_};
-ghost use lib.ListN.{length};
-
-// What each says of the length saves the caller a proof.
-fn file_space() -> [u8; 262144]
-    ensures { λ r. ⌜ 262144 ≡ length r ⌝ }
-{
-    [0; 262144]
-}
-
-fn store_space() -> [u8; 262144]
-    ensures { λ r. ⌜ 262144 ≡ length r ⌝ }
-{
-    [0; 262144]
-}
-
-fn line_space() -> [u8; 270336]
-    ensures { λ r. ⌜ 270336 ≡ length r ⌝ }
-{
-    [0; 270336]
-}
-
-fn reply_space() -> [u8; 131072]
-    ensures { λ r. ⌜ 131072 ≡ length r ⌝ }
-{
-    [0; 131072]
-}
-
-fn run_text(name: &[u8], text: &[u8]) {
-    let mut store = store_space();
-    let mut work = line_space();
-    let mut raw = line_space();
-    let mut out = line_space();
-    let mut reply = reply_space();
-    run::lines(
-        name,
-        text,
-        &mut store,
-        &mut work,
-        &mut raw,
-        &mut reply,
-        &mut out,
-    );
-}
-
 fn run_file(name: &[u8]) {
-    let mut space = file_space();
-    let file = os::open_read(name);
-    let n = io::read_full(file, &mut space);
-    libc::close(file);
+    let mut text = files::file_space();
+    let n = files::read(name, &mut text);
     if n == 0 {
-        report::line(name, 0, b"no such file, or an empty one", b"");
         return;
     }
-    if n == space.len() {
-        report::line(name, 0, b"too long a file", b"");
-        return;
-    }
-    run_text(name, &space[..n]);
+    let mut space = files::line_space();
+    let mut out = files::out_space();
+    run::lines(name, octets::part(&text, 0, n), &mut space, &mut out);
 }
 
 fn run_argument(i: usize) {
     let mut space = io::buffer();
     let n = os::arg(i, &mut space);
-    run_file(&space[..n]);
+    run_file(octets::part(&space, 0, n));
 }
 
 fn main() {

@@ -1,8 +1,11 @@
 // The calls on the presence record.
-use super::Panel;
+use super::keep;
+use super::presence;
 use answers::Answer;
+use panel_stated::Made;
 use panel_stated::PresenceRecord;
 use panel_stated::Stepped;
+use text::Desk;
 
 // yes, no, or a refusal.
 fn yes(said: u16, yes: bool) -> Answer {
@@ -12,15 +15,10 @@ fn yes(said: u16, yes: bool) -> Answer {
     answers::bare(if yes { answers::YES } else { answers::NO })
 }
 
-fn stands(mut panel: Panel, presence: PresenceRecord, answer: Answer) -> Panel {
-    panel.presence = presence;
-    panel.answer = answer;
-    panel
-}
-
-fn stepped(panel: Panel, touched: Stepped) -> Panel {
+fn stepped(desk: &mut Desk, touched: Stepped) -> Answer {
     let presence = touched.presence;
-    stands(panel, presence, yes(touched.answer, touched.yes))
+    keep(desk, presence);
+    yes(touched.answer, touched.yes)
 }
 
 // Four zeros are no record: there was no making yet, or none but refused ones.
@@ -33,14 +31,13 @@ fn record(p: PresenceRecord) -> Answer {
 }
 
 // A refused making keeps the old record.
-fn made(panel: Panel, w: u64) -> Panel {
-    let made = panel::brinecandle_new(w);
-    let before = panel.presence;
+fn made(desk: &mut Desk, made: Made) -> Answer {
     if made.answer != 0x9000 {
-        return stands(panel, before, answers::bare(made.answer));
+        return answers::bare(made.answer);
     }
     let presence = made.presence;
-    stands(panel, presence, answers::bare(answers::OK))
+    keep(desk, presence);
+    answers::bare(answers::OK)
 }
 
 // A window in words: the moment of its opening, or NOTHING; and back. A number of a window above 0 is its moment and one more.
@@ -63,24 +60,28 @@ fn ask(presence: PresenceRecord, t: u64) -> Answer {
     yes(asked.answer, asked.yes)
 }
 
-// new, touch, check, ask, record, and last resume: any values may stand in a record that was kept elsewhere.
-pub fn on_record(panel: Panel, call: usize, numbers: &[u64; 16]) -> Panel {
-    let p = panel.presence;
-    let n = numbers[0];
+// Any values may stand in a record that was kept elsewhere.
+fn resume(desk: &mut Desk) -> Answer {
+    let kept = PresenceRecord {
+        w: desk[0] as u64,
+        prompt: window(desk[1] as u64),
+        touch: window(desk[2] as u64),
+        last: desk[3] as u64,
+    };
+    keep(desk, kept);
+    answers::bare(answers::OK)
+}
+
+// new, touch, check, ask, record and resume.
+pub fn on_record(desk: &mut Desk, call: usize) -> Answer {
+    let p = presence(desk);
+    let n = desk[0] as u64;
     match call {
-        0 => made(panel, n),
-        1 => stepped(panel, panel::brinecandle_grant_up(p, n)),
-        2 => stepped(panel, panel::brinecandle_consume_up(p, n)),
-        3 => stands(panel, p, ask(p, n)),
-        4 => stands(panel, p, record(p)),
-        _ => {
-            let kept = PresenceRecord {
-                w: n,
-                prompt: window(numbers[1]),
-                touch: window(numbers[2]),
-                last: numbers[3],
-            };
-            stands(panel, kept, answers::bare(answers::OK))
-        }
+        0 => made(desk, panel::brinecandle_new(n)),
+        1 => stepped(desk, panel::brinecandle_grant_up(p, n)),
+        2 => stepped(desk, panel::brinecandle_consume_up(p, n)),
+        3 => ask(p, n),
+        4 => record(p),
+        _ => resume(desk),
     }
 }

@@ -40,6 +40,30 @@ fn number(out: &mut [u8], at: usize, i: usize, n: u64) -> usize {
     put(out, start, &digits[..k])
 }
 
+fn byte(out: &mut [u8], at: usize, b: u8) -> usize {
+    let mut digits = [0u8; 16];
+    let k = io::hex(octets::wide(b) as u64, 2, &mut digits);
+    put(out, at, &digits[..k])
+}
+
+// The bytes that stand in out itself from `from` up to `to`, in hex; `-` where there are none.
+pub fn within(out: &mut [u8], at: usize, from: usize, to: usize) -> usize {
+    if to <= from {
+        return put(out, at, b"-");
+    }
+    let mut end = at;
+    let mut i = from;
+    while i < to {
+        if out.len() <= i {
+            return end;
+        }
+        let b = out[i];
+        end = byte(out, end, b);
+        i += 1;
+    }
+    end
+}
+
 // Bytes in hex after the words before them; `-` where there are none.
 pub fn bytes(out: &mut [u8], at: usize, before: &[u8], bytes: &[u8]) -> usize {
     let mut end = put(out, at, before);
@@ -48,10 +72,7 @@ pub fn bytes(out: &mut [u8], at: usize, before: &[u8], bytes: &[u8]) -> usize {
     }
     let mut i = 0;
     while i < bytes.len() {
-        let mut digits = [0u8; 16];
-        let b = octets::wide(bytes[i]) as u64;
-        let k = io::hex(b, 2, &mut digits);
-        end = put(out, end, &digits[..k]);
+        end = byte(out, end, bytes[i]);
         i += 1;
     }
     end

@@ -3,16 +3,25 @@
 ghost use Prim.Native.Nat.{_≤_, _<_};
 ghost use lib.ListN.{length};
 
+// The numbers of the line program, in one place, so that its functions lend few things: from 0 on those that the words of a line
+// say, and from 16 to 47 where the words start and end. What the panel holds stands from 48 on (`panel_calls`, `answers`), what a
+// case file needs from 64 on (`names`, `report`, `cases`).
+pub type Desk = [usize; 640];
+
+// Where the line that is to be answered starts and ends, in the space that is lent beside the desk.
+pub const START: usize = 56;
+
+pub const END: usize = 57;
+
 // What a word says, or that it is none of what was asked for.
 pub enum Said {
     Is(u64),
     Not,
 }
 
-// The first place from `at` on that holds the byte, or the text's end.
+// The first place from `at` on that holds the byte, or else the text's end; `at` itself where that is past the end.
 pub fn find(text: &[u8], at: usize, byte: u8) -> usize
-    requires { ⌜ at ≤ length (now text) ⌝ }
-    ensures { λ r. ⌜ (at ≤ r) × (r ≤ length (now (text .entry))) ⌝ }
+    ensures { λ r. ⌜ at ≤ r ⌝ }
 {
     let mut i = at;
     while i < text.len() {
@@ -25,7 +34,7 @@ pub fn find(text: &[u8], at: usize, byte: u8) -> usize
 }
 
 // A space ends a word and starts the next, as long as there is a mark left.
-fn mark(b: u8, i: usize, count: usize, marks: &mut [usize; 32]) -> usize
+fn mark(b: u8, i: usize, count: usize, desk: &mut Desk) -> usize
     requires { ⌜ (count ≤ 15) × (i < 18446744073709551615) ⌝ }
     ensures { λ r. ⌜ r ≤ 15 ⌝ }
 {
@@ -35,32 +44,32 @@ fn mark(b: u8, i: usize, count: usize, marks: &mut [usize; 32]) -> usize
     if 15 <= count {
         return count;
     }
-    marks[2 * count + 1] = i;
-    marks[2 * count + 2] = i + 1;
+    desk[2 * count + 17] = i;
+    desk[2 * count + 18] = i + 1;
     count + 1
 }
 
-// Cuts a line into its words, which stand between single spaces; says how many there are. The marks are the start and the
-// end of each.
-pub fn cut(line: &[u8], marks: &mut [usize; 32]) -> usize
+// Cuts a line into its words, which stand between single spaces; says how many there are. Where each of them starts and ends goes
+// to the desk.
+pub fn cut(line: &[u8], desk: &mut Desk) -> usize
     ensures { λ r. ⌜ 1 ≤ r ⌝ }
 {
     let mut count = 0;
     let mut i = 0;
-    marks[0] = 0;
+    desk[16] = 0;
     while i < line.len() {
-        count = mark(line[i], i, count, marks);
+        count = mark(line[i], i, count, desk);
         i += 1;
     }
-    marks[2 * count + 1] = line.len();
+    desk[2 * count + 17] = line.len();
     count + 1
 }
 
-pub fn word<'a>(line: &'a [u8], marks: &[usize; 32], k: usize) -> &'a [u8] {
+pub fn word<'a>(line: &'a [u8], desk: &Desk, k: usize) -> &'a [u8] {
     if 16 <= k {
         return octets::part(line, 0, 0);
     }
-    octets::part(line, marks[2 * k], marks[2 * k + 1])
+    octets::part(line, desk[2 * k + 16], desk[2 * k + 17])
 }
 
 // The value of a digit, of either case; 16 for what is none.
@@ -123,48 +132,47 @@ pub fn byte(word: &[u8]) -> Said {
     Said::Is(high * 16 + low)
 }
 
-// The bytes that a word says in hex go to the front of out; how many they are, where that is from `least` to `most`.
-pub fn bytes(word: &[u8], least: usize, most: usize, out: &mut [u8]) -> Said {
-    let mut n = word.len() / 2;
-    if is_dash(word) {
-        n = 0;
-    } else if word.len() == 0 {
-        return Said::Not;
-    } else if word.len() % 2 == 1 {
-        return Said::Not;
+// Whether a word is bytes in hex, one at the least.
+pub fn is_hex(word: &[u8]) -> bool {
+    if word.len() % 2 == 1 {
+        return false;
     }
+    let mut i = 0;
+    while i < word.len() {
+        if 15 < digit(word[i]) {
+            return false;
+        }
+        i += 1;
+    }
+    0 < i
+}
+
+// A word that is bytes in hex becomes those bytes, at its own front; how many they are, where that is from `least` to `most`.
+pub fn bytes(word: &mut [u8], least: usize, most: usize) -> Said {
+    let n = word.len() / 2;
     if n < least {
         return Said::Not;
     }
     if most < n {
         return Said::Not;
     }
-    if decode(word, n, out) {
-        Said::Is(n as u64)
-    } else {
-        Said::Not
+    if is_dash(word) {
+        return Said::Is(0);
     }
+    if !is_hex(word) {
+        return Said::Not;
+    }
+    decode(word);
+    Said::Is(n as u64)
 }
 
-fn decode(word: &[u8], n: usize, out: &mut [u8]) -> bool {
-    if out.len() < n {
-        return false;
-    }
-    if word.len() / 2 < n {
-        return false;
-    }
+// What is no digit counts as 0; `bytes` has looked for such.
+fn decode(word: &mut [u8]) {
     let mut i = 0;
-    while i < n {
+    while i < word.len() / 2 {
         let high = digit(word[2 * i]);
         let low = digit(word[2 * i + 1]);
-        if 15 < high {
-            return false;
-        }
-        if 15 < low {
-            return false;
-        }
-        out[i] = high * 16 + low;
+        word[i] = high % 16 * 16 + low % 16;
         i += 1;
     }
-    true
 }

@@ -5,10 +5,13 @@ use Rattle.names.proofs.known.Statement.{statement}
 use Rattle.names.proofs.known.Tie as tie
 
 abbrev Inv-loop : tie.InvT-loop
-Inv-loop store marks count name k₀ k = k ≤ 250
+Inv-loop space desk name k₀ k = k ≤ 250
 
 abbrev μ-loop : tie.MeasureT-loop
-μ-loop store marks count name k₀ k = k
+μ-loop space desk name k₀ k = k
+
+element-copy-out-k : tie.Need-element-copy-out-k Inv-loop μ-loop
+element-copy-out-k c = search needs
 
 returns : tie.Need-returns Inv-loop μ-loop
 returns c = search needs
@@ -18,6 +21,9 @@ loop-holds c = search needs
 
 mul-part : tie.Need-mul-part Inv-loop μ-loop
 mul-part c = search needs
+
+add-part : tie.Need-add-part Inv-loop μ-loop
+add-part c = search needs
 
 sub-part : tie.Need-sub-part Inv-loop μ-loop
 sub-part c = search needs
@@ -30,6 +36,9 @@ element-copy-out-part c = search needs
 
 mul-part-3 : tie.Need-mul-part-3 Inv-loop μ-loop
 mul-part-3 c = search needs
+
+add-part-2 : tie.Need-add-part-2 Inv-loop μ-loop
+add-part-2 c = search needs
 
 sub-part-2 : tie.Need-sub-part-2 Inv-loop μ-loop
 sub-part-2 c = search needs
@@ -67,13 +76,16 @@ known-spec =
     (tie.spec
     Inv-loop
     μ-loop
+    element-copy-out-k
     returns
     loop-holds
     mul-part
+    add-part
     sub-part
     mul-part-2
     element-copy-out-part
     mul-part-3
+    add-part-2
     sub-part-2
     mul-part-4
     element-copy-out-part-2

@@ -7,10 +7,10 @@ use Rattle.names.proofs.spelled.Statement.{statement}
 use Rattle.names.proofs.spelled.Tie as tie
 
 abbrev Inv-loop : tie.InvT-loop
-Inv-loop line store marks count out₀ to at₀ end₀ out at end = length out ≡ length out₀
+Inv-loop line desk space₀ to at₀ end₀ space at end = length space ≡ length space₀
 
 abbrev μ-loop : tie.MeasureT-loop
-μ-loop line store marks count out₀ to at₀ end₀ out at end = length line - at
+μ-loop line desk space₀ to at₀ end₀ space at end = length line - at
 
 loop-holds : tie.Need-loop-holds Inv-loop μ-loop
 loop-holds c = search needs

@@ -30,23 +30,11 @@ returns c = search needs
 loop-holds : tie.Need-loop-holds Inv-loop μ-loop
 loop-holds c = search needs
 
-shared-slice-read-wide : tie.Need-shared-slice-read-wide Inv-loop μ-loop
-shared-slice-read-wide c = search needs
+shared-slice-read-byte : tie.Need-shared-slice-read-byte Inv-loop μ-loop
+shared-slice-read-byte c = search needs
 
-wide-requires : tie.Need-wide-requires Inv-loop μ-loop
-wide-requires c κs = search needs
-
-hex-requires : tie.Need-hex-requires Inv-loop μ-loop
-hex-requires c κs = search needs
-
-array-share-prefix-digits : tie.Need-array-share-prefix-digits Inv-loop μ-loop
-array-share-prefix-digits c = search needs
-
-slice-aggregate-put-2 : tie.Need-slice-aggregate-put-2 Inv-loop μ-loop
-slice-aggregate-put-2 c = search needs
-
-put-requires-3 : tie.Need-put-requires-3 Inv-loop μ-loop
-put-requires-3 c κs = search needs
+byte-requires : tie.Need-byte-requires Inv-loop μ-loop
+byte-requires c κs = search needs
 
 add-i : tie.Need-add-i Inv-loop μ-loop
 add-i c = search needs
@@ -75,12 +63,8 @@ bytes-spec =
     same-length
     returns
     loop-holds
-    shared-slice-read-wide
-    wide-requires
-    hex-requires
-    array-share-prefix-digits
-    slice-aggregate-put-2
-    put-requires-3
+    shared-slice-read-byte
+    byte-requires
     add-i
     loop-less
     loop-again

@@ -6,13 +6,13 @@ use Rattle.text.proofs.cut.Statement.{statement}
 use Rattle.text.proofs.cut.Tie as tie
 
 abbrev Inv-loop : tie.InvT-loop
-Inv-loop line marks₀ count₀ i₀ marks count i = count ≤ 15
+Inv-loop line desk₀ count₀ i₀ desk count i = count ≤ 15
 
 abbrev μ-loop : tie.MeasureT-loop
-μ-loop line marks₀ count₀ i₀ marks count i = length line - i
+μ-loop line desk₀ count₀ i₀ desk count i = length line - i
 
-element-write-marks : tie.Need-element-write-marks Inv-loop μ-loop
-element-write-marks c = search needs
+element-write-desk : tie.Need-element-write-desk Inv-loop μ-loop
+element-write-desk c = search needs
 
 loop-holds : tie.Need-loop-holds Inv-loop μ-loop
 loop-holds c = search needs
@@ -32,17 +32,17 @@ loop-less c = search needs
 loop-again : tie.Need-loop-again Inv-loop μ-loop
 loop-again c = search needs
 
-mul-marks : tie.Need-mul-marks Inv-loop μ-loop
-mul-marks c = search needs
+mul-desk : tie.Need-mul-desk Inv-loop μ-loop
+mul-desk c = search needs
 
-add-marks : tie.Need-add-marks Inv-loop μ-loop
-add-marks c = search needs
+add-desk : tie.Need-add-desk Inv-loop μ-loop
+add-desk c = search needs
 
-mul-marks-2 : tie.Need-mul-marks-2 Inv-loop μ-loop
-mul-marks-2 c = search needs
+mul-desk-2 : tie.Need-mul-desk-2 Inv-loop μ-loop
+mul-desk-2 c = search needs
 
-element-write-marks-2 : tie.Need-element-write-marks-2 Inv-loop μ-loop
-element-write-marks-2 c = search needs
+element-write-desk-2 : tie.Need-element-write-desk-2 Inv-loop μ-loop
+element-write-desk-2 c = search needs
 
 add-result : tie.Need-add-result Inv-loop μ-loop
 add-result c = search needs
@@ -56,16 +56,16 @@ cut-spec =
     (tie.spec
     Inv-loop
     μ-loop
-    element-write-marks
+    element-write-desk
     loop-holds
     shared-slice-read-mark
     mark-requires
     add-i
     loop-less
     loop-again
-    mul-marks
-    add-marks
-    mul-marks-2
-    element-write-marks-2
+    mul-desk
+    add-desk
+    mul-desk-2
+    element-write-desk-2
     add-result
     returns)

@@ -1,4 +1,4 @@
--- `find` meets its contract: the loop stays between the start and the text's end.
+-- `find` meets its contract: the loop never goes back.
 use Prim.Native.Nat.{_≤_, _-_}
 use borrow.Author.Needs.{needs}
 use lib.ListN.{length}
@@ -6,7 +6,7 @@ use Rattle.text.proofs.find.Statement.{statement}
 use Rattle.text.proofs.find.Tie as tie
 
 abbrev Inv-loop : tie.InvT-loop
-Inv-loop text at byte i₀ i = (at ≤ i) × (i ≤ length text)
+Inv-loop text at byte i₀ i = at ≤ i
 
 abbrev μ-loop : tie.MeasureT-loop
 μ-loop text at byte i₀ i = length text - i

@@ -1,0 +1,87 @@
+// The call of the pipe panel that decides. `out` has the reply buffer, of which so much as the room says is lent on, and the block
+// of the order that is held (`answers` says where).
+use answers::Answer;
+use answers::ROOM;
+use ctap1_stated::HardwareSaid;
+use panel_stated::DecisionSaid;
+use panel_stated::OrderNumbers;
+use text::Desk;
+
+fn hardware(desk: &Desk) -> HardwareSaid {
+    HardwareSaid {
+        allowed: (desk[1] % 0x1_0000_0000) as u32,
+        attestation: (desk[6] % 0x1_0000_0000) as u32,
+        stored: (desk[4] % 0x1_0000_0000) as u32,
+        good: (desk[9] % 0x1_0000_0000) as u32,
+        counted: (desk[11] % 0x1_0000_0000) as u32,
+        counter: (desk[10] % 0x1_0000_0000) as u32,
+    }
+}
+
+fn ordered(order: OrderNumbers, taken: bool) -> Answer {
+    Answer {
+        word: answers::ORDER,
+        count: 2,
+        numbers: [order.kind as u64, taken as u64, 0, 0, 0],
+        has_bytes: true,
+        bytes: order.to_sign,
+        after: order.certificate_length as u64,
+    }
+}
+
+// A refused decision keeps the order held; any other puts its own, or none, in the place.
+fn decided(desk: &mut Desk, decision: DecisionSaid) -> Answer {
+    let presence = decision.presence;
+    let order = decision.order;
+    panel_calls::keep(desk, presence);
+    if decision.answer <= 7 {
+        return answers::bare(decision.answer);
+    }
+    order_calls::keep(
+        desk,
+        order.kind as usize,
+        order.to_sign,
+        order.certificate_length,
+    );
+    if decision.answer == 0x0100 {
+        return ordered(order, decision.taken);
+    }
+    panel_calls::wrote(decision.answer, decision.length)
+}
+
+fn asked(desk: &Desk, space: &[u8], reply: &mut [u8], block: &mut [u8; 385]) -> DecisionSaid {
+    let mut x = [0u8; 32];
+    let mut y = [0u8; 32];
+    octets::put(&mut x, calls::given(space, desk, 7));
+    octets::put(&mut y, calls::given(space, desk, 8));
+    panel::brinecandle_decide(
+        calls::given(space, desk, 2),
+        desk[0] as u64,
+        panel_calls::presence(desk),
+        hardware(desk),
+        calls::given(space, desk, 3),
+        calls::given(space, desk, 5),
+        &x,
+        &y,
+        reply,
+        block,
+    )
+}
+
+// The block is the decision's only where it is an order.
+fn keep_block(out: &mut [u8], answer: u16, block: &[u8; 385]) {
+    if answer == 0x0100 {
+        order_calls::keep_block(out, block);
+    }
+}
+
+pub fn decide(desk: &mut Desk, space: &[u8], out: &mut [u8]) -> Answer {
+    let room = desk[ROOM];
+    if out.len() < room {
+        return answers::bare(0);
+    }
+    let mut block = [0u8; 385];
+    let decision = asked(desk, space, &mut out[0..room], &mut block);
+    keep_block(out, decision.answer, &block);
+    decided(desk, decision)
+}
