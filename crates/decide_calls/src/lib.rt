@@ -33,11 +33,11 @@ fn ordered(order: OrderNumbers, taken: bool) -> Answer {
 fn decided(desk: &mut Desk, decision: DecisionSaid) -> Answer {
     let presence = decision.presence;
     let order = decision.order;
-    panel_calls::keep(desk, presence);
+    held::keep(desk, presence);
     if decision.answer <= 7 {
         return answers::bare(decision.answer);
     }
-    order_calls::keep(
+    held::keep_order(
         desk,
         order.kind as usize,
         order.to_sign,
@@ -46,7 +46,7 @@ fn decided(desk: &mut Desk, decision: DecisionSaid) -> Answer {
     if decision.answer == 0x0100 {
         return ordered(order, decision.taken);
     }
-    panel_calls::wrote(decision.answer, decision.length)
+    held::wrote(decision.answer, decision.length)
 }
 
 fn asked(desk: &Desk, space: &[u8], reply: &mut [u8], block: &mut [u8; 385]) -> DecisionSaid {
@@ -57,7 +57,7 @@ fn asked(desk: &Desk, space: &[u8], reply: &mut [u8], block: &mut [u8; 385]) -> 
     panel::brinecandle_decide(
         calls::given(space, desk, 2),
         desk[0] as u64,
-        panel_calls::presence(desk),
+        held::presence(desk),
         hardware(desk),
         calls::given(space, desk, 3),
         calls::given(space, desk, 5),
@@ -71,7 +71,7 @@ fn asked(desk: &Desk, space: &[u8], reply: &mut [u8], block: &mut [u8; 385]) -> 
 // The block is the decision's only where it is an order.
 fn keep_block(out: &mut [u8], answer: u16, block: &[u8; 385]) {
     if answer == 0x0100 {
-        order_calls::keep_block(out, block);
+        held::keep_block(out, block);
     }
 }
 

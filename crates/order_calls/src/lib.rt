@@ -2,9 +2,9 @@
 // buffer, of which so much as the room says is lent on, and the block of the order that is held (`answers` says where).
 use answers::Answer;
 use answers::ROOM;
-use panel_calls::CERTIFICATE;
-use panel_calls::KIND;
-use panel_calls::TO_SIGN;
+use held::CERTIFICATE;
+use held::KIND;
+use held::TO_SIGN;
 use panel_stated::OrderNumbers;
 use text::Desk;
 
@@ -13,20 +13,6 @@ fn order(desk: &Desk) -> OrderNumbers {
         kind: (desk[KIND] % 0x1_0000_0000) as u32,
         to_sign: desk[TO_SIGN],
         certificate_length: desk[CERTIFICATE],
-    }
-}
-
-// The order that is held, but for its block.
-pub fn keep(desk: &mut Desk, kind: usize, to_sign: usize, certificate: usize) {
-    desk[KIND] = kind;
-    desk[TO_SIGN] = to_sign;
-    desk[CERTIFICATE] = certificate;
-}
-
-// The order's block, with bytes over its front.
-pub fn keep_block(out: &mut [u8], bytes: &[u8]) {
-    if answers::SAID <= out.len() {
-        octets::put(&mut out[answers::BLOCK..answers::SAID], bytes);
     }
 }
 
@@ -45,7 +31,7 @@ pub fn write(desk: &Desk, space: &[u8], out: &mut [u8]) -> Answer {
         (desk[5] % 0x1_0000_0000) as u32,
         &mut out[0..room],
     );
-    panel_calls::wrote(said.answer, said.length)
+    held::wrote(said.answer, said.length)
 }
 
 // An order is over once it is finished with 9000 or a status word.
@@ -67,15 +53,15 @@ pub fn finish(desk: &mut Desk, space: &[u8], out: &mut [u8]) -> Answer {
     if said.answer <= 7 {
         return answers::bare(said.answer);
     }
-    keep(desk, 0, 0, 0);
-    panel_calls::wrote(said.answer, said.length)
+    held::keep_order(desk, 0, 0, 0);
+    held::wrote(said.answer, said.length)
 }
 
 pub fn hold(desk: &mut Desk, space: &[u8], out: &mut [u8]) -> Answer {
-    keep_block(out, calls::given(space, desk, 3));
+    held::keep_block(out, calls::given(space, desk, 3));
     let kind = desk[0];
     let to_sign = desk[1];
     let certificate = desk[2];
-    keep(desk, kind, to_sign, certificate);
+    held::keep_order(desk, kind, to_sign, certificate);
     answers::bare(answers::OK)
 }

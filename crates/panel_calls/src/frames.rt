@@ -44,15 +44,3 @@ pub fn on_frame(call: usize, given: &[u8]) -> Answer {
         _ => command(panel::brinecandle_read_command(given)),
     }
 }
-
-// What was written at the front of the reply buffer.
-pub fn wrote(answer: u16, length: usize) -> Answer {
-    Answer {
-        word: answer,
-        count: 0,
-        numbers: [0; 5],
-        has_bytes: answer == 0x9000,
-        bytes: length,
-        after: spell::NOTHING,
-    }
-}

@@ -1,7 +1,7 @@
 // The calls on the presence record.
-use super::keep;
-use super::presence;
 use answers::Answer;
+use held::keep;
+use held::presence;
 use panel_stated::Made;
 use panel_stated::PresenceRecord;
 use panel_stated::Stepped;

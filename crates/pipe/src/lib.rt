@@ -1,13 +1,13 @@
 // The panel on a pipe, without the pipe: a line in, its answer out. firmware/panel.c is the same in C, over the archive. Calls are
 // matched by their places in the list of `calls`.
 use answers::Answer;
-pub use panel_calls::fresh;
+pub use held::fresh;
 use text::Desk;
 
 fn answered(desk: &mut Desk, call: usize, space: &[u8], out: &mut [u8]) -> Answer {
     match call {
         0..=5 => panel_calls::on_record(desk, call),
-        6..=8 => buffer_calls::on_buffer(desk, call, out),
+        6..=8 => held::on_buffer(desk, call, out),
         9..=11 => panel_calls::on_frame(call, calls::given(space, desk, 0)),
         12 => order_calls::write(desk, space, out),
         13 => decide_calls::decide(desk, space, out),

@@ -3,8 +3,8 @@ use Prim.Native.Nat.{_-_}
 use mathlib.Core.Path.{_≡_}
 use borrow.Author.Needs.{needs}
 use lib.ListN.{length}
-use Rattle.buffer_calls.proofs.fill.Statement.{statement}
-use Rattle.buffer_calls.proofs.fill.Tie as tie
+use Rattle.held.proofs.fill.Statement.{statement}
+use Rattle.held.proofs.fill.Tie as tie
 
 abbrev Inv-loop : tie.InvT-loop
 Inv-loop out₀ b i₀ out i = length out ≡ length out₀
