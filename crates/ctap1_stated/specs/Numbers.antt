@@ -26,6 +26,7 @@ isYes n = eqb n 1
 abbrev pub counterOf : (counted counter : ℕ) → Counter
 counterOf counted n = if isYes counted then Counter′.Offered n else Counter′.Failed
 
+-- 01, The decision: "Lent in: .. and the hardware's answers": each number as the answer of its name
 abbrev pub hardwareOf : HardwareSaid → Hardware
 hardwareOf n =
     record {
