@@ -40,8 +40,8 @@
 
 /* docs/CHANGES.md says when these move */
 #define BRINECANDLE_VERSION_MAJOR 0
-#define BRINECANDLE_VERSION_MINOR 3
-#define BRINECANDLE_VERSION "0.3"
+#define BRINECANDLE_VERSION_MINOR 4
+#define BRINECANDLE_VERSION "0.4"
 
 #include <stdbool.h>
 #include <stddef.h>

@@ -14,21 +14,6 @@ use Rattle.apdu_stated.specs.Table.{lcField, leField, lcMost, canCarry, 
 use Rattle.apdu_stated.specs.Writing.{partsOf, headerBytes, payloadOf, frameOf, writeOf, bufferOf}
 use Rattle.apdu_stated.proofs.LaidOut.{carried}
 
--- ---- the Le field
-module _ (le long : ℕ) (old : List ℕ) where
-  pub le-none : long ≡ 0 → old ≡ laid (leBytes long le) old
-  le-none z = rw z
-
-  module _ (new : List ℕ) where
-    pub le-one : long ≡ 1 → new ≡ laid (le % 256 ∷ []) old → new ≡ laid (leBytes long le) old
-    le-one z e = e ∙ rw z
-
-    pub le-two : long ≡ 2 → new ≡ laid (bytes2 (le % 65536)) old → new ≡ laid (leBytes long le) old
-    le-two z e = e ∙ rw z
-
-    pub le-three : (long ≡ 0 → ⊥) → (long ≡ 1 → ⊥) → (long ≡ 2 → ⊥) → new ≡ laid (0 ∷ bytes2 (le % 65536)) old → new ≡ laid (leBytes long le) old
-    le-three n0 n1 n2 e = e ∙ rw (ne-eqb long 0 n0, ne-eqb long 1 n1, ne-eqb long 2 n2)
-
 -- ---- the Lc field
 module _ (count long : ℕ) (old : List ℕ) (within : count ≤ lcMost long) where
   pub lc-none : long ≡ 0 → old ≡ laid (lcBytes long count) old

@@ -76,10 +76,10 @@ laid-as p s lc le fits front back k =
     }
 
 -- ---- an Le that was read
-record LeIs (long m b : ℕ) : Type 0 where
-  low : 1 ≤ leRead long b
-  high : leRead long b ≤ m
-  back : b ≡ leRead long b % m
+pub record LeIs (long m b : ℕ) : Type 0 where
+  pub low : 1 ≤ leRead long b
+  pub high : leRead long b ≤ m
+  pub back : b ≡ leRead long b % m
 
 le-is : (long m b : ℕ) → leMost long ≡ m → 1 ≤ m → b < m → 0 ≡ m % m → (b < m → b ≡ b % m) → LeIs long m b
 le-is long m b most some under full same = go (ℕ-discrete b 0)
@@ -92,16 +92,16 @@ le-is long m b most some under full same = go (ℕ-discrete b 0)
         let here : leRead long b ≡ b = rw (ne-eqb b 0 n) in
         record { low = omega arith; high = omega arith; back = same under ∙ ap (λ (k : ℕ). k % m) (sym here) }
 
-le-1 : (b : ℕ) → b < 256 → LeIs 1 256 b
+pub le-1 : (b : ℕ) → b < 256 → LeIs 1 256 b
 le-1 b h = le-is 1 256 b refl (omega arith) h refl (λ u. omega arith)
 
-le-2 : (b : ℕ) → b < 65536 → LeIs 2 65536 b
+pub le-2 : (b : ℕ) → b < 65536 → LeIs 2 65536 b
 le-2 b h = le-is 2 65536 b refl (omega arith) h refl (λ u. omega arith)
 
-le-3 : (b : ℕ) → b < 65536 → LeIs 3 65536 b
+pub le-3 : (b : ℕ) → b < 65536 → LeIs 3 65536 b
 le-3 b h = le-is 3 65536 b refl (omega arith) h refl (λ u. omega arith)
 
-two-back : (h l : ℕ) → h < 256 → l < 256 → h ∷ l ∷ [] ≡ bytes2 (h * 256 + l)
+pub two-back : (h l : ℕ) → h < 256 → l < 256 → h ∷ l ∷ [] ≡ bytes2 (h * 256 + l)
 two-back h l p q =
     let a : h ≡ (h * 256 + l) / 256 = omega arith in
     let b : l ≡ (h * 256 + l) % 256 = omega arith in

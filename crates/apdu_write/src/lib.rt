@@ -20,31 +20,13 @@ use outcome::Refusal;
 const APDU_HEADER_LEN: usize = 4;
 
 // Each of the next writes its field at the front of what is left of the buffer, and lends the rest to the next field's.
-fn put_le(out: &mut [u8], long: usize, le: u32)
-    ensures { λ _. ⌜ now (out .exit) ≡ laid (leBytes long le) (now (out .entry)) ⌝ }
-{
-    if long == 0 {
-        return;
-    }
-    if long == 1 {
-        octets::put_byte(out, (le % 256) as u8);
-        return;
-    }
-    let low = (le % 65536) as u16;
-    if long == 2 {
-        octets::put_pair(out, low);
-        return;
-    }
-    octets::put(out, &[0, (low / 256) as u8, (low % 256) as u8]);
-}
-
 fn put_content(out: &mut [u8], content: &[u8], long: usize, le: u32)
     requires { ⌜ length (now content) ≤ length (now out) ⌝ }
     ensures { λ _. ⌜ now (out .exit) ≡ laid (now (content .entry) ++ leBytes long le) (now (out .entry)) ⌝ }
 {
     octets::put(out, content);
     let n = content.len();
-    put_le(&mut out[n..], long, le);
+    le::put(&mut out[n..], long, le);
 }
 
 fn put_lc(out: &mut [u8], long: usize, count: usize)

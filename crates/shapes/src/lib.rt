@@ -4,7 +4,7 @@ ghost use Prim.Native.Nat.{_<_, _≤_};
 ghost use mathlib.Core.Path.{_≡_};
 ghost use lib.ListN.{length};
 ghost use Rattle.octets.specs.Bytes.{byte};
-ghost use Rattle.apdu_stated.specs.Table.{lcMost, leLeast, leMost, leRead};
+ghost use Rattle.apdu_stated.specs.Table.{lcMost};
 ghost use Rattle.apdu_stated.specs.Reading.{shortOf, extendedOf, afterData};
 ghost use Rattle.apdu_stated.specs.Contracts.{Row, Fits, Payload, lcFound};
 use apdu_stated::Case;
@@ -47,22 +47,6 @@ fn lc_most(long: usize) -> usize
     if long == 1 { 255 } else { 65535 }
 }
 
-// The least that an Le field of so many bytes can say, and the most.
-fn le_least(long: usize) -> u32
-    ensures { λ r. ⌜ r ≡ leLeast long ⌝ }
-{
-    if long == 0 { 0 } else { 1 }
-}
-
-fn le_most(long: usize) -> u32
-    ensures { λ r. ⌜ r ≡ leMost long ⌝ }
-{
-    if long == 0 {
-        return 0;
-    }
-    if long == 1 { 256 } else { 65536 }
-}
-
 // Whether a frame of the shape can hold so many bytes of data, and say this Le.
 pub fn fits(shape: Case, count: usize, le: u32) -> bool
     ensures { λ r. ⌜ Fits shape count le r ⌝ }
@@ -74,29 +58,7 @@ pub fn fits(shape: Case, count: usize, le: u32) -> bool
     if lc_most(row.lc_field) < count {
         return false;
     }
-    if le < le_least(row.le_field) {
-        return false;
-    }
-    if le_most(row.le_field) < le {
-        return false;
-    }
-    true
-}
-
-// A written Le of 0 stands for the most that its field can say. The rule stands here alone.
-fn le_read(long: usize, written: u16) -> u32
-    ensures { λ r. ⌜ r ≡ leRead long written ⌝ }
-{
-    if written == 0 {
-        return le_most(long);
-    }
-    written as u32
-}
-
-fn le1(b: u8) -> u32
-    ensures { λ r. ⌜ r ≡ leRead 1 b ⌝ }
-{
-    le_read(1, b as u16)
+    le::fits(row.le_field, le)
 }
 
 // Lc in one byte, data, and perhaps one byte of Le.
@@ -112,7 +74,7 @@ fn short(p: &[u8], lc: u8) -> Lengths
         return Lengths::Found(Case::Lc1Data, lc as usize, 0);
     }
     if p.len() == 2 + n {
-        return Lengths::Found(Case::Lc1DataLe1, lc as usize, le1(p[1 + n]));
+        return Lengths::Found(Case::Lc1DataLe1, lc as usize, le::read(&p[1 + n..2 + n]));
     }
     Lengths::Surplus
 }
@@ -130,11 +92,10 @@ fn after_data(p: &[u8], lc: u16) -> Lengths
         return Lengths::Found(Case::Lc3Data, n, 0);
     }
     if p.len() == 4 + n {
-        return Lengths::Found(Case::Lc3DataLe1, n, le1(p[3 + n]));
+        return Lengths::Found(Case::Lc3DataLe1, n, le::read(&p[3 + n..4 + n]));
     }
     if p.len() == 5 + n {
-        let le = octets::pair(p[3 + n], p[4 + n]);
-        return Lengths::Found(Case::Lc3DataLe2, n, le_read(2, le));
+        return Lengths::Found(Case::Lc3DataLe2, n, le::read(&p[3 + n..5 + n]));
     }
     Lengths::Surplus
 }
@@ -147,11 +108,11 @@ fn extended(p: &[u8]) -> Lengths
     if p.len() < 3 {
         return Lengths::Missing;
     }
-    let field = octets::pair(p[1], p[2]);
+    let lc = octets::pair(p[1], p[2]);
     if p.len() == 3 {
-        return Lengths::Found(Case::Le3, 0, le_read(3, field));
+        return Lengths::Found(Case::Le3, 0, le::read(&p[0..3]));
     }
-    after_data(p, field)
+    after_data(p, lc)
 }
 
 // What a payload, the bytes after the header, says.
@@ -163,7 +124,7 @@ pub fn payload(p: &[u8]) -> Lengths
     }
     let first = p[0];
     if p.len() == 1 {
-        return Lengths::Found(Case::Le1, 0, le1(first));
+        return Lengths::Found(Case::Le1, 0, le::read(&p[0..1]));
     }
     if first == 0 {
         return extended(p);

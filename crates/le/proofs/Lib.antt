@@ -1,0 +1,5 @@
+pub mod Cases
+pub mod Laws
+pub mod Theorems
+pub mod Only
+pub mod Refuted

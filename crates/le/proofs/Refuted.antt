@@ -1,0 +1,24 @@
+-- The claim that is false of each wrong program, at an input where it bites.
+use Prim.Native.Nat.{ℕ, _≤_}
+use mathlib.Core.Path.{_≡_, refl, ap}
+use mathlib.Core.List.{List, [], _∷_}
+use native.Mathlib.Omega.{arith}
+use Rattle.octets.specs.Bytes.{byte}
+use Rattle.le.specs.Field.{saidOf}
+use Rattle.le.specs.Claims
+use Rattle.le.specs.Wrong
+
+pub zeroIsZero : Claims.ReadExactly Wrong.zeroIsZero → ⊥
+zeroIsZero exact = omega (arith, exact .one-zero)
+
+pub twoAsOne : Claims.ReadExactly Wrong.twoAsOne → ⊥
+twoAsOne exact = omega (arith, exact .two-zero)
+
+pub oneAlone : Claims.ReadExactly Wrong.oneAlone → ⊥
+oneAlone exact = omega (arith, exact .two-zero)
+
+pub mostCutShort : Claims.BothWays saidOf Wrong.mostCutShort → ⊥
+mostCutShort ways = omega (arith, ways .back-one 256 (omega arith) (omega arith))
+
+pub oneAsTwo : Claims.FitsExactly Wrong.oneAsTwo → ⊥
+oneAsTwo exact = let over : 257 ≤ 256 = exact .one 257 .0 refl .1 in omega arith

@@ -1,0 +1,17 @@
+-- `said` meets its contract: the rule's two cases.
+use borrow.Author.Needs.{needs}
+use Rattle.apdu_stated.proofs.Cases
+use Rattle.le.proofs.said.Statement.{statement}
+use Rattle.le.proofs.said.Tie as tie
+
+most-requires : tie.Need-most-requires
+most-requires c κs = search needs
+
+returns : tie.Need-returns
+returns c = search (needs, Cases.le-zero)
+
+returns-2 : tie.Need-returns-2
+returns-2 c = search (needs, Cases.le-given)
+
+pub said-spec : {M : Type 1} → statement M
+said-spec = tie.close (tie.spec most-requires returns returns-2)

@@ -1,0 +1,26 @@
+-- `written` meets its contract: what is over the most, or the most itself, is left out.
+use borrow.Author.Needs.{needs}
+use Rattle.le.proofs.Cases
+use Rattle.le.proofs.written.Statement.{statement}
+use Rattle.le.proofs.written.Tie as tie
+
+most-requires : tie.Need-most-requires
+most-requires c κs = search needs
+
+rem-result : tie.Need-rem-result
+rem-result c = search (needs, Cases.most-some)
+
+cast-result : tie.Need-cast-result
+cast-result c = search (needs, Cases.rest-small)
+
+returns : tie.Need-returns
+returns c = search (needs, Cases.rest-of)
+
+pub written-spec : {M : Type 1} → statement M
+written-spec =
+    tie.close
+    (tie.spec
+    most-requires
+    rem-result
+    cast-result
+    returns)

@@ -1,0 +1,4 @@
+pub mod Field
+pub mod Contracts
+pub mod Claims
+pub mod Wrong

@@ -1,0 +1,32 @@
+-- Wrong programs of an Le field, each with one fault.
+use Prim.Native.Nat.{ℕ, _%_}
+use mathlib.Core.Bool.{Bool, _&&_}
+use mathlib.Core.List.{List, [], _∷_}
+use lib.ListN.{length}
+use lib.Dec.{leb, eqb}
+use Rattle.outcome.specs.Notation.{if_then_else_}
+use Rattle.octets.specs.Bytes.{bytes2}
+use Rattle.apdu_stated.specs.Table.{byLength, leRead, leLeast}
+use Rattle.le.specs.Field.{writtenIn}
+
+-- a written 0 is 0
+abbrev pub zeroIsZero : List ℕ → ℕ
+zeroIsZero field = writtenIn field
+
+-- two bytes, with the most of one
+abbrev pub twoAsOne : List ℕ → ℕ
+twoAsOne field = leRead 1 (writtenIn field)
+
+-- the zero rule for one byte alone
+abbrev pub oneAlone : List ℕ → ℕ
+oneAlone field = if eqb (length field) 1 then leRead 1 (writtenIn field) else writtenIn field
+
+-- 256 in one byte goes out as ff
+abbrev pub mostCutShort : ℕ → ℕ → List ℕ
+mostCutShort width le =
+    byLength width [] ((if leb le 255 then le else 255) ∷ [])
+    (if eqb width 2 then bytes2 (le % 65536) else 0x00 ∷ bytes2 (le % 65536))
+
+-- one byte is let say what two can
+abbrev pub oneAsTwo : ℕ → ℕ → Bool
+oneAsTwo width le = leb (leLeast width) le && leb le (byLength width 0 65536 65536)
