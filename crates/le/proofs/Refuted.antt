@@ -22,3 +22,9 @@ mostCutShort ways = omega (arith, ways .back-one 256 (omega arith) (omega arith)
 
 pub oneAsTwo : Claims.FitsExactly Wrong.oneAsTwo → ⊥
 oneAsTwo exact = let over : 257 ≤ 256 = exact .one 257 .0 refl .1 in omega arith
+
+pub zeroFits : Claims.FitsExactly Wrong.zeroFits → ⊥
+zeroFits exact = let some : 1 ≤ 0 = exact .one 0 .0 refl .0 in omega arith
+
+pub lowHalfFirst : Claims.BothWays saidOf Wrong.lowHalfFirst → ⊥
+lowHalfFirst ways = omega (arith, ways .back-two 1 (omega arith) (omega arith))

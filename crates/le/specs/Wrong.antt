@@ -1,12 +1,12 @@
 -- Wrong programs of an Le field, each with one fault.
-use Prim.Native.Nat.{ℕ, _%_}
+use Prim.Native.Nat.{ℕ, _/_, _%_}
 use mathlib.Core.Bool.{Bool, _&&_}
 use mathlib.Core.List.{List, [], _∷_}
 use lib.ListN.{length}
 use lib.Dec.{leb, eqb}
 use Rattle.outcome.specs.Notation.{if_then_else_}
 use Rattle.octets.specs.Bytes.{bytes2}
-use Rattle.apdu_stated.specs.Table.{byLength, leRead, leLeast}
+use Rattle.apdu_stated.specs.Table.{byLength, leRead, leLeast, leMost}
 use Rattle.le.specs.Field.{writtenIn}
 
 -- a written 0 is 0
@@ -30,3 +30,13 @@ mostCutShort width le =
 -- one byte is let say what two can
 abbrev pub oneAsTwo : ℕ → ℕ → Bool
 oneAsTwo width le = leb (leLeast width) le && leb le (byLength width 0 65536 65536)
+
+-- Le 0 is let into a field
+abbrev pub zeroFits : ℕ → ℕ → Bool
+zeroFits width le = leb le (leMost width)
+
+-- two bytes, the low one first
+abbrev pub lowHalfFirst : ℕ → ℕ → List ℕ
+lowHalfFirst width le =
+    byLength width [] (le % 256 ∷ [])
+    (if eqb width 2 then le % 256 ∷ le % 65536 / 256 ∷ [] else 0x00 ∷ le % 256 ∷ le % 65536 / 256 ∷ [])

@@ -7,11 +7,8 @@ use Rattle.le.proofs.fits.Tie as tie
 returns : tie.Need-returns
 returns c = search (needs, Cases.fits-zero)
 
-most-requires : tie.Need-most-requires
-most-requires c κs = search needs
-
 returns-2 : tie.Need-returns-2
 returns-2 c = search (needs, Cases.fits-some)
 
 pub fits-spec : {M : Type 1} → statement M
-fits-spec = tie.close (tie.spec returns most-requires returns-2)
+fits-spec = tie.close (tie.spec returns (λ c κs. search needs) returns-2)

@@ -4,9 +4,6 @@ use Rattle.apdu_stated.proofs.Cases
 use Rattle.le.proofs.said.Statement.{statement}
 use Rattle.le.proofs.said.Tie as tie
 
-most-requires : tie.Need-most-requires
-most-requires c κs = search needs
-
 returns : tie.Need-returns
 returns c = search (needs, Cases.le-zero)
 
@@ -14,4 +11,4 @@ returns-2 : tie.Need-returns-2
 returns-2 c = search (needs, Cases.le-given)
 
 pub said-spec : {M : Type 1} → statement M
-said-spec = tie.close (tie.spec most-requires returns returns-2)
+said-spec = tie.close (tie.spec (λ c κs. search needs) returns returns-2)

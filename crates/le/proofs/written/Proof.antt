@@ -4,9 +4,6 @@ use Rattle.le.proofs.Cases
 use Rattle.le.proofs.written.Statement.{statement}
 use Rattle.le.proofs.written.Tie as tie
 
-most-requires : tie.Need-most-requires
-most-requires c κs = search needs
-
 rem-result : tie.Need-rem-result
 rem-result c = search (needs, Cases.most-some)
 
@@ -20,7 +17,7 @@ pub written-spec : {M : Type 1} → statement M
 written-spec =
     tie.close
     (tie.spec
-    most-requires
+    (λ c κs. search needs)
     rem-result
     cast-result
     returns)
