@@ -7,12 +7,7 @@ use mathlib.Core.Logic.{_↔_}
 use native.Mathlib.Omega.{arith}
 use native.Mathlib.Decide.{ℕ-discrete}
 use Rattle.outcome.specs.Notation.{Determines, Determines2}
-use Rattle.octets.specs.Bytes.{bytes2}
-use Rattle.apdu_stated.specs.Table.{leMost, leRead}
-use Rattle.apdu_stated.proofs.LaidOut.{back-1, back-2, back-3}
-use Rattle.le.specs.Field.{saidOf}
 use Rattle.le.specs.Claims
-use Rattle.le.proofs.Theorems.{joined}
 
 pub ReadExactly : Determines Claims.ReadExactly
 ReadExactly f g p q = same
@@ -34,31 +29,28 @@ ReadExactly f g p q = same
     same (hi ∷ lo ∷ []) = two hi lo (ℕ-discrete (hi * 256 + lo) 0)
     same (x ∷ hi ∷ lo ∷ more) = p .three x hi lo more ∙ two hi lo (ℕ-discrete (hi * 256 + lo) 0) ∙ sym (q .three x hi lo more)
 
--- the writer, wherever the field can say Le: its bytes are those that say it
-pub BothWays : (f g : ℕ → ℕ → List ℕ) → Claims.BothWays saidOf f → Claims.BothWays saidOf g
-    → (width le : ℕ) → 1 ≤ width → width ≤ 3 → 1 ≤ le → le ≤ leMost width → f width le ≡ g width le
-BothWays f g p q width le some few low high = go (ℕ-discrete width 1) (ℕ-discrete width 2)
+pub PutExactly : Determines2 Claims.PutExactly
+PutExactly f g p q width le = go (ℕ-discrete width 0) (ℕ-discrete width 1) (ℕ-discrete width 2)
   where
-    one : (w : ℕ → ℕ → List ℕ) → Claims.BothWays saidOf w → le ≤ 256 → w 1 le ≡ le % 256 ∷ []
-    one w r h = ap (w 1) (back-1 le low h) ∙ r .again-one (le % 256) (omega arith)
+    one : (w : ℕ → ℕ → List ℕ) → Claims.PutExactly w → w 1 le ≡ le % 256 ∷ []
+    one w r =
+        let is : le ≡ le / 256 * 256 + le % 256 = omega arith in
+        ap (w 1) is ∙ r .one (le / 256) (le % 256) (omega arith)
 
-    two : (w : ℕ → ℕ → List ℕ) → Claims.BothWays saidOf w → le ≤ 65536 → w 2 le ≡ bytes2 (le % 65536)
-    two w r h =
-        let n = le % 65536 in
-        ap (w 2) (back-2 le low h ∙ ap (leRead 2) (sym (joined n))) ∙ r .again-two (n / 256) (n % 256) (omega arith) (omega arith)
+    whole : le ≡ le / 65536 * 65536 + (le % 65536 / 256 * 256 + le % 256)
+    whole = omega arith
 
-    three : (w : ℕ → ℕ → List ℕ) → Claims.BothWays saidOf w → le ≤ 65536 → w 3 le ≡ 0 ∷ bytes2 (le % 65536)
-    three w r h =
-        let n = le % 65536 in
-        ap (w 3) (back-3 le low h ∙ ap (leRead 3) (sym (joined n))) ∙ r .again-three (n / 256) (n % 256) (omega arith) (omega arith)
+    two : (w : ℕ → ℕ → List ℕ) → Claims.PutExactly w → w 2 le ≡ le % 65536 / 256 ∷ le % 256 ∷ []
+    two w r = ap (w 2) whole ∙ r .two (le / 65536) (le % 65536 / 256) (le % 256) (omega arith) (omega arith)
 
-    go : Dec (width ≡ 1) → Dec (width ≡ 2) → f width le ≡ g width le
-    go (yes o) d = let h : le ≤ 256 = rw o at high in rw o (one f p h ∙ sym (one g q h))
-    go (no n) (yes t) = let h : le ≤ 65536 = rw t at high in rw t (two f p h ∙ sym (two g q h))
-    go (no n) (no m) =
-        let is : width ≡ 3 = omega arith in
-        let h : le ≤ 65536 = rw is at high in
-        rw is (three f p h ∙ sym (three g q h))
+    more : (w : ℕ → ℕ → List ℕ) → Claims.PutExactly w → 3 ≤ width → w width le ≡ 0 ∷ le % 65536 / 256 ∷ le % 256 ∷ []
+    more w r some = ap (w width) whole ∙ r .more width (le / 65536) (le % 65536 / 256) (le % 256) some (omega arith) (omega arith)
+
+    go : Dec (width ≡ 0) → Dec (width ≡ 1) → Dec (width ≡ 2) → f width le ≡ g width le
+    go (yes z) d e = rw z (p .none le ∙ sym (q .none le))
+    go (no n) (yes o) e = rw o (one f p ∙ sym (one g q))
+    go (no n) (no m) (yes t) = rw t (two f p ∙ sym (two g q))
+    go (no n) (no m) (no k) = more f p (omega arith) ∙ sym (more g q (omega arith))
 
 pub FitsExactly : Determines2 Claims.FitsExactly
 FitsExactly f g p q width le = go (ℕ-discrete width 0) (ℕ-discrete width 1)

@@ -26,5 +26,5 @@ oneAsTwo exact = let over : 257 ≤ 256 = exact .one 257 .0 refl .1 in omega ari
 pub zeroFits : Claims.FitsExactly Wrong.zeroFits → ⊥
 zeroFits exact = let some : 1 ≤ 0 = exact .one 0 .0 refl .0 in omega arith
 
-pub lowHalfFirst : Claims.BothWays saidOf Wrong.lowHalfFirst → ⊥
-lowHalfFirst ways = omega (arith, ways .back-two 1 (omega arith) (omega arith))
+pub lowHalfFirst : Claims.PutExactly Wrong.lowHalfFirst → ⊥
+lowHalfFirst exact = omega (arith, ap (λ (s : List ℕ). byte s 0) (exact .two 0 0 1 (omega arith) (omega arith)))

@@ -30,8 +30,22 @@ ReadExactly =
           rw (ne-eqb long 0 (omega arith), ne-eqb long 1 (omega arith), ne-eqb long 2 (omega arith));
     }
 
+pub PutExactly : Claims.PutExactly leBytes
+PutExactly =
+    record {
+      none = λ le. refl;
+      one = λ times b h. ap (λ (n : ℕ). n ∷ []) (omega arith);
+      two = λ times hi lo h l. ap bytes2 (left times hi lo h l) ∙ sym (two-back hi lo h l);
+      more = λ width times hi lo some h l.
+          rw (ne-eqb width 0 (omega arith), ne-eqb width 1 (omega arith), ne-eqb width 2 (omega arith))
+          (ap (λ (n : ℕ). 0 ∷ bytes2 n) (left times hi lo h l) ∙ ap (λ (s : List ℕ). 0 ∷ s) (sym (two-back hi lo h l)));
+    }
+  where
+    left : (times hi lo : ℕ) → hi < 256 → lo < 256 → (times * 65536 + (hi * 256 + lo)) % 65536 ≡ hi * 256 + lo
+    left times hi lo h l = omega arith
+
 -- a number of two bytes, taken apart and joined
-pub joined : (n : ℕ) → n / 256 * 256 + n % 256 ≡ n
+joined : (n : ℕ) → n / 256 * 256 + n % 256 ≡ n
 joined n = omega arith
 
 pub BothWays : Claims.BothWays saidOf leBytes
