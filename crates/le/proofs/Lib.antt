@@ -1,5 +1,6 @@
-pub mod Cases
-pub mod Laws
 pub mod Theorems
 pub mod Only
 pub mod Refuted
+pub mod Ways
+pub mod Within
+pub mod Laws

@@ -6,7 +6,8 @@ use mathlib.Core.List.{List, [], _∷_}
 use mathlib.Core.Logic.{_↔_}
 use native.Mathlib.Omega.{arith}
 use native.Mathlib.Decide.{ℕ-discrete}
-use Rattle.outcome.specs.Notation.{Determines, Determines2}
+use Rattle.outcome.specs.Notation.{Determines, Determines2, Determines3}
+use Rattle.octets.specs.Bytes.{laid}
 use Rattle.le.specs.Claims
 
 pub ReadExactly : Determines Claims.ReadExactly
@@ -29,25 +30,26 @@ ReadExactly f g p q = same
     same (hi ∷ lo ∷ []) = two hi lo (ℕ-discrete (hi * 256 + lo) 0)
     same (x ∷ hi ∷ lo ∷ more) = p .three x hi lo more ∙ two hi lo (ℕ-discrete (hi * 256 + lo) 0) ∙ sym (q .three x hi lo more)
 
-pub PutExactly : Determines2 Claims.PutExactly
-PutExactly f g p q width le = go (ℕ-discrete width 0) (ℕ-discrete width 1) (ℕ-discrete width 2)
+pub PutExactly : Determines3 Claims.PutExactly
+PutExactly f g p q width le old = go (ℕ-discrete width 0) (ℕ-discrete width 1) (ℕ-discrete width 2)
   where
-    one : (w : ℕ → ℕ → List ℕ) → Claims.PutExactly w → w 1 le ≡ le % 256 ∷ []
+    one : (w : ℕ → ℕ → List ℕ → List ℕ) → Claims.PutExactly w → w 1 le old ≡ laid (le % 256 ∷ []) old
     one w r =
         let is : le ≡ le / 256 * 256 + le % 256 = omega arith in
-        ap (w 1) is ∙ r .one (le / 256) (le % 256) (omega arith)
+        ap (λ (n : ℕ). w 1 n old) is ∙ r .one (le / 256) (le % 256) old (omega arith)
 
     whole : le ≡ le / 65536 * 65536 + (le % 65536 / 256 * 256 + le % 256)
     whole = omega arith
 
-    two : (w : ℕ → ℕ → List ℕ) → Claims.PutExactly w → w 2 le ≡ le % 65536 / 256 ∷ le % 256 ∷ []
-    two w r = ap (w 2) whole ∙ r .two (le / 65536) (le % 65536 / 256) (le % 256) (omega arith) (omega arith)
+    two : (w : ℕ → ℕ → List ℕ → List ℕ) → Claims.PutExactly w → w 2 le old ≡ laid (le % 65536 / 256 ∷ le % 256 ∷ []) old
+    two w r = ap (λ (n : ℕ). w 2 n old) whole ∙ r .two (le / 65536) (le % 65536 / 256) (le % 256) old (omega arith) (omega arith)
 
-    more : (w : ℕ → ℕ → List ℕ) → Claims.PutExactly w → 3 ≤ width → w width le ≡ 0 ∷ le % 65536 / 256 ∷ le % 256 ∷ []
-    more w r some = ap (w width) whole ∙ r .more width (le / 65536) (le % 65536 / 256) (le % 256) some (omega arith) (omega arith)
+    more : (w : ℕ → ℕ → List ℕ → List ℕ) → Claims.PutExactly w → 3 ≤ width → w width le old ≡ laid (0 ∷ le % 65536 / 256 ∷ le % 256 ∷ []) old
+    more w r some =
+        ap (λ (n : ℕ). w width n old) whole ∙ r .more width (le / 65536) (le % 65536 / 256) (le % 256) old some (omega arith) (omega arith)
 
-    go : Dec (width ≡ 0) → Dec (width ≡ 1) → Dec (width ≡ 2) → f width le ≡ g width le
-    go (yes z) d e = rw z (p .none le ∙ sym (q .none le))
+    go : Dec (width ≡ 0) → Dec (width ≡ 1) → Dec (width ≡ 2) → f width le old ≡ g width le old
+    go (yes z) d e = rw z (p .none le old ∙ sym (q .none le old))
     go (no n) (yes o) e = rw o (one f p ∙ sym (one g q))
     go (no n) (no m) (yes t) = rw t (two f p ∙ sym (two g q))
     go (no n) (no m) (no k) = more f p (omega arith) ∙ sym (more g q (omega arith))

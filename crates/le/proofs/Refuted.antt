@@ -27,4 +27,7 @@ pub zeroFits : Claims.FitsExactly Wrong.zeroFits → ⊥
 zeroFits exact = let some : 1 ≤ 0 = exact .one 0 .0 refl .0 in omega arith
 
 pub lowHalfFirst : Claims.PutExactly Wrong.lowHalfFirst → ⊥
-lowHalfFirst exact = omega (arith, ap (λ (s : List ℕ). byte s 0) (exact .two 0 0 1 (omega arith) (omega arith)))
+lowHalfFirst exact = omega (arith, ap (λ (s : List ℕ). byte s 0) (exact .two 0 0 1 (0 ∷ 0 ∷ []) (omega arith) (omega arith)))
+
+pub withoutThe00 : Claims.PutExactly Wrong.withoutThe00 → ⊥
+withoutThe00 exact = omega (arith, ap (λ (s : List ℕ). byte s 1) (exact .more 3 0 0 1 (0 ∷ 0 ∷ 0 ∷ []) (omega arith) (omega arith) (omega arith)))

@@ -9,12 +9,12 @@ use borrow.Author.Tests.{ne-eqb, le-leb, leb-true}
 use lib.Dec.{leb}
 use lib.ListN.{length}
 use Rattle.outcome.proofs.Laws.{both-are}
-use Rattle.octets.specs.Bytes.{bytes2}
+use Rattle.octets.specs.Bytes.{bytes2, laid}
 use Rattle.octets.proofs.Laws.{both}
-use Rattle.apdu_stated.specs.Table.{leLeast, leMost, leRead, leBytes}
+use Rattle.apdu_stated.specs.Table.{leRead, leBytes}
 use Rattle.apdu_stated.proofs.LaidOut.{back-1, back-2, back-3}
 use Rattle.apdu_stated.proofs.Sound.{le-1, le-2, le-3, two-back}
-use Rattle.le.specs.Field.{saidOf}
+use Rattle.le.specs.Field.{saidOf, canSay, putOf}
 use Rattle.le.specs.Claims
 
 pub ReadExactly : Claims.ReadExactly saidOf
@@ -30,19 +30,21 @@ ReadExactly =
           rw (ne-eqb long 0 (omega arith), ne-eqb long 1 (omega arith), ne-eqb long 2 (omega arith));
     }
 
-pub PutExactly : Claims.PutExactly leBytes
+pub PutExactly : Claims.PutExactly putOf
 PutExactly =
     record {
-      none = λ le. refl;
-      one = λ times b h. ap (λ (n : ℕ). n ∷ []) (omega arith);
-      two = λ times hi lo h l. ap bytes2 (left times hi lo h l) ∙ sym (two-back hi lo h l);
-      more = λ width times hi lo some h l.
+      none = λ le old. refl;
+      one = λ times b old h. ap (λ (n : ℕ). laid (n ∷ []) old) (omega arith);
+      two = λ times hi lo old h l. ap (λ (s : List ℕ). laid s old) (halves times hi lo h l);
+      more = λ width times hi lo old some h l.
           rw (ne-eqb width 0 (omega arith), ne-eqb width 1 (omega arith), ne-eqb width 2 (omega arith))
-          (ap (λ (n : ℕ). 0 ∷ bytes2 n) (left times hi lo h l) ∙ ap (λ (s : List ℕ). 0 ∷ s) (sym (two-back hi lo h l)));
+          (ap (λ (s : List ℕ). laid (0 ∷ s) old) (halves times hi lo h l));
     }
   where
-    left : (times hi lo : ℕ) → hi < 256 → lo < 256 → (times * 65536 + (hi * 256 + lo)) % 65536 ≡ hi * 256 + lo
-    left times hi lo h l = omega arith
+    halves : (times hi lo : ℕ) → hi < 256 → lo < 256 → bytes2 ((times * 65536 + (hi * 256 + lo)) % 65536) ≡ hi ∷ lo ∷ []
+    halves times hi lo h l =
+        let left : (times * 65536 + (hi * 256 + lo)) % 65536 ≡ hi * 256 + lo = omega arith in
+        ap bytes2 left ∙ sym (two-back hi lo h l)
 
 -- a number of two bytes, taken apart and joined
 joined : (n : ℕ) → n / 256 * 256 + n % 256 ≡ n
@@ -66,7 +68,7 @@ within low high le = (
   λ h. rw (le-leb low le (h .0), le-leb le high (h .1)),
 )
 
-pub FitsExactly : Claims.FitsExactly (λ width le. leb (leLeast width) le && leb le (leMost width))
+pub FitsExactly : Claims.FitsExactly canSay
 FitsExactly =
     record {
       none = λ le. (λ e. let h = within 0 0 le .0 e in omega arith, λ z. within 0 0 le .1 (omega arith, omega arith));

@@ -6,6 +6,7 @@ use mathlib.Core.Bool.{Bool, true}
 use mathlib.Core.List.{List, [], _∷_}
 use mathlib.Core.Logic.{_↔_}
 use Rattle.outcome.specs.Notation.{AtMostOne}
+use Rattle.octets.specs.Bytes.{laid}
 use Rattle.le.specs.Contracts.{Fits, Read, Put}
 
 -- 01: "A written Le of 0 means 256 in one byte and 65536 in two; an absent Le reads as 0", and any other number is itself. A first
@@ -19,14 +20,15 @@ pub record ReadExactly (said : List ℕ → ℕ) : Type 0 where
   pub two : (hi lo : ℕ) → (hi * 256 + lo ≡ 0 → ⊥) → said (hi ∷ lo ∷ []) ≡ hi * 256 + lo
   pub three : (x hi lo : ℕ) (more : List ℕ) → said (x ∷ hi ∷ lo ∷ more) ≡ said (hi ∷ lo ∷ [])
 
--- The table's "Le (1)", "Le (2)" and "00, Le (2)", as bytes, and no byte without a field. So 256 is written 00 and 65536 00 00: what is written is left of
--- Le when the most is taken off as often as it goes; oftener than once is ours, since `fits` is asked first. Rejects 256 written ff, and the low byte first.
--- Bites at 256 in one byte, and at 1 in two.
-pub record PutExactly (bytes : ℕ → ℕ → List ℕ) : Type 0 where
-  pub none : (le : ℕ) → bytes 0 le ≡ []
-  pub one : (times b : ℕ) → b < 256 → bytes 1 (times * 256 + b) ≡ b ∷ []
-  pub two : (times hi lo : ℕ) → hi < 256 → lo < 256 → bytes 2 (times * 65536 + (hi * 256 + lo)) ≡ hi ∷ lo ∷ []
-  pub more : (width times hi lo : ℕ) → 3 ≤ width → hi < 256 → lo < 256 → bytes width (times * 65536 + (hi * 256 + lo)) ≡ 0x00 ∷ hi ∷ lo ∷ []
+-- The table's "Le (1)", "Le (2)" and "00, Le (2)", at the front of a buffer, and nothing without a field. So 256 is written 00 and 65536 00 00: what is
+-- written is left of Le when the most is taken off as often as it goes; oftener than once is ours, since `fits` is asked first. Rejects 00 forgotten in
+-- shape 8, and the low byte first. Bites at 1 in two bytes.
+pub record PutExactly (put : ℕ → ℕ → List ℕ → List ℕ) : Type 0 where
+  pub none : (le : ℕ) (old : List ℕ) → put 0 le old ≡ old
+  pub one : (times b : ℕ) (old : List ℕ) → b < 256 → put 1 (times * 256 + b) old ≡ laid (b ∷ []) old
+  pub two : (times hi lo : ℕ) (old : List ℕ) → hi < 256 → lo < 256 → put 2 (times * 65536 + (hi * 256 + lo)) old ≡ laid (hi ∷ lo ∷ []) old
+  pub more : (width times hi lo : ℕ) (old : List ℕ) → 3 ≤ width → hi < 256 → lo < 256
+      → put width (times * 65536 + (hi * 256 + lo)) old ≡ laid (0x00 ∷ hi ∷ lo ∷ []) old
 
 -- The same rule in both directions: an Le that its field can say is read back as itself, and the bytes of a field are those that are
 -- written for what it says. Rejects a writer that keeps 255 for 256, and a reader that knows only one of the two zeros.

@@ -2,20 +2,15 @@
 -- field of so many bytes (`width`), or of these bytes (`field`).
 use Prim.Native.Nat.{ℕ}
 use mathlib.Core.Path.{_≡_}
-use mathlib.Core.Bool.{Bool, _&&_}
+use mathlib.Core.Bool.{Bool}
 use mathlib.Core.List.{List}
-use lib.Dec.{leb}
-use Rattle.octets.specs.Bytes.{laid}
-use Rattle.apdu_stated.specs.Table.{leLeast, leMost, leBytes}
-use Rattle.le.specs.Field.{saidOf}
+use Rattle.le.specs.Field.{saidOf, canSay, putOf}
 
--- 01: "Le 0 where absent, else 1..256 or 1..65536"
 abbrev pub Fits : ℕ → ℕ → Bool → Type 0
-Fits width le r = r ≡ (leb (leLeast width) le && leb le (leMost width))
+Fits width le r = r ≡ canSay width le
 
 abbrev pub Read : List ℕ → ℕ → Type 0
 Read field r = r ≡ saidOf field
 
--- the field stands at the front of the buffer, whose rest is as it was
 abbrev pub Put : ℕ → ℕ → List ℕ → List ℕ → Type 0
-Put width le old after = after ≡ laid (leBytes width le) old
+Put width le old after = after ≡ putOf width le old

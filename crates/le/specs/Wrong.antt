@@ -5,7 +5,7 @@ use mathlib.Core.List.{List, [], _∷_}
 use lib.ListN.{length}
 use lib.Dec.{leb, eqb}
 use Rattle.outcome.specs.Notation.{if_then_else_}
-use Rattle.octets.specs.Bytes.{bytes2}
+use Rattle.octets.specs.Bytes.{bytes2, laid}
 use Rattle.apdu_stated.specs.Table.{byLength, leRead, leLeast, leMost}
 use Rattle.le.specs.Field.{writtenIn}
 
@@ -36,7 +36,13 @@ abbrev pub zeroFits : ℕ → ℕ → Bool
 zeroFits width le = leb le (leMost width)
 
 -- two bytes, the low one first
-abbrev pub lowHalfFirst : ℕ → ℕ → List ℕ
-lowHalfFirst width le =
-    byLength width [] (le % 256 ∷ [])
-    (if eqb width 2 then le % 256 ∷ le % 65536 / 256 ∷ [] else 0x00 ∷ le % 256 ∷ le % 65536 / 256 ∷ [])
+abbrev pub lowHalfFirst : ℕ → ℕ → List ℕ → List ℕ
+lowHalfFirst width le old =
+    laid
+    (byLength width [] (le % 256 ∷ [])
+    (if eqb width 2 then le % 256 ∷ le % 65536 / 256 ∷ [] else 0x00 ∷ le % 256 ∷ le % 65536 / 256 ∷ []))
+    old
+
+-- three bytes as two: 00 forgotten in shape 8
+abbrev pub withoutThe00 : ℕ → ℕ → List ℕ → List ℕ
+withoutThe00 width le old = laid (byLength width [] (le % 256 ∷ []) (bytes2 (le % 65536))) old

@@ -1,14 +1,14 @@
 -- `fits` meets its contract: 0 without a field, else up to its most.
 use borrow.Author.Needs.{needs}
-use Rattle.le.proofs.Cases
+use Rattle.le.proofs.Ways
 use Rattle.le.proofs.fits.Statement.{statement}
 use Rattle.le.proofs.fits.Tie as tie
 
 returns : tie.Need-returns
-returns c = search (needs, Cases.fits-zero)
+returns c = search (needs, Ways.fits-zero)
 
 returns-2 : tie.Need-returns-2
-returns-2 c = search (needs, Cases.fits-some)
+returns-2 c = search (needs, Ways.fits-some)
 
 pub fits-spec : {M : Type 1} → statement M
 fits-spec = tie.close (tie.spec returns (λ c κs. search needs) returns-2)

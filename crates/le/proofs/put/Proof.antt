@@ -1,23 +1,23 @@
 -- `put` meets its contract: by the field's length.
 use borrow.Author.Needs.{needs}
-use Rattle.le.proofs.Cases
+use Rattle.le.proofs.Ways
 use Rattle.le.proofs.put.Statement.{statement}
 use Rattle.le.proofs.put.Tie as tie
 
 returns : tie.Need-returns
-returns c = search (needs, Cases.put-none)
+returns c = search (needs, Ways.put-none)
 
 cast-put-byte : tie.Need-cast-put-byte
-cast-put-byte c = search (needs, Cases.byte-small)
+cast-put-byte c = search (needs, Ways.byte-small)
 
 returns-2 : tie.Need-returns-2
-returns-2 c = search (needs, Cases.put-one)
+returns-2 c = search (needs, Ways.put-one)
 
 returns-3 : tie.Need-returns-3
-returns-3 c = search (needs, Cases.put-two)
+returns-3 c = search (needs, Ways.put-two)
 
 returns-4 : tie.Need-returns-4
-returns-4 c = search (needs, Cases.put-more)
+returns-4 c = search (needs, Ways.put-more)
 
 pub put-spec : {M : Type 1} → statement M
 put-spec =

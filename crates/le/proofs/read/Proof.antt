@@ -1,20 +1,20 @@
 -- `read` meets its contract: by the field's length.
 use borrow.Author.Needs.{needs}
-use Rattle.le.proofs.Cases
+use Rattle.le.proofs.Ways
 use Rattle.le.proofs.read.Statement.{statement}
 use Rattle.le.proofs.read.Tie as tie
 
 returns : tie.Need-returns
-returns c = search (needs, Cases.read-none)
+returns c = search (needs, Ways.read-none)
 
 returns-2 : tie.Need-returns-2
-returns-2 c = search (needs, Cases.read-one)
+returns-2 c = search (needs, Ways.read-one)
 
 returns-3 : tie.Need-returns-3
-returns-3 c = search (needs, Cases.read-two)
+returns-3 c = search (needs, Ways.read-two)
 
 returns-4 : tie.Need-returns-4
-returns-4 c = search (needs, Cases.read-more)
+returns-4 c = search (needs, Ways.read-more)
 
 pub read-spec : {M : Type 1} → statement M
 read-spec =

@@ -1,17 +1,17 @@
 -- `written` meets its contract: what is over the most, or the most itself, is left out.
 use borrow.Author.Needs.{needs}
-use Rattle.le.proofs.Cases
+use Rattle.le.proofs.Ways
 use Rattle.le.proofs.written.Statement.{statement}
 use Rattle.le.proofs.written.Tie as tie
 
 rem-result : tie.Need-rem-result
-rem-result c = search (needs, Cases.most-some)
+rem-result c = search (needs, Ways.most-some)
 
 cast-result : tie.Need-cast-result
-cast-result c = search (needs, Cases.rest-small)
+cast-result c = search (needs, Ways.rest-small)
 
 returns : tie.Need-returns
-returns c = search (needs, Cases.rest-of)
+returns c = search (needs, Ways.rest-of)
 
 pub written-spec : {M : Type 1} → statement M
 written-spec =

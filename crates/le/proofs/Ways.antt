@@ -1,18 +1,17 @@
--- An Le field's definitions, case by case, as the code meets them: the answer, from the facts that the tests showed.
+-- The ways through an Le field's definitions, as the code meets them: the answer, from the facts that the tests showed.
 use Prim.Native.Nat.{ℕ, _+_, _-_, _*_, _%_, _<_, _≤_}
-use mathlib.Core.Path.{_≡_, refl, ap, sym, _∙_}
-use mathlib.Core.Bool.{Bool, true, false, _&&_, and-false}
+use mathlib.Core.Path.{_≡_, ap, _∙_}
 use mathlib.Core.List.{List, [], _∷_}
 use native.Mathlib.Omega.{arith}
 use native.Mathlib.Decide.{ℕ-discrete}
-use borrow.Author.Tests.{ne-eqb, le-leb, lt-leb}
+use borrow.Author.Tests.{ne-eqb, le-leb}
 use lib.Dec.{leb, eqb}
 use lib.ListN.{length}
 use mir.Syntax.{w8, w16}
 use mir.Val.{Fits}
 use Rattle.octets.specs.Bytes.{laid, byte, bytes2}
-use Rattle.apdu_stated.specs.Table.{leLeast, leMost, leRead, leBytes}
-use Rattle.le.specs.Field.{saidOf}
+use Rattle.apdu_stated.specs.Table.{leMost, leRead}
+use Rattle.le.specs.Field.{saidOf, canSay, putOf}
 
 -- ---- what is read
 module _ (field : List ℕ) where
@@ -50,7 +49,7 @@ module _ (width le m : ℕ) (some : 0 < width) (is-m : m ≡ leMost width) where
   pub rest-of : le % m ≡ le % leMost width
   rest-of = rw is-m
 
-pub put-none : (width le : ℕ) (old : List ℕ) → width ≡ 0 → old ≡ laid (leBytes width le) old
+pub put-none : (width le : ℕ) (old : List ℕ) → width ≡ 0 → old ≡ putOf width le old
 put-none width le old z = rw z
 
 module _ (width le n : ℕ) (old : List ℕ) (is-n : n ≡ le % leMost width) where
@@ -58,29 +57,29 @@ module _ (width le n : ℕ) (old : List ℕ) (is-n : n ≡ le % leMost width) wh
   byte-small o = let small : n ≡ le % 256 = rw o at is-n in omega arith
 
   module _ (new : List ℕ) where
-    pub put-one : width ≡ 1 → new ≡ laid (n ∷ []) old → new ≡ laid (leBytes width le) old
+    pub put-one : width ≡ 1 → new ≡ laid (n ∷ []) old → new ≡ putOf width le old
     put-one o e = e ∙ rw (is-n, o)
 
-    pub put-two : width ≡ 2 → new ≡ laid (bytes2 n) old → new ≡ laid (leBytes width le) old
+    pub put-two : width ≡ 2 → new ≡ laid (bytes2 n) old → new ≡ putOf width le old
     put-two t e =
         let is : n ≡ le % 65536 = rw t at is-n in
         e ∙ ap (λ (k : ℕ). laid (bytes2 k) old) is ∙ rw t
 
-    pub put-more : (width ≡ 0 → ⊥) → (width ≡ 1 → ⊥) → (width ≡ 2 → ⊥) → new ≡ laid (0 ∷ bytes2 n) old → new ≡ laid (leBytes width le) old
+    pub put-more : (width ≡ 0 → ⊥) → (width ≡ 1 → ⊥) → (width ≡ 2 → ⊥) → new ≡ laid (0 ∷ bytes2 n) old → new ≡ putOf width le old
     put-more n0 n1 n2 e = e ∙ rw (is-n, ne-eqb width 0 n0, ne-eqb width 1 n1, ne-eqb width 2 n2)
 
 -- ---- what a field can say
 module _ (width le : ℕ) where
-  pub fits-zero : le ≡ 0 → eqb width 0 ≡ (leb (leLeast width) le && leb le (leMost width))
+  pub fits-zero : le ≡ 0 → eqb width 0 ≡ canSay width le
   fits-zero z = go (ℕ-discrete width 0)
     where
-      go : Dec (width ≡ 0) → eqb width 0 ≡ (leb (leLeast width) le && leb le (leMost width))
+      go : Dec (width ≡ 0) → eqb width 0 ≡ canSay width le
       go (yes w) = rw (w, z)
       go (no n) = rw (ne-eqb width 0 n, z)
 
-  pub fits-some : (m : ℕ) → (le ≡ 0 → ⊥) → m ≡ leMost width → leb le m ≡ (leb (leLeast width) le && leb le (leMost width))
+  pub fits-some : (m : ℕ) → (le ≡ 0 → ⊥) → m ≡ leMost width → leb le m ≡ canSay width le
   fits-some m nz is-m = go (ℕ-discrete width 0)
     where
-      go : Dec (width ≡ 0) → leb le m ≡ (leb (leLeast width) le && leb le (leMost width))
+      go : Dec (width ≡ 0) → leb le m ≡ canSay width le
       go (yes w) = ap (leb le) is-m ∙ rw (w, le-leb 0 le (omega arith))
       go (no n) = ap (leb le) is-m ∙ rw (ne-eqb width 0 n, le-leb 1 le (omega arith))
