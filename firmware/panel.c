@@ -30,12 +30,18 @@
  *   data FRAME                             9000 DATA | none
  *   parts FRAME                            9000 CHALLENGE APPLICATION | 9000 CHALLENGE APPLICATION HANDLE | none
  *
- * Any of them may be refused, `R1` to `R7`, or answered with a status word, as `6985`. A line that is no call is answered
- * `? ` and why, and changes nothing; so is one that the end of the input cuts short, or that has a NUL in it. The order held is
- * that of the last decision that was not refused, if it gave one; it is gone once it is finished with 9000 or a status word.
- * Before the first `new` there is no record: R6. Answers go out when no more calls are waiting, so a peer may send one call at a
- * time or many at once. A peer that sends a million has to read while it writes: once the pipe that way is full of answers the
- * panel reads no more calls, and the two would wait for each other.
+ * Any of them may be refused, `R1` to `R7`, or answered with a status word, as `6985`. A 6700 (read, strict, command, decide and try
+ * answer it) goes on with what is wrong with the length, and where, counted from the frame's start:
+ *
+ *   6700 missing PLACE                     the frame ends before its Lc field or its data does; PLACE is its length
+ *   6700 surplus PLACE                     from PLACE on there are bytes that no field can claim
+ *   6700 lc PLACE                          Lc does not fit INS; PLACE is 4
+ *
+ * A line that is no call is answered `? ` and why, and changes nothing; so is one that the end of the input cuts short, or that has
+ * a NUL in it. The order held is that of the last decision that was not refused, if it gave one; it is gone once it is finished with
+ * 9000 or a status word. Before the first `new` there is no record: R6. Answers go out when no more calls are waiting, so a peer may
+ * send one call at a time or many at once. A peer that sends a million has to read while it writes: once the pipe that way is full
+ * of answers the panel reads no more calls, and the two would wait for each other.
  */
 #include <errno.h>
 #include <unistd.h>
@@ -130,6 +136,28 @@ static void put_answer(uint16_t answer)
     } else {
         put_hex(answer, 4);
     }
+}
+
+/* A refusal or a status word, and of a 6700 where the length went wrong. */
+static void put_status(uint16_t answer, uint16_t fault, size_t place)
+{
+    put_answer(answer);
+    switch (fault) {
+    case BRINECANDLE_NO_FAULT:
+        return;
+    case BRINECANDLE_MISSING:
+        put_text(" missing");
+        break;
+    case BRINECANDLE_SURPLUS:
+        put_text(" surplus");
+        break;
+    case BRINECANDLE_LC_AGAINST_INS:
+        put_text(" lc");
+        break;
+    default:
+        put_text(" ?");
+    }
+    then_number(place);
 }
 
 static int next_char(void)
@@ -302,7 +330,7 @@ static bool call_room(char **word)
 static void put_frame(struct brinecandle_frame frame)
 {
     if (frame.answer != BRINECANDLE_OK) {
-        put_answer(frame.answer);
+        put_status(frame.answer, frame.fault, frame.place);
         return;
     }
     put_number(frame.shape);
@@ -358,7 +386,7 @@ static bool call_command(char **word)
         return false;
     struct brinecandle_command command = brinecandle_read_command(frame.at, frame.length);
     if (command.answer != BRINECANDLE_OK) {
-        put_answer(command.answer);
+        put_status(command.answer, command.fault, command.place);
     } else if (command.command == BRINECANDLE_U2F_REGISTER) {
         put_text("register");
         then_number(command.challenge);
@@ -406,7 +434,9 @@ static bool call_decide(char **word)
         return false;
     struct brinecandle_decided decided = brinecandle_panel_decide(&panel, with);
     if (decided.answer != BRINECANDLE_ORDER) {
-        put_wrote(decided.answer, decided.length);
+        put_status(decided.answer, decided.fault, decided.place);
+        if (decided.answer == BRINECANDLE_OK)
+            then_bytes(reply, decided.length);
         return true;
     }
     put_text("order");
@@ -424,7 +454,7 @@ static bool call_try(char **word)
         return false;
     struct brinecandle_decided decided = brinecandle_panel_try(&panel, with);
     if (decided.answer != BRINECANDLE_ORDER) {
-        put_answer(decided.answer);
+        put_status(decided.answer, decided.fault, decided.place);
         return true;
     }
     put_text("order");

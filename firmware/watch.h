@@ -51,8 +51,28 @@ static bool same_record(struct brinecandle_presence a, struct brinecandle_presen
     return a.w == b.w && a.prompt == b.prompt && a.touch == b.touch && a.last == b.last;
 }
 
-static struct brinecandle_frame watched_frame(struct brinecandle_frame said, const uint8_t *frame, size_t length)
+typedef struct brinecandle_frame reading(const uint8_t *frame, size_t length);
+
+/* With 6700 a kind, and the place that goes with it: cut there, a frame with bytes too many is one that is read. With any other answer
+ * neither. */
+static void watched_fault(uint16_t answer, uint16_t fault, size_t place, const uint8_t *frame, size_t length, reading *by)
 {
+    if (answer != BRINECANDLE_WRONG_LENGTH) {
+        held(fault == BRINECANDLE_NO_FAULT && !place, "fault: beside another answer");
+    } else if (fault == BRINECANDLE_MISSING) {
+        held(place == length, "fault: missing, and not at the end");
+    } else if (fault == BRINECANDLE_SURPLUS) {
+        held(place < length && by(frame, place).answer == BRINECANDLE_OK, "fault: surplus, and not there");
+    } else {
+        held(fault == BRINECANDLE_LC_AGAINST_INS && place == 4, "fault: no kind");
+        held(by(frame, length).answer == BRINECANDLE_OK, "fault: Lc against INS of no frame");
+    }
+}
+
+static struct brinecandle_frame watched_frame(struct brinecandle_frame said, const uint8_t *frame, size_t length, reading *by)
+{
+    watched_fault(said.answer, said.fault, said.place, frame, length, by);
+    held(said.fault != BRINECANDLE_LC_AGAINST_INS, "read: a command's fault");
     if (said.answer != BRINECANDLE_OK) {
         held(said.answer == (length < 4 ? BRINECANDLE_WRONG_DATA : BRINECANDLE_WRONG_LENGTH), "read: another answer");
         held(!said.cla && !said.ins && !said.p1 && !said.p2 && !said.shape && !said.lc && !said.le && !said.start && !said.end,
@@ -67,14 +87,14 @@ static struct brinecandle_frame watched_frame(struct brinecandle_frame said, con
 
 static struct brinecandle_frame watched_read(const uint8_t *frame, size_t length)
 {
-    return watched_frame(brinecandle_read(frame, length), frame, length);
+    return watched_frame(brinecandle_read(frame, length), frame, length, brinecandle_read);
 }
 
 static struct brinecandle_frame watched_read_strict(const uint8_t *frame, size_t length)
 {
     struct brinecandle_frame said = brinecandle_read_strict(frame, length);
     held(said.shape != 6, "strict: shape 6");
-    return watched_frame(said, frame, length);
+    return watched_frame(said, frame, length, brinecandle_read_strict);
 }
 
 /* `out` before the call is in watched_buffer */
@@ -96,6 +116,7 @@ static struct brinecandle_wrote watched_write(uint8_t cla, uint8_t ins, uint8_t 
 static struct brinecandle_command watched_read_command(const uint8_t *frame, size_t length)
 {
     struct brinecandle_command said = brinecandle_read_command(frame, length);
+    watched_fault(said.answer, said.fault, said.place, frame, length, brinecandle_read);
     if (said.answer != BRINECANDLE_OK)
         held(!said.command, "command: a command beside a status word");
     if (said.answer != BRINECANDLE_OK || said.command == BRINECANDLE_U2F_VERSION)
@@ -155,6 +176,7 @@ static struct brinecandle_decision watched_decide(const uint8_t *frame, size_t f
     struct brinecandle_decision said = brinecandle_decide(frame, frame_length, t, presence, hardware, handle, handle_length,
                                                           certificate, certificate_length, x, y, reply, room, block);
     held(said.answer, "decide: 0");
+    watched_fault(said.answer, said.fault, said.place, frame, frame_length, brinecandle_read);
     held(said.answer == BRINECANDLE_OK ? said.length == 6 : !said.length, "decide: a length");
     held(said.length <= room && same_from(said.length, reply, watched_buffer, room), "decide: the reply");
     if (is_refused(said.answer))

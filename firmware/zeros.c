@@ -31,6 +31,7 @@ static void null_pointers(void)
 {
     const struct brinecandle_presence touched = {.w = 5000, .touch = 51, .last = 50};
     held(brinecandle_read(0, 0).answer == BRINECANDLE_WRONG_DATA, "read of no frame");
+    held(brinecandle_read(0, 0).fault == BRINECANDLE_NO_FAULT, "read of no frame, and a fault");
     held(brinecandle_read_strict(0, 0).answer == BRINECANDLE_WRONG_DATA, "strict of no frame");
     held(brinecandle_read_command(0, 0).answer == BRINECANDLE_WRONG_DATA, "command of no frame");
     held(brinecandle_write(0, 3, 0, 0, 1, 0, 0, 0, reply, sizeof reply).length == 4, "write of no data");
@@ -57,6 +58,7 @@ static void zeros(void)
     held(enrolled(none, reply, sizeof reply).answer == BRINECANDLE_R6, "a record of zeros");
     held(decision.answer != BRINECANDLE_ORDER && decision.answer != BRINECANDLE_OK && !brinecandle_is_refusal(decision.answer),
          "a decision of zeros");
+    held(decision.fault == BRINECANDLE_NO_FAULT, "a decision of zeros, and a fault");
     held(brinecandle_finish(decision.order, block, 0, 0, BRINECANDLE_YES, 0, 0, reply, sizeof reply).answer == BRINECANDLE_R7, "an order of zeros");
     held(brinecandle_panel_touch(&panel, 1).answer == BRINECANDLE_R6, "a panel of zeros, touched");
     held(brinecandle_panel_ask(&panel, 1).answer == BRINECANDLE_R6, "a panel of zeros, asked");

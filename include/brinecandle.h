@@ -20,6 +20,9 @@
  *   0x9000        done
  *   other         a status word for the host: 0x6700, 0x6985, 0x6986, 0x6a80, 0x6d00, 0x6e00, 0x6f00
  *
+ * A reading, a command and a decision have a pair beside it, `fault` and `place`: with 0x6700 they say what is wrong with the length and
+ * at which byte (see 'frames'), with every other answer both are 0. They are for the firmware: the host gets the two bytes alone.
+ *
  *   R1  moment 2^48 or more, or before the record's last moment     R5  shape cannot carry this data length or Le
  *   R2  buffer too short                                            R6  touch window 0 or above 60,000
  *   R3  signature longer than 72 bytes                              R7  order not of either layout
@@ -40,8 +43,8 @@
 
 /* docs/CHANGES.md says when these move */
 #define BRINECANDLE_VERSION_MAJOR 0
-#define BRINECANDLE_VERSION_MINOR 4
-#define BRINECANDLE_VERSION "0.4"
+#define BRINECANDLE_VERSION_MINOR 5
+#define BRINECANDLE_VERSION "0.5"
 
 #include <stdbool.h>
 #include <stddef.h>
@@ -88,6 +91,10 @@ enum {
     BRINECANDLE_INTERNAL_EXCEPTION = 0x6f00,
     BRINECANDLE_OK = 0x9000,
 
+    BRINECANDLE_NO_FAULT = 0, /* fault: none. The next three: what is wrong with a 0x6700's length, see 'frames' */
+    BRINECANDLE_MISSING = 1,
+    BRINECANDLE_SURPLUS = 2,
+    BRINECANDLE_LC_AGAINST_INS = 3,
     BRINECANDLE_U2F_REGISTER = 1, /* commands, as their INS */
     BRINECANDLE_U2F_AUTHENTICATE = 2,
     BRINECANDLE_U2F_VERSION = 3,
@@ -103,9 +110,20 @@ enum {
 
 /* ---- frames */
 
+/* `fault` and `place`: where a 0x6700 says that the length went wrong. Places are counted from the frame's start, the first byte being 0.
+ *   BRINECANDLE_NO_FAULT         with every other answer, and never with 0x6700; place is 0
+ *   BRINECANDLE_MISSING          the frame ends before its Lc field or its data does, a payload of `00 x` too; place is the frame's length
+ *   BRINECANDLE_SURPLUS          there are bytes that no field can claim; place is the first of them: 6 + Lc after a short Lc, 9 + Lc after
+ *                                an extended one. In the strict reading a frame of shape 6 has one too, its Le byte, at 7 + Lc
+ *   BRINECANDLE_LC_AGAINST_INS   the frame is read, but this command does not have such an Lc: another than 64 for Register, than 0 for
+ *                                Version; for Authenticate under 65, or another than 65 and the handle's length. place is 4, where the
+ *                                Lc field stands or would stand: in shapes 1, 2 and 8 there is none, and the 4 bytes of shape 1 end there
+ * So a place need not lie inside the frame. A reading never says the last kind, a command and a decision say all three. */
+
 /* What a frame says. `shape` is 1 to 8; an absent Le is 0; the data is frame[start] up to and without frame[end]. */
 struct brinecandle_frame {
     uint16_t answer; /* 0x9000; 0x6a80 under 4 bytes; 0x6700 in no shape */
+    uint16_t fault;  /* with 0x6700 what is wrong, as above; else 0 */
     uint8_t cla;
     uint8_t ins;
     uint8_t p1;
@@ -115,13 +133,14 @@ struct brinecandle_frame {
     uint32_t le;
     size_t start;
     size_t end;
+    size_t place; /* with 0x6700 where, as above; else 0 */
 };
 
 /* Reads any bytes as a frame. */
 BRINECANDLE_TAKE_IT
 struct brinecandle_frame brinecandle_read(const uint8_t *frame, size_t frame_length);
 
-/* The same, but shape 6, which ISO 7816-3 does not have, gets 0x6700. */
+/* The same, but shape 6, which ISO 7816-3 does not have, gets 0x6700: its Le byte is surplus. */
 BRINECANDLE_TAKE_IT
 struct brinecandle_frame brinecandle_read_strict(const uint8_t *frame, size_t frame_length);
 
@@ -143,12 +162,14 @@ struct brinecandle_wrote brinecandle_write(uint8_t cla, uint8_t ins, uint8_t p1,
  * frame[handle] up to and without frame[handle_end]; otherwise these are 0. */
 struct brinecandle_command {
     uint16_t answer; /* 0x9000, or the frame's status: 0x6a80, 0x6700, 0x6e00, 0x6d00 */
+    uint16_t fault;  /* with 0x6700 what is wrong; else 0 */
     uint8_t command;
     uint8_t p1;
     size_t challenge;
     size_t application;
     size_t handle;
     size_t handle_end;
+    size_t place; /* with 0x6700 where; else 0 */
 };
 
 /* Reads any bytes as a command. */
@@ -228,10 +249,12 @@ struct brinecandle_order {
  * becomes of the order, so that it is never offered again. */
 struct brinecandle_decision {
     uint16_t answer; /* 0x0100 order; 0x9000 Version's body; R6, R1, R2; status word */
+    uint16_t fault;  /* with 0x6700 what brinecandle_read_command says of this frame; else 0 */
     bool taken;      /* the offered counter stands in the order */
     size_t length;   /* of the body */
     struct brinecandle_order order;
     struct brinecandle_presence presence; /* the record to go on with, as above */
+    size_t place;                         /* of the fault; else 0 */
 };
 
 /* Decides what a frame is answered at moment t. `handle` and `certificate` are the new handle and the attestation
@@ -270,27 +293,31 @@ struct brinecandle_wrote brinecandle_finish(struct brinecandle_order order, cons
 /* ---- every struct is laid out as in the archive */
 
 BRINECANDLE_AT(frame, answer, 0);
-BRINECANDLE_AT(frame, cla, 2);
-BRINECANDLE_AT(frame, ins, 3);
-BRINECANDLE_AT(frame, p1, 4);
-BRINECANDLE_AT(frame, p2, 5);
+BRINECANDLE_AT(frame, fault, 2);
+BRINECANDLE_AT(frame, cla, 4);
+BRINECANDLE_AT(frame, ins, 5);
+BRINECANDLE_AT(frame, p1, 6);
+BRINECANDLE_AT(frame, p2, 7);
 BRINECANDLE_AT(frame, shape, 8);
 BRINECANDLE_AT(frame, lc, 12);
 BRINECANDLE_AT(frame, le, 16);
 BRINECANDLE_AT(frame, start, 24);
 BRINECANDLE_AT(frame, end, 32);
-BRINECANDLE_SIZE(frame, 40);
+BRINECANDLE_AT(frame, place, 40);
+BRINECANDLE_SIZE(frame, 48);
 BRINECANDLE_AT(wrote, answer, 0);
 BRINECANDLE_AT(wrote, length, 8);
 BRINECANDLE_SIZE(wrote, 16);
 BRINECANDLE_AT(command, answer, 0);
-BRINECANDLE_AT(command, command, 2);
-BRINECANDLE_AT(command, p1, 3);
+BRINECANDLE_AT(command, fault, 2);
+BRINECANDLE_AT(command, command, 4);
+BRINECANDLE_AT(command, p1, 5);
 BRINECANDLE_AT(command, challenge, 8);
 BRINECANDLE_AT(command, application, 16);
 BRINECANDLE_AT(command, handle, 24);
 BRINECANDLE_AT(command, handle_end, 32);
-BRINECANDLE_SIZE(command, 40);
+BRINECANDLE_AT(command, place, 40);
+BRINECANDLE_SIZE(command, 48);
 BRINECANDLE_AT(presence, w, 0);
 BRINECANDLE_AT(presence, prompt, 8);
 BRINECANDLE_AT(presence, touch, 16);
@@ -318,11 +345,13 @@ BRINECANDLE_AT(order, to_sign, 8);
 BRINECANDLE_AT(order, certificate_length, 16);
 BRINECANDLE_SIZE(order, 24);
 BRINECANDLE_AT(decision, answer, 0);
-BRINECANDLE_AT(decision, taken, 2);
+BRINECANDLE_AT(decision, fault, 2);
+BRINECANDLE_AT(decision, taken, 4);
 BRINECANDLE_AT(decision, length, 8);
 BRINECANDLE_AT(decision, order, 16);
 BRINECANDLE_AT(decision, presence, 40);
-BRINECANDLE_SIZE(decision, 72);
+BRINECANDLE_AT(decision, place, 72);
+BRINECANDLE_SIZE(decision, 80);
 
 #if defined(__cplusplus)
 }

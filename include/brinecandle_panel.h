@@ -51,8 +51,10 @@ struct brinecandle_signed {
 /* A decision without record and order, which the panel keeps. */
 struct brinecandle_decided {
     uint16_t answer;
-    bool taken;    /* write the counter's number down as used up, before anything is signed */
-    size_t length; /* of the body, with BRINECANDLE_OK */
+    uint16_t fault; /* with BRINECANDLE_WRONG_LENGTH: what is wrong with the length */
+    bool taken;     /* write the counter's number down as used up, before anything is signed */
+    size_t length;  /* of the body, with BRINECANDLE_OK */
+    size_t place;   /* of the fault */
 };
 
 BRINECANDLE_TAKE_IT
@@ -132,7 +134,7 @@ static inline struct brinecandle_decided brinecandle_panel_try(const struct brin
     struct brinecandle_decision decision = brinecandle_decide_lent(panel->presence, lent, block);
     for (size_t i = 0; i < kept; i++)
         lent.reply[i] = front[i];
-    struct brinecandle_decided said = {decision.answer, decision.taken, decision.length};
+    struct brinecandle_decided said = {decision.answer, decision.fault, decision.taken, decision.length, decision.place};
     return said;
 }
 
@@ -142,7 +144,7 @@ BRINECANDLE_TAKE_IT
 static inline struct brinecandle_decided brinecandle_panel_decide(struct brinecandle_panel *panel, struct brinecandle_lent lent)
 {
     struct brinecandle_decision decision = brinecandle_decide_lent(panel->presence, lent, panel->block);
-    struct brinecandle_decided said = {decision.answer, decision.taken, decision.length};
+    struct brinecandle_decided said = {decision.answer, decision.fault, decision.taken, decision.length, decision.place};
     panel->presence = decision.presence;
     if (!brinecandle_is_refusal(decision.answer))
         panel->order = decision.order;

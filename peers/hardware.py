@@ -124,8 +124,9 @@ class Device(CtapDevice):
         decided = self.panel.call("decide", *self.lent(frame, now, key, handle))
         if decided[0] == "order":
             decided = self.carry_out(key, *decided[1:])
-        status, *body = decided
-        return b"".join(map(given, body)) + bytes.fromhex(status)
+        # the host gets body and status; what a 6700 goes on with is for the panel's own log
+        status, *more = decided
+        return b"".join(map(given, more if status == "9000" else [])) + bytes.fromhex(status)
 
     def lent(self, frame, now, key, handle):
         """What a decision is lent, and a dry run too."""

@@ -133,6 +133,16 @@ def handles(device):
     say("for another application, an invented one, an empty one: 6a80")
 
 
+def wrong_lengths(device):
+    """fido2 sends data that the command does not have, and is told 6700 and no more"""
+    client, ins = Ctap1(device), Ctap1.INS
+    for command, data in (ins.VERSION, bytes(1)), (ins.REGISTER, bytes(63)), (ins.AUTHENTICATE, bytes(64)):
+        assert status(lambda: client.send_apdu(ins=command, data=data)) == 0x6700
+    for frame in "00 03 00 00 00 01", "00 03 00 00 01 aa 00 00":
+        assert device.answer(bytes.fromhex(frame)) == bytes.fromhex("6700")
+    say("Version, Register and Authenticate with another Lc, bytes missing, bytes too many: 6700")
+
+
 def lapsed_touch(device):
     """fido2 comes too late for a touch, and no key is made until it comes in time"""
     register = lambda: Ctap1(device).register(os.urandom(32), APPLICATION)
@@ -220,6 +230,7 @@ CASES = [
     (login_without_touch, 300),
     (changed_replies, 300),
     (handles, 300),
+    (wrong_lengths, 300),
     (lapsed_touch, 300),
     (too_long, 300),
     (room_to_the_byte, 300),

@@ -4,6 +4,7 @@
 #[repr(C)]
 pub struct Frame {
     pub answer: u16,
+    pub fault: u16,
     pub cla: u8,
     pub ins: u8,
     pub p1: u8,
@@ -13,6 +14,7 @@ pub struct Frame {
     pub le: u32,
     pub start: usize,
     pub end: usize,
+    pub place: usize,
 }
 
 #[repr(C)]
@@ -71,10 +73,12 @@ pub struct Order {
 #[repr(C)]
 pub struct Decision {
     pub answer: u16,
+    pub fault: u16,
     pub taken: bool,
     pub length: usize,
     pub order: Order,
     pub presence: Presence,
+    pub place: usize,
 }
 
 pub const ORDER: u16 = 0x0100;

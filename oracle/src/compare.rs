@@ -1,9 +1,10 @@
-//! The comparison: the same calls to the panel and to upstream, answer by answer.
+//! The comparison: the same calls to the panel and to upstream, answer by answer. Of a 6700 the status alone is compared: upstream
+//! does not say what is wrong with the length, or where.
 
 use crate::device::{read, reading_name, yes_name, Answer, Call, Device, Outcome, Touch, ANSWERS};
 use crate::generate::{all, all_count, boundary, damaged, Aimed, Dice, History, ALL_UP_TO};
 use crate::lent::Hardware;
-use crate::panel::{decided, finished, next_line, put_call, put_finish, Panel, Record};
+use crate::panel::{decided, finished, next_line, put_call, put_finish, without_pair, Panel, Record};
 use std::collections::BTreeMap;
 use std::io::Write;
 use std::sync::mpsc::sync_channel;
@@ -169,6 +170,7 @@ fn is_words(expected: &[u8], line: &str) -> bool {
 
 impl Expected {
     fn is_met(&self, line: &str) -> bool {
+        let line = without_pair(line);
         match self {
             Expected::Words(words) => is_words(words, line),
             Expected::Reading(frame, answer) => is_reading(frame, answer, line),

@@ -100,7 +100,7 @@ fn against_the_documents() -> Vec<Difference> {
             "shape 6 is read, though no case of ISO's",
             read(&[0, 3, 0, 0, 0, 0, 0, 5]),
             "shape 6, Lc 0, Le 5",
-            &["6 0 5 7 7", "version", "6700"],
+            &["6 0 5 7 7", "version", "6700 surplus 7"],
         ),
         show(
             "an extended Lc of 0 is read",
@@ -136,7 +136,7 @@ fn against_the_documents() -> Vec<Difference> {
             "the handle's length comes before P1",
             fresh(frame(3, [0, 2, 5, 0], &[7; 66], 0), good()),
             "6700",
-            &["6700"],
+            &["6700 lc 4"],
         ),
         show(
             "CTAP1 is not allowed",
@@ -241,6 +241,24 @@ fn against_upstream() -> Vec<Difference> {
             vec![Call::New, Call::Check(100), Call::Touch(99)],
             "yes",
             &["R1"],
+        ),
+        show(
+            "bytes are missing, and the panel says where",
+            read(&[0, 3, 0, 0, 0, 1]),
+            "6700",
+            &["6700 missing 6", "6700 missing 6", "6700 missing 6"],
+        ),
+        show(
+            "bytes are surplus, and the panel says where",
+            read(&[0, 3, 0, 0, 3, 7, 7, 7, 0, 0, 0]),
+            "6700",
+            &["6700 surplus 9", "6700 surplus 9", "6700 surplus 9"],
+        ),
+        show(
+            "Lc does not fit INS, and the panel says so",
+            fresh(frame(1, [0, 1, 0, 0], &[], 0), Hardware::default()),
+            "6700",
+            &["6700 lc 4"],
         ),
         show("a moment of 2^48", vec![Call::New, Call::Check(1 << 48)], "no", &["R1"]),
     ]

@@ -41,6 +41,15 @@ pub fn next_line<'a>(answers: &mut impl BufRead, line: &'a mut String) -> Option
     }
 }
 
+/// An answer of the panel's without the pair that its 6700 has, and upstream's has not: of these the status alone is compared.
+pub fn without_pair(line: &str) -> &str {
+    let words: Vec<&str> = line.split(' ').collect();
+    match words[..] {
+        ["6700", "missing" | "surplus" | "lc", place] if place.parse::<usize>().is_ok() => "6700",
+        _ => line,
+    }
+}
+
 pub fn hex(out: &mut Vec<u8>, bytes: &[u8]) {
     const DIGITS: &[u8; 16] = b"0123456789abcdef";
     if bytes.is_empty() {

@@ -1,5 +1,6 @@
 //! A sample of the oracle's answers as a case file of the program `lines`: calls of the pipe panel and what upstream answers, with
-//! no Rust at hand when it is run. Bytes that nothing looks at count up, so that names can stand for them.
+//! no Rust at hand when it is run. Bytes that nothing looks at count up, so that names can stand for them. Of a 6700 the sample holds
+//! the status alone: upstream does not say what is wrong with the length, so the line ends in ` ..`, which lets the answer go on.
 
 use crate::device::{reading_name, yes_name, Answer, Call, Device, Outcome, ANSWERS};
 use crate::generate::{all, all_count, boundary, damaged, frame, hardware, plain, Dice, History, LONG};
@@ -82,7 +83,8 @@ struct Sample {
 impl Sample {
     fn case(&mut self, call: &[u8], answer: &[u8]) {
         let (call, answer) = (String::from_utf8_lossy(call), String::from_utf8_lossy(answer));
-        writeln!(self.text, "> {}\n< {}", named(call.trim_end()), named(&answer)).unwrap();
+        let more = if answer == "6700" { " .." } else { "" };
+        writeln!(self.text, "> {}\n< {}{more}", named(call.trim_end()), named(&answer)).unwrap();
     }
 
     fn end(&mut self, name: &'static str) {
@@ -253,8 +255,8 @@ fn sampled(seed: u64) -> Sample {
 pub fn make(seed: u64) -> Vec<(&'static str, String)> {
     let sample = sampled(seed);
     let mut head = format!(
-        "# Answers of the upstream Rust, made by `oracle/sample {seed}` and not edited. How many of the calls, here and in the other\n\
-         # files of the sample, came to each answer:\n"
+        "# Answers of the upstream Rust, made by `oracle/sample {seed}` and not edited. An answer `6700 ..` may go on: upstream does not\n\
+         # say what is wrong with the length. How many of the calls, here and in the other files of the sample, came to each answer:\n"
     );
     for answer in ANSWERS.iter().filter(|a| !a.starts_with("command ")) {
         let n = sample

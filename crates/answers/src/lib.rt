@@ -4,6 +4,9 @@
 const WORDS: [u8; 141] =
     *b"ok;yes;no;version;register ;authenticate ;order ;ok ;? no such call;? another number of words;? a word that it does not take;? no record yet;";
 
+// What a 6700 goes on with, by its kind; nothing for 0.
+const KINDS: [u8; 26] = *b"; missing ; surplus ; lc ;";
+
 pub const OK: u16 = 8;
 
 pub const YES: u16 = 9;
@@ -37,9 +40,11 @@ pub const SAID: usize = 131457;
 // The desk's place for how much of the reply buffer is lent.
 pub const ROOM: usize = 52;
 
-// A word, then numbers, then so many bytes of the reply or, of an order, of its block, then a number more where it is not NOTHING.
+// A word, of a 6700 its kind, then numbers, then so many bytes of the reply or, of an order, of its block, then a number more where
+// it is not NOTHING.
 pub struct Answer {
     pub word: u16,
+    pub kind: usize,
     pub count: usize,
     pub numbers: [u64; 5],
     pub has_bytes: bool,
@@ -48,21 +53,28 @@ pub struct Answer {
 }
 
 pub fn bare(word: u16) -> Answer {
+    with_numbers(word, 0, [0; 5])
+}
+
+pub fn with_numbers(word: u16, count: usize, numbers: [u64; 5]) -> Answer {
     Answer {
         word,
-        count: 0,
-        numbers: [0; 5],
+        kind: 0,
+        count,
+        numbers,
         has_bytes: false,
         bytes: 0,
         after: spell::NOTHING,
     }
 }
 
-pub fn with_numbers(word: u16, count: usize, numbers: [u64; 5]) -> Answer {
+// A refusal or a status word, and of a 6700 where the length went wrong.
+pub fn status(word: u16, fault: u16, place: usize) -> Answer {
     Answer {
         word,
-        count,
-        numbers,
+        kind: fault as usize,
+        count: if fault == 0 { 0 } else { 1 },
+        numbers: [place as u64, 0, 0, 0, 0],
         has_bytes: false,
         bytes: 0,
         after: spell::NOTHING,
@@ -82,7 +94,8 @@ fn word(out: &mut [u8], word: u16) -> usize {
 pub fn said(out: &mut [u8], answer: Answer) -> usize {
     let numbers = answer.numbers;
     let start = word(out, answer.word);
-    let end = spell::numbers(out, start, b"", &numbers, answer.count);
+    let kind = lists::item(&KINDS, answer.kind);
+    let end = spell::numbers(out, start, kind, &numbers, answer.count);
     if !answer.has_bytes {
         return end;
     }

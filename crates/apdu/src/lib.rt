@@ -4,16 +4,22 @@
 //    | CLA | INS | P1 | P2 | Lc field | data, Lc bytes | Le field |
 //    +-----+-----+----+----+----------+----------------+----------+
 //                            0, 1, 3                     0, 1, 2, 3 bytes
+ghost use mathlib.Core.Path.{_≡_};
+ghost use Rattle.outcome.specs.Outcome.{wrongLength, faultKind};
+ghost use Rattle.apdu_stated.specs.Answers.{readingOf};
+ghost use Rattle.apdu_stated.specs.Reading.{readBy};
 ghost use Rattle.apdu_stated.specs.Contracts.{ShapeNumber, Read, ReadStrict, DataPlace, Data};
 pub use apdu_stated::Apdu;
 pub use apdu_stated::ApduHeader;
 pub use apdu_stated::Case;
+use apdu_stated::Entry;
 use apdu_stated::Lengths;
 pub use apdu_stated::Place;
 pub use apdu_stated::Reading;
 pub use apdu_stated::Written;
 pub use apdu_write::write;
 use outcome::ApduStatusCode;
+use outcome::LengthFault;
 
 const APDU_HEADER_LEN: usize = 4;
 
@@ -33,20 +39,28 @@ pub fn shape_number(shape: Case) -> u8
     }
 }
 
-// Reads any bytes as a frame: what it says, or 6a80 under four bytes, or 6700 where it is in no shape.
-pub fn read(frame: &[u8]) -> Reading
-    ensures { λ r. ⌜ Read (now (frame .entry)) r ⌝ }
+// 6700, with what is wrong and where.
+fn wrong_length(fault: LengthFault, place: usize) -> Reading
+    ensures { λ r. ⌜ readingOf r ≡ wrongLength (faultKind fault) place ⌝ }
+{
+    Reading::Status(ApduStatusCode::WrongLength(fault, place))
+}
+
+// Reads any bytes as a frame, by one of the two tables. The header is fetched after the lengths: before, it would hold a register
+// meanwhile.
+fn read_by(frame: &[u8], entry: Entry) -> Reading
+    ensures { λ r. ⌜ readingOf r ≡ readBy entry (now (frame .entry)) ⌝ }
 {
     if frame.len() < APDU_HEADER_LEN {
         return Reading::Status(ApduStatusCode::WrongData);
     }
+    let found = shapes::payload(&frame[APDU_HEADER_LEN..], entry);
     let header = ApduHeader {
         cla: frame[0],
         ins: frame[1],
         p1: frame[2],
         p2: frame[3],
     };
-    let found = shapes::payload(&frame[APDU_HEADER_LEN..]);
     match found {
         Lengths::Found(shape, lc, le) => Reading::Frame(Apdu {
             header,
@@ -54,26 +68,23 @@ pub fn read(frame: &[u8]) -> Reading
             lc: lc as u16,
             le,
         }),
-        Lengths::Missing => Reading::Status(ApduStatusCode::WrongLength),
-        Lengths::Surplus => Reading::Status(ApduStatusCode::WrongLength),
+        Lengths::Missing => wrong_length(LengthFault::Missing, frame.len()),
+        Lengths::Surplus(place) => wrong_length(LengthFault::Surplus, place),
     }
 }
 
-// The strict entry: as `read`, but shape 6, which is no case of ISO 7816-3, gets 6700.
+// Reads any bytes as a frame: what it says, or 6a80 under four bytes, or 6700 where it is in no shape.
+pub fn read(frame: &[u8]) -> Reading
+    ensures { λ r. ⌜ Read (now (frame .entry)) r ⌝ }
+{
+    read_by(frame, Entry::Ordinary)
+}
+
+// The strict entry: shape 6, which is no case of ISO 7816-3, is in no shape here.
 pub fn read_strict(frame: &[u8]) -> Reading
     ensures { λ r. ⌜ ReadStrict (now (frame .entry)) r ⌝ }
 {
-    let answer = read(frame);
-    match answer {
-        Reading::Frame(says) => {
-            let shape = says.shape;
-            if shape_number(shape) == 6 {
-                return Reading::Status(ApduStatusCode::WrongLength);
-            }
-            Reading::Frame(says)
-        }
-        Reading::Status(status) => Reading::Status(status),
-    }
+    read_by(frame, Entry::Strict)
 }
 
 // Where the data of a frame that says this stands. Past a frame's end where it is not this frame that says so.

@@ -8,19 +8,16 @@ use borrow.Author.Tests.{lt-ltb, le-ltb, eq-eqb, ne-eqb}
 use lib.ListN.{length, take, drop}
 use mir.Syntax.{w16}
 use mir.Val.{Fits}
-use Rattle.outcome.specs.declared.ApduStatusCode.{ApduStatusCode}
-use Rattle.outcome.specs.Outcome.{SW, Gives, statusNo}
+use Rattle.outcome.specs.Outcome.{Outcome, SW, Gives, missingAt, surplusAt}
 use Rattle.octets.proofs.Laws.{tail-is}
 use Rattle.octets.specs.Bytes.{byte, pairAt, partOf}
 use Rattle.apdu_stated.specs.Words.{Case, Instruction, Le1, Lc1Data, Lc1DataLe1, Lc3Data, Lc3DataLe1, Lc3DataLe2, Le3, shapeNo}
-use Rattle.apdu_stated.specs.Answers.{Apdu, Place, Says, saysOf, readingOf}
+use Rattle.apdu_stated.specs.Answers.{Apdu, Place, Says, saysOf}
 use Rattle.apdu_stated.specs.Table.{lcField, leRead, leMost, leLeast, byLength}
-use Rattle.apdu_stated.specs.Reading.{shortOf, afterData, extendedOf, lengthsOf, headerOf, sayOf, readOf, strictly, strictOf, placeOf, dataOf}
+use Rattle.apdu_stated.specs.Reading.{Entry, Ordinary, Strict, shortOf, loneLe, afterData, extendedOf, lengthsOf, headerOf, sayOf, readBy, placeOf, dataOf}
 use Rattle.apdu_stated.specs.Contracts.{lcFound}
 use Rattle.apdu_stated.specs.declared.Lengths.{Lengths}
 use Rattle.apdu_stated.specs.declared.Lengths.the-variants.{Found, Missing, Surplus}
-use Rattle.apdu_stated.specs.declared.Reading.{Reading}
-use Rattle.apdu_stated.specs.declared.Reading.the-variants.{Frame, Status}
 
 module _ (long none one more : ℕ) where
   pub by-none : long ≡ 0 → none ≡ byLength long none one more
@@ -58,106 +55,96 @@ module _ (p : List ℕ) (n lc : ℕ) (is-n : n ≡ lc) (is-lc : lc ≡ byte p 0)
   short-le le h e =
       rw (le-ltb (length p) (1 + byte p 0) (omega arith), ne-eqb (length p) (1 + byte p 0) (omega arith), eq-eqb (length p) (2 + byte p 0) (omega arith), e, is-n, is-lc)
 
-  pub short-surplus : 1 + n ≤ length p → (length p ≡ 1 + n → ⊥) → (length p ≡ 2 + n → ⊥) → Surplus ≡ shortOf p
+  pub short-surplus : 1 + n ≤ length p → (length p ≡ 1 + n → ⊥) → (length p ≡ 2 + n → ⊥) → Surplus (6 + n) ≡ shortOf p
   unfolding shortOf
   short-surplus h n1 n2 =
-      rw (le-ltb (length p) (1 + byte p 0) (omega arith), ne-eqb (length p) (1 + byte p 0) (λ e. n1 (omega arith)), ne-eqb (length p) (2 + byte p 0) (λ e. n2 (omega arith)))
+      rw (le-ltb (length p) (1 + byte p 0) (omega arith), ne-eqb (length p) (1 + byte p 0) (λ e. n1 (omega arith)), ne-eqb (length p) (2 + byte p 0) (λ e. n2 (omega arith)), is-n, is-lc)
 
-module _ (p : List ℕ) (lc : ℕ) where
-  pub after-missing : length p < 3 + lc → Missing ≡ afterData p lc
+module _ (entry : Entry) (p : List ℕ) (lc : ℕ) where
+  pub after-missing : length p < 3 + lc → Missing ≡ afterData entry p lc
   unfolding afterData
   after-missing h = rw (lt-ltb (length p) (3 + lc) h)
 
-  pub after-plain : length p ≡ 3 + lc → Found Lc3Data lc 0 ≡ afterData p lc
+  pub after-plain : length p ≡ 3 + lc → Found Lc3Data lc 0 ≡ afterData entry p lc
   unfolding afterData
   after-plain h = rw (le-ltb (length p) (3 + lc) (omega arith), eq-eqb (length p) (3 + lc) h)
 
-  pub after-le1 : (le : ℕ) → length p ≡ 4 + lc → le ≡ leRead 1 (byte p (3 + lc)) → Found Lc3DataLe1 lc le ≡ afterData p lc
+  pub after-one : (l : Lengths) → length p ≡ 4 + lc → l ≡ loneLe entry p lc → l ≡ afterData entry p lc
   unfolding afterData
-  after-le1 le h e = rw (le-ltb (length p) (3 + lc) (omega arith), ne-eqb (length p) (3 + lc) (omega arith), eq-eqb (length p) (4 + lc) h, e)
+  after-one l h e = rw (le-ltb (length p) (3 + lc) (omega arith), ne-eqb (length p) (3 + lc) (omega arith), eq-eqb (length p) (4 + lc) h, e)
 
-  pub after-le2 : (le field : ℕ) → length p ≡ 5 + lc → field ≡ byte p (3 + lc) * 256 + byte p (4 + lc) → le ≡ leRead 2 field → Found Lc3DataLe2 lc le ≡ afterData p lc
+  pub after-le2 : (le field : ℕ) → length p ≡ 5 + lc → field ≡ byte p (3 + lc) * 256 + byte p (4 + lc) → le ≡ leRead 2 field → Found Lc3DataLe2 lc le ≡ afterData entry p lc
   unfolding afterData
   after-le2 le field h f e =
       let next : 4 + lc ≡ 3 + lc + 1 = omega arith in
       rw (le-ltb (length p) (3 + lc) (omega arith), ne-eqb (length p) (3 + lc) (omega arith), ne-eqb (length p) (4 + lc) (omega arith), eq-eqb (length p) (5 + lc) h, e, f, next)
 
-  pub after-surplus : 3 + lc ≤ length p → (length p ≡ 3 + lc → ⊥) → (length p ≡ 4 + lc → ⊥) → (length p ≡ 5 + lc → ⊥) → Surplus ≡ afterData p lc
+  pub after-surplus : 3 + lc ≤ length p → (length p ≡ 3 + lc → ⊥) → (length p ≡ 4 + lc → ⊥) → (length p ≡ 5 + lc → ⊥) → Surplus (9 + lc) ≡ afterData entry p lc
   unfolding afterData
   after-surplus h n3 n4 n5 = rw (le-ltb (length p) (3 + lc) h, ne-eqb (length p) (3 + lc) n3, ne-eqb (length p) (4 + lc) n4, ne-eqb (length p) (5 + lc) n5)
 
-module _ (p : List ℕ) where
-  pub extended-missing : length p < 3 → Missing ≡ extendedOf p
+-- row 6, by entry
+module _ (p : List ℕ) (lc : ℕ) where
+  pub one-ordinary : (le : ℕ) → le ≡ leRead 1 (byte p (3 + lc)) → Found Lc3DataLe1 lc le ≡ loneLe Ordinary p lc
+  one-ordinary le e = rw e
+
+  pub one-strict : Surplus (7 + lc) ≡ loneLe Strict p lc
+  one-strict = refl
+
+module _ (entry : Entry) (p : List ℕ) where
+  pub extended-missing : length p < 3 → Missing ≡ extendedOf entry p
   unfolding extendedOf
   extended-missing h = rw (lt-ltb (length p) 3 h)
 
   module _ (field : ℕ) (is-field : field ≡ byte p 1 * 256 + byte p 2) where
-    pub extended-le3 : (le : ℕ) → length p ≡ 3 → le ≡ leRead 3 field → Found Le3 0 le ≡ extendedOf p
+    pub extended-le3 : (le : ℕ) → length p ≡ 3 → le ≡ leRead 3 field → Found Le3 0 le ≡ extendedOf entry p
     unfolding extendedOf
     extended-le3 le h e = rw (le-ltb (length p) 3 (omega arith), eq-eqb (length p) 3 h, e, is-field)
 
-    pub extended-after : (l : Lengths) → 3 ≤ length p → (length p ≡ 3 → ⊥) → l ≡ afterData p field → l ≡ extendedOf p
+    pub extended-after : (l : Lengths) → 3 ≤ length p → (length p ≡ 3 → ⊥) → l ≡ afterData entry p field → l ≡ extendedOf entry p
     unfolding extendedOf
     extended-after l h n3 e = rw (le-ltb (length p) 3 h, ne-eqb (length p) 3 n3, e, is-field)
 
-  pub lengths-none : length p ≡ 0 → Found Instruction 0 0 ≡ lengthsOf p
+  pub lengths-none : length p ≡ 0 → Found Instruction 0 0 ≡ lengthsOf entry p
   unfolding lengthsOf
   lengths-none h = rw (eq-eqb (length p) 0 h)
 
-  pub lengths-le1 : (le : ℕ) → length p ≡ 1 → le ≡ leRead 1 (byte p 0) → Found Le1 0 le ≡ lengthsOf p
+  pub lengths-le1 : (le : ℕ) → length p ≡ 1 → le ≡ leRead 1 (byte p 0) → Found Le1 0 le ≡ lengthsOf entry p
   unfolding lengthsOf
   lengths-le1 le h e = rw (ne-eqb (length p) 0 (omega arith), eq-eqb (length p) 1 h, e)
 
-  pub lengths-extended : (l : Lengths) → (length p ≡ 0 → ⊥) → (length p ≡ 1 → ⊥) → byte p 0 ≡ 0 → l ≡ extendedOf p → l ≡ lengthsOf p
+  pub lengths-extended : (l : Lengths) → (length p ≡ 0 → ⊥) → (length p ≡ 1 → ⊥) → byte p 0 ≡ 0 → l ≡ extendedOf entry p → l ≡ lengthsOf entry p
   unfolding lengthsOf
   lengths-extended l n0 n1 z e = rw (ne-eqb (length p) 0 n0, ne-eqb (length p) 1 n1, eq-eqb (byte p 0) 0 z, e)
 
-  pub lengths-short : (l : Lengths) → (length p ≡ 0 → ⊥) → (length p ≡ 1 → ⊥) → (byte p 0 ≡ 0 → ⊥) → l ≡ shortOf p → l ≡ lengthsOf p
+  pub lengths-short : (l : Lengths) → (length p ≡ 0 → ⊥) → (length p ≡ 1 → ⊥) → (byte p 0 ≡ 0 → ⊥) → l ≡ shortOf p → l ≡ lengthsOf entry p
   unfolding lengthsOf
   lengths-short l n0 n1 z e = rw (ne-eqb (length p) 0 n0, ne-eqb (length p) 1 n1, ne-eqb (byte p 0) 0 z, e)
 
-pub read-under : (frame : List ℕ) → length frame < 4 → SW 0x6a80 ≡ readOf frame
-unfolding readOf
-read-under frame h = rw (lt-ltb (length frame) 4 h)
+pub read-under : (entry : Entry) (frame : List ℕ) → length frame < 4 → SW 0x6a80 ≡ readBy entry frame
+unfolding readBy
+read-under entry frame h = rw (lt-ltb (length frame) 4 h)
 
 -- an Lc that was found is a number of two bytes
 pub lc-fits : (l : Lengths) (s : Case) (lc le : ℕ) → l ≡ Found s lc le → lcFound l ≤ 65535 → Fits w16 lc
 lc-fits l s lc le e small = let is : lcFound l ≡ lc = ap lcFound e in omega arith
 
-module _ (frame : List ℕ) (l : Lengths) (long : 4 ≤ length frame) (is-l : l ≡ lengthsOf (take (length frame - 4) (drop 4 frame))) where
-  by-lengths : sayOf frame l ≡ readOf frame
-  unfolding readOf
+module _ (entry : Entry) (frame : List ℕ) (l : Lengths) (long : 4 ≤ length frame) (is-l : l ≡ lengthsOf entry (take (length frame - 4) (drop 4 frame))) where
+  by-lengths : sayOf frame l ≡ readBy entry frame
+  unfolding readBy
   by-lengths = rw (le-ltb (length frame) 4 long, is-l, tail-is frame 4)
 
-  pub read-found : (s : Case) (lc le : ℕ) → l ≡ Found s lc le → Gives (record { header = headerOf frame; shape = shapeNo s; dataAt = 4 + lcField s; lc = lc; le = le }) ≡ readOf frame
+  pub read-found : (s : Case) (lc le : ℕ) → l ≡ Found s lc le → Gives (record { header = headerOf frame; shape = shapeNo s; dataAt = 4 + lcField s; lc = lc; le = le }) ≡ readBy entry frame
   unfolding sayOf
   read-found s lc le e = ap (sayOf frame) (sym e) ∙ by-lengths
 
-  pub read-missing : l ≡ Missing → SW 0x6700 ≡ readOf frame
+  pub read-missing : (o : Outcome Says) → o ≡ missingAt (length frame) → l ≡ Missing → o ≡ readBy entry frame
   unfolding sayOf
-  read-missing e = ap (sayOf frame) (sym e) ∙ by-lengths
+  read-missing o is e = is ∙ ap (sayOf frame) (sym e) ∙ by-lengths
 
-  pub read-surplus : l ≡ Surplus → SW 0x6700 ≡ readOf frame
+  pub read-surplus : (o : Outcome Says) (place : ℕ) → o ≡ surplusAt place → l ≡ Surplus place → o ≡ readBy entry frame
   unfolding sayOf
-  read-surplus e = ap (sayOf frame) (sym e) ∙ by-lengths
-
-module _ (frame : List ℕ) (r : Reading) (is-r : readingOf r ≡ readOf frame) where
-  strict-as : strictly (readingOf r) ≡ strictOf frame
-  unfolding strictOf
-  strict-as = ap strictly is-r
-
-  module _ (says : Apdu) (n : ℕ) (it-is : r ≡ Frame says) (is-n : n ≡ shapeNo (says .shape)) where
-    pub strict-six : n ≡ 6 → SW 0x6700 ≡ strictOf frame
-    unfolding strictly
-    strict-six six = sym (sym strict-as ∙ rw (it-is, eq-eqb (shapeNo (says .shape)) 6 (omega arith)))
-
-    pub strict-other : (n ≡ 6 → ⊥) → Gives (saysOf says) ≡ strictOf frame
-    unfolding strictly
-    strict-other no-six = sym (sym strict-as ∙ rw (it-is, ne-eqb (shapeNo (says .shape)) 6 (λ six. no-six (omega arith))))
-
-  pub strict-status : (s : ApduStatusCode) → r ≡ Status s → SW (statusNo s) ≡ strictOf frame
-  unfolding strictly
-  strict-status s it-is = sym (sym strict-as ∙ rw it-is)
+  read-surplus o place is e = is ∙ ap (sayOf frame) (sym e) ∙ by-lengths
 
 pub place-is : (says : Apdu) (long : ℕ) → long ≡ lcField (says .shape) → record { start = 4 + long; end = 4 + long + says .lc } ≡ placeOf (saysOf says)
 place-is says long e = rw e
@@ -166,18 +153,18 @@ pub data-is : (frame : List ℕ) (said : Says) (at : Place) (part : List ℕ) �
 unfolding dataOf
 data-is frame said at part e f = f ∙ rw e
 
-pub read-by : (frame : List ℕ) → 4 ≤ length frame → readOf frame ≡ sayOf frame (lengthsOf (drop 4 frame))
-unfolding readOf
-read-by frame long = rw (le-ltb (length frame) 4 long)
+pub read-by : (entry : Entry) (frame : List ℕ) → 4 ≤ length frame → readBy entry frame ≡ sayOf frame (lengthsOf entry (drop 4 frame))
+unfolding readBy
+read-by entry frame long = rw (le-ltb (length frame) 4 long)
 
 pub say-found : (frame : List ℕ) (s : Case) (lc le : ℕ) → sayOf frame (Found s lc le) ≡ Gives (record { header = headerOf frame; shape = shapeNo s; dataAt = 4 + lcField s; lc = lc; le = le })
 unfolding sayOf
 say-found frame s lc le = refl
 
-pub say-missing : (frame : List ℕ) → sayOf frame Missing ≡ SW 0x6700
+pub say-missing : (frame : List ℕ) → sayOf frame Missing ≡ missingAt (length frame)
 unfolding sayOf
 say-missing frame = refl
 
-pub say-surplus : (frame : List ℕ) → sayOf frame Surplus ≡ SW 0x6700
+pub say-surplus : (frame : List ℕ) (place : ℕ) → sayOf frame (Surplus place) ≡ surplusAt place
 unfolding sayOf
-say-surplus frame = refl
+say-surplus frame place = refl

@@ -8,22 +8,22 @@ use native.Mathlib.Nat.{not-suc-le-zero, le-of-suc-le-suc}
 use native.Mathlib.Decide.{decLt}
 use lib.ListN.{length, take, drop, length-drop}
 use lib.Seq.{drop-drop, drop-at, take-at, getD-drop}
-use Rattle.outcome.specs.Outcome.{Outcome, R, SW, Gives}
-use Rattle.outcome.proofs.Laws.{gives-same, sw-same, sw-gives, r-sw, r-gives}
+use Rattle.outcome.specs.Outcome.{StatusWord, Outcome, R, Word, Gives}
+use Rattle.outcome.proofs.Laws.{gives-same, word-same, word-gives, r-word, r-gives}
 use Rattle.octets.specs.Bytes.{byte, pairAt, AreBytes, partOf}
 use Rattle.octets.proofs.Laws.{part-within, part-length}
 use Rattle.apdu_stated.specs.Words.{Case, Instruction, Le1, Lc1Data, Lc1DataLe1, Lc3Data, Lc3DataLe1, Lc3DataLe2, Le3, shapeNo}
 use Rattle.apdu_stated.specs.Answers.{Says, saysOf}
 use Rattle.apdu_stated.specs.Table.{lcField, leField, canCarry, lcBytes, leBytes}
-use Rattle.apdu_stated.specs.Reading.{readOf, lengthsOf, headerOf, sayOf, dataOf}
+use Rattle.apdu_stated.specs.Reading.{Entry, Ordinary, readBy, readOf, lengthsOf, headerOf, sayOf, dataOf}
 use Rattle.apdu_stated.specs.Writing.{Parts, partsOf, headerBytes, payloadOf, frameOf}
 use Rattle.apdu_stated.specs.declared.Lengths.{Lengths}
 use Rattle.apdu_stated.specs.declared.Lengths.the-variants.{Found, Missing, Surplus}
 use Rattle.apdu_stated.proofs.Cases
 use Rattle.apdu_stated.proofs.Fields.{lc-long, frame-long}
 use Rattle.apdu_stated.proofs.LaidOut.{carried, row-read}
-use Rattle.apdu_stated.proofs.Ways.{Way, way, none, le1, short, short-le, le3, wide, wide-le1, wide-le2, missing, surplus, saidBy, FrameWay, frame-way}
-use Rattle.apdu_stated.proofs.Ways.{under, found, no-shape}
+use Rattle.apdu_stated.proofs.Ways.{Way, way, none, le1, short, short-le, le3, wide, wide-le1, wide-le2, missing, short-surplus, le1-surplus, wide-surplus, saidBy, FrameWay, frame-way}
+use Rattle.apdu_stated.proofs.Ways.{Takes, way-takes, under, found, ends, goes-on}
 use Rattle.apdu_stated.proofs.Sound.{Laid, LaidAs, sound}
 
 -- a frame that is laid out as the definitions' table lays these parts out, and the table's row can carry them
@@ -47,22 +47,22 @@ pub payload-bytes : (frame : List ℕ) → AreBytes frame → AreBytes (drop 4 f
 payload-bytes frame bytes i = rw getD-drop (bytes (4 + i))
 
 -- ---- read, so in the table
-pub in-table : (frame : List ℕ) → AreBytes (drop 4 frame) → 4 ≤ length frame → (s : Case) (lc le : ℕ) → Found s lc le ≡ lengthsOf (drop 4 frame)
+pub in-table : (entry : Entry) (frame : List ℕ) → AreBytes (drop 4 frame) → 4 ≤ length frame → (s : Case) (lc le : ℕ) → Found s lc le ≡ lengthsOf entry (drop 4 frame)
     → (w : Parts) × Built frame w × (saidBy frame s lc le ≡ said w)
 unfolding frameOf Laid
-in-table frame bytes long s lc le e =
-    let laid : LaidAs (drop 4 frame) s lc le = sound (drop 4 frame) bytes (subst (Way (drop 4 frame)) (sym e) (way (drop 4 frame))) in (
+in-table entry frame bytes long s lc le e =
+    let laid : LaidAs (drop 4 frame) s lc le = sound (drop 4 frame) bytes (subst (Way entry (drop 4 frame)) (sym e) (way entry (drop 4 frame))) in (
       partsOf (headerOf frame) s (laid .content) le,
       record { layout = four frame long ∙ ap (λ (p : List ℕ). headerBytes (headerOf frame) ++ p) (laid .is); carried = rw (laid .long) (laid .carried) },
       ap (λ (n : ℕ). saidBy frame s n le) (sym (laid .long)),
     )
 
 -- ---- in the table, so read, and cut as the table says
-pub table-read : (frame : List ℕ) (w : Parts) → Built frame w → readOf frame ≡ Gives (said w)
+pub table-read : (entry : Entry) (frame : List ℕ) (w : Parts) → Built frame w → Takes entry (w .shape) → readBy entry frame ≡ Gives (said w)
 unfolding frameOf
-table-read frame w t =
-    let row = row-read (w .shape) (w .content) (w .le) (carried (w .shape) (length (w .content)) (w .le) (t .carried)) in
-    ap readOf (t .layout) ∙ Cases.read-by (frameOf w) (omega (arith, frame-long (w .header) (w .shape) (w .content) (w .le)))
+table-read entry frame w t takes =
+    let row = row-read entry (w .shape) (w .content) (w .le) takes (carried (w .shape) (length (w .content)) (w .le) (t .carried)) in
+    ap (readBy entry) (t .layout) ∙ Cases.read-by entry (frameOf w) (omega (arith, frame-long (w .header) (w .shape) (w .content) (w .le)))
     ∙ ap (sayOf (frameOf w)) (sym row) ∙ Cases.say-found (frameOf w) (w .shape) (length (w .content)) (w .le)
 
 pub table-cut : (frame : List ℕ) (w : Parts) → Built frame w → dataOf frame (said w) ≡ w .content
@@ -79,7 +79,7 @@ table-cut frame w t =
     ∙ ap₂ (λ (k : ℕ) (l : List ℕ). take k l) width from ∙ take-at (w .content) (leBytes (leField (w .shape)) (w .le)) n refl
 
 -- ---- for callers: the data of a frame that is read has Lc bytes
-way-within : (p : List ℕ) {l : Lengths} → Way p l → (s : Case) (lc le : ℕ) → Found s lc le ≡ l → lcField s + lc ≤ length p
+way-within : (p : List ℕ) {l : Lengths} → Way Ordinary p l → (s : Case) (lc le : ℕ) → Found s lc le ≡ l → lcField s + lc ≤ length p
 way-within p w s lc le e = go w s lc le e
   where
     found-same : (s t : Case) (a b c d : ℕ) → Found s a c ≡ Found t b d → (s ≡ t) × (a ≡ b)
@@ -88,26 +88,29 @@ way-within p w s lc le e = go w s lc le e
     use-it : (s t : Case) (a b c d : ℕ) → Found s a c ≡ Found t b d → lcField t + b ≤ length p → lcField s + a ≤ length p
     use-it s t a b c d e h = let f = found-same s t a b c d e in rw (f .0, f .1) h
 
-    go : {l : Lengths} → Way p l → (s : Case) (lc le : ℕ) → Found s lc le ≡ l → lcField s + lc ≤ length p
+    go : {l : Lengths} → Way Ordinary p l → (s : Case) (lc le : ℕ) → Found s lc le ≡ l → lcField s + lc ≤ length p
     go (none h) s lc le e = use-it s Instruction lc 0 le _ e (omega arith)
     go (le1 h) s lc le e = use-it s Le1 lc 0 le _ e (omega arith)
     go (short z h) s lc le e = use-it s Lc1Data lc (byte p 0) le _ e (omega arith)
     go (short-le z h) s lc le e = use-it s Lc1DataLe1 lc (byte p 0) le _ e (omega arith)
     go (le3 z h) s lc le e = use-it s Le3 lc 0 le _ e (omega arith)
     go (wide z n h) s lc le e = use-it s Lc3Data lc (pairAt p 1) le _ e (omega arith)
-    go (wide-le1 z h) s lc le e = use-it s Lc3DataLe1 lc (pairAt p 1) le _ e (omega arith)
+    go (wide-le1 o z h) s lc le e = use-it s Lc3DataLe1 lc (pairAt p 1) le _ e (omega arith)
     go (wide-le2 z h) s lc le e = use-it s Lc3DataLe2 lc (pairAt p 1) le _ e (omega arith)
     go (missing early) s lc le e = absurd (let z : _≡_ {A = ℕ} 0 1 = cc in omega arith)
-    go surplus s lc le e = absurd (let z : _≡_ {A = ℕ} 0 1 = cc in omega arith)
+    go (short-surplus n h) s lc le e = absurd (let z : _≡_ {A = ℕ} 0 1 = cc in omega arith)
+    go (le1-surplus o z h) s lc le e = absurd (let z : _≡_ {A = ℕ} 0 1 = cc in omega arith)
+    go (wide-surplus z h) s lc le e = absurd (let z : _≡_ {A = ℕ} 0 1 = cc in omega arith)
 
 pub data-within : (frame : List ℕ) (said : Says) → readOf frame ≡ Gives said → said .dataAt + said .lc ≤ length frame
-data-within frame said e = go (readOf frame) (frame-way frame) e
+data-within frame said e = go (readOf frame) (frame-way Ordinary frame) e
   where
-    go : (o : Outcome Says) → FrameWay frame o → o ≡ Gives said → said .dataAt + said .lc ≤ length frame
-    go _ (under h) x = absurd (sw-gives _ _ x)
-    go _ (no-shape h) x = absurd (sw-gives _ _ x)
+    go : (o : Outcome Says) → FrameWay Ordinary frame o → o ≡ Gives said → said .dataAt + said .lc ≤ length frame
+    go _ (under h) x = absurd (word-gives _ _ x)
+    go _ (ends h e) x = absurd (word-gives _ _ x)
+    go _ (goes-on h k e) x = absurd (word-gives _ _ x)
     go _ (found long s lc le f) x =
-        let fits = way-within (drop 4 frame) (way (drop 4 frame)) s lc le f in
+        let fits = way-within (drop 4 frame) (way Ordinary (drop 4 frame)) s lc le f in
         rw (← gives-same _ _ x) (omega (arith, length-drop 4 frame))
 
 pub data-long : (frame : List ℕ) (said : Says) → readOf frame ≡ Gives said → length (dataOf frame said) ≡ said .lc
@@ -117,26 +120,45 @@ data-long frame said e =
     part-length frame (said .dataAt) (said .dataAt + said .lc) (omega arith) fits ∙ omega arith
 
 pub data-from : (frame : List ℕ) (said : Says) → readOf frame ≡ Gives said → 4 ≤ said .dataAt
-data-from frame said e = go (readOf frame) (frame-way frame) e
+data-from frame said e = go (readOf frame) (frame-way Ordinary frame) e
   where
-    go : (o : Outcome Says) → FrameWay frame o → o ≡ Gives said → 4 ≤ said .dataAt
-    go _ (under h) x = absurd (sw-gives _ _ x)
-    go _ (no-shape h) x = absurd (sw-gives _ _ x)
+    go : (o : Outcome Says) → FrameWay Ordinary frame o → o ≡ Gives said → 4 ≤ said .dataAt
+    go _ (under h) x = absurd (word-gives _ _ x)
+    go _ (ends h e) x = absurd (word-gives _ _ x)
+    go _ (goes-on h k e) x = absurd (word-gives _ _ x)
     go _ (found long s lc le f) x = rw (← gives-same _ _ x) (omega arith)
 
 -- a reading refuses nothing, and has two statuses
-pub read-status : (frame : List ℕ) (n : ℕ) → (n ≡ 0x6a80 → ⊥) → (n ≡ 0x6700 → ⊥) → readOf frame ≡ SW n → ⊥
-read-status frame n not-short not-none e = go (readOf frame) (frame-way frame) e
+pub read-status : (frame : List ℕ) (w : StatusWord) → (w .number ≡ 0x6a80 → ⊥) → (w .number ≡ 0x6700 → ⊥) → readOf frame ≡ Word w → ⊥
+read-status frame w not-short not-none e = go (readOf frame) (frame-way Ordinary frame) e
   where
-    go : (o : Outcome Says) → FrameWay frame o → o ≡ SW n → ⊥
-    go _ (under h) x = not-short (sym (sw-same _ _ x))
-    go _ (no-shape h) x = not-none (sym (sw-same _ _ x))
-    go _ (found long s lc le f) x = sw-gives _ _ (sym x)
+    number-is : (v : StatusWord) → _≡_ {A = Outcome Says} (Word v) (Word w) → v .number ≡ w .number
+    number-is v x = ap (λ (y : StatusWord). y .number) (word-same v w x)
+
+    go : (o : Outcome Says) → FrameWay Ordinary frame o → o ≡ Word w → ⊥
+    go _ (under h) x = not-short (sym (number-is _ x))
+    go _ (ends h f) x = not-none (sym (number-is _ x))
+    go _ (goes-on h k f) x = not-none (sym (number-is _ x))
+    go _ (found long s lc le f) x = word-gives _ _ (sym x)
+
+-- a frame by itself has no Lc against INS
+pub never-third : (frame : List ℕ) (w : StatusWord) → readOf frame ≡ Word w → w .kind ≡ 3 → ⊥
+never-third frame w e k = go (readOf frame) (frame-way Ordinary frame) e
+  where
+    kind-is : (v : StatusWord) → _≡_ {A = Outcome Says} (Word v) (Word w) → v .kind ≡ w .kind
+    kind-is v x = ap (λ (y : StatusWord). y .kind) (word-same v w x)
+
+    go : (o : Outcome Says) → FrameWay Ordinary frame o → o ≡ Word w → ⊥
+    go _ (under h) x = omega (arith, kind-is _ x)
+    go _ (ends h f) x = omega (arith, kind-is _ x)
+    go _ (goes-on h place f) x = omega (arith, kind-is _ x)
+    go _ (found long s lc le f) x = word-gives _ _ (sym x)
 
 pub read-refuses-not : (frame : List ℕ) (n : ℕ) → readOf frame ≡ R n → ⊥
-read-refuses-not frame n e = go (readOf frame) (frame-way frame) e
+read-refuses-not frame n e = go (readOf frame) (frame-way Ordinary frame) e
   where
-    go : (o : Outcome Says) → FrameWay frame o → o ≡ R n → ⊥
-    go _ (under h) x = r-sw _ _ (sym x)
-    go _ (no-shape h) x = r-sw _ _ (sym x)
+    go : (o : Outcome Says) → FrameWay Ordinary frame o → o ≡ R n → ⊥
+    go _ (under h) x = r-word _ _ (sym x)
+    go _ (ends h f) x = r-word _ _ (sym x)
+    go _ (goes-on h k f) x = r-word _ _ (sym x)
     go _ (found long s lc le f) x = r-gives _ _ (sym x)

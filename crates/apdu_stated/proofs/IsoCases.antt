@@ -10,7 +10,7 @@ use lib.ListN.{length}
 use Rattle.octets.specs.Bytes.{byte, pairAt}
 use Rattle.apdu_stated.specs.Words.{Case, Instruction, Le1, Lc1Data, Lc1DataLe1, Lc3Data, Lc3DataLe1, Lc3DataLe2, Le3, shapeNo}
 use Rattle.apdu_stated.specs.Table.{leRead}
-use Rattle.apdu_stated.specs.Reading.{lengthsOf}
+use Rattle.apdu_stated.specs.Reading.{Ordinary, lengthsOf}
 use Rattle.apdu_stated.specs.Iso.{IsoCase, Case1, Case2S, Case3S, Case4S, Case2E, Case3E, Case4E, isCase, shapeFor, isTolerated}
 use Rattle.apdu_stated.specs.declared.Lengths.the-variants.{Found}
 use Rattle.apdu_stated.proofs.Cases
@@ -70,7 +70,7 @@ module _ (p : List ℕ) (k : ℕ) where
 pub record ReadIn (p : List ℕ) (c : IsoCase) : Type 0 where
   pub lc : ℕ
   pub le : ℕ
-  pub is : Found (shapeFor c) lc le ≡ lengthsOf p
+  pub is : Found (shapeFor c) lc le ≡ lengthsOf Ordinary p
   pub iso : isTolerated (shapeNo (shapeFor c)) lc ≡ false
 
 module _ (p : List ℕ) where
@@ -79,7 +79,7 @@ module _ (p : List ℕ) where
       record {
         lc = 0;
         le = leRead 3 (pairAt p 1);
-        is = Cases.lengths-extended p _ (omega arith) (omega arith) z (Cases.extended-le3 p (pairAt p 1) refl _ e refl);
+        is = Cases.lengths-extended Ordinary p _ (omega arith) (omega arith) z (Cases.extended-le3 Ordinary p (pairAt p 1) refl _ e refl);
         iso = refl;
       }
 
@@ -88,7 +88,7 @@ module _ (p : List ℕ) where
       record {
         lc = byte p 0;
         le = 0;
-        is = Cases.lengths-short p _ (omega arith) (omega (arith, s .not-zero)) (s .not-zero) (Cases.short-data p (byte p 0) (byte p 0) refl refl (s .long));
+        is = Cases.lengths-short Ordinary p _ (omega arith) (omega (arith, s .not-zero)) (s .not-zero) (Cases.short-data p (byte p 0) (byte p 0) refl refl (s .long));
         iso = refl;
       }
 
@@ -97,7 +97,7 @@ module _ (p : List ℕ) where
       record {
         lc = byte p 0;
         le = leRead 1 (byte p (1 + byte p 0));
-        is = Cases.lengths-short p _ (omega arith) (omega arith) (s .not-zero) (Cases.short-le p (byte p 0) (byte p 0) refl refl _ (s .long) refl);
+        is = Cases.lengths-short Ordinary p _ (omega arith) (omega arith) (s .not-zero) (Cases.short-le p (byte p 0) (byte p 0) refl refl _ (s .long) refl);
         iso = refl;
       }
 
@@ -106,8 +106,8 @@ module _ (p : List ℕ) where
       record {
         lc = pairAt p 1;
         le = 0;
-        is = Cases.lengths-extended p _ (omega arith) (omega arith) (s .marker)
-            (Cases.extended-after p (pairAt p 1) refl _ (omega arith) (omega (arith, s .not-zero)) (Cases.after-plain p (pairAt p 1) (s .long)));
+        is = Cases.lengths-extended Ordinary p _ (omega arith) (omega arith) (s .marker)
+            (Cases.extended-after Ordinary p (pairAt p 1) refl _ (omega arith) (omega (arith, s .not-zero)) (Cases.after-plain Ordinary p (pairAt p 1) (s .long)));
         iso = refl;
       }
 
@@ -117,15 +117,15 @@ module _ (p : List ℕ) where
       record {
         lc = pairAt p 1;
         le = leRead 2 (pairAt p (3 + pairAt p 1));
-        is = Cases.lengths-extended p _ (omega arith) (omega arith) (s .marker)
-            (Cases.extended-after p (pairAt p 1) refl _ (omega arith) (omega arith)
-            (Cases.after-le2 p (pairAt p 1) _ (pairAt p (3 + pairAt p 1)) (s .long) (rw next) refl));
+        is = Cases.lengths-extended Ordinary p _ (omega arith) (omega arith) (s .marker)
+            (Cases.extended-after Ordinary p (pairAt p 1) refl _ (omega arith) (omega arith)
+            (Cases.after-le2 Ordinary p (pairAt p 1) _ (pairAt p (3 + pairAt p 1)) (s .long) (rw next) refl));
         iso = rw (ne-eqb (pairAt p 1) 0 (s .not-zero));
       }
 
   pub iso-read : (c : IsoCase) → isCase c p ≡ true → ReadIn p c
-  iso-read Case1 e = record { lc = 0; le = 0; is = Cases.lengths-none p (eqb-true (length p) 0 e); iso = refl }
-  iso-read Case2S e = record { lc = 0; le = leRead 1 (byte p 0); is = Cases.lengths-le1 p _ (eqb-true (length p) 1 e) refl; iso = refl }
+  iso-read Case1 e = record { lc = 0; le = 0; is = Cases.lengths-none Ordinary p (eqb-true (length p) 0 e); iso = refl }
+  iso-read Case2S e = record { lc = 0; le = leRead 1 (byte p 0); is = Cases.lengths-le1 Ordinary p _ (eqb-true (length p) 1 e) refl; iso = refl }
   iso-read Case3S e = three-s (short-test p 1 e)
   iso-read Case4S e = four-s (short-test p 2 e)
   iso-read Case2E e =
@@ -137,7 +137,7 @@ module _ (p : List ℕ) where
   iso-read Case4E e = four-e (extended-test p 5 e)
 
   -- ---- read in its shape and not tolerated, so of the case
-  pub iso-back : (c : IsoCase) (lc le : ℕ) → Way p (Found (shapeFor c) lc le) → isTolerated (shapeNo (shapeFor c)) lc ≡ false → isCase c p ≡ true
+  pub iso-back : (c : IsoCase) (lc le : ℕ) → Way Ordinary p (Found (shapeFor c) lc le) → isTolerated (shapeNo (shapeFor c)) lc ≡ false → isCase c p ≡ true
   iso-back Case1 _ _ (none e) t = eq-eqb (length p) 0 e
   iso-back Case2S _ _ (le1 e) t = eq-eqb (length p) 1 e
   iso-back Case3S _ _ (short nz e) t = short-holds p 1 (record { some = omega arith; not-zero = nz; long = e })

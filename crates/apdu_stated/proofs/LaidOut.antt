@@ -13,11 +13,12 @@ use lib.Seq.{getD-append-seam, getD-append-add}
 use Rattle.octets.specs.Bytes.{byte, pairAt, bytes2}
 use Rattle.apdu_stated.specs.Words.{Case, Instruction, Le1, Lc1Data, Lc1DataLe1, Lc3Data, Lc3DataLe1, Lc3DataLe2, Le3}
 use Rattle.apdu_stated.specs.Table.{lcField, leField, lcLeast, lcMost, leLeast, leMost, lcFits, leFits, canCarry, leRead, lcBytes, leBytes}
-use Rattle.apdu_stated.specs.Reading.{lengthsOf, afterData}
+use Rattle.apdu_stated.specs.Reading.{Entry, Ordinary, Strict, lengthsOf, afterData}
 use Rattle.apdu_stated.specs.Writing.{payloadOf}
 use Rattle.apdu_stated.specs.declared.Lengths.{Lengths}
 use Rattle.apdu_stated.specs.declared.Lengths.the-variants.{Found}
 use Rattle.apdu_stated.proofs.Cases
+use Rattle.apdu_stated.proofs.Ways.{Takes, any, other}
 
 -- what 'can carry' says, as orders
 pub record Carried (s : Case) (n le : ℕ) : Type 0 where
@@ -88,70 +89,70 @@ module _ (content : List ℕ) (a : ℕ) (rest : List ℕ) where
 abbrev extendedP : List ℕ → List ℕ → List ℕ
 extendedP content rest = 0 ∷ length content / 256 ∷ length content % 256 ∷ (content ++ rest)
 
-extended-row : (content rest : List ℕ) (l : Lengths) → length content ≤ 65535 → 1 ≤ length content + length rest → l ≡ afterData (extendedP content rest) (length content) → l ≡ lengthsOf (extendedP content rest)
-extended-row content rest l high some e =
+extended-row : (entry : Entry) (content rest : List ℕ) (l : Lengths) → length content ≤ 65535 → 1 ≤ length content + length rest → l ≡ afterData entry (extendedP content rest) (length content) → l ≡ lengthsOf entry (extendedP content rest)
+extended-row entry content rest l high some e =
     let p = extendedP content rest in
     let long = length-append content rest in
-    Cases.lengths-extended p l (omega arith) (omega arith) refl
-    (Cases.extended-after p (length content) (omega arith) l (omega arith) (omega arith) e)
+    Cases.lengths-extended entry p l (omega arith) (omega arith) refl
+    (Cases.extended-after entry p (length content) (omega arith) l (omega arith) (omega arith) e)
 
-module _ (content : List ℕ) (le : ℕ) where
-  row-1 : Carried Instruction (length content) le → Found Instruction (length content) le ≡ lengthsOf (payloadOf Instruction content le)
+module _ (entry : Entry) (content : List ℕ) (le : ℕ) where
+  row-1 : Carried Instruction (length content) le → Found Instruction (length content) le ≡ lengthsOf entry (payloadOf Instruction content le)
   unfolding payloadOf
   row-1 k =
       let none : length content ≡ 0 = omega arith in
       let absent : le ≡ 0 = omega arith in
-      ap₂ (Found Instruction) none absent ∙ Cases.lengths-none (content ++ []) (ap length (append-nil content) ∙ none)
+      ap₂ (Found Instruction) none absent ∙ Cases.lengths-none entry (content ++ []) (ap length (append-nil content) ∙ none)
 
-  row-2 : Carried Le1 (length content) le → Found Le1 (length content) le ≡ lengthsOf (payloadOf Le1 content le)
+  row-2 : Carried Le1 (length content) le → Found Le1 (length content) le ≡ lengthsOf entry (payloadOf Le1 content le)
   unfolding payloadOf
-  row-2 k = rw (nil-is content (k .lc-high)) (Cases.lengths-le1 (le % 256 ∷ []) le refl (back-1 le (k .le-low) (k .le-high)))
+  row-2 k = rw (nil-is content (k .lc-high)) (Cases.lengths-le1 entry (le % 256 ∷ []) le refl (back-1 le (k .le-low) (k .le-high)))
 
-  row-8 : Carried Le3 (length content) le → Found Le3 (length content) le ≡ lengthsOf (payloadOf Le3 content le)
+  row-8 : Carried Le3 (length content) le → Found Le3 (length content) le ≡ lengthsOf entry (payloadOf Le3 content le)
   unfolding payloadOf
   row-8 k =
       let p : List ℕ = 0 ∷ bytes2 (le % 65536) in
       rw (nil-is content (k .lc-high))
-      (Cases.lengths-extended p (Found Le3 0 le) (omega arith) (omega arith) refl
-      (Cases.extended-le3 p (le % 65536) (omega arith) le refl (back-3 le (k .le-low) (k .le-high))))
+      (Cases.lengths-extended entry p (Found Le3 0 le) (omega arith) (omega arith) refl
+      (Cases.extended-le3 entry p (le % 65536) (omega arith) le refl (back-3 le (k .le-low) (k .le-high))))
 
-  row-3 : Carried Lc1Data (length content) le → Found Lc1Data (length content) le ≡ lengthsOf (payloadOf Lc1Data content le)
+  row-3 : Carried Lc1Data (length content) le → Found Lc1Data (length content) le ≡ lengthsOf entry (payloadOf Lc1Data content le)
   unfolding payloadOf
   row-3 k =
       let p = length content ∷ (content ++ []) in
       let long : length (content ++ []) ≡ length content = ap length (append-nil content) in
       let absent : le ≡ 0 = omega arith in
       ap (Found Lc1Data (length content)) absent
-      ∙ Cases.lengths-short p (Found Lc1Data (length content) 0) (omega arith) (omega arith) (omega arith)
+      ∙ Cases.lengths-short entry p (Found Lc1Data (length content) 0) (omega arith) (omega arith) (omega arith)
       (Cases.short-data p (length content) (length content) refl refl (omega arith))
 
-  row-4 : Carried Lc1DataLe1 (length content) le → Found Lc1DataLe1 (length content) le ≡ lengthsOf (payloadOf Lc1DataLe1 content le)
+  row-4 : Carried Lc1DataLe1 (length content) le → Found Lc1DataLe1 (length content) le ≡ lengthsOf entry (payloadOf Lc1DataLe1 content le)
   unfolding payloadOf
   row-4 k =
       let p = length content ∷ (content ++ le % 256 ∷ []) in
       let long : length (content ++ le % 256 ∷ []) ≡ length content + 1 = length-append content (le % 256 ∷ []) in
       let is-le : le ≡ leRead 1 (byte p (1 + length content)) = rw (behind-1 content (le % 256) [] (length content)) (back-1 le (k .le-low) (k .le-high)) in
-      Cases.lengths-short p (Found Lc1DataLe1 (length content) le) (omega arith) (omega arith) (omega arith)
+      Cases.lengths-short entry p (Found Lc1DataLe1 (length content) le) (omega arith) (omega arith) (omega arith)
       (Cases.short-le p (length content) (length content) refl refl le (omega arith) is-le)
 
-  row-5 : Carried Lc3Data (length content) le → Found Lc3Data (length content) le ≡ lengthsOf (payloadOf Lc3Data content le)
+  row-5 : Carried Lc3Data (length content) le → Found Lc3Data (length content) le ≡ lengthsOf entry (payloadOf Lc3Data content le)
   unfolding payloadOf
   row-5 k =
       let p = extendedP content [] in
       let long : length (content ++ []) ≡ length content = ap length (append-nil content) in
       let absent : le ≡ 0 = omega arith in
       ap (Found Lc3Data (length content)) absent
-      ∙ extended-row content [] (Found Lc3Data (length content) 0) (k .lc-high) (omega arith) (Cases.after-plain p (length content) (omega arith))
+      ∙ extended-row entry content [] (Found Lc3Data (length content) 0) (k .lc-high) (omega arith) (Cases.after-plain entry p (length content) (omega arith))
 
-  row-6 : Carried Lc3DataLe1 (length content) le → Found Lc3DataLe1 (length content) le ≡ lengthsOf (payloadOf Lc3DataLe1 content le)
+  row-6 : Carried Lc3DataLe1 (length content) le → Found Lc3DataLe1 (length content) le ≡ lengthsOf Ordinary (payloadOf Lc3DataLe1 content le)
   unfolding payloadOf
   row-6 k =
       let p = extendedP content (le % 256 ∷ []) in
       let long : length (content ++ le % 256 ∷ []) ≡ length content + 1 = length-append content (le % 256 ∷ []) in
       let is-le : le ≡ leRead 1 (byte p (3 + length content)) = rw (behind-3 content (le % 256) [] 0 (length content / 256) (length content % 256)) (back-1 le (k .le-low) (k .le-high)) in
-      extended-row content (le % 256 ∷ []) (Found Lc3DataLe1 (length content) le) (k .lc-high) (omega arith) (Cases.after-le1 p (length content) le (omega arith) is-le)
+      extended-row Ordinary content (le % 256 ∷ []) (Found Lc3DataLe1 (length content) le) (k .lc-high) (omega arith) (Cases.after-one Ordinary p (length content) (Found Lc3DataLe1 (length content) le) (omega arith) (Cases.one-ordinary p (length content) le is-le))
 
-  row-7 : Carried Lc3DataLe2 (length content) le → Found Lc3DataLe2 (length content) le ≡ lengthsOf (payloadOf Lc3DataLe2 content le)
+  row-7 : Carried Lc3DataLe2 (length content) le → Found Lc3DataLe2 (length content) le ≡ lengthsOf entry (payloadOf Lc3DataLe2 content le)
   unfolding payloadOf
   row-7 k =
       let p = extendedP content (bytes2 (le % 65536)) in
@@ -159,15 +160,16 @@ module _ (content : List ℕ) (le : ℕ) where
       let hi = behind-3 content (le % 65536 / 256) (le % 65536 % 256 ∷ []) 0 (length content / 256) (length content % 256) in
       let lo = behind-4 content (le % 65536 / 256) (le % 65536 % 256 ∷ []) 0 (length content / 256) (length content % 256) in
       let field : le % 65536 ≡ byte p (3 + length content) * 256 + byte p (4 + length content) = rw (hi, lo) (omega arith) in
-      extended-row content (bytes2 (le % 65536)) (Found Lc3DataLe2 (length content) le) (k .lc-high) (omega arith)
-      (Cases.after-le2 p (length content) le (le % 65536) (omega arith) field (back-2 le (k .le-low) (k .le-high)))
+      extended-row entry content (bytes2 (le % 65536)) (Found Lc3DataLe2 (length content) le) (k .lc-high) (omega arith)
+      (Cases.after-le2 entry p (length content) le (le % 65536) (omega arith) field (back-2 le (k .le-low) (k .le-high)))
 
-pub row-read : (s : Case) (content : List ℕ) (le : ℕ) → Carried s (length content) le → Found s (length content) le ≡ lengthsOf (payloadOf s content le)
-row-read Instruction = row-1
-row-read Le1 = row-2
-row-read Lc1Data = row-3
-row-read Lc1DataLe1 = row-4
-row-read Lc3Data = row-5
-row-read Lc3DataLe1 = row-6
-row-read Lc3DataLe2 = row-7
-row-read Le3 = row-8
+pub row-read : (entry : Entry) (s : Case) (content : List ℕ) (le : ℕ) → Takes entry s → Carried s (length content) le → Found s (length content) le ≡ lengthsOf entry (payloadOf s content le)
+row-read entry Instruction content le t = row-1 entry content le
+row-read entry Le1 content le t = row-2 entry content le
+row-read entry Lc1Data content le t = row-3 entry content le
+row-read entry Lc1DataLe1 content le t = row-4 entry content le
+row-read entry Lc3Data content le t = row-5 entry content le
+row-read Ordinary Lc3DataLe1 content le t = row-6 Ordinary content le
+row-read Strict Lc3DataLe1 content le (other _ n) = absurd (n refl)
+row-read entry Lc3DataLe2 content le t = row-7 entry content le
+row-read entry Le3 content le t = row-8 entry content le

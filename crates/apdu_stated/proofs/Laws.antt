@@ -1,5 +1,5 @@
 -- The laws that other crates cite: every way through reading; the data of a frame that is read; ways back from what is said.
-pub use Rattle.apdu_stated.proofs.Ways.{saidBy, FrameWay, under, found, no-shape, frame-way, WriteWay, unfit, no-room, written, write-way}
-pub use Rattle.apdu_stated.proofs.Frames.{data-from, data-within, data-long, read-status, read-refuses-not}
+pub use Rattle.apdu_stated.proofs.Ways.{saidBy, FrameWay, under, found, ends, goes-on, frame-way, WriteWay, unfit, no-room, written, write-way}
+pub use Rattle.apdu_stated.proofs.Frames.{data-from, data-within, data-long, read-status, never-third, read-refuses-not}
 pub use Rattle.apdu_stated.proofs.Numbers.{shape-same, apduBack, apdu-back, says-same, reading-same, written-same}
-pub use Rattle.apdu_stated.proofs.Theorems.{ShortExactly as read-short}
+pub use Rattle.apdu_stated.proofs.Theorems.{ShortExactly as read-short, ReadPairsExactly as read-pairs}

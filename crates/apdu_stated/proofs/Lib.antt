@@ -4,6 +4,7 @@ pub mod LaidOut
 pub mod Fields
 pub mod Ways
 pub mod Sound
+pub mod Places
 pub mod Frames
 pub mod Entries
 pub mod IsoCases

@@ -3,7 +3,7 @@ use Prim.Native.Nat.{ℕ}
 use mathlib.Core.Path.{_≡_, refl, ap, ap₂, _∙_}
 use lib.Dec.{eqb}
 use Rattle.outcome.specs.Notation.{if_then_else_}
-use Rattle.outcome.specs.Outcome.{Outcome, R, SW, Gives}
+use Rattle.outcome.specs.Outcome.{Outcome, R, Word, Gives}
 use Rattle.outcome.specs.declared.ApduStatusCode.the-variants.{Success}
 use Rattle.outcome.proofs.Laws.{one-to-one}
 use Rattle.outcome.proofs.Laws.{statusOf, status-back, refusalOf, refusal-back}
@@ -50,7 +50,7 @@ says-same = one-to-one saysOf apduBack apdu-back
 
 readingBack : Outcome Says → Reading
 readingBack (R n) = Status Success
-readingBack (SW n) = Status (statusOf n)
+readingBack (Word w) = Status (statusOf w)
 readingBack (Gives said) = Frame (apduBack said)
 
 reading-back : (r : Reading) → readingBack (readingOf r) ≡ r
@@ -63,7 +63,7 @@ reading-same = one-to-one readingOf readingBack reading-back
 
 writtenBack : Outcome ℕ → Written
 writtenBack (R n) = the-variants.Refused (refusalOf n)
-writtenBack (SW n) = the-variants.Frame n
+writtenBack (Word w) = the-variants.Frame 0
 writtenBack (Gives n) = the-variants.Frame n
 
 written-back : (r : Written) → writtenBack (writtenOf r) ≡ r

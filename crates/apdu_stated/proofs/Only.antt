@@ -8,63 +8,58 @@ use native.Mathlib.Decide.{ℕ-discrete, decLt}
 use lib.ListN.{length}
 use lib.Seq.{ext-getD}
 use Rattle.outcome.specs.Notation.{Determines, Determines2, Determines3}
-use Rattle.outcome.specs.Outcome.{Outcome, R, SW, Gives}
-use Rattle.outcome.proofs.Laws.{gives-same, sw-gives}
+use Rattle.outcome.specs.Outcome.{Outcome, R, Word, Gives}
+use Rattle.outcome.proofs.Laws.{gives-same, word-gives}
 use Rattle.octets.specs.Bytes.{AreBytes}
 use Rattle.octets.specs.Terms.{DeterminesOn}
 use Rattle.apdu_stated.specs.Words.{ApduHeader, Case, Instruction, Le1, Lc1Data, Lc1DataLe1, Lc3Data, Lc3DataLe1, Lc3DataLe2, Le3}
 use Rattle.apdu_stated.specs.Answers.{Says}
 use Rattle.apdu_stated.specs.Table.{canCarry}
-use Rattle.apdu_stated.specs.Reading.{lengthsOf, readOf, strictOf}
+use Rattle.apdu_stated.specs.Reading.{Entry, Ordinary, Strict, readBy, lengthsOf}
 use Rattle.apdu_stated.specs.declared.Lengths.{Lengths}
 use Rattle.apdu_stated.specs.declared.Lengths.the-variants.{Found, Missing, Surplus}
 use Rattle.apdu_stated.specs.Writing.{Parts, frameOf}
-use Rattle.apdu_stated.specs.Terms.{apduOf, Carries}
+use Rattle.apdu_stated.specs.Terms.{InTable, apduOf, Carries}
 use Rattle.apdu_stated.specs.Claims
-use Rattle.apdu_stated.proofs.Ways.{FrameWay, under, found, no-shape, frame-way, WriteWay, unfit, no-room, written, write-way}
+use Rattle.apdu_stated.proofs.Ways.{TableOf, FrameWay, under, found, ends, goes-on, frame-way, WriteWay, unfit, no-room, written, write-way}
 use Rattle.apdu_stated.proofs.Theorems as Theorems
-use Rattle.apdu_stated.proofs.Theorems.{Strict, strict-way, frame-of}
+use Rattle.apdu_stated.proofs.Theorems.{frame-of}
 
--- ---- reading
-only-reading : (read : List ℕ → Outcome Says) → Claims.ReadingExactly read → (frame : List ℕ) → AreBytes frame → read frame ≡ readOf frame
-only-reading read exact frame bytes = by (readOf frame) (frame-way frame) refl
+-- ---- reading, by either table
+only-reading : (entry : Entry) (read : List ℕ → Outcome Says) → Claims.ReadingExactly (TableOf entry) read → (frame : List ℕ) → AreBytes frame → read frame ≡ readBy entry frame
+only-reading entry read exact frame bytes = by (readBy entry frame) (frame-way entry frame) refl
   where
-    by : (o : Outcome Says) → FrameWay frame o → readOf frame ≡ o → read frame ≡ o
+    by : (o : Outcome Says) → FrameWay entry frame o → readBy entry frame ≡ o → read frame ≡ o
     by _ (under h) e = exact .short frame .1 h
-    by _ (no-shape h) e = exact .no-shape frame bytes .1 (Theorems.NoShapeExactly frame bytes .0 e)
-    by _ (found long s lc le f) e = exact .reads frame bytes _ .1 (Theorems.ReadExactly frame bytes _ .0 e)
+    by _ (ends h f) e = exact .missing frame (length frame) .1 (Theorems.reading-exactly entry .missing frame (length frame) .0 e)
+    by _ (goes-on h k f) e = exact .surplus frame bytes k .1 (Theorems.reading-exactly entry .surplus frame bytes k .0 e)
+    by _ (found long s lc le f) e = exact .reads frame bytes _ .1 (Theorems.reading-exactly entry .reads frame bytes _ .0 e)
 
-pub ReadingExactly : DeterminesOn AreBytes Claims.ReadingExactly
-ReadingExactly f g p q frame bytes = only-reading f p frame bytes ∙ sym (only-reading g q frame bytes)
+pub ReadingExactly : DeterminesOn AreBytes (Claims.ReadingExactly InTable)
+ReadingExactly f g p q frame bytes = only-reading Ordinary f p frame bytes ∙ sym (only-reading Ordinary g q frame bytes)
+
+pub StrictExactly : DeterminesOn AreBytes Claims.StrictExactly
+StrictExactly f g p q frame bytes = only-reading Strict f p frame bytes ∙ sym (only-reading Strict g q frame bytes)
 
 -- ---- the payload by itself
-only-payload : (payload : List ℕ → Lengths) → Claims.PayloadExactly payload → (p : List ℕ) → AreBytes p → payload p ≡ lengthsOf p
-only-payload payload exact p bytes = go (lengthsOf p) refl
+only-payload : (entry : Entry) (payload : List ℕ → Lengths) → Claims.PayloadExactly (TableOf entry) payload → (p : List ℕ) → AreBytes p → payload p ≡ lengthsOf entry p
+only-payload entry payload exact p bytes = go (lengthsOf entry p) refl
   where
     h0 : ApduHeader
     h0 = record { cla = 0; ins = 0; p1 = 0; p2 = 0 }
 
-    go : (l : Lengths) → lengthsOf p ≡ l → payload p ≡ l
-    go (Found s lc le) e = exact .in-shape p bytes h0 s lc le .1 (Theorems.PayloadExactly .in-shape p bytes h0 s lc le .0 e)
-    go Missing e = exact .too-few p .1 (Theorems.PayloadExactly .too-few p .0 e)
-    go Surplus e = exact .too-many p bytes .1 (Theorems.PayloadExactly .too-many p bytes .0 e)
+    go : (l : Lengths) → lengthsOf entry p ≡ l → payload p ≡ l
+    go (Found s lc le) e = exact .in-shape p bytes h0 s lc le .1 (Theorems.payload-exactly entry .in-shape p bytes h0 s lc le .0 e)
+    go Missing e = exact .too-few p .1 (Theorems.payload-exactly entry .too-few p .0 e)
+    go (Surplus k) e = exact .too-many p bytes h0 k .1 (Theorems.payload-exactly entry .too-many p bytes h0 k .0 e)
 
-pub PayloadExactly : DeterminesOn AreBytes Claims.PayloadExactly
-PayloadExactly f g p q l bytes = only-payload f p l bytes ∙ sym (only-payload g q l bytes)
+pub PayloadExactly : DeterminesOn AreBytes (Claims.PayloadExactly InTable)
+PayloadExactly f g p q l bytes = only-payload Ordinary f p l bytes ∙ sym (only-payload Ordinary g q l bytes)
+
+pub StrictPayloadExactly : DeterminesOn AreBytes Claims.StrictPayloadExactly
+StrictPayloadExactly f g p q l bytes = only-payload Strict f p l bytes ∙ sym (only-payload Strict g q l bytes)
 
 -- ---- strict reading
-only-strict : (strict : List ℕ → Outcome Says) → Claims.StrictExactly strict → (frame : List ℕ) → AreBytes frame → strict frame ≡ strictOf frame
-only-strict strict exact frame bytes = by (strictOf frame) (strict-way frame) refl
-  where
-    by : (o : Outcome Says) → Strict frame o → strictOf frame ≡ o → strict frame ≡ o
-    by o (Strict.reads s r n d) e = exact .reads frame bytes s .1 (Theorems.StrictExactly .reads frame bytes s .0 (e ∙ sym d)) ∙ d
-    by o (Strict.six s r y d) e = exact .no-shape frame bytes .1 (Theorems.StrictExactly .no-shape frame bytes .0 (e ∙ sym d)) ∙ d
-    by o (Strict.too-short h d) e = exact .short frame .1 h ∙ d
-    by o (Strict.no-row h r d) e = exact .no-shape frame bytes .1 (Theorems.StrictExactly .no-shape frame bytes .0 (e ∙ sym d)) ∙ d
-
-pub StrictExactly : DeterminesOn AreBytes Claims.StrictExactly
-StrictExactly f g p q frame bytes = only-strict f p frame bytes ∙ sym (only-strict g q frame bytes)
-
 -- beside one first reading, on every frame
 pub StrictOtherwise : (read : List ℕ → Outcome Says) → Determines (Claims.StrictOtherwise read)
 StrictOtherwise read f g p q frame = go (read frame) refl
@@ -78,7 +73,7 @@ StrictOtherwise read f g p q frame = go (read frame) refl
 
     go : (o : Outcome Says) → read frame ≡ o → f frame ≡ g frame
     go (Gives says) e = by says e (ℕ-discrete (says .shape) 6)
-    go (SW n) e = as-read (λ s d y. sw-gives _ _ (sym e ∙ d))
+    go (Word w) e = as-read (λ s d y. word-gives _ _ (sym e ∙ d))
     go (R n) e = as-read (λ s d y. let z : _≡_ {A = ℕ} 0 1 = cc in omega arith)
 
 -- ---- the data and its place

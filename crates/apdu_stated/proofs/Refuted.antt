@@ -7,20 +7,21 @@ use native.Mathlib.Omega.{arith}
 use borrow.Author.Tests.{ltb-true}
 use lib.Dec.{ltb}
 use lib.ListN.{length}
-use Rattle.outcome.specs.Outcome.{Outcome, R, SW, Gives}
-use Rattle.outcome.proofs.Laws.{gives-same, sw-same, sw-gives, r-gives}
+use Rattle.outcome.specs.Outcome.{StatusWord, Outcome, R, Word, SW, Gives}
+use Rattle.outcome.proofs.Laws.{gives-same, word-same, sw-same, word-gives, r-gives}
 use Rattle.octets.specs.Bytes.{byte, AreBytes, partOf}
 use Rattle.octets.proofs.Laws.{both}
 use Rattle.apdu_stated.specs.Words.{ApduHeader, Case, Instruction, Le1, Lc3Data, Lc1DataLe1, Lc1Data}
 use Rattle.apdu_stated.specs.Answers.{Apdu, Place, Says}
 use Rattle.apdu_stated.specs.Table.{TableRow, lcFits, leFits}
-use Rattle.apdu_stated.specs.Reading.{readOf, sayOf, lengthsOf, shortOf, extendedOf, afterData, strictOf, strictly, dataOf}
+use Rattle.apdu_stated.specs.Reading.{Ordinary, Strict, readBy, readOf, sayOf, lengthsOf, shortOf, extendedOf, afterData, strictOf, dataOf}
 use Rattle.apdu_stated.specs.Writing.{Parts, partsOf, frameOf, payloadOf, writeOf, bufferOf}
 use Rattle.apdu_stated.specs.Iso.{IsoCase, Case1, Case2S, Case3S, Case4S, Case2E, Case3E, Case4E, isCase}
-use Rattle.apdu_stated.specs.Terms.{full, plain, whole, pair, frameWith, saying, InTable, EndsEarly, in-lc, in-short-data, in-extended-data, row1, row2, row4, row5, row6, row8, IsFrameOf, Carries, shape2, shape3, apduOf}
+use Rattle.apdu_stated.specs.Terms.{full, plain, whole, pair, frameWith, saying, InTable, InStrictTable, LongestFront, EndsEarly, in-lc, in-short-data, in-extended-data, row1, row2, row4, row5, row6, row8, IsFrameOf, Carries, shape2, shape3, apduOf}
 use Rattle.apdu_stated.specs.declared.Lengths.the-variants.{Found, Missing, Surplus}
 use Rattle.apdu_stated.specs.Claims
 use Rattle.apdu_stated.specs.Wrong
+use Rattle.apdu_stated.proofs.Theorems
 use Rattle.apdu_stated.proofs.Theorems.{reads-entry}
 
 -- ---- frames to try: header 00 03 00 00, and a payload
@@ -47,19 +48,19 @@ le-is : (a b : Says) → Gives a ≡ Gives b → a .le ≡ b .le
 le-is a b e = ap (λ (s : Says). s .le) (gives-same a b e)
 
 -- ---- reading
-pub refusesEverything : Claims.ReadExactly Wrong.refusesEverything → ⊥
+pub refusesEverything : Claims.ReadExactly InTable Wrong.refusesEverything → ⊥
 unfolding small
-refusesEverything exact = sw-gives _ _ (exact (try []) (bytes-of (try []) refl) (saying h0 1 4 0 0) .1 ([], row1))
+refusesEverything exact = word-gives _ _ (exact (try []) (bytes-of (try []) refl) (saying h0 1 4 0 0) .1 ([], row1))
 
-pub alwaysInstruction : Claims.ReadExactly Wrong.alwaysInstruction → ⊥
+pub alwaysInstruction : Claims.ReadExactly InTable Wrong.alwaysInstruction → ⊥
 unfolding small
 alwaysInstruction exact = omega (arith, shape-is _ _ (exact (try (5 ∷ [])) (bytes-of (try (5 ∷ [])) refl) (saying h0 2 4 0 5) .1 ([], row2 (plain (omega arith) (omega arith)))))
 
-pub leZeroAsZero : Claims.ReadExactly Wrong.leZeroAsZero → ⊥
-unfolding small readOf sayOf lengthsOf
+pub leZeroAsZero : Claims.ReadExactly InTable Wrong.leZeroAsZero → ⊥
+unfolding small readBy sayOf lengthsOf
 leZeroAsZero exact = omega (arith, le-is _ _ (exact (try (0 ∷ [])) (bytes-of (try (0 ∷ [])) refl) (saying h0 2 4 0 256) .1 ([], row2 full)))
 
-pub le3AsLcZero : Claims.ReadExactly Wrong.le3AsLcZero → ⊥
+pub le3AsLcZero : Claims.ReadExactly InTable Wrong.le3AsLcZero → ⊥
 unfolding small
 le3AsLcZero exact = omega (arith, shape-is _ _ (exact (try (0 ∷ 0 ∷ 0 ∷ [])) (bytes-of (try (0 ∷ 0 ∷ 0 ∷ [])) refl) (saying h0 8 4 0 65536) .1 ([], row8 whole)))
 
@@ -68,16 +69,16 @@ shortGets6700 exact = omega (arith, sw-same _ _ (exact (0x00 ∷ 0x03 ∷ 0x00 �
 
 -- `00 01` is in no shape
 no-row : (says : Says) (content : List ℕ) → InTable (try (0 ∷ 1 ∷ [])) says content → ⊥
-unfolding readOf sayOf lengthsOf extendedOf
-no-row says content i = sw-gives _ _ (reads-entry (try (0 ∷ 1 ∷ [])) content says i)
+unfolding readBy sayOf lengthsOf extendedOf
+no-row says content i = word-gives _ _ (reads-entry Ordinary (try (0 ∷ 1 ∷ [])) content says i)
 
-pub shortLcZero : Claims.NoShapeExactly Wrong.shortLcZero → ⊥
+pub shortLcZero : Claims.NoShapeExactly InTable Wrong.shortLcZero → ⊥
 unfolding small
-shortLcZero exact = sw-gives _ _ (sym (exact (try (0 ∷ 1 ∷ [])) (bytes-of (try (0 ∷ 1 ∷ [])) refl) .1 (omega arith, no-row)))
+shortLcZero exact = word-gives _ _ (sym (exact (try (0 ∷ 1 ∷ [])) (bytes-of (try (0 ∷ 1 ∷ [])) refl) .1 (omega arith, no-row) .is))
 
 pub withoutCase3E : Claims.IsoExactly Wrong.withoutCase3E → ⊥
-unfolding readOf sayOf lengthsOf extendedOf afterData
-withoutCase3E exact = let t = exact (try (0 ∷ 0 ∷ 1 ∷ 0xAA ∷ [])) Case3E (omega arith) .0 refl in sw-gives _ _ (t .1)
+unfolding readBy sayOf lengthsOf extendedOf afterData
+withoutCase3E exact = let t = exact (try (0 ∷ 0 ∷ 1 ∷ 0xAA ∷ [])) Case3E (omega arith) .0 refl in word-gives _ _ (t .1)
 
 -- of no ISO case, and no tolerated form
 of-none : (c : IsoCase) → isCase c (0 ∷ 1 ∷ []) ≡ false
@@ -93,34 +94,72 @@ pub ninthShape : Claims.ToleratedExactly Wrong.ninthShape → ⊥
 ninthShape exact = true≢false (sym (exact (try (0 ∷ 1 ∷ [])) (saying h0 9 4 0 0) refl .1 of-none))
 
 -- ---- the payload, at 02 AA and at 01 AA 00 00
-missing-surplus : Missing ≡ Surplus → ⊥
-missing-surplus e = let z : _≡_ {A = ℕ} 0 1 = cc in omega arith
+missing-surplus : (k : ℕ) → Missing ≡ Surplus k → ⊥
+missing-surplus k e = let z : _≡_ {A = ℕ} 0 1 = cc in omega arith
 
-pub missingAsSurplus : Claims.PayloadExactly Wrong.missingAsSurplus → ⊥
+pub missingAsSurplus : Claims.PayloadExactly InTable Wrong.missingAsSurplus → ⊥
 unfolding lengthsOf shortOf
-missingAsSurplus exact = missing-surplus (sym (exact .too-few (2 ∷ 0xAA ∷ []) .1 (in-short-data (omega arith) (λ e. omega arith) (omega arith))))
+missingAsSurplus exact = missing-surplus _ (sym (exact .too-few (2 ∷ 0xAA ∷ []) .1 (in-short-data (omega arith) (λ e. omega arith) (omega arith))))
 
 not-early : EndsEarly (1 ∷ 0xAA ∷ 0 ∷ 0 ∷ []) → ⊥
 not-early (in-lc a b c) = omega arith
 not-early (in-short-data a b c) = omega arith
 not-early (in-extended-data a b c) = omega arith
 
-pub surplusAsMissing : Claims.PayloadExactly Wrong.surplusAsMissing → ⊥
+pub surplusAsMissing : Claims.PayloadExactly InTable Wrong.surplusAsMissing → ⊥
 unfolding lengthsOf shortOf
 surplusAsMissing exact = not-early (exact .too-few (1 ∷ 0xAA ∷ 0 ∷ 0 ∷ []) .0 refl)
 
+-- ---- where the length went wrong: at 02 AA, and at 01 AA 00 00 00, three bytes longer than shape 4
+place-is : (v w : StatusWord) → _≡_ {A = Outcome Says} (Word v) (Word w) → v .place ≡ w .place
+place-is v w e = ap (λ (x : StatusWord). x .place) (word-same v w e)
+
+kind-is : (v w : StatusWord) → _≡_ {A = Outcome Says} (Word v) (Word w) → v .kind ≡ w .kind
+kind-is v w e = ap (λ (x : StatusWord). x .kind) (word-same v w e)
+
+pub missingOneShort : Claims.MissingExactly Wrong.missingOneShort → ⊥
+unfolding readBy sayOf lengthsOf shortOf
+missingOneShort exact =
+    omega (arith, place-is _ _ (exact (try (2 ∷ 0xAA ∷ [])) 6 .1 (omega arith, in-short-data (omega arith) (λ e. omega arith) (omega arith), refl)))
+
+pub short00AsSurplus : Claims.MissingExactly Wrong.short00AsSurplus → ⊥
+short00AsSurplus exact = omega (arith, kind-is _ _ (exact (try (0 ∷ 1 ∷ [])) 6 .1 (omega arith, in-lc (omega arith) refl (omega arith), refl)))
+
+-- what the definition says there
+abbrev tooLong : List ℕ
+tooLong = try (1 ∷ 0xAA ∷ 0 ∷ 0 ∷ 0 ∷ [])
+
+front-7 : (EndsEarly (1 ∷ 0xAA ∷ 0 ∷ 0 ∷ 0 ∷ []) → ⊥) × (7 < 9) × LongestFront InTable tooLong 7
+unfolding small readBy sayOf lengthsOf shortOf
+front-7 = Theorems.SurplusExactly tooLong (bytes-of tooLong refl) 7 .0 refl
+
+pub surplusOneLate : Claims.SurplusExactly InTable Wrong.surplusOneLate → ⊥
+unfolding small readBy sayOf lengthsOf shortOf
+surplusOneLate exact = omega (arith, place-is _ _ (exact tooLong (bytes-of tooLong refl) 7 .1 front-7))
+
+pub surplusAtTheEnd : Claims.SurplusExactly InTable Wrong.surplusAtTheEnd → ⊥
+unfolding small readBy sayOf lengthsOf shortOf
+surplusAtTheEnd exact = omega (arith, place-is _ _ (exact tooLong (bytes-of tooLong refl) 7 .1 front-7))
+
+pub strictSixAt9 : Claims.PlacesExactly readOf Wrong.strictSixAt9 → ⊥
+strictSixAt9 exact = omega (arith, place-is _ _ (exact .strict-six (try (0 ∷ 0 ∷ 0 ∷ 5 ∷ [])) refl refl))
+
+pub pairDropped : Claims.ReadPairsExactly Wrong.pairDropped strictOf → ⊥
+unfolding readBy sayOf lengthsOf extendedOf
+pairDropped exact = omega (arith, exact .0 .paired (try (0 ∷ 1 ∷ [])) _ refl refl .0)
+
 -- ---- the strict entry, at 00 00 00 05: shape 6
 pub strictTakesShape6 : Claims.StrictExactly Wrong.strictTakesShape6 → ⊥
-unfolding small readOf sayOf lengthsOf extendedOf afterData
-strictTakesShape6 exact = exact .reads (try (0 ∷ 0 ∷ 0 ∷ 5 ∷ [])) (bytes-of (try (0 ∷ 0 ∷ 0 ∷ 5 ∷ [])) refl) (saying h0 6 7 0 5) .0 refl .2 refl
+unfolding small readBy sayOf lengthsOf extendedOf afterData
+strictTakesShape6 exact = exact .reads (try (0 ∷ 0 ∷ 0 ∷ 5 ∷ [])) (bytes-of (try (0 ∷ 0 ∷ 0 ∷ 5 ∷ [])) refl) (saying h0 6 7 0 5) .0 refl .1 .not-six refl
 
 pub strictRefusesEverything : Claims.StrictExactly Wrong.strictRefusesEverything → ⊥
 unfolding small
-strictRefusesEverything exact = sw-gives _ _ (exact .reads (try []) (bytes-of (try []) refl) (saying h0 1 4 0 0) .1 ([], row1, λ e. omega arith))
+strictRefusesEverything exact = word-gives _ _ (exact .reads (try []) (bytes-of (try []) refl) (saying h0 1 4 0 0) .1 ([], record { table = row1; not-six = λ e. omega arith }))
 
 pub strictShortGets6700 : Claims.StrictOtherwise readOf Wrong.strictShortGets6700 → ⊥
-unfolding readOf
-strictShortGets6700 exact = omega (arith, sw-same _ _ (exact .other (0x00 ∷ 0x03 ∷ 0x00 ∷ []) (λ says e y. sw-gives _ _ e)))
+unfolding readBy
+strictShortGets6700 exact = omega (arith, sw-same _ _ (exact .other (0x00 ∷ 0x03 ∷ 0x00 ∷ []) (λ says e y. word-gives _ _ e)))
 
 -- ---- data, at 01 AA 00
 abbrev said4 : Says
@@ -217,10 +256,10 @@ lengthInvented exact = omega (arith, gives-same _ _ (ap (λ (o : Outcome ℕ × 
 
 -- ---- there and back
 pub le256As01 : Claims.ReadThenWritten readOf dataOf Wrong.le256As01 → ⊥
-unfolding small readOf sayOf lengthsOf dataOf partOf frameOf payloadOf
+unfolding small readBy sayOf lengthsOf dataOf partOf frameOf payloadOf
 le256As01 back =
     omega (arith, ap (λ (o : Outcome ℕ × List ℕ). byte (o .1) 4) (back (try (0 ∷ [])) five (apduOf h0 Le1 0 256) (bytes-of (try (0 ∷ [])) refl) refl (omega arith)))
 
 pub le257Taken : Claims.WrittenThenRead readOf dataOf Wrong.le257Taken → ⊥
-unfolding readOf sayOf lengthsOf frameOf payloadOf
+unfolding readBy sayOf lengthsOf frameOf payloadOf
 le257Taken back = omega (arith, le-is _ _ (back (le-of 257) five 5 refl .0))

@@ -13,11 +13,12 @@ use lib.Seq.{drop-drop, drop-cons, take-all}
 use Rattle.octets.specs.Bytes.{byte, pairAt, bytes2, AreBytes}
 use Rattle.apdu_stated.specs.Words.{Case, Instruction, Le1, Lc1Data, Lc1DataLe1, Lc3Data, Lc3DataLe1, Lc3DataLe2, Le3}
 use Rattle.apdu_stated.specs.Table.{lcField, leField, lcLeast, lcMost, leLeast, leMost, lcFits, leFits, canCarry, leRead, lcBytes, leBytes}
+use Rattle.apdu_stated.specs.Reading.{Entry}
 use Rattle.apdu_stated.specs.Writing.{payloadOf}
 use Rattle.apdu_stated.specs.declared.Lengths.{Lengths}
 use Rattle.apdu_stated.specs.declared.Lengths.the-variants.{Found, Missing, Surplus}
 use Rattle.apdu_stated.proofs.LaidOut.{Carried}
-use Rattle.apdu_stated.proofs.Ways.{Way, none, le1, short, short-le, le3, wide, wide-le1, wide-le2, missing, surplus}
+use Rattle.apdu_stated.proofs.Ways.{Way, none, le1, short, short-le, le3, wide, wide-le1, wide-le2, missing, short-surplus, le1-surplus, wide-surplus}
 
 pub record LaidAs (p : List ℕ) (s : Case) (lc le : ℕ) : Type 0 where
   pub content : List ℕ
@@ -28,7 +29,7 @@ pub record LaidAs (p : List ℕ) (s : Case) (lc le : ℕ) : Type 0 where
 unfoldable pub Laid : List ℕ → Lengths → Type 0
 Laid p (Found s lc le) = LaidAs p s lc le
 Laid p Missing = Unit {0}
-Laid p Surplus = Unit {0}
+Laid p (Surplus place) = Unit {0}
 
 pub carry : (s : Case) (n le : ℕ) → Carried s n le → canCarry s n le ≡ true
 unfolding lcFits leFits
@@ -166,7 +167,7 @@ module _ (p : List ℕ) (bytes : AreBytes p) where
       (tail-2 p 3 (pairAt p 1) (omega arith) ∙ two-back (byte p at) (byte p (at + 1)) (bytes at) (bytes (at + 1)) ∙ ap bytes2 (le .back))
       (record { lc-low = omega arith; lc-high = omega arith; le-low = le .low; le-high = le .high })
 
-  pub sound : {l : Lengths} → Way p l → Laid p l
+  pub sound : {entry : Entry} {l : Lengths} → Way entry p l → Laid p l
   unfolding Laid
   sound (none e) = is-none e
   sound (le1 e) = is-le1 e
@@ -174,7 +175,9 @@ module _ (p : List ℕ) (bytes : AreBytes p) where
   sound (short-le nz e) = is-short-le nz e
   sound (le3 z e) = is-le3 z e
   sound (wide z nz e) = is-wide z nz e
-  sound (wide-le1 z e) = is-wide-le1 z e
+  sound (wide-le1 o z e) = is-wide-le1 z e
   sound (wide-le2 z e) = is-wide-le2 z e
   sound (missing early) = tt
-  sound surplus = tt
+  sound (short-surplus nz h) = tt
+  sound (le1-surplus o z h) = tt
+  sound (wide-surplus z h) = tt

@@ -7,72 +7,117 @@ use native.Mathlib.Omega.{arith}
 use native.Mathlib.Decide.{ℕ-discrete, decLt}
 use borrow.Author.Tests.{lt-ltb, le-ltb}
 use lib.ListN.{length, drop}
-use Rattle.outcome.specs.Outcome.{Outcome, R, SW, Gives}
+use Rattle.outcome.specs.Outcome.{Outcome, R, SW, Gives, missingAt, surplusAt}
 use Rattle.octets.specs.Bytes.{byte, pairAt}
 use Rattle.octets.proofs.Laws.{laid-fits}
 use Rattle.apdu_stated.specs.Words.{Case, Instruction, Le1, Lc1Data, Lc1DataLe1, Lc3Data, Lc3DataLe1, Lc3DataLe2, Le3, shapeNo}
 use Rattle.apdu_stated.specs.Answers.{Says}
 use Rattle.apdu_stated.specs.Table.{lcField, leRead, canCarry}
-use Rattle.apdu_stated.specs.Reading.{lengthsOf, shortOf, extendedOf, afterData, headerOf, sayOf, readOf}
+use Rattle.apdu_stated.specs.Reading.{Entry, Ordinary, Strict, lengthsOf, shortOf, loneLe, extendedOf, afterData, headerOf, sayOf, readBy}
 use Rattle.apdu_stated.specs.Writing.{Parts, frameOf, writeOf, bufferOf, writingOf}
-use Rattle.apdu_stated.specs.Terms.{EndsEarly, in-lc, in-short-data, in-extended-data}
+use Rattle.apdu_stated.specs.Terms.{InTable, InStrictTable, EndsEarly, in-lc, in-short-data, in-extended-data}
 use Rattle.apdu_stated.specs.declared.Lengths.{Lengths}
 use Rattle.apdu_stated.specs.declared.Lengths.the-variants.{Found, Missing, Surplus}
 use Rattle.apdu_stated.proofs.Cases
 
-pub data Way (p : List ℕ) : Lengths → Type 0 where
-  none : length p ≡ 0 → Way p (Found Instruction 0 0)
-  le1 : length p ≡ 1 → Way p (Found Le1 0 (leRead 1 (byte p 0)))
-  short : (byte p 0 ≡ 0 → ⊥) → length p ≡ 1 + byte p 0 → Way p (Found Lc1Data (byte p 0) 0)
-  short-le : (byte p 0 ≡ 0 → ⊥) → length p ≡ 2 + byte p 0 → Way p (Found Lc1DataLe1 (byte p 0) (leRead 1 (byte p (1 + byte p 0))))
-  le3 : byte p 0 ≡ 0 → length p ≡ 3 → Way p (Found Le3 0 (leRead 3 (pairAt p 1)))
-  wide : byte p 0 ≡ 0 → (pairAt p 1 ≡ 0 → ⊥) → length p ≡ 3 + pairAt p 1 → Way p (Found Lc3Data (pairAt p 1) 0)
-  wide-le1 : byte p 0 ≡ 0 → length p ≡ 4 + pairAt p 1 → Way p (Found Lc3DataLe1 (pairAt p 1) (leRead 1 (byte p (3 + pairAt p 1))))
-  wide-le2 : byte p 0 ≡ 0 → length p ≡ 5 + pairAt p 1 → Way p (Found Lc3DataLe2 (pairAt p 1) (leRead 2 (pairAt p (3 + pairAt p 1))))
-  missing : EndsEarly p → Way p Missing
-  surplus : Way p Surplus
+pub data Way (entry : Entry) (p : List ℕ) : Lengths → Type 0 where
+  none : length p ≡ 0 → Way entry p (Found Instruction 0 0)
+  le1 : length p ≡ 1 → Way entry p (Found Le1 0 (leRead 1 (byte p 0)))
+  short : (byte p 0 ≡ 0 → ⊥) → length p ≡ 1 + byte p 0 → Way entry p (Found Lc1Data (byte p 0) 0)
+  short-le : (byte p 0 ≡ 0 → ⊥) → length p ≡ 2 + byte p 0 → Way entry p (Found Lc1DataLe1 (byte p 0) (leRead 1 (byte p (1 + byte p 0))))
+  le3 : byte p 0 ≡ 0 → length p ≡ 3 → Way entry p (Found Le3 0 (leRead 3 (pairAt p 1)))
+  wide : byte p 0 ≡ 0 → (pairAt p 1 ≡ 0 → ⊥) → length p ≡ 3 + pairAt p 1 → Way entry p (Found Lc3Data (pairAt p 1) 0)
+  wide-le1 : entry ≡ Ordinary → byte p 0 ≡ 0 → length p ≡ 4 + pairAt p 1 → Way entry p (Found Lc3DataLe1 (pairAt p 1) (leRead 1 (byte p (3 + pairAt p 1))))
+  wide-le2 : byte p 0 ≡ 0 → length p ≡ 5 + pairAt p 1 → Way entry p (Found Lc3DataLe2 (pairAt p 1) (leRead 2 (pairAt p (3 + pairAt p 1))))
+  missing : EndsEarly p → Way entry p Missing
+  short-surplus : (byte p 0 ≡ 0 → ⊥) → 2 + byte p 0 < length p → Way entry p (Surplus (6 + byte p 0))
+  le1-surplus : entry ≡ Strict → byte p 0 ≡ 0 → length p ≡ 4 + pairAt p 1 → Way entry p (Surplus (7 + pairAt p 1))
+  wide-surplus : byte p 0 ≡ 0 → 5 + pairAt p 1 < length p → Way entry p (Surplus (9 + pairAt p 1))
 
-module _ (p : List ℕ) where
-  short-way : 2 ≤ length p → (byte p 0 ≡ 0 → ⊥) → Way p (shortOf p)
+-- row 6: found by the ordinary table, surplus by the strict one
+one-by : (entry : Entry) (p : List ℕ) → byte p 0 ≡ 0 → length p ≡ 4 + pairAt p 1 → Way entry p (loneLe entry p (pairAt p 1))
+one-by Ordinary p z e = wide-le1 refl z e
+one-by Strict p z e = le1-surplus refl z e
+
+module _ (entry : Entry) (p : List ℕ) where
+  short-way : 2 ≤ length p → (byte p 0 ≡ 0 → ⊥) → Way entry p (shortOf p)
   short-way two nz = go (decLt (length p) (1 + byte p 0)) (ℕ-discrete (length p) (1 + byte p 0)) (ℕ-discrete (length p) (2 + byte p 0))
     where
       b : ℕ
       b = byte p 0
 
-      go : Dec (length p < 1 + byte p 0) → Dec (length p ≡ 1 + byte p 0) → Dec (length p ≡ 2 + byte p 0) → Way p (shortOf p)
-      go (yes h) e1 e2 = subst (Way p) (Cases.short-missing p (byte p 0) (byte p 0) refl refl h) (missing (in-short-data two nz h))
-      go (no h) (yes e) e2 = subst (Way p) (Cases.short-data p (byte p 0) (byte p 0) refl refl e) (short nz e)
-      go (no h) (no e1) (yes e) = subst (Way p) (Cases.short-le p (byte p 0) (byte p 0) refl refl _ e refl) (short-le nz e)
-      go (no h) (no e1) (no e2) = subst (Way p) (Cases.short-surplus p (byte p 0) (byte p 0) refl refl (omega arith) e1 e2) surplus
+      go : Dec (length p < 1 + byte p 0) → Dec (length p ≡ 1 + byte p 0) → Dec (length p ≡ 2 + byte p 0) → Way entry p (shortOf p)
+      go (yes h) e1 e2 = subst (Way entry p) (Cases.short-missing p (byte p 0) (byte p 0) refl refl h) (missing (in-short-data two nz h))
+      go (no h) (yes e) e2 = subst (Way entry p) (Cases.short-data p (byte p 0) (byte p 0) refl refl e) (short nz e)
+      go (no h) (no e1) (yes e) = subst (Way entry p) (Cases.short-le p (byte p 0) (byte p 0) refl refl _ e refl) (short-le nz e)
+      go (no h) (no e1) (no e2) = subst (Way entry p) (Cases.short-surplus p (byte p 0) (byte p 0) refl refl (omega arith) e1 e2) (short-surplus nz (omega arith))
 
-  after-way : byte p 0 ≡ 0 → 3 < length p → Way p (afterData p (pairAt p 1))
+  after-way : byte p 0 ≡ 0 → 3 < length p → Way entry p (afterData entry p (pairAt p 1))
   after-way z more = go (decLt (length p) (3 + pairAt p 1)) (ℕ-discrete (length p) (3 + pairAt p 1)) (ℕ-discrete (length p) (4 + pairAt p 1)) (ℕ-discrete (length p) (5 + pairAt p 1))
     where
-      go : Dec (length p < 3 + pairAt p 1) → Dec (length p ≡ 3 + pairAt p 1) → Dec (length p ≡ 4 + pairAt p 1) → Dec (length p ≡ 5 + pairAt p 1) → Way p (afterData p (pairAt p 1))
-      go (yes h) e3 e4 e5 = subst (Way p) (Cases.after-missing p (pairAt p 1) h) (missing (in-extended-data z more h))
-      go (no h) (yes e) e4 e5 = subst (Way p) (Cases.after-plain p (pairAt p 1) e) (wide z (omega arith) e)
-      go (no h) (no e3) (yes e) e5 = subst (Way p) (Cases.after-le1 p (pairAt p 1) _ e refl) (wide-le1 z e)
+      go : Dec (length p < 3 + pairAt p 1) → Dec (length p ≡ 3 + pairAt p 1) → Dec (length p ≡ 4 + pairAt p 1) → Dec (length p ≡ 5 + pairAt p 1) → Way entry p (afterData entry p (pairAt p 1))
+      go (yes h) e3 e4 e5 = subst (Way entry p) (Cases.after-missing entry p (pairAt p 1) h) (missing (in-extended-data z more h))
+      go (no h) (yes e) e4 e5 = subst (Way entry p) (Cases.after-plain entry p (pairAt p 1) e) (wide z (omega arith) e)
+      go (no h) (no e3) (yes e) e5 = subst (Way entry p) (Cases.after-one entry p (pairAt p 1) (loneLe entry p (pairAt p 1)) e refl) (one-by entry p z e)
       go (no h) (no e3) (no e4) (yes e) =
           let next : 4 + pairAt p 1 ≡ 3 + pairAt p 1 + 1 = omega arith in
-          subst (Way p) (Cases.after-le2 p (pairAt p 1) _ (pairAt p (3 + pairAt p 1)) e (rw next) refl) (wide-le2 z e)
-      go (no h) (no e3) (no e4) (no e5) = subst (Way p) (Cases.after-surplus p (pairAt p 1) (omega arith) e3 e4 e5) surplus
+          subst (Way entry p) (Cases.after-le2 entry p (pairAt p 1) _ (pairAt p (3 + pairAt p 1)) e (rw next) refl) (wide-le2 z e)
+      go (no h) (no e3) (no e4) (no e5) = subst (Way entry p) (Cases.after-surplus entry p (pairAt p 1) (omega arith) e3 e4 e5) (wide-surplus z (omega arith))
 
-  extended-way : 2 ≤ length p → byte p 0 ≡ 0 → Way p (extendedOf p)
+  extended-way : 2 ≤ length p → byte p 0 ≡ 0 → Way entry p (extendedOf entry p)
   extended-way two z = go (decLt (length p) 3) (ℕ-discrete (length p) 3)
     where
-      go : Dec (length p < 3) → Dec (length p ≡ 3) → Way p (extendedOf p)
-      go (yes h) e = subst (Way p) (Cases.extended-missing p h) (missing (in-lc two z h))
-      go (no h) (yes e) = subst (Way p) (Cases.extended-le3 p (pairAt p 1) refl _ e refl) (le3 z e)
-      go (no h) (no e) = subst (Way p) (Cases.extended-after p (pairAt p 1) refl (afterData p (pairAt p 1)) (omega arith) e refl) (after-way z (omega arith))
+      go : Dec (length p < 3) → Dec (length p ≡ 3) → Way entry p (extendedOf entry p)
+      go (yes h) e = subst (Way entry p) (Cases.extended-missing entry p h) (missing (in-lc two z h))
+      go (no h) (yes e) = subst (Way entry p) (Cases.extended-le3 entry p (pairAt p 1) refl _ e refl) (le3 z e)
+      go (no h) (no e) = subst (Way entry p) (Cases.extended-after entry p (pairAt p 1) refl (afterData entry p (pairAt p 1)) (omega arith) e refl) (after-way z (omega arith))
 
-  pub way : Way p (lengthsOf p)
+  pub way : Way entry p (lengthsOf entry p)
   way = go (ℕ-discrete (length p) 0) (ℕ-discrete (length p) 1) (ℕ-discrete (byte p 0) 0)
     where
-      go : Dec (length p ≡ 0) → Dec (length p ≡ 1) → Dec (byte p 0 ≡ 0) → Way p (lengthsOf p)
-      go (yes e) e1 z = subst (Way p) (Cases.lengths-none p e) (none e)
-      go (no n0) (yes e) z = subst (Way p) (Cases.lengths-le1 p _ e refl) (le1 e)
-      go (no n0) (no n1) (yes z) = subst (Way p) (Cases.lengths-extended p (extendedOf p) n0 n1 z refl) (extended-way (omega arith) z)
-      go (no n0) (no n1) (no z) = subst (Way p) (Cases.lengths-short p (shortOf p) n0 n1 z refl) (short-way (omega arith) z)
+      go : Dec (length p ≡ 0) → Dec (length p ≡ 1) → Dec (byte p 0 ≡ 0) → Way entry p (lengthsOf entry p)
+      go (yes e) e1 z = subst (Way entry p) (Cases.lengths-none entry p e) (none e)
+      go (no n0) (yes e) z = subst (Way entry p) (Cases.lengths-le1 entry p _ e refl) (le1 e)
+      go (no n0) (no n1) (yes z) = subst (Way entry p) (Cases.lengths-extended entry p (extendedOf entry p) n0 n1 z refl) (extended-way (omega arith) z)
+      go (no n0) (no n1) (no z) = subst (Way entry p) (Cases.lengths-short entry p (shortOf p) n0 n1 z refl) (short-way (omega arith) z)
+
+-- the table that each entry reads by
+abbrev pub TableOf : Entry → List ℕ → Says → List ℕ → Type 0
+TableOf Ordinary = InTable
+TableOf Strict = InStrictTable
+
+-- the table of the entry has this shape
+pub data Takes : Entry → Case → Type 0 where
+  any : (s : Case) → Takes Ordinary s
+  other : (s : Case) → (shapeNo s ≡ 6 → ⊥) → Takes Strict s
+
+takes-row : (entry : Entry) (s : Case) → (shapeNo s ≡ 6 → entry ≡ Ordinary) → Takes entry s
+takes-row Ordinary s n = any s
+takes-row Strict s n = other s (λ six. let e : Strict ≡ Ordinary = n six in let z : _≡_ {A = ℕ} 0 1 = cc in omega arith)
+
+-- a payload that is found in a shape is found in one that the entry's table has
+pub way-takes : (entry : Entry) (p : List ℕ) {l : Lengths} → Way entry p l → (s : Case) (lc le : ℕ) → Found s lc le ≡ l → Takes entry s
+way-takes entry p w = go w
+  where
+    row : (s t : Case) (a b c d : ℕ) → Found s a c ≡ Found t b d → (shapeNo t ≡ 6 → entry ≡ Ordinary) → Takes entry s
+    row s t a b c d e n = let same : s ≡ t = cc in rw same (takes-row entry t n)
+
+    never : {A : Type 0} (s : Case) (lc le place : ℕ) → Found s lc le ≡ Surplus place → A
+    never s lc le place e = let z : _≡_ {A = ℕ} 0 1 = cc in absurd (omega arith)
+
+    go : {l : Lengths} → Way entry p l → (s : Case) (lc le : ℕ) → Found s lc le ≡ l → Takes entry s
+    go (none h) s lc le e = row s Instruction lc _ le _ e (λ six. absurd (omega arith))
+    go (le1 h) s lc le e = row s Le1 lc _ le _ e (λ six. absurd (omega arith))
+    go (short z h) s lc le e = row s Lc1Data lc _ le _ e (λ six. absurd (omega arith))
+    go (short-le z h) s lc le e = row s Lc1DataLe1 lc _ le _ e (λ six. absurd (omega arith))
+    go (le3 z h) s lc le e = row s Le3 lc _ le _ e (λ six. absurd (omega arith))
+    go (wide z n h) s lc le e = row s Lc3Data lc _ le _ e (λ six. absurd (omega arith))
+    go (wide-le1 o z h) s lc le e = row s Lc3DataLe1 lc _ le _ e (λ six. o)
+    go (wide-le2 z h) s lc le e = row s Lc3DataLe2 lc _ le _ e (λ six. absurd (omega arith))
+    go (missing early) s lc le e = let z : _≡_ {A = ℕ} 0 1 = cc in absurd (omega arith)
+    go (short-surplus nz h) s lc le e = never s lc le _ e
+    go (le1-surplus o z h) s lc le e = never s lc le _ e
+    go (wide-surplus z h) s lc le e = never s lc le _ e
 
 -- ---- the frame
 -- what a frame says, as its payload's row says it
@@ -80,22 +125,23 @@ abbrev pub saidBy : List ℕ → Case → ℕ → ℕ → Says
 saidBy frame s lc le = record { header = headerOf frame; shape = shapeNo s; dataAt = 4 + lcField s; lc = lc; le = le }
 
 -- every way through the reading of a frame, with what it shows
-pub data FrameWay (frame : List ℕ) : Outcome Says → Type 0 where
-  under : length frame < 4 → FrameWay frame (SW 0x6a80)
-  found : 4 ≤ length frame → (s : Case) (lc le : ℕ) → Found s lc le ≡ lengthsOf (drop 4 frame) → FrameWay frame (Gives (saidBy frame s lc le))
-  no-shape : 4 ≤ length frame → FrameWay frame (SW 0x6700)
+pub data FrameWay (entry : Entry) (frame : List ℕ) : Outcome Says → Type 0 where
+  under : length frame < 4 → FrameWay entry frame (SW 0x6a80)
+  found : 4 ≤ length frame → (s : Case) (lc le : ℕ) → Found s lc le ≡ lengthsOf entry (drop 4 frame) → FrameWay entry frame (Gives (saidBy frame s lc le))
+  ends : 4 ≤ length frame → Missing ≡ lengthsOf entry (drop 4 frame) → FrameWay entry frame (missingAt (length frame))
+  goes-on : 4 ≤ length frame → (place : ℕ) → Surplus place ≡ lengthsOf entry (drop 4 frame) → FrameWay entry frame (surplusAt place)
 
-by-lengths : (frame : List ℕ) → 4 ≤ length frame → (l : Lengths) → l ≡ lengthsOf (drop 4 frame) → FrameWay frame (sayOf frame l)
-by-lengths frame long (Found s lc le) e = subst (FrameWay frame) (sym (Cases.say-found frame s lc le)) (found long s lc le e)
-by-lengths frame long Missing e = subst (FrameWay frame) (sym (Cases.say-missing frame)) (no-shape long)
-by-lengths frame long Surplus e = subst (FrameWay frame) (sym (Cases.say-surplus frame)) (no-shape long)
+by-lengths : (entry : Entry) (frame : List ℕ) → 4 ≤ length frame → (l : Lengths) → l ≡ lengthsOf entry (drop 4 frame) → FrameWay entry frame (sayOf frame l)
+by-lengths entry frame long (Found s lc le) e = subst (FrameWay entry frame) (sym (Cases.say-found frame s lc le)) (found long s lc le e)
+by-lengths entry frame long Missing e = subst (FrameWay entry frame) (sym (Cases.say-missing frame)) (ends long e)
+by-lengths entry frame long (Surplus place) e = subst (FrameWay entry frame) (sym (Cases.say-surplus frame place)) (goes-on long place e)
 
-pub frame-way : (frame : List ℕ) → FrameWay frame (readOf frame)
-frame-way frame = go (decLt (length frame) 4)
+pub frame-way : (entry : Entry) (frame : List ℕ) → FrameWay entry frame (readBy entry frame)
+frame-way entry frame = go (decLt (length frame) 4)
   where
-    go : Dec (length frame < 4) → FrameWay frame (readOf frame)
-    go (yes h) = subst (FrameWay frame) (Cases.read-under frame h) (under h)
-    go (no h) = subst (FrameWay frame) (sym (Cases.read-by frame (omega arith))) (by-lengths frame (omega arith) (lengthsOf (drop 4 frame)) refl)
+    go : Dec (length frame < 4) → FrameWay entry frame (readBy entry frame)
+    go (yes h) = subst (FrameWay entry frame) (Cases.read-under entry frame h) (under h)
+    go (no h) = subst (FrameWay entry frame) (sym (Cases.read-by entry frame (omega arith))) (by-lengths entry frame (omega arith) (lengthsOf entry (drop 4 frame)) refl)
 
 -- ---- writing: every way through it, with the answer and the buffer
 pub data WriteWay (w : Parts) (old : List ℕ) : Outcome ℕ × List ℕ → Type 0 where

@@ -1,6 +1,6 @@
--- What each answer says, in document 01's numbers: a reading's, and a writing's.
+-- What each answer says, in the documents' numbers: a reading's, and a writing's.
 use Prim.Native.Nat.{ℕ, _+_}
-use Rattle.outcome.specs.Outcome.{Outcome, R, SW, Gives, statusNo, refusalNo}
+use Rattle.outcome.specs.Outcome.{Outcome, R, Word, Gives, wordOf, refusalNo}
 use Rattle.apdu_stated.specs.Words.{ApduHeader, shapeNo}
 use Rattle.apdu_stated.specs.Table.{lcField}
 pub use Rattle.apdu_stated.specs.declared.Apdu.{Apdu}
@@ -22,10 +22,10 @@ pub record Says : Type 0 where
 abbrev pub saysOf : Apdu → Says
 saysOf a = record { header = a .header; shape = shapeNo (a .shape); dataAt = 4 + lcField (a .shape); lc = a .lc; le = a .le }
 
--- what a reading answers: what the frame says, or a status word
+-- what a reading answers: what the frame says, or a status word with its pair
 abbrev pub readingOf : Reading → Outcome Says
 readingOf (Reading′.Frame a) = Gives (saysOf a)
-readingOf (Reading′.Status s) = SW (statusNo s)
+readingOf (Reading′.Status s) = Word (wordOf s)
 
 -- what a writing answers: the frame's length, or a refusal
 abbrev pub writtenOf : Written → Outcome ℕ

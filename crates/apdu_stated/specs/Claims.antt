@@ -1,56 +1,90 @@
 -- What is promised of frames: open this file first. Each claim takes the program as its argument; the definitions (`readOf`,
 -- `strictOf`, `dataOf` of Reading.antt, `writingOf` of Writing.antt) meet it by proofs/Theorems.antt, nothing else does by
--- proofs/Only.antt, and the programs of Wrong.antt do not by proofs/Refuted.antt. The words `InTable`, `Carries`: Terms.antt.
+-- proofs/Only.antt, and the programs of Wrong.antt do not by proofs/Refuted.antt. The words `InTable`, `InStrictTable`, `LongestFront`,
+-- `Carries`: Terms.antt. A claim that takes a table is made of both: of `readOf` with `InTable`, of `strictOf` with `InStrictTable`.
 use mathlib.Core.Logic.{_↔_}
 use Rattle.outcome.specs.Notation.{AtMostOne}
-use Rattle.outcome.specs.Outcome.{Outcome, R, SW, Gives}
-use Rattle.octets.specs.Bytes.{AreBytes, byte}
+use Rattle.outcome.specs.Outcome.{Outcome, R, SW, Gives, wrongLength}
+use Rattle.outcome.specs.Terms.{PairsExactly, HasStatus}
+use Rattle.octets.specs.Bytes.{AreBytes, byte, pairAt}
 use Rattle.apdu_stated.specs.Words.{ℕ, _+_, _≤_, _<_, _≡_, Bool, true, false, List, [], _++_, map, length, take, drop, ApduHeader, Case, Instruction, Le1, Lc1Data, Lc1DataLe1, Lc3Data, Lc3DataLe1, Lc3DataLe2, Le3, shapeNo}
 use Rattle.apdu_stated.specs.Answers.{Apdu, Place, Reading, Written, Says, saysOf, readingOf, writtenOf}
 use Rattle.apdu_stated.specs.Table.{TableRow, columns}
+use Rattle.apdu_stated.specs.Reading.{Entry}
 use Rattle.apdu_stated.specs.Writing.{Parts, partsOf}
 use Rattle.apdu_stated.specs.Iso.{IsoCase, isCase, shapeFor, isTolerated}
 use Rattle.apdu_stated.specs.Examples.{Example, examples}
 use Rattle.apdu_stated.specs.Contracts.{Row, Fits, Payload, ShapeNumber, Read, ReadStrict, DataPlace, Data, Write}
 use Rattle.apdu_stated.specs.declared.Lengths.{Lengths}
 use Rattle.apdu_stated.specs.declared.Lengths.the-variants.{Found, Missing, Surplus}
-use Rattle.apdu_stated.specs.Terms.{frameWith, saying, InTable, EndsEarly, IsFrameOf, Carries, apduOf, span}
+use Rattle.apdu_stated.specs.Terms.{frameWith, saying, InTable, InStrictTable, EndsEarly, LongestFront, IsFrameOf, Carries, apduOf, span}
 
 -- ---- reading is the table
 
 -- A frame is read exactly when it is in the table, and then as its row says.
 -- 01: the table, "Data is exactly Lc bytes", the rule of Le. Rejects a reader that refuses everything, one that always says
 -- Instruction, one that reads `00 00 00` as Lc 0, or Le 0 as 0. Bites at 00 03 00 00 | 00 00 00.
-abbrev pub ReadExactly : (List ℕ → Outcome Says) → Type 0
-ReadExactly read =
+-- Of the strict entry, 01: "It accepts the ISO cases, that is the shapes above without shape 6": rejects one that takes shape 6.
+abbrev pub ReadExactly : (List ℕ → Says → List ℕ → Type 0) → (List ℕ → Outcome Says) → Type 0
+ReadExactly Table read =
     (frame : List ℕ) → AreBytes frame → (says : Says)
-    → (read frame ≡ Gives says) ↔ ((content : List ℕ) × InTable frame says content)
+    → (read frame ≡ Gives says) ↔ ((content : List ℕ) × Table frame says content)
 
 -- 01: "A frame under 4 bytes gives 6a80", and no other does. Rejects 6700 for a short frame. Bites at 00 03 00.
 abbrev pub ShortExactly : (List ℕ → Outcome Says) → Type 0
 ShortExactly read = (frame : List ℕ) → (read frame ≡ SW 0x6a80) ↔ (length frame < 4)
 
--- 01: "A frame of 4 or more in no shape gives 6700", and no other does. Rejects a reader that takes `00 01` for a short Lc of 0.
--- Bites at 00 03 00 00 | 00 01.
-abbrev pub NoShapeExactly : (List ℕ → Outcome Says) → Type 0
-NoShapeExactly read =
+-- 01: "A frame of 4 or more in no shape gives 6700", and no other does, whatever its pair. Rejects a reader that takes `00 01` for a
+-- short Lc of 0. Bites at 00 03 00 00 | 00 01.
+abbrev pub NoShapeExactly : (List ℕ → Says → List ℕ → Type 0) → (List ℕ → Outcome Says) → Type 0
+NoShapeExactly Table read =
     (frame : List ℕ) → AreBytes frame
-    → (read frame ≡ SW 0x6700) ↔ ((4 ≤ length frame) × ((says : Says) (content : List ℕ) → InTable frame says content → ⊥))
+    → HasStatus 0x6700 (read frame) ↔ ((4 ≤ length frame) × ((says : Says) (content : List ℕ) → Table frame says content → ⊥))
 
--- The three together: every answer of a reading, each exactly when. They determine it on every frame of bytes.
-pub record ReadingExactly (read : List ℕ → Outcome Says) : Type 0 where
-  pub reads : ReadExactly read
+-- ---- where the length went wrong: 02, E1
+
+-- Kind 1, "for missing bytes the frame's length": a frame of 4 bytes or more misses bytes exactly when it ends before its Lc field or its data
+-- does. "A short payload of `00 x` counts as missing". Rejects a place one byte short, and `00 x` as surplus. Bites at 00 03 00 00 | 00 01.
+abbrev pub MissingExactly : (List ℕ → Outcome Says) → Type 0
+MissingExactly read = (frame : List ℕ) (k : ℕ) → (read frame ≡ wrongLength 1 k) ↔ ((4 ≤ length frame) × EndsEarly (drop 4 frame) × (k ≡ length frame))
+
+-- Kind 2, "for surplus the first byte that no field can claim": a frame has bytes too many exactly when it does not end early and is longer
+-- than the longest part from its front that is itself in the table; and the place is that part's length. So a frame that is cut at its
+-- place is read. One law for every table.
+-- Rejects a place one byte late, and the frame's length. Bites at 00 03 00 00 | 01 AA 00 00 00.
+abbrev pub SurplusExactly : (List ℕ → Says → List ℕ → Type 0) → (List ℕ → Outcome Says) → Type 0
+SurplusExactly Table read =
+    (frame : List ℕ) → AreBytes frame → (k : ℕ)
+    → (read frame ≡ wrongLength 2 k) ↔ ((EndsEarly (drop 4 frame) → ⊥) × (k < length frame) × LongestFront Table frame k)
+
+-- The same in the document's numbers: "6 + Lc from the frame's start in the short form, 9 + Lc in the extended"; "shape 6 in the
+-- strict reading is surplus at its Le byte, 7 + Lc". Rejects a strict entry that says 9 + Lc there. Bites at 00 03 00 00 | 00 00 00 05.
+pub record PlacesExactly (read strict : List ℕ → Outcome Says) : Type 0 where
+  pub short-form : (frame : List ℕ) → (byte frame 4 ≡ 0x00 → ⊥) → 6 + byte frame 4 < length frame
+      → (read frame ≡ wrongLength 2 (6 + byte frame 4)) × (strict frame ≡ wrongLength 2 (6 + byte frame 4))
+  pub extended-form : (frame : List ℕ) → byte frame 4 ≡ 0x00 → 9 + pairAt frame 5 < length frame
+      → (read frame ≡ wrongLength 2 (9 + pairAt frame 5)) × (strict frame ≡ wrongLength 2 (9 + pairAt frame 5))
+  pub strict-six : (frame : List ℕ) → byte frame 4 ≡ 0x00 → length frame ≡ 8 + pairAt frame 5 → strict frame ≡ wrongLength 2 (7 + pairAt frame 5)
+
+-- In both readings a 6700 has a pair, and no other status word has one. Rejects a reader that drops the pair. Bites at 00 03 00 00 | 00 01.
+abbrev pub ReadPairsExactly : (read strict : List ℕ → Outcome Says) → Type 0
+ReadPairsExactly read strict = PairsExactly read × PairsExactly strict
+
+-- The four together: every answer of a reading, each exactly when. They determine it on every frame of bytes.
+pub record ReadingExactly (Table : List ℕ → Says → List ℕ → Type 0) (read : List ℕ → Outcome Says) : Type 0 where
+  pub reads : ReadExactly Table read
   pub short : ShortExactly read
-  pub no-shape : NoShapeExactly read
+  pub missing : MissingExactly read
+  pub surplus : SurplusExactly Table read
 
--- The payload by itself, behind any header: its shape, Lc and Le; and of a payload in no shape, whether it ends early or goes on too
--- long (ours). Rejects a reader that takes too few bytes for too many. Bites at 02 AA.
-pub record PayloadExactly (payload : List ℕ → Lengths) : Type 0 where
+-- The payload by itself, behind any header: its shape, Lc and Le; and of a payload in no shape, whether it ends early, or from where on
+-- it goes on too long. Rejects a reader that takes too few bytes for too many. Bites at 02 AA.
+pub record PayloadExactly (Table : List ℕ → Says → List ℕ → Type 0) (payload : List ℕ → Lengths) : Type 0 where
   pub in-shape : (p : List ℕ) → AreBytes p → (h : ApduHeader) (s : Case) (lc le : ℕ)
-      → (payload p ≡ Found s lc le) ↔ ((dataAt : ℕ) × (content : List ℕ) × InTable (frameWith h p) (saying h (shapeNo s) dataAt lc le) content)
+      → (payload p ≡ Found s lc le) ↔ ((dataAt : ℕ) × (content : List ℕ) × Table (frameWith h p) (saying h (shapeNo s) dataAt lc le) content)
   pub too-few : (p : List ℕ) → (payload p ≡ Missing) ↔ EndsEarly p
-  pub too-many : (p : List ℕ) → AreBytes p
-      → (payload p ≡ Surplus) ↔ ((EndsEarly p → ⊥) × ((h : ApduHeader) (says : Says) (content : List ℕ) → InTable (frameWith h p) says content → ⊥))
+  pub too-many : (p : List ℕ) → AreBytes p → (h : ApduHeader) (k : ℕ)
+      → (payload p ≡ Surplus k) ↔ ((EndsEarly p → ⊥) × (k < 4 + length p) × LongestFront Table (frameWith h p) k)
 
 -- 01: "Each frame has at most one shape", and says one thing and holds one data. Bites at 00 03 00 00 | 00 00 01 AA 00 00.
 abbrev pub AtMostOneShape : Type 0
@@ -143,18 +177,22 @@ ToleratedExactly read =
 -- ---- the strict entry
 
 -- 01: "It accepts the ISO cases, that is the shapes above without shape 6, and gives 6700 for shape 6": every answer, each exactly
--- when. Rejects a strict entry that takes shape 6, and one that refuses everything. Bites at 00 03 00 00 | 00 00 00 05.
-pub record StrictExactly (strict : List ℕ → Outcome Says) : Type 0 where
-  pub reads : (frame : List ℕ) → AreBytes frame → (says : Says)
-      → (strict frame ≡ Gives says) ↔ ((content : List ℕ) × InTable frame says content × (says .shape ≡ 6 → ⊥))
-  pub short : (frame : List ℕ) → (strict frame ≡ SW 0x6a80) ↔ (length frame < 4)
-  pub no-shape : (frame : List ℕ) → AreBytes frame
-      → (strict frame ≡ SW 0x6700) ↔ ((4 ≤ length frame) × ((says : Says) (content : List ℕ) → InTable frame says content → says .shape ≡ 6))
+-- when, by the strict table. Rejects a strict entry that takes shape 6, and one that refuses everything. Bites at 00 03 00 00 | 00 00 00 05.
+abbrev pub StrictExactly : (List ℕ → Outcome Says) → Type 0
+StrictExactly strict = ReadingExactly InStrictTable strict
 
--- 01: "otherwise it equals the first", on any frame, beside any first reading. Rejects a strict entry with a status of its own.
--- Bites at 00 03 00.
+-- 01: "gives 6700 for shape 6", and for what is in no shape, by the number. Rejects a strict entry that takes shape 6.
+abbrev pub StrictNoShapeExactly : (List ℕ → Outcome Says) → Type 0
+StrictNoShapeExactly strict = NoShapeExactly InStrictTable strict
+
+-- The payload by itself, behind any header, by the strict table.
+abbrev pub StrictPayloadExactly : (List ℕ → Lengths) → Type 0
+StrictPayloadExactly payload = PayloadExactly InStrictTable payload
+
+-- 01: "It accepts the ISO cases .. and gives 6700 for shape 6; otherwise it equals the first", on any frame, beside any first reading;
+-- of what is shape 6 the pair too. Rejects a strict entry with a status of its own. Bites at 00 03 00.
 pub record StrictOtherwise (read strict : List ℕ → Outcome Says) : Type 0 where
-  pub six : (frame : List ℕ) (says : Says) → read frame ≡ Gives says → says .shape ≡ 6 → strict frame ≡ SW 0x6700
+  pub six : (frame : List ℕ) (says : Says) → read frame ≡ Gives says → says .shape ≡ 6 → strict frame ≡ wrongLength 2 (7 + says .lc)
   pub other : (frame : List ℕ) → ((says : Says) → read frame ≡ Gives says → says .shape ≡ 6 → ⊥) → strict frame ≡ read frame
 
 -- ---- writing
@@ -207,7 +245,7 @@ WrittenOneToOne = (a b : Written) → writtenOf a ≡ writtenOf b → a ≡ b
 pub record ResultsDetermined : Type 0 where
   pub row : (s : Case) → AtMostOne (Row s)
   pub fits : (s : Case) (count le : ℕ) → AtMostOne (Fits s count le)
-  pub payload : (p : List ℕ) → AtMostOne (Payload p)
+  pub payload : (entry : Entry) (p : List ℕ) → AtMostOne (Payload entry p)
   pub shape-number : (s : Case) → AtMostOne (ShapeNumber s)
   pub read : (frame : List ℕ) → AtMostOne (Read frame)
   pub read-strict : (frame : List ℕ) → AtMostOne (ReadStrict frame)

@@ -3,7 +3,7 @@ use Rattle.outcome.specs.Outcome.{Outcome}
 use Rattle.apdu_stated.specs.Words.{ℕ, _≤_, _≡_, Bool, List, length, Case, shapeNo}
 use Rattle.apdu_stated.specs.Table.{TableRow, lcField, lcLeast, leField, canCarry}
 use Rattle.apdu_stated.specs.Answers.{Apdu, Place, Reading, Written, saysOf, readingOf, writtenOf}
-use Rattle.apdu_stated.specs.Reading.{lengthsOf, readOf, strictOf, placeOf, dataOf}
+use Rattle.apdu_stated.specs.Reading.{Entry, lengthsOf, readOf, strictOf, placeOf, dataOf}
 use Rattle.apdu_stated.specs.Writing.{Parts, writeOf, bufferOf}
 use Rattle.apdu_stated.specs.declared.Lengths.{Lengths}
 use Rattle.apdu_stated.specs.declared.Lengths.the-variants.{Found, Missing, Surplus}
@@ -23,11 +23,11 @@ Fits shape count le r = r ≡ canCarry shape count le
 abbrev pub lcFound : Lengths → ℕ
 lcFound (Found s lc le) = lc
 lcFound Missing = 0
-lcFound Surplus = 0
+lcFound (Surplus place) = 0
 
 -- the second part says nothing new of bytes, but that Lc fits into two of them
-abbrev pub Payload : List ℕ → Lengths → Type 0
-Payload p r = (r ≡ lengthsOf p) × (lcFound r ≤ 65535)
+abbrev pub Payload : Entry → List ℕ → Lengths → Type 0
+Payload entry p r = (r ≡ lengthsOf entry p) × (lcFound r ≤ 65535)
 
 abbrev pub ShapeNumber : Case → ℕ → Type 0
 ShapeNumber shape r = r ≡ shapeNo shape

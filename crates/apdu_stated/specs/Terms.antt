@@ -1,8 +1,9 @@
 -- Words that only the claims use: document 01's table once more, apart from Table.antt, row by row and with every number spelled
--- out; and which data length and Le a shape can carry, once more.
+-- out, and the strict entry's; when a payload ends early, and how much of a frame's front is in a table; which data length and Le a
+-- shape can carry, once more.
 use Prim.Native.Nat.{ℕ, _+_, _*_, _≤_, _<_}
 use Rattle.octets.specs.Bytes.{byte}
-use Rattle.apdu_stated.specs.Words.{_≡_, List, [], _∷_, _++_, length, ApduHeader, Case, Instruction, Le1, Lc1Data, Lc1DataLe1, Lc3Data, Lc3DataLe1, Lc3DataLe2, Le3, shapeNo}
+use Rattle.apdu_stated.specs.Words.{_≡_, List, [], _∷_, _++_, length, take, ApduHeader, Case, Instruction, Le1, Lc1Data, Lc1DataLe1, Lc3Data, Lc3DataLe1, Lc3DataLe2, Le3, shapeNo}
 use Rattle.apdu_stated.specs.Answers.{Says, Apdu, Place}
 use Rattle.apdu_stated.specs.Writing.{Parts}
 
@@ -53,11 +54,22 @@ pub data InTable : List ℕ → Says → List ℕ → Type 0 where
   -- 8 | Le3 | 00, Le (2) |
   row8 : {h : ApduHeader} {a b le : ℕ} → TwoByteLe a b le → InTable (frameWith h (0x00 ∷ a ∷ b ∷ [])) (saying h 8 4 0 le) []
 
--- `EndsEarly p`: a payload that ends before its Lc field or its data does. Ours: document 01 gives 6700 to every payload in no shape
+-- `EndsEarly p`: a payload that ends before its Lc field or its data does. 02, E1: "A short payload of `00 x` counts as missing"
 pub data EndsEarly (p : List ℕ) : Type 0 where
   in-lc : 2 ≤ length p → byte p 0 ≡ 0x00 → length p < 3 → EndsEarly p
   in-short-data : 2 ≤ length p → (byte p 0 ≡ 0x00 → ⊥) → length p < 1 + byte p 0 → EndsEarly p
   in-extended-data : byte p 0 ≡ 0x00 → 3 < length p → length p < 3 + (byte p 1 * 256 + byte p 2) → EndsEarly p
+
+-- 01: the strict entry "accepts the ISO cases, that is the shapes above without shape 6"
+pub record InStrictTable (frame : List ℕ) (says : Says) (content : List ℕ) : Type 0 where
+  pub table : InTable frame says content
+  pub not-six : says .shape ≡ 6 → ⊥
+
+-- `LongestFront Table frame k`: of the parts that begin at the frame's front and are themselves in the table, the longest has k bytes
+pub record LongestFront (Table : List ℕ → Says → List ℕ → Type 0) (frame : List ℕ) (k : ℕ) : Type 0 where
+  pub within : k ≤ length frame
+  pub in-table : (says : Says) × (content : List ℕ) × Table (take k frame) says content
+  pub longest : (j : ℕ) (says : Says) (content : List ℕ) → k < j → j ≤ length frame → Table (take j frame) says content → ⊥
 
 -- the frame of the table that has these parts
 pub record IsFrameOf (w : Parts) (frame : List ℕ) : Type 0 where

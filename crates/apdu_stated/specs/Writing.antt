@@ -6,7 +6,7 @@ use mathlib.Core.List.{List, [], _∷_, _++_}
 use lib.ListN.{length}
 use lib.Dec.{ltb}
 use Rattle.outcome.specs.Notation.{if_then_else_}
-use Rattle.outcome.specs.Outcome.{Outcome, R, SW, Gives}
+use Rattle.outcome.specs.Outcome.{Outcome, R, Word, Gives}
 use Rattle.octets.specs.Bytes.{laid}
 use Rattle.apdu_stated.specs.Words.{Case, ApduHeader}
 use Rattle.apdu_stated.specs.Table.{lcField, leField, canCarry, lcBytes, leBytes}
@@ -42,7 +42,7 @@ writeOf w room =
 -- what the buffer holds afterwards: the frame at its front; after a refusal, what it held before
 abbrev pub leftBy : Outcome ℕ → List ℕ → List ℕ → List ℕ
 leftBy (R n) frame old = old
-leftBy (SW n) frame old = old
+leftBy (Word s) frame old = old
 leftBy (Gives n) frame old = laid frame old
 
 unfoldable pub bufferOf : Parts → List ℕ → List ℕ

@@ -2,12 +2,12 @@
 use Prim.Native.Nat.{ℕ, _+_, _-_, _%_}
 use lib.ListN.{replicate}
 use Rattle.outcome.specs.Notation.{if_then_else_}
-use Rattle.outcome.specs.Outcome.{Outcome, R, SW, Gives}
+use Rattle.outcome.specs.Outcome.{StatusWord, Outcome, R, Word, SW, Gives, missingAt, surplusAt}
 use Rattle.octets.specs.Bytes.{byte, pairAt, partOf, laid}
 use Rattle.apdu_stated.specs.Words.{Bool, not, _&&_, List, [], _∷_, _++_, length, drop, leb, ltb, eqb, Case, Instruction, Le1, Lc1Data, Lc1DataLe1, Lc3Data, Lc3DataLe1, Lc3DataLe2, Le3, shapeNo}
 use Rattle.apdu_stated.specs.Answers.{Apdu, Place, Says, saysOf}
 use Rattle.apdu_stated.specs.Table.{TableRow, columns, rowOf, lcFits, canCarry}
-use Rattle.apdu_stated.specs.Reading.{lengthsOf, readOf, strictOf, headerOf, placeOf}
+use Rattle.apdu_stated.specs.Reading.{Ordinary, lengthsOf, readOf, strictOf, headerOf, placeOf}
 use Rattle.apdu_stated.specs.Writing.{Parts, partsOf, frameOf, writeOf, bufferOf, writingOf}
 use Rattle.apdu_stated.specs.declared.Lengths.{Lengths}
 use Rattle.apdu_stated.specs.declared.Lengths.the-variants.{Found, Missing, Surplus}
@@ -25,7 +25,7 @@ alwaysInstruction frame = Gives (saying (headerOf frame) 1 4 0 0)
 -- "A written Le of 0 means 256 in one byte": here it expects nothing back
 abbrev leZero : Outcome Says → Outcome Says
 leZero (Gives s) = Gives (saying (s .header) (s .shape) (s .dataAt) (s .lc) (if eqb (s .le) 256 then 0 else s .le))
-leZero (SW n) = SW n
+leZero (Word s) = Word s
 leZero (R n) = R n
 
 abbrev pub leZeroAsZero : List ℕ → Outcome Says
@@ -46,7 +46,7 @@ shortLcZero frame = if eqb (length frame) 6 && eqb (byte frame 4) 0 then Gives (
 -- ISO's case 3E left out of the table
 abbrev without3E : Outcome Says → Outcome Says
 without3E (Gives s) = if eqb (s .shape) 5 then SW 0x6700 else Gives s
-without3E (SW n) = SW n
+without3E (Word s) = Word s
 without3E (R n) = R n
 
 abbrev pub withoutCase3E : List ℕ → Outcome Says
@@ -59,19 +59,55 @@ ninthShape frame = if eqb (length frame) 6 && eqb (byte frame 4) 0 then Gives (s
 -- too few bytes are taken for too many, and the other way round
 abbrev shortAsLong : Lengths → Lengths
 shortAsLong (Found s lc le) = Found s lc le
-shortAsLong Missing = Surplus
-shortAsLong Surplus = Surplus
+shortAsLong Missing = Surplus 5
+shortAsLong (Surplus place) = Surplus place
 
 abbrev pub missingAsSurplus : List ℕ → Lengths
-missingAsSurplus p = shortAsLong (lengthsOf p)
+missingAsSurplus p = shortAsLong (lengthsOf Ordinary p)
 
 abbrev longAsShort : Lengths → Lengths
 longAsShort (Found s lc le) = Found s lc le
 longAsShort Missing = Missing
-longAsShort Surplus = Missing
+longAsShort (Surplus place) = Missing
 
 abbrev pub surplusAsMissing : List ℕ → Lengths
-surplusAsMissing p = longAsShort (lengthsOf p)
+surplusAsMissing p = longAsShort (lengthsOf Ordinary p)
+
+-- ---- where the length went wrong
+
+-- a reading whose pair is another one
+abbrev withPair : (kind : ℕ) → (pair : ℕ → Outcome Says) → Outcome Says → Outcome Says
+withPair kind pair (R n) = R n
+withPair kind pair (Word w) = if eqb (w .number) 0x6700 && eqb (w .kind) kind then pair (w .place) else Word w
+withPair kind pair (Gives s) = Gives s
+
+-- "for missing bytes the frame's length": here the last byte that is there
+abbrev pub missingOneShort : List ℕ → Outcome Says
+missingOneShort frame = withPair 1 (λ place. missingAt (place - 1)) (readOf frame)
+
+-- "the first byte that no field can claim": here the next; and here the frame's length
+abbrev pub surplusOneLate : List ℕ → Outcome Says
+surplusOneLate frame = withPair 2 (λ place. surplusAt (place + 1)) (readOf frame)
+
+abbrev pub surplusAtTheEnd : List ℕ → Outcome Says
+surplusAtTheEnd frame = withPair 2 (λ place. surplusAt (length frame)) (readOf frame)
+
+-- "A short payload of `00 x` counts as missing": here x is surplus, behind an Le of 00
+abbrev pub short00AsSurplus : List ℕ → Outcome Says
+short00AsSurplus frame = if eqb (length frame) 6 && eqb (byte frame 4) 0x00 then surplusAt 5 else readOf frame
+
+-- "shape 6 in the strict reading is surplus at its Le byte, 7 + Lc": here at 9 + Lc, as for every other extended frame
+abbrev pub strictSixAt9 : List ℕ → Outcome Says
+strictSixAt9 frame = if eqb (byte frame 4) 0x00 && eqb (length frame) (8 + pairAt frame 5) then surplusAt (9 + pairAt frame 5) else strictOf frame
+
+-- the number alone
+abbrev withoutPair : Outcome Says → Outcome Says
+withoutPair (R n) = R n
+withoutPair (Word w) = SW (w .number)
+withoutPair (Gives s) = Gives s
+
+abbrev pub pairDropped : List ℕ → Outcome Says
+pairDropped frame = withoutPair (readOf frame)
 
 -- ---- the strict entry
 

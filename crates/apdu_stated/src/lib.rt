@@ -42,12 +42,18 @@ pub enum Reading {
     Status(ApduStatusCode),
 }
 
-// What the bytes after the header say: shape, Lc and Le. Too few bytes and too many are told apart here, though both are 6700.
-// Lc is as wide as a length: all of it in one word would be packed and taken apart again by every reading.
+// Which table a frame is read by: document 01's eight shapes, or those of them that ISO 7816-3 has.
+pub enum Entry {
+    Ordinary,
+    Strict,
+}
+
+// What the bytes after the header say: shape, Lc and Le; or too few bytes; or too many, from a place on that is counted from the
+// frame's start. Lc is as wide as a length: all of it in one word would be packed and taken apart again by every reading.
 pub enum Lengths {
     Found(Case, usize, u32),
     Missing,
-    Surplus,
+    Surplus(usize),
 }
 
 // Where data stands in its frame: from start, up to and without end.

@@ -6,6 +6,7 @@
 // Challenge, application and handle stay in the caller's frame and are handed out as parts of it.
 ghost use Prim.Native.Nat.{_<_};
 ghost use mathlib.Core.Path.{_≡_};
+ghost use Rattle.outcome.specs.Outcome.{againstIns};
 ghost use Rattle.octets.specs.Bytes.{byte};
 ghost use Rattle.apdu_stated.specs.Answers.{saysOf};
 ghost use Rattle.command_stated.specs.Command.{commandSaid, authenticateOf};
@@ -16,6 +17,7 @@ use apdu::Reading;
 pub use command_stated::Ctap1Flags;
 pub use command_stated::U2fCommand;
 use outcome::ApduStatusCode;
+use outcome::LengthFault;
 
 const CTAP1_CLA: u8 = 0;
 
@@ -43,17 +45,24 @@ fn length_at(s: &[u8], i: usize) -> usize
     if i < s.len() { octets::wide(s[i]) } else { 0 }
 }
 
+// 6700 for an Lc that does not fit INS.
+fn against_ins() -> U2fCommand
+    ensures { λ r. ⌜ commandSaid r ≡ againstIns ⌝ }
+{
+    U2fCommand::Status(ApduStatusCode::WrongLength(LengthFault::LcAgainstIns, 4))
+}
+
 // The handle's length is looked at before P1, as the Rust does.
 fn authenticate(frame: &[u8], says: Apdu) -> U2fCommand
     ensures { λ r. ⌜ commandSaid r ≡ authenticateOf (now (frame .entry)) (saysOf says) ⌝ }
 {
     let lc = says.lc as usize;
     if lc < 65 {
-        return U2fCommand::Status(ApduStatusCode::WrongLength);
+        return against_ins();
     }
     let content = apdu::data(frame, says);
     if lc != 65 + length_at(content, 64) {
-        return U2fCommand::Status(ApduStatusCode::WrongLength);
+        return against_ins();
     }
     let header = says.header;
     let p1 = header.p1;
@@ -81,7 +90,7 @@ pub fn instructed(frame: &[u8], says: Apdu) -> U2fCommand
     }
     if ins == U2F_REGISTER {
         if lc != 64 {
-            return U2fCommand::Status(ApduStatusCode::WrongLength);
+            return against_ins();
         }
         return U2fCommand::Register(says);
     }
@@ -90,7 +99,7 @@ pub fn instructed(frame: &[u8], says: Apdu) -> U2fCommand
     }
     if ins == U2F_VERSION {
         if lc != 0 {
-            return U2fCommand::Status(ApduStatusCode::WrongLength);
+            return against_ins();
         }
         return U2fCommand::Version;
     }

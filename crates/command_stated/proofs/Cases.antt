@@ -7,7 +7,7 @@ use native.Mathlib.Omega.{arith}
 use borrow.Author.Tests.{lt-ltb, le-ltb, eq-eqb, ne-eqb}
 use lib.ListN.{length, List·getD-eq-default}
 use Rattle.outcome.specs.Notation.{if_then_else_}
-use Rattle.outcome.specs.Outcome.{Outcome, SW, Gives, statusNo}
+use Rattle.outcome.specs.Outcome.{StatusWord, Outcome, Word, SW, Gives, againstIns, wordOf}
 use Rattle.outcome.specs.declared.ApduStatusCode.{ApduStatusCode}
 use Rattle.octets.specs.Bytes.{byte, partOf}
 use Rattle.apdu_stated.specs.Answers.{Says, saysOf, readingOf}
@@ -24,17 +24,17 @@ byte-none s i past = sym (List·getD-eq-default s 0 past)
 
 -- ---- Authenticate
 module _ (frame : List ℕ) (said : Says) where
-  pub auth-short : said .lc < 65 → SW 0x6700 ≡ authenticateOf frame said
+  pub auth-short : (o : Outcome Command) → o ≡ againstIns → said .lc < 65 → o ≡ authenticateOf frame said
   unfolding authenticateOf
-  auth-short h = rw (lt-ltb (said .lc) 65 h)
+  auth-short o is h = is ∙ rw (lt-ltb (said .lc) 65 h)
 
   module _ (content : List ℕ) (b h : ℕ) (is-content : content ≡ dataOf frame said) (is-h : h ≡ byte content 64) (long : 65 ≤ said .lc) where
     same-h : h ≡ byte (dataOf frame said) 64
     same-h = is-h ∙ ap (λ (l : List ℕ). byte l 64) is-content
 
-    pub auth-other : (said .lc ≡ 65 + h → ⊥) → SW 0x6700 ≡ authenticateOf frame said
+    pub auth-other : (o : Outcome Command) → o ≡ againstIns → (said .lc ≡ 65 + h → ⊥) → o ≡ authenticateOf frame said
     unfolding authenticateOf
-    auth-other n = rw (le-ltb (said .lc) 65 long, ← same-h, ne-eqb (said .lc) (65 + h) n)
+    auth-other o is n = is ∙ rw (le-ltb (said .lc) 65 long, ← same-h, ne-eqb (said .lc) (65 + h) n)
 
     module _ (fits : said .lc ≡ 65 + h) where
       by-control : {o : Outcome Command} → (if not (isControl (said .header .p1)) then SW 0x6a80 else Gives (Authenticate (said .header .p1) said)) ≡ o → o ≡ authenticateOf frame said
@@ -63,9 +63,9 @@ module _ (frame : List ℕ) (said : Says) where
 
   module _ (cla : said .header .cla ≡ 0x00) where
     module _ (ins : said .header .ins ≡ 0x01) where
-      pub register-other : (said .lc ≡ 64 → ⊥) → SW 0x6700 ≡ byInstruction frame said
+      pub register-other : (o : Outcome Command) → o ≡ againstIns → (said .lc ≡ 64 → ⊥) → o ≡ byInstruction frame said
       unfolding byInstruction registerOf
-      register-other n = rw (cla, ins, ne-eqb (said .lc) 64 n)
+      register-other o is n = is ∙ rw (cla, ins, ne-eqb (said .lc) 64 n)
 
       pub register-64 : said .lc ≡ 64 → Gives (Register said) ≡ byInstruction frame said
       unfolding byInstruction registerOf
@@ -76,9 +76,9 @@ module _ (frame : List ℕ) (said : Says) where
     authenticates o ins e = e ∙ rw (cla, ins)
 
     module _ (ins : said .header .ins ≡ 0x03) where
-      pub version-other : (said .lc ≡ 0 → ⊥) → SW 0x6700 ≡ byInstruction frame said
+      pub version-other : (o : Outcome Command) → o ≡ againstIns → (said .lc ≡ 0 → ⊥) → o ≡ byInstruction frame said
       unfolding byInstruction versionOf
-      version-other n = rw (cla, ins, ne-eqb (said .lc) 0 n)
+      version-other o is n = is ∙ rw (cla, ins, ne-eqb (said .lc) 0 n)
 
       pub version-0 : said .lc ≡ 0 → Gives Version ≡ byInstruction frame said
       unfolding byInstruction versionOf
@@ -97,7 +97,7 @@ module _ (frame : List ℕ) (r : Reading) (is-r : readingOf r ≡ readOf frame) 
   unfolding commandOf onReading
   on-frame says o e b = b ∙ ap (onReading frame) (sym (reading-is says e))
 
-  pub on-status : (s : ApduStatusCode) → r ≡ Reading′.Status s → SW (statusNo s) ≡ commandOf frame
+  pub on-status : (s : ApduStatusCode) → r ≡ Reading′.Status s → Word (wordOf s) ≡ commandOf frame
   unfolding commandOf onReading
   on-status s e = ap (onReading frame) (ap readingOf (sym e) ∙ is-r)
 
@@ -128,6 +128,6 @@ pub by-reading : (frame : List ℕ) (said : Says) → readOf frame ≡ Gives sai
 unfolding commandOf onReading
 by-reading frame said e = ap (onReading frame) e
 
-pub by-status : (frame : List ℕ) (n : ℕ) → readOf frame ≡ SW n → commandOf frame ≡ SW n
+pub by-status : (frame : List ℕ) (w : StatusWord) → readOf frame ≡ Word w → commandOf frame ≡ Word w
 unfolding commandOf onReading
-by-status frame n e = ap (onReading frame) e
+by-status frame w e = ap (onReading frame) e

@@ -2,11 +2,11 @@
 use Prim.Native.Nat.{ℕ}
 use mathlib.Core.Path.{_≡_, sym}
 use mathlib.Core.List.{List}
-use Rattle.outcome.specs.Outcome.{Outcome, R, SW, Gives}
-use Rattle.outcome.proofs.Laws.{r-sw, r-gives}
+use Rattle.outcome.specs.Outcome.{Outcome, R, Gives}
+use Rattle.outcome.proofs.Laws.{r-word, r-gives}
 use Rattle.apdu_stated.specs.Answers.{Says}
 use Rattle.command_stated.specs.Command.{Command, commandOf}
-pub use Rattle.command_stated.proofs.Theorems.{RegisterExactly, AuthenticateExactly, VersionExactly, RegisterParts, AuthenticateParts, CutAtPlaces}
+pub use Rattle.command_stated.proofs.Theorems.{RegisterExactly, AuthenticateExactly, VersionExactly, CommandPairsExactly, RegisterParts, AuthenticateParts, CutAtPlaces}
 pub use Rattle.command_stated.proofs.Ways.{Why, class, instruction, lengths, control, Way, register, authenticate, version, status, Read, read, unread, reading}
 pub use Rattle.command_stated.proofs.Numbers.{flags-same, command-same}
 pub use Rattle.command_stated.proofs.Cases.{on-frame, on-status}
@@ -19,8 +19,8 @@ never-refused frame n e = go (commandOf frame) (reading frame) e
     by said _ (register c i l) x = r-gives _ _ (sym x)
     by said _ (authenticate c i l f k) x = r-gives _ _ (sym x)
     by said _ (version c i l) x = r-gives _ _ (sym x)
-    by said _ (status why) x = r-sw _ _ (sym x)
+    by said _ (status why) x = r-word _ _ (sym x)
 
     go : (o : Outcome Command) → Read frame o → o ≡ R n → ⊥
     go o (read said r w) x = by said o w x
-    go _ (unread m r) x = r-sw _ _ (sym x)
+    go _ (unread m r) x = r-word _ _ (sym x)

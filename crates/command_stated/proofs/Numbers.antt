@@ -3,7 +3,7 @@ use Prim.Native.Nat.{ℕ}
 use mathlib.Core.Path.{_≡_, refl, ap, ap₂}
 use lib.Dec.{eqb}
 use Rattle.outcome.specs.Notation.{if_then_else_}
-use Rattle.outcome.specs.Outcome.{Outcome, R, SW, Gives}
+use Rattle.outcome.specs.Outcome.{Outcome, R, Word, Gives}
 use Rattle.outcome.proofs.Laws.{one-to-one}
 use Rattle.outcome.proofs.Laws.{statusOf, status-back}
 use Rattle.apdu_stated.proofs.Laws.{apduBack, apdu-back}
@@ -27,7 +27,7 @@ flags-same = one-to-one flagsNo flagsOf flags-back
 
 commandBack : Outcome Command → U2fCommand
 commandBack (R n) = U2fCommand′.Version
-commandBack (SW n) = U2fCommand′.Status (statusOf n)
+commandBack (Word w) = U2fCommand′.Status (statusOf w)
 commandBack (Gives (Register s)) = U2fCommand′.Register (apduBack s)
 commandBack (Gives (Authenticate p s)) = U2fCommand′.Authenticate (flagsOf p) (apduBack s)
 commandBack (Gives Version) = U2fCommand′.Version

@@ -4,23 +4,29 @@ use mathlib.Core.Path.{_≡_, refl, ap, sym, _∙_}
 use mathlib.Core.Bool.{true}
 use mathlib.Core.List.{List}
 use mathlib.Core.Logic.{inl, inr}
-use native.Mathlib.Decide.{ℕ-discrete}
+use native.Mathlib.Omega.{arith}
+use lib.ListN.{length}
 use Rattle.outcome.specs.Notation.{Determines, Determines2}
-use Rattle.outcome.specs.Outcome.{Outcome, SW, Gives}
+use Rattle.outcome.specs.Outcome.{StatusWord, Outcome, Word, Gives}
+use Rattle.outcome.proofs.Laws.{word-same, word-gives}
 use Rattle.apdu_stated.specs.Answers.{Says}
+use Rattle.apdu_stated.specs.declared.Entry.the-variants.{Ordinary}
 use Rattle.apdu_stated.specs.Reading.{readOf}
-use Rattle.apdu_stated.proofs.Laws.{read-status, read-short}
-use Rattle.command_stated.specs.Command.{Ctap1Flags, CheckOnly, EnforceUpAndSign, DontEnforceUpAndSign, Command, commandOf}
+use Rattle.apdu_stated.proofs.Laws.{FrameWay, under, found, ends, goes-on, frame-way}
+use Rattle.command_stated.specs.Command.{Ctap1Flags, CheckOnly, EnforceUpAndSign, DontEnforceUpAndSign, Command, byInstruction, commandOf}
 use Rattle.command_stated.specs.Claims
-use Rattle.command_stated.proofs.Ways.{Why, class, instruction, lengths, control, Way, register, authenticate, version, status, Read, read, unread, reading}
+use Rattle.command_stated.proofs.Ways.{Why, class, instruction, lengths, control, Way, register, authenticate, version, status, way, Read, read, unread, reading}
+
+word-is : (v w : StatusWord) → _≡_ {A = Outcome Says} (Word v) (Word w) → v ≡ w
+word-is v w e = word-same v w e
 
 only-command : (command : List ℕ → Outcome Command) → Claims.CommandExactly command → (frame : List ℕ) → command frame ≡ commandOf frame
 only-command command exact frame = go (commandOf frame) (reading frame)
   where
-    refused : (s : Says) → readOf frame ≡ Gives s → {n : ℕ} → Why frame s n → command frame ≡ SW n
+    refused : (s : Says) → readOf frame ≡ Gives s → {w : StatusWord} → Why frame s w → command frame ≡ Word w
     refused s r (class c) = exact .class frame .1 (s, r, c)
     refused s r (instruction c w) = exact .instruction frame .1 (s, r, c, w)
-    refused s r (lengths c w) = exact .lengths frame .1 (inr (s, r, c, w))
+    refused s r (lengths c w) = exact .against-ins frame .1 (s, r, c, w)
     refused s r (control c w) = exact .control frame .1 (inr (s, r, c, w))
 
     by : (s : Says) (o : Outcome Command) → readOf frame ≡ Gives s → Way frame s o → command frame ≡ o
@@ -29,17 +35,36 @@ only-command command exact frame = go (commandOf frame) (reading frame)
     by s _ r (version c i l) = exact .version frame .1 (s, r, c, i, l)
     by s _ r (status why) = refused s r why
 
-    own : (n : ℕ) → readOf frame ≡ SW n → Dec (n ≡ 0x6a80) → Dec (n ≡ 0x6700) → command frame ≡ SW n
-    own n r (yes e) d = exact .control frame .1 (inl (read-short frame .0 (r ∙ ap SW e))) ∙ ap SW (sym e)
-    own n r (no a) (yes e) = exact .lengths frame .1 (inl (r ∙ ap SW e)) ∙ ap SW (sym e)
-    own n r (no a) (no b) = absurd (read-status frame n a b r)
+    own : (f : Outcome Says) → FrameWay Ordinary frame f → readOf frame ≡ f → (w : StatusWord) → f ≡ Word w → command frame ≡ Word w
+    own _ (under h) r w e = exact .control frame .1 (inl h) ∙ ap Word (word-is _ w e)
+    own _ (ends h f) r w e = exact .carried frame 1 (length frame) (λ z. omega arith) .1 r ∙ ap Word (word-is _ w e)
+    own _ (goes-on h k f) r w e = exact .carried frame 2 k (λ z. omega arith) .1 r ∙ ap Word (word-is _ w e)
+    own _ (found long s lc le f) r w e = absurd (word-gives _ _ (sym e))
 
     go : (o : Outcome Command) → Read frame o → command frame ≡ o
     go o (read s r w) = by s o r w
-    go _ (unread n r) = own n r (ℕ-discrete n 0x6a80) (ℕ-discrete n 0x6700)
+    go _ (unread w r) = own (readOf frame) (frame-way Ordinary frame) refl w r
 
 pub CommandExactly : Determines Claims.CommandExactly
 CommandExactly f g p q frame = only-command f p frame ∙ sym (only-command g q frame)
+
+only-instructed : (by : List ℕ → Says → Outcome Command) → Claims.InstructedExactly by → (frame : List ℕ) (said : Says) → by frame said ≡ byInstruction frame said
+only-instructed by exact frame said = go (byInstruction frame said) (way frame said)
+  where
+    refused : {w : StatusWord} → Why frame said w → by frame said ≡ Word w
+    refused (class c) = exact .class frame said .1 c
+    refused (instruction c w) = exact .instruction frame said .1 (c, w)
+    refused (lengths c w) = exact .against-ins frame said .1 (c, w)
+    refused (control c w) = exact .control frame said .1 (c, w)
+
+    go : (o : Outcome Command) → Way frame said o → by frame said ≡ o
+    go _ (register c i l) = exact .register frame said said .1 (refl, c, i, l)
+    go _ (authenticate c i l f k) = exact .authenticate frame said (said .header .p1) said .1 (refl, refl, c, i, l, f, k)
+    go _ (version c i l) = exact .version frame said .1 (c, i, l)
+    go _ (status why) = refused why
+
+pub InstructedExactly : Determines2 Claims.InstructedExactly
+InstructedExactly f g p q frame said = only-instructed f p frame said ∙ sym (only-instructed g q frame said)
 
 pub ChallengeExactly : Determines2 Claims.ChallengeExactly
 ChallengeExactly f g p q frame said = p frame said ∙ sym (q frame said)

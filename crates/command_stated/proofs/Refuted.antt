@@ -6,16 +6,17 @@ use mathlib.Core.List.{List, [], _∷_, _++_}
 use mathlib.Core.Logic.{inl, inr}
 use native.Mathlib.Omega.{arith}
 use lib.ListN.{length, replicate}
-use Rattle.outcome.specs.Outcome.{Outcome, R, SW, Gives}
-use Rattle.outcome.proofs.Laws.{gives-same, sw-same, sw-gives}
+use Rattle.outcome.specs.Outcome.{StatusWord, Outcome, R, Word, Gives}
+use Rattle.outcome.specs.Terms.{HasStatus}
+use Rattle.outcome.proofs.Laws.{gives-same, word-same, word-gives}
 use Rattle.octets.specs.Bytes.{byte, partOf}
 use Rattle.apdu_stated.specs.Answers.{Says}
-use Rattle.apdu_stated.specs.Reading.{readOf, sayOf, lengthsOf, shortOf, dataOf}
+use Rattle.apdu_stated.specs.Reading.{readBy, readOf, sayOf, lengthsOf, shortOf, extendedOf, afterData, dataOf}
 use Rattle.apdu_stated.specs.Terms.{saying, frameWith}
 use Rattle.apdu_stated.specs.declared.ApduHeader.{ApduHeader}
 use Rattle.apdu_stated.specs.declared.Place.{Place}
 use Rattle.command_stated.specs.Command.{Command, Register, Authenticate, Version, registerOf, authenticateOf, versionOf, byInstruction, onReading, commandOf, challengePlaceOf, applicationPlaceOf, challengeOf, applicationOf, handleOf}
-use Rattle.command_stated.specs.Terms.{WrongLength, too-short, other-handle, UnknownInstruction}
+use Rattle.command_stated.specs.Terms.{WrongLc, of-register, too-short, other-handle, UnknownInstruction}
 use Rattle.command_stated.specs.Claims
 use Rattle.command_stated.specs.Wrong
 
@@ -36,95 +37,108 @@ zeros n = replicate n 0
 abbrev handled : ℕ → List ℕ → List ℕ
 handled n handle = replicate 64 0 ++ n ∷ handle
 
+-- ---- status words: number, kind and place
+number-is : (v w : StatusWord) → _≡_ {A = Outcome Command} (Word v) (Word w) → v .number ≡ w .number
+number-is v w e = ap (λ (x : StatusWord). x .number) (word-same v w e)
+
+kind-is : (v w : StatusWord) → _≡_ {A = Outcome Command} (Word v) (Word w) → v .kind ≡ w .kind
+kind-is v w e = ap (λ (x : StatusWord). x .kind) (word-same v w e)
+
+place-is : (v w : StatusWord) → _≡_ {A = Outcome Command} (Word v) (Word w) → v .place ≡ w .place
+place-is v w e = ap (λ (x : StatusWord). x .place) (word-same v w e)
+
+word-number : {v : StatusWord} → HasStatus {A = Command} 0x6700 (Word v) → v .number ≡ 0x6700
+word-number t = number-is _ _ (t .is) ∙ t .numbered
+
 -- ---- the order
 pub registerBeforeClass : Claims.ClassExactly Wrong.registerBeforeClass → ⊥
-unfolding readOf sayOf lengthsOf shortOf registerOf
+unfolding readBy sayOf lengthsOf shortOf registerOf
 registerBeforeClass exact =
     let h = head 0x01 0x01 0x00 in
-    omega (arith, sw-same _ _ (exact (try h (zeros 63)) .1 (said h (zeros 63), refl, λ e. omega arith)))
+    omega (arith, number-is _ _ (exact (try h (zeros 63)) .1 (said h (zeros 63), refl, λ e. omega arith)))
 
 pub authenticateBeforeClass : Claims.ClassExactly Wrong.authenticateBeforeClass → ⊥
-unfolding readOf sayOf lengthsOf shortOf authenticateOf
+unfolding readBy sayOf lengthsOf shortOf authenticateOf
 authenticateBeforeClass exact =
     let h = head 0x01 0x02 0x03 in
-    omega (arith, sw-same _ _ (exact (try h (zeros 64)) .1 (said h (zeros 64), refl, λ e. omega arith)))
+    omega (arith, number-is _ _ (exact (try h (zeros 64)) .1 (said h (zeros 64), refl, λ e. omega arith)))
 
 pub versionBeforeClass : Claims.ClassExactly Wrong.versionBeforeClass → ⊥
-unfolding readOf sayOf lengthsOf shortOf versionOf
+unfolding readBy sayOf lengthsOf shortOf versionOf
 versionBeforeClass exact =
     let h = head 0x01 0x03 0x00 in
-    omega (arith, sw-same _ _ (exact (try h (zeros 1)) .1 (said h (zeros 1), refl, λ e. omega arith)))
+    omega (arith, number-is _ _ (exact (try h (zeros 1)) .1 (said h (zeros 1), refl, λ e. omega arith)))
 
 pub instructionBeforeClass : Claims.ClassExactly Wrong.instructionBeforeClass → ⊥
-unfolding readOf sayOf lengthsOf shortOf
+unfolding readBy sayOf lengthsOf shortOf
 instructionBeforeClass exact =
     let h = head 0x01 0x40 0x00 in
-    omega (arith, sw-same _ _ (exact (try h (zeros 1)) .1 (said h (zeros 1), refl, λ e. omega arith)))
+    omega (arith, number-is _ _ (exact (try h (zeros 1)) .1 (said h (zeros 1), refl, λ e. omega arith)))
 
 pub classNotLookedAt : Claims.ClassExactly Wrong.classNotLookedAt → ⊥
-unfolding readOf sayOf lengthsOf shortOf registerOf
+unfolding readBy sayOf lengthsOf shortOf registerOf
 classNotLookedAt exact =
     let h = head 0x01 0x01 0x00 in
-    sw-gives _ _ (sym (exact (try h (zeros 64)) .1 (said h (zeros 64), refl, λ e. omega arith)))
+    word-gives _ _ (sym (exact (try h (zeros 64)) .1 (said h (zeros 64), refl, λ e. omega arith)))
 
 pub shortFrameGets6700 : Claims.ControlExactly Wrong.shortFrameGets6700 → ⊥
-shortFrameGets6700 exact = omega (arith, sw-same _ _ (exact (0x00 ∷ 0x03 ∷ 0x00 ∷ []) .1 (inl (omega arith))))
+shortFrameGets6700 exact = omega (arith, number-is _ _ (exact (0x00 ∷ 0x03 ∷ 0x00 ∷ []) .1 (inl (omega arith))))
 
 -- ---- Register
 pub registerLooksAtP1 : Claims.RegisterExactly Wrong.registerLooksAtP1 → ⊥
-unfolding readOf sayOf lengthsOf shortOf
+unfolding readBy sayOf lengthsOf shortOf
 registerLooksAtP1 exact =
     let h = head 0x00 0x01 0xFF in
-    sw-gives _ _ (exact (try h (zeros 64)) (said h (zeros 64)) .1 (refl, refl, refl, refl))
+    word-gives _ _ (exact (try h (zeros 64)) (said h (zeros 64)) .1 (refl, refl, refl, refl))
 
 pub registerOf65 : Claims.RegisterExactly Wrong.registerOf65 → ⊥
-unfolding readOf sayOf lengthsOf shortOf
+unfolding readBy sayOf lengthsOf shortOf
 registerOf65 exact =
     let h = head 0x00 0x01 0x00 in
     omega (arith, exact (try h (zeros 65)) (said h (zeros 65)) .0 refl .3)
 
 -- ---- Authenticate
 pub emptyHandleRefused : Claims.AuthenticateExactly Wrong.emptyHandleRefused → ⊥
-unfolding readOf sayOf lengthsOf shortOf dataOf partOf
+unfolding readBy sayOf lengthsOf shortOf dataOf partOf
 emptyHandleRefused exact =
     let h = head 0x00 0x02 0x03 in
-    sw-gives _ _ (exact (try h (zeros 65)) 0x03 (said h (zeros 65)) .1 (refl, refl, refl, omega arith, refl, refl, refl))
+    word-gives _ _ (exact (try h (zeros 65)) 0x03 (said h (zeros 65)) .1 (refl, refl, refl, omega arith, refl, refl, refl))
 
 pub lengthByteUncounted : Claims.AuthenticateExactly Wrong.lengthByteUncounted → ⊥
-unfolding readOf sayOf lengthsOf shortOf dataOf partOf
+unfolding readBy sayOf lengthsOf shortOf dataOf partOf
 lengthByteUncounted exact =
     let h = head 0x00 0x02 0x03 in
-    sw-gives _ _ (exact (try h (zeros 65)) 0x03 (said h (zeros 65)) .1 (refl, refl, refl, omega arith, refl, refl, refl))
+    word-gives _ _ (exact (try h (zeros 65)) 0x03 (said h (zeros 65)) .1 (refl, refl, refl, omega arith, refl, refl, refl))
 
 pub enforceSaidAsCheckOnly : Claims.AuthenticateExactly Wrong.enforceSaidAsCheckOnly → ⊥
-unfolding readOf sayOf lengthsOf shortOf dataOf partOf
+unfolding readBy sayOf lengthsOf shortOf dataOf partOf
 enforceSaidAsCheckOnly exact =
     let h = head 0x00 0x02 0x03 in
     omega (arith, exact (try h (zeros 65)) 0x07 (said h (zeros 65)) .0 refl .6)
 
 pub controlBeforeLength : Claims.LengthExactly Wrong.controlBeforeLength → ⊥
-unfolding readOf sayOf lengthsOf shortOf dataOf partOf
+unfolding readBy sayOf lengthsOf shortOf dataOf partOf
 controlBeforeLength exact =
     let h = head 0x00 0x02 0x00 in
     let d = handled 1 [] in
-    omega (arith, sw-same _ _ (exact (try h d) .1 (inr (said h d, refl, refl, other-handle refl (omega arith) (λ e. omega arith)))))
+    omega (arith, word-number (exact (try h d) .1 (inr (said h d, refl, refl, other-handle refl (omega arith) (λ e. omega arith)))))
 
 pub anyControl : Claims.ControlExactly Wrong.anyControl → ⊥
-unfolding readOf sayOf lengthsOf shortOf dataOf partOf
+unfolding readBy sayOf lengthsOf shortOf dataOf partOf
 anyControl exact =
     let h = head 0x00 0x02 0x00 in
-    sw-gives _ _ (sym (exact (try h (zeros 65)) .1
+    word-gives _ _ (sym (exact (try h (zeros 65)) .1
     (inr (said h (zeros 65), refl, refl, record { ins = refl; long = omega arith; fits = refl; not-03 = λ e. omega arith; not-07 = λ e. omega arith; not-08 = λ e. omega arith }))))
 
 -- ---- the others
 pub vendorAsVersion : Claims.InstructionExactly Wrong.vendorAsVersion → ⊥
-unfolding readOf sayOf lengthsOf shortOf
+unfolding readBy sayOf lengthsOf shortOf
 vendorAsVersion exact =
     let h = head 0x00 0x40 0x00 in
-    sw-gives _ _ (sym (exact (try h (zeros 1)) .1 (said h (zeros 1), refl, refl, record { not-01 = λ e. omega arith; not-02 = λ e. omega arith; not-03 = λ e. omega arith })))
+    word-gives _ _ (sym (exact (try h (zeros 1)) .1 (said h (zeros 1), refl, refl, record { not-01 = λ e. omega arith; not-02 = λ e. omega arith; not-03 = λ e. omega arith })))
 
 pub versionWithData : Claims.VersionExactly Wrong.versionWithData → ⊥
-unfolding readOf sayOf lengthsOf shortOf
+unfolding readBy sayOf lengthsOf shortOf
 versionWithData exact =
     let h = head 0x00 0x03 0x00 in
     let t = exact (try h (zeros 1)) .0 refl in
@@ -132,17 +146,48 @@ versionWithData exact =
     omega (arith, ap (λ (s : Says). s .lc) same, t .4)
 
 pub unknownByLength : Claims.InstructionExactly Wrong.unknownByLength → ⊥
-unfolding readOf sayOf lengthsOf shortOf versionOf
+unfolding readBy sayOf lengthsOf shortOf versionOf
 unknownByLength exact =
     let h = head 0x00 0x40 0x00 in
-    omega (arith, sw-same _ _ (exact (try h (zeros 1)) .1 (said h (zeros 1), refl, refl, record { not-01 = λ e. omega arith; not-02 = λ e. omega arith; not-03 = λ e. omega arith })))
+    omega (arith, number-is _ _ (exact (try h (zeros 1)) .1 (said h (zeros 1), refl, refl, record { not-01 = λ e. omega arith; not-02 = λ e. omega arith; not-03 = λ e. omega arith })))
+
+-- ---- the pair: a Register of shape 5 with one byte of data; `00 01`; a Register of one byte
+pub extendedAt5 : Claims.AgainstInsExactly Wrong.extendedAt5 → ⊥
+unfolding readBy sayOf lengthsOf extendedOf afterData byInstruction registerOf
+extendedAt5 exact =
+    let h = head 0x00 0x01 0x00 in
+    omega (arith, place-is _ _ (exact (frameWith h (0 ∷ 0 ∷ 1 ∷ 0xAA ∷ [])) .1 (saying h 5 7 1 0, refl, refl, of-register refl (λ e. omega arith))))
+
+pub instructedAt5 : Claims.InstructedExactly Wrong.instructedAt5 → ⊥
+unfolding byInstruction registerOf
+instructedAt5 exact =
+    let h = head 0x00 0x01 0x00 in
+    omega (arith, place-is _ _ (exact .against-ins [] (saying h 5 7 1 0) .1 (refl, of-register refl (λ e. omega arith))))
+
+pub instructedWithoutClass : Claims.InstructedExactly Wrong.instructedWithoutClass → ⊥
+unfolding byInstruction versionOf
+instructedWithoutClass exact =
+    let h = head 0x80 0x03 0x00 in
+    word-gives _ _ (sym (exact .class [] (saying h 1 4 0 0) .1 (λ e. omega arith)))
+
+pub ownPairDropped : Claims.CarriedExactly Wrong.ownPairDropped → ⊥
+unfolding readBy sayOf lengthsOf extendedOf
+ownPairDropped exact = omega (arith, kind-is _ _ (exact (frameWith (head 0x00 0x01 0x00) (0 ∷ 1 ∷ [])) 1 6 (λ e. omega arith) .1 refl))
+
+pub ownPairAsThird : Claims.CarriedExactly Wrong.ownPairAsThird → ⊥
+unfolding readBy sayOf lengthsOf extendedOf
+ownPairAsThird exact = omega (arith, kind-is _ _ (exact (frameWith (head 0x00 0x01 0x00) (0 ∷ 1 ∷ [])) 1 6 (λ e. omega arith) .1 refl))
+
+pub thirdWithoutPair : Claims.CommandPairsExactly Wrong.thirdWithoutPair → ⊥
+unfolding readBy sayOf lengthsOf shortOf byInstruction registerOf onReading commandOf
+thirdWithoutPair exact = omega (arith, exact .paired (try (head 0x00 0x01 0x00) (zeros 1)) _ refl refl .0)
 
 -- ---- the parts: a Register of 32 ones and 32 twos, and an Authenticate with a handle of one byte
 abbrev enrols : List ℕ
 enrols = replicate 32 1 ++ replicate 32 2
 
 pub applicationIsTheChallenge : Claims.RegisterParts commandOf challengeOf Wrong.applicationIsTheChallenge → ⊥
-unfolding readOf sayOf lengthsOf shortOf registerOf byInstruction onReading commandOf dataOf challengeOf partOf
+unfolding readBy sayOf lengthsOf shortOf registerOf byInstruction onReading commandOf dataOf challengeOf partOf
 applicationIsTheChallenge parts =
     let h = head 0x00 0x01 0x00 in
     omega (arith, ap (λ (l : List ℕ). byte l 32) (parts (try h enrols) (said h enrols) refl .0))
@@ -169,7 +214,7 @@ handleEmpty exact = let h = head 0x00 0x02 0x03 in omega (arith, ap length (exac
 
 -- shape 4, with an Le of 9
 pub handleWithTheLe : Claims.AuthenticateParts commandOf challengeOf applicationOf Wrong.handleWithTheLe → ⊥
-unfolding readOf sayOf lengthsOf shortOf authenticateOf byInstruction onReading commandOf dataOf challengeOf applicationOf partOf
+unfolding readBy sayOf lengthsOf shortOf authenticateOf byInstruction onReading commandOf dataOf challengeOf applicationOf partOf
 handleWithTheLe parts =
     let h = head 0x00 0x02 0x03 in
     let d = handled 1 (7 ∷ []) in
@@ -209,7 +254,7 @@ unfolding handleOf partOf
 handleNumbersEarly cut = omega (arith, ap length (cut .handle-cut (try (head 0x00 0x02 0x03) (handled 1 (7 ∷ []))) one))
 
 pub handlePastTheEnd : Claims.CutAtPlaces challengeOf applicationOf handleOf challengePlaceOf applicationPlaceOf Wrong.handlePastTheEnd → ⊥
-unfolding readOf sayOf lengthsOf shortOf authenticateOf byInstruction onReading commandOf dataOf partOf
+unfolding readBy sayOf lengthsOf shortOf authenticateOf byInstruction onReading commandOf dataOf partOf
 handlePastTheEnd cut = omega (arith, cut .authenticate-within (try (head 0x00 0x02 0x03) (handled 1 (7 ∷ []))) 0x03 one refl .4)
 
 -- ---- the control byte

@@ -6,19 +6,20 @@ use mathlib.Core.List.{List, [], _∷_, _++_, append-nil}
 use mathlib.Core.Logic.{_↔_, _⊎_, inl, inr}
 use native.Mathlib.Omega.{arith}
 use lib.ListN.{length}
-use Rattle.outcome.specs.Outcome.{Outcome, R, SW, Gives}
-use Rattle.outcome.proofs.Laws.{gives-same, sw-same, sw-gives, both-are}
+use Rattle.outcome.specs.Outcome.{StatusWord, Outcome, R, Word, SW, Gives, plainWord, wrongLength, againstIns}
+use Rattle.outcome.specs.Terms.{PairsExactly, HasStatus}
+use Rattle.outcome.proofs.Laws.{gives-same, word-same, word-gives, both-are}
 use Rattle.octets.specs.Bytes.{byte, partOf}
 use Rattle.octets.proofs.Laws.{part-split, part-length, part-byte, part-one}
 use Rattle.apdu_stated.specs.Answers.{Says}
 use Rattle.apdu_stated.specs.Reading.{readOf, dataOf}
-use Rattle.apdu_stated.proofs.Laws.{data-within, data-long, data-from, read-status, read-short}
+use Rattle.apdu_stated.proofs.Laws.{data-within, data-long, data-from, read-status, read-short, read-pairs, never-third}
 use Rattle.command_stated.specs.Command.{Command, Register, Authenticate, Version, flagsNo, isControl, byInstruction, commandOf, challengePlaceOf, applicationPlaceOf, handlePlaceOf, challengeOf, applicationOf, handleOf}
-use Rattle.command_stated.specs.Terms.{WrongLength, of-register, too-short, other-handle, of-version, WrongControl, UnknownInstruction}
+use Rattle.command_stated.specs.Terms.{WrongLc, of-register, too-short, other-handle, of-version, WrongControl, UnknownInstruction}
 use Rattle.command_stated.specs.Claims
 use Rattle.command_stated.proofs.Cases
 use Rattle.command_stated.proofs.Numbers.{flags-same, command-same}
-use Rattle.command_stated.proofs.Ways.{Why, class, instruction, lengths, control, Way, register, authenticate, version, status, Read, read, unread, reading}
+use Rattle.command_stated.proofs.Ways.{Why, class, instruction, lengths, control, Way, register, authenticate, version, status, way, Read, read, unread, reading}
 
 -- ---- three commands differ
 registered : Command → ℕ
@@ -43,11 +44,11 @@ RegisterExactly frame said = (λ e. go (commandOf frame) (reading frame) e, λ t
     by s _ r (register c i l) e = subst Facts (same s e) (r, c, i, l)
     by s _ r (authenticate c i l f k) e = clash (Authenticate (s .header .p1) s) (Register said) 2 1 refl refl (λ z. omega arith) e
     by s _ r (version c i l) e = clash Version (Register said) 3 1 refl refl (λ z. omega arith) e
-    by s _ r (status n) e = absurd (sw-gives _ _ e)
+    by s _ r (status n) e = absurd (word-gives _ _ e)
 
     go : (o : Outcome Command) → Read frame o → o ≡ Gives (Register said) → Facts said
     go o (read s r w) e = by s o r w e
-    go _ (unread n r) e = absurd (sw-gives _ _ e)
+    go _ (unread n r) e = absurd (word-gives _ _ e)
 
 pub AuthenticateExactly : Claims.AuthenticateExactly commandOf
 unfolding registered
@@ -71,11 +72,11 @@ AuthenticateExactly frame p1 said = (
         let q = same (s .header .p1) s e in
         subst (λ (x : Says). Facts p1 x) (q .1) (r, c, i, l, f, ap isControl (sym (q .0)) ∙ k, q .0)
     by s _ r (version c i l) e = clash Version (Authenticate p1 said) 3 2 refl refl (λ z. omega arith) e
-    by s _ r (status n) e = absurd (sw-gives _ _ e)
+    by s _ r (status n) e = absurd (word-gives _ _ e)
 
     go : (o : Outcome Command) → Read frame o → o ≡ Gives (Authenticate p1 said) → Facts p1 said
     go o (read s r w) e = by s o r w e
-    go _ (unread n r) e = absurd (sw-gives _ _ e)
+    go _ (unread n r) e = absurd (word-gives _ _ e)
 
 pub VersionExactly : Claims.VersionExactly commandOf
 unfolding registered
@@ -88,87 +89,125 @@ VersionExactly frame = (λ e. go (commandOf frame) (reading frame) e, λ t. Case
     by s _ r (register c i l) e = clash (Register s) Version 1 3 refl refl (λ z. omega arith) e
     by s _ r (authenticate c i l f k) e = clash (Authenticate (s .header .p1) s) Version 2 3 refl refl (λ z. omega arith) e
     by s _ r (version c i l) e = (s, r, c, i, l)
-    by s _ r (status n) e = absurd (sw-gives _ _ e)
+    by s _ r (status n) e = absurd (word-gives _ _ e)
 
     go : (o : Outcome Command) → Read frame o → o ≡ Gives Version → Facts
     go o (read s r w) e = by s o r w e
-    go _ (unread n r) e = absurd (sw-gives _ _ e)
+    go _ (unread n r) e = absurd (word-gives _ _ e)
 
 -- ---- a status: the frame's own, or for a reason
-pub data Told (frame : List ℕ) (n : ℕ) : Type 0 where
-  own : readOf frame ≡ SW n → Told frame n
-  because : (said : Says) → readOf frame ≡ Gives said → Why frame said n → Told frame n
+pub data Told (frame : List ℕ) (w : StatusWord) : Type 0 where
+  own : readOf frame ≡ Word w → Told frame w
+  because : (said : Says) → readOf frame ≡ Gives said → Why frame said w → Told frame w
 
-pub told : (frame : List ℕ) (n : ℕ) → commandOf frame ≡ SW n → Told frame n
-told frame n e = go (commandOf frame) (reading frame) e
+pub told : (frame : List ℕ) (w : StatusWord) → commandOf frame ≡ Word w → Told frame w
+told frame w e = go (commandOf frame) (reading frame) e
   where
-    by : (s : Says) (o : Outcome Command) → readOf frame ≡ Gives s → Way frame s o → o ≡ SW n → Told frame n
-    by s _ r (register c i l) x = absurd (sw-gives _ _ (sym x))
-    by s _ r (authenticate c i l f k) x = absurd (sw-gives _ _ (sym x))
-    by s _ r (version c i l) x = absurd (sw-gives _ _ (sym x))
-    by s _ r (status why) x = because s r (subst (Why frame s) (sw-same _ _ x) why)
+    by : (s : Says) (o : Outcome Command) → readOf frame ≡ Gives s → Way frame s o → o ≡ Word w → Told frame w
+    by s _ r (register c i l) x = absurd (word-gives _ _ (sym x))
+    by s _ r (authenticate c i l f k) x = absurd (word-gives _ _ (sym x))
+    by s _ r (version c i l) x = absurd (word-gives _ _ (sym x))
+    by s _ r (status why) x = because s r (subst (Why frame s) (word-same _ _ x) why)
 
-    go : (o : Outcome Command) → Read frame o → o ≡ SW n → Told frame n
-    go o (read s r w) x = by s o r w x
-    go _ (unread m r) x = own (r ∙ ap SW (sw-same _ _ x))
+    go : (o : Outcome Command) → Read frame o → o ≡ Word w → Told frame w
+    go o (read s r v) x = by s o r v x
+    go _ (unread v r) x = own (r ∙ ap Word (word-same _ _ x))
 
 module _ (frame : List ℕ) (said : Says) where
-  of-class : {n : ℕ} → Why frame said n → n ≡ 0x6e00 → said .header .cla ≡ 0x00 → ⊥
+  of-class : {w : StatusWord} → Why frame said w → w .number ≡ 0x6e00 → said .header .cla ≡ 0x00 → ⊥
   of-class (class c) e = c
   of-class (instruction c w) e = absurd (omega arith)
   of-class (lengths c w) e = absurd (omega arith)
   of-class (control c w) e = absurd (omega arith)
 
-  of-instruction : {n : ℕ} → Why frame said n → n ≡ 0x6d00 → (said .header .cla ≡ 0x00) × UnknownInstruction said
+  of-instruction : {w : StatusWord} → Why frame said w → w .number ≡ 0x6d00 → (said .header .cla ≡ 0x00) × UnknownInstruction said
   of-instruction (class c) e = absurd (omega arith)
   of-instruction (instruction c w) e = (c, w)
   of-instruction (lengths c w) e = absurd (omega arith)
   of-instruction (control c w) e = absurd (omega arith)
 
-  of-lengths : {n : ℕ} → Why frame said n → n ≡ 0x6700 → (said .header .cla ≡ 0x00) × WrongLength frame said
+  of-lengths : {w : StatusWord} → Why frame said w → w .number ≡ 0x6700 → (said .header .cla ≡ 0x00) × WrongLc frame said
   of-lengths (class c) e = absurd (omega arith)
   of-lengths (instruction c w) e = absurd (omega arith)
   of-lengths (lengths c w) e = (c, w)
   of-lengths (control c w) e = absurd (omega arith)
 
-  of-control : {n : ℕ} → Why frame said n → n ≡ 0x6a80 → (said .header .cla ≡ 0x00) × WrongControl frame said
+  of-control : {w : StatusWord} → Why frame said w → w .number ≡ 0x6a80 → (said .header .cla ≡ 0x00) × WrongControl frame said
   of-control (class c) e = absurd (omega arith)
   of-control (instruction c w) e = absurd (omega arith)
   of-control (lengths c w) e = absurd (omega arith)
   of-control (control c w) e = (c, w)
 
 pub ClassExactly : Claims.ClassExactly commandOf
-ClassExactly frame = (λ e. go (told frame 0x6e00 e), λ t. Cases.by-reading frame (t .0) (t .1) ∙ sym (Cases.wrong-cla frame (t .0) (t .2)))
+ClassExactly frame = (λ e. go (told frame (plainWord 0x6e00) e), λ t. Cases.by-reading frame (t .0) (t .1) ∙ sym (Cases.wrong-cla frame (t .0) (t .2)))
   where
-    go : Told frame 0x6e00 → (said : Says) × (readOf frame ≡ Gives said) × (said .header .cla ≡ 0x00 → ⊥)
-    go (own r) = absurd (read-status frame 0x6e00 (λ x. omega arith) (λ x. omega arith) r)
+    go : Told frame (plainWord 0x6e00) → (said : Says) × (readOf frame ≡ Gives said) × (said .header .cla ≡ 0x00 → ⊥)
+    go (own r) = absurd (read-status frame (plainWord 0x6e00) (λ x. omega arith) (λ x. omega arith) r)
     go (because s r w) = (s, r, of-class frame s w refl)
 
 pub InstructionExactly : Claims.InstructionExactly commandOf
 InstructionExactly frame =
-    (λ e. go (told frame 0x6d00 e), λ t. Cases.by-reading frame (t .0) (t .1) ∙ sym (Cases.unknown frame (t .0) (t .2) (t .3 .not-01) (t .3 .not-02) (t .3 .not-03)))
+    (λ e. go (told frame (plainWord 0x6d00) e), λ t. Cases.by-reading frame (t .0) (t .1) ∙ sym (Cases.unknown frame (t .0) (t .2) (t .3 .not-01) (t .3 .not-02) (t .3 .not-03)))
   where
-    go : Told frame 0x6d00 → (said : Says) × (readOf frame ≡ Gives said) × (said .header .cla ≡ 0x00) × UnknownInstruction said
-    go (own r) = absurd (read-status frame 0x6d00 (λ x. omega arith) (λ x. omega arith) r)
+    go : Told frame (plainWord 0x6d00) → (said : Says) × (readOf frame ≡ Gives said) × (said .header .cla ≡ 0x00) × UnknownInstruction said
+    go (own r) = absurd (read-status frame (plainWord 0x6d00) (λ x. omega arith) (λ x. omega arith) r)
     go (because s r w) = let f = of-instruction frame s w refl in (s, r, f .0, f .1)
 
-wrong-length : (frame : List ℕ) (said : Says) → said .header .cla ≡ 0x00 → WrongLength frame said → SW 0x6700 ≡ byInstruction frame said
-wrong-length frame said c (of-register i n) = Cases.register-other frame said c i n
-wrong-length frame said c (too-short i h) = Cases.authenticates frame said c (SW 0x6700) i (Cases.auth-short frame said h)
+-- of a word whose pair is the third kind, and of every other
+third : {frame : List ℕ} {said : Says} {w : StatusWord} → Why frame said w → w .number ≡ 0x6700 → w .kind ≡ 3
+third (class c) e = absurd (omega arith)
+third (instruction c u) e = absurd (omega arith)
+third (lengths c u) e = refl
+third (control c u) e = absurd (omega arith)
+
+wrong-length : (frame : List ℕ) (said : Says) → said .header .cla ≡ 0x00 → WrongLc frame said → againstIns ≡ byInstruction frame said
+wrong-length frame said c (of-register i n) = Cases.register-other frame said c i againstIns refl n
+wrong-length frame said c (too-short i h) = Cases.authenticates frame said c againstIns i (Cases.auth-short frame said againstIns refl h)
 wrong-length frame said c (other-handle i h n) =
-    Cases.authenticates frame said c (SW 0x6700) i (Cases.auth-other frame said (dataOf frame said) 0 (byte (dataOf frame said) 64) refl refl h n)
-wrong-length frame said c (of-version i n) = Cases.version-other frame said c i n
+    Cases.authenticates frame said c againstIns i (Cases.auth-other frame said (dataOf frame said) 0 (byte (dataOf frame said) 64) refl refl h againstIns refl n)
+wrong-length frame said c (of-version i n) = Cases.version-other frame said c i againstIns refl n
 
 pub LengthExactly : Claims.LengthExactly commandOf
-LengthExactly frame = (λ e. go (told frame 0x6700 e), back)
+LengthExactly frame = (λ t. go (t .word) (t .numbered) (told frame (t .word) (t .is)), back)
   where
-    go : Told frame 0x6700 → (readOf frame ≡ SW 0x6700) ⊎ ((said : Says) × (readOf frame ≡ Gives said) × (said .header .cla ≡ 0x00) × WrongLength frame said)
-    go (own r) = inl r
-    go (because s r w) = let f = of-lengths frame s w refl in inr (s, r, f .0, f .1)
+    go : (w : StatusWord) → w .number ≡ 0x6700 → Told frame w → HasStatus 0x6700 (readOf frame) ⊎ ((said : Says) × (readOf frame ≡ Gives said) × (said .header .cla ≡ 0x00) × WrongLc frame said)
+    go w n (own r) = inl (record { word = w; is = r; numbered = n })
+    go w n (because s r y) = let f = of-lengths frame s y n in inr (s, r, f .0, f .1)
 
-    back : (readOf frame ≡ SW 0x6700) ⊎ ((said : Says) × (readOf frame ≡ Gives said) × (said .header .cla ≡ 0x00) × WrongLength frame said) → commandOf frame ≡ SW 0x6700
-    back (inl r) = Cases.by-status frame 0x6700 r
-    back (inr t) = Cases.by-reading frame (t .0) (t .1) ∙ sym (wrong-length frame (t .0) (t .2) (t .3))
+    back : HasStatus 0x6700 (readOf frame) ⊎ ((said : Says) × (readOf frame ≡ Gives said) × (said .header .cla ≡ 0x00) × WrongLc frame said) → HasStatus 0x6700 (commandOf frame)
+    back (inl t) = record { word = t .word; is = Cases.by-status frame (t .word) (t .is); numbered = t .numbered }
+    back (inr t) = record { word = _; is = Cases.by-reading frame (t .0) (t .1) ∙ sym (wrong-length frame (t .0) (t .2) (t .3)); numbered = refl }
+
+pub AgainstInsExactly : Claims.AgainstInsExactly commandOf
+AgainstInsExactly frame = (λ e. go (told frame _ e), λ t. Cases.by-reading frame (t .0) (t .1) ∙ sym (wrong-length frame (t .0) (t .2) (t .3)))
+  where
+    go : Told frame (record { number = 0x6700; kind = 3; place = 4 }) → (said : Says) × (readOf frame ≡ Gives said) × (said .header .cla ≡ 0x00) × WrongLc frame said
+    go (own r) = absurd (never-third frame _ r refl)
+    go (because s r w) = let f = of-lengths frame s w refl in (s, r, f .0, f .1)
+
+pub CarriedExactly : Claims.CarriedExactly commandOf
+CarriedExactly frame kind place other = (λ e. go (told frame _ e), λ r. Cases.by-status frame _ r)
+  where
+    go : Told frame (record { number = 0x6700; kind = kind; place = place }) → readOf frame ≡ wrongLength kind place
+    go (own r) = r
+    go (because s r y) = absurd (other (third y refl))
+
+pub CommandPairsExactly : Claims.CommandPairsExactly commandOf
+CommandPairsExactly = record { paired = λ frame w e. paired frame w (told frame w e); no-other = λ frame w e. none frame w (told frame w e) }
+  where
+    paired : (frame : List ℕ) (w : StatusWord) → Told frame w → w .number ≡ 0x6700 → (1 ≤ w .kind) × (w .kind ≤ 3)
+    paired frame w (own r) n = read-pairs .0 .paired frame w r n
+    paired frame w (because s r y) n = let k = third y n in (omega arith, omega arith)
+
+    because-none : {frame : List ℕ} {said : Says} {w : StatusWord} → Why frame said w → (w .number ≡ 0x6700 → ⊥) → w ≡ plainWord (w .number)
+    because-none (class c) n = refl
+    because-none (instruction c u) n = refl
+    because-none (lengths c u) n = absurd (n refl)
+    because-none (control c u) n = refl
+
+    none : (frame : List ℕ) (w : StatusWord) → Told frame w → (w .number ≡ 0x6700 → ⊥) → w ≡ plainWord (w .number)
+    none frame w (own r) n = read-pairs .0 .no-other frame w r n
+    none frame w (because s r y) n = because-none y n
 
 wrong-control : (frame : List ℕ) (said : Says) → said .header .cla ≡ 0x00 → WrongControl frame said → SW 0x6a80 ≡ byInstruction frame said
 wrong-control frame said c w =
@@ -176,15 +215,91 @@ wrong-control frame said c w =
     (Cases.auth-wrong frame said (dataOf frame said) 0 (byte (dataOf frame said) 64) refl refl (w .long) (w .fits) (w .not-03) (w .not-07) (w .not-08))
 
 pub ControlExactly : Claims.ControlExactly commandOf
-ControlExactly frame = (λ e. go (told frame 0x6a80 e), back)
+ControlExactly frame = (λ e. go (told frame (plainWord 0x6a80) e), back)
   where
-    go : Told frame 0x6a80 → (length frame < 4) ⊎ ((said : Says) × (readOf frame ≡ Gives said) × (said .header .cla ≡ 0x00) × WrongControl frame said)
+    go : Told frame (plainWord 0x6a80) → (length frame < 4) ⊎ ((said : Says) × (readOf frame ≡ Gives said) × (said .header .cla ≡ 0x00) × WrongControl frame said)
     go (own r) = inl (read-short frame .0 r)
     go (because s r w) = let f = of-control frame s w refl in inr (s, r, f .0, f .1)
 
     back : (length frame < 4) ⊎ ((said : Says) × (readOf frame ≡ Gives said) × (said .header .cla ≡ 0x00) × WrongControl frame said) → commandOf frame ≡ SW 0x6a80
-    back (inl h) = Cases.by-status frame 0x6a80 (read-short frame .1 h)
+    back (inl h) = Cases.by-status frame (plainWord 0x6a80) (read-short frame .1 h)
     back (inr t) = Cases.by-reading frame (t .0) (t .1) ∙ sym (wrong-control frame (t .0) (t .2) (t .3))
+
+-- ---- behind the reading
+module _ (frame : List ℕ) (said : Says) where
+  why : (w : StatusWord) → byInstruction frame said ≡ Word w → Why frame said w
+  why w e = go (byInstruction frame said) (way frame said) e
+    where
+      go : (o : Outcome Command) → Way frame said o → o ≡ Word w → Why frame said w
+      go _ (register c i l) x = absurd (word-gives _ _ (sym x))
+      go _ (authenticate c i l f k) x = absurd (word-gives _ _ (sym x))
+      go _ (version c i l) x = absurd (word-gives _ _ (sym x))
+      go _ (status y) x = subst (Why frame said) (word-same _ _ x) y
+
+  abbrev Registers : Says → Type 0
+  Registers s = (said ≡ s) × (said .header .cla ≡ 0x00) × (said .header .ins ≡ 0x01) × (said .lc ≡ 64)
+
+  registers : (s : Says) → (byInstruction frame said ≡ Gives (Register s)) ↔ Registers s
+  unfolding registered
+  registers s = (go (byInstruction frame said) (way frame said), λ t. sym (Cases.register-64 frame said (t .1) (t .2) (t .3)) ∙ ap (λ (x : Says). Gives (Register x)) (t .0))
+    where
+      same : Gives (Register said) ≡ Gives (Register s) → said ≡ s
+      same e = cc
+
+      go : (o : Outcome Command) → Way frame said o → o ≡ Gives (Register s) → Registers s
+      go _ (register c i l) e = (same e, c, i, l)
+      go _ (authenticate c i l f k) e = clash (Authenticate (said .header .p1) said) (Register s) 2 1 refl refl (λ z. omega arith) e
+      go _ (version c i l) e = clash Version (Register s) 3 1 refl refl (λ z. omega arith) e
+      go _ (status y) e = absurd (word-gives _ _ e)
+
+  abbrev Authenticates : ℕ → Says → Type 0
+  Authenticates p1 s =
+      (said ≡ s) × (said .header .p1 ≡ p1) × (said .header .cla ≡ 0x00) × (said .header .ins ≡ 0x02)
+      × (65 ≤ said .lc) × (said .lc ≡ 65 + byte (dataOf frame said) 64) × (isControl p1 ≡ true)
+
+  authenticates : (p1 : ℕ) (s : Says) → (byInstruction frame said ≡ Gives (Authenticate p1 s)) ↔ Authenticates p1 s
+  unfolding registered
+  authenticates p1 s = (go (byInstruction frame said) (way frame said), back)
+    where
+      same : Gives (Authenticate (said .header .p1) said) ≡ Gives (Authenticate p1 s) → (said .header .p1 ≡ p1) × (said ≡ s)
+      same e = (cc, cc)
+
+      go : (o : Outcome Command) → Way frame said o → o ≡ Gives (Authenticate p1 s) → Authenticates p1 s
+      go _ (register c i l) e = clash (Register said) (Authenticate p1 s) 1 2 refl refl (λ z. omega arith) e
+      go _ (authenticate c i l f k) e = let q = same e in (q .1, q .0, c, i, l, f, ap isControl (sym (q .0)) ∙ k)
+      go _ (version c i l) e = clash Version (Authenticate p1 s) 3 2 refl refl (λ z. omega arith) e
+      go _ (status y) e = absurd (word-gives _ _ e)
+
+      back : Authenticates p1 s → byInstruction frame said ≡ Gives (Authenticate p1 s)
+      back t =
+          sym (Cases.authenticates frame said (t .2) (Gives (Authenticate p1 said)) (t .3)
+          (Cases.auth-control frame said (dataOf frame said) 0 (byte (dataOf frame said) 64) refl refl (t .4) (t .5) p1 (t .6) (t .1)))
+          ∙ ap (λ (x : Says). Gives (Authenticate p1 x)) (t .0)
+
+  versions : (byInstruction frame said ≡ Gives Version) ↔ ((said .header .cla ≡ 0x00) × (said .header .ins ≡ 0x03) × (said .lc ≡ 0))
+  unfolding registered
+  versions = (go (byInstruction frame said) (way frame said), λ t. sym (Cases.version-0 frame said (t .0) (t .1) (t .2)))
+    where
+      go : (o : Outcome Command) → Way frame said o → o ≡ Gives Version → (said .header .cla ≡ 0x00) × (said .header .ins ≡ 0x03) × (said .lc ≡ 0)
+      go _ (register c i l) e = clash (Register said) Version 1 3 refl refl (λ z. omega arith) e
+      go _ (authenticate c i l f k) e = clash (Authenticate (said .header .p1) said) Version 2 3 refl refl (λ z. omega arith) e
+      go _ (version c i l) e = (c, i, l)
+      go _ (status y) e = absurd (word-gives _ _ e)
+
+pub InstructedExactly : Claims.InstructedExactly byInstruction
+InstructedExactly =
+    record {
+      register = registers;
+      authenticate = authenticates;
+      version = versions;
+      class = λ frame said. (λ e. of-class frame said (why frame said _ e) refl, λ n. sym (Cases.wrong-cla frame said n));
+      instruction = λ frame said. (
+        λ e. of-instruction frame said (why frame said _ e) refl,
+        λ t. sym (Cases.unknown frame said (t .0) (t .1 .not-01) (t .1 .not-02) (t .1 .not-03)),
+      );
+      against-ins = λ frame said. (λ e. of-lengths frame said (why frame said _ e) refl, λ t. sym (wrong-length frame said (t .0) (t .1)));
+      control = λ frame said. (λ e. of-control frame said (why frame said _ e) refl, λ t. sym (wrong-control frame said (t .0) (t .1)));
+    }
 
 pub CommandExactly : Claims.CommandExactly commandOf
 CommandExactly =
@@ -194,7 +309,8 @@ CommandExactly =
       version = VersionExactly;
       class = ClassExactly;
       instruction = InstructionExactly;
-      lengths = LengthExactly;
+      against-ins = AgainstInsExactly;
+      carried = CarriedExactly;
       control = ControlExactly;
     }
 

@@ -5,28 +5,29 @@ use mathlib.Core.Bool.{Bool, true, false, _||_}
 use mathlib.Core.List.{List}
 use native.Mathlib.Omega.{arith}
 use native.Mathlib.Decide.{ℕ-discrete, decLt}
-use Rattle.outcome.specs.Outcome.{Outcome, R, SW, Gives}
+use Rattle.outcome.specs.Outcome.{StatusWord, Outcome, R, Word, Gives, plainWord, againstIns}
 use Rattle.octets.specs.Bytes.{byte}
 use Rattle.apdu_stated.specs.Answers.{Says}
+use Rattle.apdu_stated.specs.declared.Entry.the-variants.{Ordinary}
 use Rattle.apdu_stated.specs.Reading.{readOf, dataOf}
-use Rattle.apdu_stated.proofs.Laws.{FrameWay, under, found, no-shape, frame-way}
+use Rattle.apdu_stated.proofs.Laws.{FrameWay, under, found, ends, goes-on, frame-way}
 use Rattle.command_stated.specs.Command.{Command, Register, Authenticate, Version, isControl, authenticateOf, byInstruction, onReading, commandOf}
-use Rattle.command_stated.specs.Terms.{WrongLength, of-register, too-short, other-handle, of-version, WrongControl, UnknownInstruction}
+use Rattle.command_stated.specs.Terms.{WrongLc, of-register, too-short, other-handle, of-version, WrongControl, UnknownInstruction}
 use Rattle.command_stated.proofs.Cases
 
 -- why a frame of a shape gets a status
-pub data Why (frame : List ℕ) (said : Says) : ℕ → Type 0 where
-  class : (said .header .cla ≡ 0x00 → ⊥) → Why frame said 0x6e00
-  instruction : said .header .cla ≡ 0x00 → UnknownInstruction said → Why frame said 0x6d00
-  lengths : said .header .cla ≡ 0x00 → WrongLength frame said → Why frame said 0x6700
-  control : said .header .cla ≡ 0x00 → WrongControl frame said → Why frame said 0x6a80
+pub data Why (frame : List ℕ) (said : Says) : StatusWord → Type 0 where
+  class : (said .header .cla ≡ 0x00 → ⊥) → Why frame said (plainWord 0x6e00)
+  instruction : said .header .cla ≡ 0x00 → UnknownInstruction said → Why frame said (plainWord 0x6d00)
+  lengths : said .header .cla ≡ 0x00 → WrongLc frame said → Why frame said (record { number = 0x6700; kind = 3; place = 4 })
+  control : said .header .cla ≡ 0x00 → WrongControl frame said → Why frame said (plainWord 0x6a80)
 
 pub data Way (frame : List ℕ) (said : Says) : Outcome Command → Type 0 where
   register : said .header .cla ≡ 0x00 → said .header .ins ≡ 0x01 → said .lc ≡ 64 → Way frame said (Gives (Register said))
   authenticate : said .header .cla ≡ 0x00 → said .header .ins ≡ 0x02 → 65 ≤ said .lc → said .lc ≡ 65 + byte (dataOf frame said) 64
       → isControl (said .header .p1) ≡ true → Way frame said (Gives (Authenticate (said .header .p1) said))
   version : said .header .cla ≡ 0x00 → said .header .ins ≡ 0x03 → said .lc ≡ 0 → Way frame said (Gives Version)
-  status : {n : ℕ} → Why frame said n → Way frame said (SW n)
+  status : {w : StatusWord} → Why frame said w → Way frame said (Word w)
 
 module _ (frame : List ℕ) (said : Says) (cla : said .header .cla ≡ 0x00) (ins : said .header .ins ≡ 0x02) where
   auth-way : Way frame said (authenticateOf frame said)
@@ -38,8 +39,8 @@ module _ (frame : List ℕ) (said : Says) (cla : said .header .cla ≡ 0x00) (in
           subst (Way frame said) here (authenticate cla ins low fits (ap isControl e ∙ c))
 
       go : Dec (said .lc < 65) → Dec (said .lc ≡ 65 + byte (dataOf frame said) 64) → Dec (said .header .p1 ≡ 0x03) → Dec (said .header .p1 ≡ 0x07) → Dec (said .header .p1 ≡ 0x08) → Way frame said (authenticateOf frame said)
-      go (yes h) f a b c = subst (Way frame said) (Cases.auth-short frame said h) (status (lengths cla (too-short ins h)))
-      go (no h) (no f) a b c = subst (Way frame said) (Cases.auth-other frame said (dataOf frame said) 0 (byte (dataOf frame said) 64) refl refl (omega arith) f) (status (lengths cla (other-handle ins (omega arith) f)))
+      go (yes h) f a b c = subst (Way frame said) (Cases.auth-short frame said againstIns refl h) (status (lengths cla (too-short ins h)))
+      go (no h) (no f) a b c = subst (Way frame said) (Cases.auth-other frame said (dataOf frame said) 0 (byte (dataOf frame said) 64) refl refl (omega arith) againstIns refl f) (status (lengths cla (other-handle ins (omega arith) f)))
       go (no h) (yes f) (yes a) b c = given (omega arith) f 0x03 refl a
       go (no h) (yes f) (no a) (yes b) c = given (omega arith) f 0x07 refl b
       go (no h) (yes f) (no a) (no b) (yes c) = given (omega arith) f 0x08 refl c
@@ -51,22 +52,23 @@ way frame said = go (ℕ-discrete (said .header .cla) 0x00) (ℕ-discrete (said 
     go : Dec (said .header .cla ≡ 0x00) → Dec (said .header .ins ≡ 0x01) → Dec (said .header .ins ≡ 0x02) → Dec (said .header .ins ≡ 0x03) → Dec (said .lc ≡ 64) → Dec (said .lc ≡ 0) → Way frame said (byInstruction frame said)
     go (no c) i1 i2 i3 l64 l0 = subst (Way frame said) (Cases.wrong-cla frame said c) (status (class c))
     go (yes c) (yes i) i2 i3 (yes l) l0 = subst (Way frame said) (Cases.register-64 frame said c i l) (register c i l)
-    go (yes c) (yes i) i2 i3 (no l) l0 = subst (Way frame said) (Cases.register-other frame said c i l) (status (lengths c (of-register i l)))
+    go (yes c) (yes i) i2 i3 (no l) l0 = subst (Way frame said) (Cases.register-other frame said c i againstIns refl l) (status (lengths c (of-register i l)))
     go (yes c) (no i1) (yes i) i3 l64 l0 = subst (Way frame said) (Cases.authenticates frame said c (authenticateOf frame said) i refl) (auth-way frame said c i)
     go (yes c) (no i1) (no i2) (yes i) l64 (yes l) = subst (Way frame said) (Cases.version-0 frame said c i l) (version c i l)
-    go (yes c) (no i1) (no i2) (yes i) l64 (no l) = subst (Way frame said) (Cases.version-other frame said c i l) (status (lengths c (of-version i l)))
+    go (yes c) (no i1) (no i2) (yes i) l64 (no l) = subst (Way frame said) (Cases.version-other frame said c i againstIns refl l) (status (lengths c (of-version i l)))
     go (yes c) (no i1) (no i2) (no i3) l64 l0 = subst (Way frame said) (Cases.unknown frame said c i1 i2 i3) (status (instruction c (record { not-01 = i1; not-02 = i2; not-03 = i3 })))
 
 -- what a command reading comes to: a status, or a way through a frame that was read
 pub data Read (frame : List ℕ) : Outcome Command → Type 0 where
   read : (said : Says) → readOf frame ≡ Gives said → {o : Outcome Command} → Way frame said o → Read frame o
-  unread : (n : ℕ) → readOf frame ≡ SW n → Read frame (SW n)
+  unread : (w : StatusWord) → readOf frame ≡ Word w → Read frame (Word w)
 
 pub reading : (frame : List ℕ) → Read frame (commandOf frame)
 unfolding commandOf onReading
-reading frame = go (readOf frame) (frame-way frame) refl
+reading frame = go (readOf frame) (frame-way Ordinary frame) refl
   where
-    go : (o : Outcome Says) → FrameWay frame o → readOf frame ≡ o → Read frame (onReading frame o)
-    go _ (under h) e = unread 0x6a80 e
-    go _ (no-shape h) e = unread 0x6700 e
+    go : (o : Outcome Says) → FrameWay Ordinary frame o → readOf frame ≡ o → Read frame (onReading frame o)
+    go _ (under h) e = unread _ e
+    go _ (ends h f) e = unread _ e
+    go _ (goes-on h k f) e = unread _ e
     go _ (found long s lc le f) e = read _ e (way frame _)

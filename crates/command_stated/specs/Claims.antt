@@ -2,13 +2,14 @@
 -- proofs/Theorems.antt, nothing else does by proofs/Only.antt, and the programs of Wrong.antt do not by proofs/Refuted.antt.
 -- What a frame says (`readOf`, `dataOf`) is apdu_stated's, and determined there.
 use mathlib.Core.Logic.{_↔_, _⊎_}
-use Rattle.command_stated.specs.Words.{ℕ, _+_, _≤_, _<_, _≡_, true, _||_, eqb, List, _∷_, _++_, length, AtMostOne, Outcome, SW, Gives, byte, partOf, Apdu, Place}
+use Rattle.command_stated.specs.Words.{ℕ, _+_, _≤_, _<_, _≡_, true, _||_, eqb, List, _∷_, _++_, length, AtMostOne, Outcome, SW, Gives, HasStatus, wrongLength, byte, partOf, Apdu, Place}
+use Rattle.outcome.specs.Terms.{PairsExactly}
 use Rattle.apdu_stated.specs.Answers.{Says}
 use Rattle.apdu_stated.specs.Reading.{readOf, dataOf}
 use Rattle.apdu_stated.specs.Terms.{span}
 use Rattle.command_stated.specs.Command.{Ctap1Flags, CheckOnly, EnforceUpAndSign, DontEnforceUpAndSign, U2fCommand, Command, Register, Authenticate, Version, flagsNo, commandSaid, commandOf}
 use Rattle.command_stated.specs.Contracts.{FlagsNumber, Instructed, ReadCommand, ChallengePlace, ApplicationPlace, HandlePlace, Challenge, Application, KeyHandle}
-use Rattle.command_stated.specs.Terms.{WrongLength, WrongControl, UnknownInstruction}
+use Rattle.command_stated.specs.Terms.{WrongLc, WrongControl, UnknownInstruction}
 
 -- ---- a command, exactly when
 
@@ -49,12 +50,29 @@ InstructionExactly command =
     (frame : List ℕ) → (command frame ≡ SW 0x6d00)
     ↔ ((said : Says) × (readOf frame ≡ Gives said) × (said .header .cla ≡ 0x00) × UnknownInstruction said)
 
--- 6700: the frame is in no shape; or CLA is 0 and Lc does not fit INS. Rejects a reader that looks at P1 before the handle length,
--- which gives 6a80 there. Bites at an Authenticate with P1 00 and a wrong handle length.
+-- 6700, by its number: the frame is in no shape; or CLA is 0 and Lc does not fit INS. Rejects a reader that looks at P1 before the
+-- handle length, which gives 6a80 there. Bites at an Authenticate with P1 00 and a wrong handle length.
 abbrev pub LengthExactly : (List ℕ → Outcome Command) → Type 0
 LengthExactly command =
-    (frame : List ℕ) → (command frame ≡ SW 0x6700)
-    ↔ ((readOf frame ≡ SW 0x6700) ⊎ ((said : Says) × (readOf frame ≡ Gives said) × (said .header .cla ≡ 0x00) × WrongLength frame said))
+    (frame : List ℕ) → HasStatus 0x6700 (command frame)
+    ↔ (HasStatus 0x6700 (readOf frame) ⊎ ((said : Says) × (readOf frame ≡ Gives said) × (said .header .cla ≡ 0x00) × WrongLc frame said))
+
+-- 02, E1: "The 6700s for Lc against INS are a third kind, with place 4 in every shape": Register's Lc, both of Authenticate's tests,
+-- Version's Lc. Rejects place 5 for the extended shapes. Bites at a Register of shape 5 with Lc 1.
+abbrev pub AgainstInsExactly : (List ℕ → Outcome Command) → Type 0
+AgainstInsExactly command =
+    (frame : List ℕ) → (command frame ≡ wrongLength 3 4)
+    ↔ ((said : Says) × (readOf frame ≡ Gives said) × (said .header .cla ≡ 0x00) × WrongLc frame said)
+
+-- "Command reading .. carry the pair upward": every other pair is the frame's own, as its reading found it. Rejects a command reading
+-- that drops it, and one that tells it as the third kind. Bites at 00 01 00 00 | 00 01.
+abbrev pub CarriedExactly : (List ℕ → Outcome Command) → Type 0
+CarriedExactly command =
+    (frame : List ℕ) (kind place : ℕ) → (kind ≡ 3 → ⊥) → (command frame ≡ wrongLength kind place) ↔ (readOf frame ≡ wrongLength kind place)
+
+-- A 6700 has a pair, and no other status word has one. Rejects a third kind without its pair. Bites at a Register with Lc 1.
+abbrev pub CommandPairsExactly : (List ℕ → Outcome Command) → Type 0
+CommandPairsExactly command = PairsExactly command
 
 -- 6a80: the frame has under 4 bytes; or it is an Authenticate whose lengths fit, and "P1 not 03, 07 or 08". Rejects a reader that
 -- takes any P1, so that it is looked at only after an order is made, and one that gives 6700 to three bytes. Bites at an Authenticate
@@ -64,15 +82,30 @@ ControlExactly command =
     (frame : List ℕ) → (command frame ≡ SW 0x6a80)
     ↔ ((length frame < 4) ⊎ ((said : Says) × (readOf frame ≡ Gives said) × (said .header .cla ≡ 0x00) × WrongControl frame said))
 
--- The seven together: every answer of command reading, each exactly when. They determine it on every frame.
+-- The eight together: every answer of command reading, each exactly when. They determine it on every frame.
 pub record CommandExactly (command : List ℕ → Outcome Command) : Type 0 where
   pub register : RegisterExactly command
   pub authenticate : AuthenticateExactly command
   pub version : VersionExactly command
   pub class : ClassExactly command
   pub instruction : InstructionExactly command
-  pub lengths : LengthExactly command
+  pub against-ins : AgainstInsExactly command
+  pub carried : CarriedExactly command
   pub control : ControlExactly command
+
+-- The same behind the reading, of any frame and whatever it is said to say (ours: `instructed` takes that from its caller): every answer,
+-- each exactly when. Rejects one that does not look at CLA, and the third kind at place 5.
+pub record InstructedExactly (by : List ℕ → Says → Outcome Command) : Type 0 where
+  pub register : (frame : List ℕ) (said s : Says) → (by frame said ≡ Gives (Register s))
+      ↔ ((said ≡ s) × (said .header .cla ≡ 0x00) × (said .header .ins ≡ 0x01) × (said .lc ≡ 64))
+  pub authenticate : (frame : List ℕ) (said : Says) (p1 : ℕ) (s : Says) → (by frame said ≡ Gives (Authenticate p1 s))
+      ↔ ((said ≡ s) × (said .header .p1 ≡ p1) × (said .header .cla ≡ 0x00) × (said .header .ins ≡ 0x02)
+      × (65 ≤ said .lc) × (said .lc ≡ 65 + byte (dataOf frame said) 64) × (eqb p1 0x03 || eqb p1 0x07 || eqb p1 0x08 ≡ true))
+  pub version : (frame : List ℕ) (said : Says) → (by frame said ≡ Gives Version) ↔ ((said .header .cla ≡ 0x00) × (said .header .ins ≡ 0x03) × (said .lc ≡ 0))
+  pub class : (frame : List ℕ) (said : Says) → (by frame said ≡ SW 0x6e00) ↔ (said .header .cla ≡ 0x00 → ⊥)
+  pub instruction : (frame : List ℕ) (said : Says) → (by frame said ≡ SW 0x6d00) ↔ ((said .header .cla ≡ 0x00) × UnknownInstruction said)
+  pub against-ins : (frame : List ℕ) (said : Says) → (by frame said ≡ wrongLength 3 4) ↔ ((said .header .cla ≡ 0x00) × WrongLc frame said)
+  pub control : (frame : List ℕ) (said : Says) → (by frame said ≡ SW 0x6a80) ↔ ((said .header .cla ≡ 0x00) × WrongControl frame said)
 
 -- ---- the parts of the data, and where they stand
 

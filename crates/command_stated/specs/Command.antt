@@ -1,6 +1,7 @@
--- Document 01, 'From frame to command': "In this order: shape (6a80, 6700); CLA not 0 gives 6e00; then by INS".
--- Covered: every status of command reading, in its order; the parts of the data.
-use Rattle.command_stated.specs.Words.{ℕ, _+_, Bool, not, _||_, List, ltb, eqb, if_then_else_, Outcome, R, SW, Gives, statusNo, byte, partOf, Place}
+-- Document 01, 'From frame to command': "In this order: shape (6a80, 6700); CLA not 0 gives 6e00; then by INS". Document 02, E1: "The
+-- 6700s for Lc against INS are a third kind, with place 4 in every shape"; a frame's own pair is carried upward.
+-- Covered: every status of command reading, in its order, with its pair; the parts of the data.
+use Rattle.command_stated.specs.Words.{ℕ, _+_, Bool, not, _||_, List, ltb, eqb, if_then_else_, Outcome, R, Word, SW, Gives, againstIns, wordOf, byte, partOf, Place}
 use Rattle.apdu_stated.specs.Answers.{Says, saysOf}
 use Rattle.apdu_stated.specs.Reading.{readOf, dataOf}
 pub use Rattle.command_stated.specs.declared.Ctap1Flags.{Ctap1Flags}
@@ -25,12 +26,12 @@ abbrev pub commandSaid : U2fCommand → Outcome Command
 commandSaid (U2fCommand′.Register says) = Gives (Register (saysOf says))
 commandSaid (U2fCommand′.Authenticate flags says) = Gives (Authenticate (flagsNo flags) (saysOf says))
 commandSaid U2fCommand′.Version = Gives Version
-commandSaid (U2fCommand′.Status s) = SW (statusNo s)
+commandSaid (U2fCommand′.Status s) = Word (wordOf s)
 
 -- "01 Register: Lc not 64 gives 6700. P1 is not looked at."
 unfoldable pub registerOf : Says → Outcome Command
 registerOf said =
-    if not (eqb (said .lc) 64) then SW 0x6700
+    if not (eqb (said .lc) 64) then againstIns
     else Gives (Register said)
 
 -- "P1 not 03, 07 or 08 gives 6a80"
@@ -40,15 +41,15 @@ isControl p1 = eqb p1 0x03 || eqb p1 0x07 || eqb p1 0x08
 -- "02 Authenticate: Lc under 65 gives 6700; Lc not 65 + data[64] gives 6700; P1 not 03, 07 or 08 gives 6a80."
 unfoldable pub authenticateOf : List ℕ → Says → Outcome Command
 authenticateOf frame said =
-    if ltb (said .lc) 65 then SW 0x6700
-    else if not (eqb (said .lc) (65 + byte (dataOf frame said) 64)) then SW 0x6700
+    if ltb (said .lc) 65 then againstIns
+    else if not (eqb (said .lc) (65 + byte (dataOf frame said) 64)) then againstIns
     else if not (isControl (said .header .p1)) then SW 0x6a80
     else Gives (Authenticate (said .header .p1) said)
 
 -- "03 Version: Lc not 0 gives 6700."
 unfoldable pub versionOf : Says → Outcome Command
 versionOf said =
-    if not (eqb (said .lc) 0) then SW 0x6700
+    if not (eqb (said .lc) 0) then againstIns
     else Gives Version
 
 -- "CLA not 0 gives 6e00; then by INS"; "40..BF vendor and all others: 6d00, at any Lc."
@@ -60,10 +61,10 @@ byInstruction frame said =
     else if eqb (said .header .ins) 0x03 then versionOf said
     else SW 0x6d00
 
--- "shape (6a80, 6700)" first
+-- "shape (6a80, 6700)" first, the frame's status as it is
 unfoldable pub onReading : List ℕ → Outcome Says → Outcome Command
 onReading frame (R n) = R n
-onReading frame (SW n) = SW n
+onReading frame (Word s) = Word s
 onReading frame (Gives said) = byInstruction frame said
 
 unfoldable pub commandOf : List ℕ → Outcome Command

@@ -4,15 +4,15 @@ use Rattle.apdu_stated.specs.Answers.{Says}
 use Rattle.apdu_stated.specs.Reading.{dataOf}
 
 -- the data length of a frame of CLA 0 does not fit its INS
-pub data WrongLength (frame : List ℕ) (said : Says) : Type 0 where
+pub data WrongLc (frame : List ℕ) (said : Says) : Type 0 where
   -- "01 Register: Lc not 64 gives 6700"
-  of-register : said .header .ins ≡ 0x01 → (said .lc ≡ 64 → ⊥) → WrongLength frame said
+  of-register : said .header .ins ≡ 0x01 → (said .lc ≡ 64 → ⊥) → WrongLc frame said
   -- "02 Authenticate: Lc under 65 gives 6700"
-  too-short : said .header .ins ≡ 0x02 → said .lc < 65 → WrongLength frame said
+  too-short : said .header .ins ≡ 0x02 → said .lc < 65 → WrongLc frame said
   -- "Lc not 65 + data[64] gives 6700"
-  other-handle : said .header .ins ≡ 0x02 → 65 ≤ said .lc → (said .lc ≡ 65 + byte (dataOf frame said) 64 → ⊥) → WrongLength frame said
+  other-handle : said .header .ins ≡ 0x02 → 65 ≤ said .lc → (said .lc ≡ 65 + byte (dataOf frame said) 64 → ⊥) → WrongLc frame said
   -- "03 Version: Lc not 0 gives 6700"
-  of-version : said .header .ins ≡ 0x03 → (said .lc ≡ 0 → ⊥) → WrongLength frame said
+  of-version : said .header .ins ≡ 0x03 → (said .lc ≡ 0 → ⊥) → WrongLc frame said
 
 -- an Authenticate whose data length fits, and whose P1 is no control byte
 pub record WrongControl (frame : List ℕ) (said : Says) : Type 0 where

@@ -1,5 +1,5 @@
 -- Wrong programs, one fault each. proofs/Refuted.antt shows the claim that is false of each.
-use Rattle.command_stated.specs.Words.{ℕ, _+_, Bool, not, _||_, List, [], length, ltb, eqb, if_then_else_, Outcome, R, SW, Gives, byte, partOf, Place}
+use Rattle.command_stated.specs.Words.{ℕ, _+_, Bool, not, _||_, List, [], length, ltb, eqb, if_then_else_, StatusWord, Outcome, R, Word, SW, Gives, wrongLength, againstIns, byte, partOf, Place}
 use Rattle.apdu_stated.specs.Answers.{Says}
 use Rattle.apdu_stated.specs.Reading.{readOf, dataOf}
 use Rattle.apdu_stated.specs.Terms.{span}
@@ -8,7 +8,7 @@ use Rattle.command_stated.specs.Command.{Ctap1Flags, CheckOnly, EnforceU
 -- a frame that is read, and then something else than the definition's tests
 abbrev onRead : (Says → Outcome Command) → Outcome Says → Outcome Command
 onRead by (Gives said) = by said
-onRead by (SW n) = SW n
+onRead by (Word s) = Word s
 onRead by (R n) = R n
 
 -- ---- the order: "CLA not 0 gives 6e00; then by INS"
@@ -48,7 +48,7 @@ shortFrameGets6700 frame = if ltb (length frame) 4 then SW 0x6700 else commandOf
 -- "P1 is not looked at"
 abbrev pub registerLooksAtP1 : List ℕ → Outcome Command
 registerLooksAtP1 frame =
-    onRead (λ said. if eqb (said .header .ins) 0x01 then (if not (eqb (said .header .p1) 0x03) then SW 0x6700 else byInstruction frame said) else byInstruction frame said) (readOf frame)
+    onRead (λ said. if eqb (said .header .ins) 0x01 then (if not (eqb (said .header .p1) 0x03) then againstIns else byInstruction frame said) else byInstruction frame said) (readOf frame)
 
 -- "Lc not 64 gives 6700": here Lc 65 is taken
 abbrev pub registerOf65 : List ℕ → Outcome Command
@@ -58,12 +58,12 @@ registerOf65 frame = onRead (λ said. if eqb (said .header .ins) 0x01 then (if e
 
 -- "Lc under 65": here under 66, so that an empty handle is refused
 abbrev pub emptyHandleRefused : List ℕ → Outcome Command
-emptyHandleRefused frame = onRead (λ said. if ltb (said .lc) 66 then SW 0x6700 else authenticateOf frame said) (readOf frame)
+emptyHandleRefused frame = onRead (λ said. if ltb (said .lc) 66 then againstIns else authenticateOf frame said) (readOf frame)
 
 -- "Lc not 65 + data[64]": here 64
 abbrev pub lengthByteUncounted : List ℕ → Outcome Command
 lengthByteUncounted frame =
-    onRead (λ said. if not (eqb (said .lc) (64 + byte (dataOf frame said) 64)) then SW 0x6700 else Gives (Authenticate (said .header .p1) said)) (readOf frame)
+    onRead (λ said. if not (eqb (said .lc) (64 + byte (dataOf frame said) 64)) then againstIns else Gives (Authenticate (said .header .p1) said)) (readOf frame)
 
 -- "P1 looked at before the handle length", a mistake that a quick port makes
 abbrev pub controlBeforeLength : List ℕ → Outcome Command
@@ -72,7 +72,7 @@ controlBeforeLength frame = onRead (λ said. if not (isControl (said .header .p1
 -- "P1 not 03, 07 or 08 gives 6a80": here any P1 is taken, and looked at when the order is made
 abbrev pub anyControl : List ℕ → Outcome Command
 anyControl frame =
-    onRead (λ said. if not (eqb (said .lc) (65 + byte (dataOf frame said) 64)) then SW 0x6700 else Gives (Authenticate (said .header .p1) said)) (readOf frame)
+    onRead (λ said. if not (eqb (said .lc) (65 + byte (dataOf frame said) 64)) then againstIns else Gives (Authenticate (said .header .p1) said)) (readOf frame)
 
 -- P1 03 is said as 07: no touch would be asked for
 abbrev pub enforceSaidAsCheckOnly : List ℕ → Outcome Command
@@ -91,6 +91,45 @@ versionWithData frame = onRead (λ said. if eqb (said .header .ins) 0x03 then Gi
 -- "6d00, at any Lc": here an unknown INS with data gets 6700
 abbrev pub unknownByLength : List ℕ → Outcome Command
 unknownByLength frame = onRead (λ said. if ltb 0x03 (said .header .ins) then versionOf said else byInstruction frame said) (readOf frame)
+
+-- ---- the pair: 02, E1
+
+-- "with place 4 in every shape": here 5, behind the 00, in the extended ones
+abbrev at5 : Outcome Command → Outcome Command
+at5 (R n) = R n
+at5 (Word w) = if eqb (w .kind) 3 then wrongLength 3 5 else Word w
+at5 (Gives c) = Gives c
+
+abbrev pub extendedAt5 : List ℕ → Outcome Command
+extendedAt5 frame = onRead (λ said. if eqb (said .dataAt) 7 then at5 (byInstruction frame said) else byInstruction frame said) (readOf frame)
+
+-- the same of what a frame is said to say, in every shape; and there CLA is not looked at
+abbrev pub instructedAt5 : List ℕ → Says → Outcome Command
+instructedAt5 frame said = at5 (byInstruction frame said)
+
+abbrev pub instructedWithoutClass : List ℕ → Says → Outcome Command
+instructedWithoutClass frame said = if eqb (said .header .ins) 0x03 then versionOf said else byInstruction frame said
+
+-- "carry the pair upward": here the frame's own is dropped; and here it is told as the third kind
+abbrev ownBy : (StatusWord → Outcome Command) → List ℕ → Outcome Says → Outcome Command
+ownBy own frame (Gives said) = byInstruction frame said
+ownBy own frame (Word w) = own w
+ownBy own frame (R n) = R n
+
+abbrev pub ownPairDropped : List ℕ → Outcome Command
+ownPairDropped frame = ownBy (λ w. SW (w .number)) frame (readOf frame)
+
+abbrev pub ownPairAsThird : List ℕ → Outcome Command
+ownPairAsThird frame = ownBy (λ w. if eqb (w .number) 0x6700 then againstIns else Word w) frame (readOf frame)
+
+-- the third kind's number alone
+abbrev numberAlone : Outcome Command → Outcome Command
+numberAlone (R n) = R n
+numberAlone (Word w) = if eqb (w .kind) 3 then SW (w .number) else Word w
+numberAlone (Gives c) = Gives c
+
+abbrev pub thirdWithoutPair : List ℕ → Outcome Command
+thirdWithoutPair frame = numberAlone (commandOf frame)
 
 -- ---- the parts: "challenge 32, application 32", "after data[64], up to the data's end and without the Le"
 abbrev pub applicationIsTheChallenge : List ℕ → Says → List ℕ

@@ -14,14 +14,14 @@ use u2f_up::Ready;
 ghost use mathlib.Core.Path.{_≡_};
 ghost use mathlib.Core.Bool.{true, false};
 ghost use lib.ListN.{length};
-ghost use Rattle.outcome.specs.Outcome.{Gives, statusNo, refusalNo};
+ghost use Rattle.outcome.specs.Outcome.{Gives, wordOf, refusalNo};
 ghost use Rattle.apdu_stated.specs.Answers.{saysOf};
 ghost use Rattle.command_stated.specs.Command.{flagsNo, commandOf};
 ghost use Rattle.u2f_up_stated.specs.Moments.{checkedOf};
 ghost use Rattle.ctap1_stated.specs.Words.{Ordered, handedOf, decisionSaid, decisionWith};
 ghost use Rattle.ctap1_stated.specs.Numbers.{hardwareOf};
 ghost use Rattle.ctap1_stated.specs.Path.{versionPath, enrolmentOrder, registerPath, countedEnding, loginPath, commandPath};
-ghost use Rattle.ctap1_stated.specs.Decision.{refusalResult, statusResult, orderResult, ended, touchChecked, along, replyLeft, leftOf};
+ghost use Rattle.ctap1_stated.specs.Decision.{refusalResult, wordResult, orderResult, ended, touchChecked, along, replyLeft, leftOf};
 ghost use Rattle.ctap1_stated.specs.Contracts.{Decide};
 
 // The hardware's answers by their numbers: no and yes, and the attestation that is there. Every other number is a failure, or no.
@@ -43,7 +43,7 @@ fn refused(why: Refusal, kept: Presence) -> Decision
 }
 
 fn answered(status: ApduStatusCode, settled: Presence) -> Decision
-    ensures { λ r. ⌜ decisionSaid r ≡ handedOf (statusResult (statusNo status) settled) ⌝ }
+    ensures { λ r. ⌜ decisionSaid r ≡ handedOf (wordResult (wordOf status) settled) ⌝ }
 {
     Decision {
         answer: Decided::Status(status),

@@ -10,7 +10,7 @@ use lib.Dec.{eqb}
 use lib.ListN.{length, take, drop}
 use lib.Seq.{getD-drop, getD-take}
 use Rattle.outcome.specs.Outcome.{Outcome, R, Gives}
-use Rattle.outcome.proofs.Laws.{r-gives, r-sw}
+use Rattle.outcome.proofs.Laws.{r-gives, r-word}
 use Rattle.octets.specs.Bytes.{bytes4, byte}
 use Rattle.apdu_stated.specs.Answers.{Says}
 use Rattle.command_stated.specs.Command.{Command, Register, Authenticate, commandOf, applicationOf, challengeOf}
@@ -36,11 +36,11 @@ never-refused frame n e = go (commandOf frame) (reading frame) e
     by said _ (Command′.register c i l) x = r-gives _ _ (sym x)
     by said _ (Command′.authenticate c i l f k) x = r-gives _ _ (sym x)
     by said _ (Command′.version c i l) x = r-gives _ _ (sym x)
-    by said _ (Command′.status m) x = r-sw _ _ (sym x)
+    by said _ (Command′.status m) x = r-word _ _ (sym x)
 
     go : (o : Outcome Command) → Command′.Read frame o → o ≡ R n → ⊥
     go o (Command′.read said r w) x = by said o w x
-    go _ (Command′.unread m r) x = r-sw _ _ (sym x)
+    go _ (Command′.unread m r) x = r-word _ _ (sym x)
 
 -- P1 is 03, 07 or 08
 pub p1-08 : (frame : List ℕ) (p1 : ℕ) (said : Says) → commandOf frame ≡ Gives (Authenticate p1 said) → eqb p1 0x07 ≡ false → eqb p1 0x03 ≡ false → p1 ≡ 0x08

@@ -2,13 +2,13 @@
 use Prim.Native.Nat.{ℕ}
 use mathlib.Core.Path.{_≡_, refl, sym, _∙_}
 use mathlib.Core.Bool.{Bool, true, false}
-use Rattle.outcome.specs.Outcome.{Outcome, R, SW, Gives}
+use Rattle.outcome.specs.Outcome.{Outcome, R, Word, Gives}
 use Rattle.u2f_up_stated.specs.Moments.{settleOf, checkedOf, gave, refused}
 use Rattle.u2f_up_stated.specs.History.{Role, Touching, Checking, Asking, Settling, Short}
 use Rattle.u2f_up_stated.specs.Runs.{doneBy, Keeps}
 use Rattle.u2f_up_stated.specs.declared.Presence.{Presence}
 use Rattle.u2f_up_stated.proofs.Laws.{done-refused, done-checking, done-settling, done-short, done-touch, done-check, done-ask, settle-no-status}
-use Rattle.ctap1_stated.specs.Path.{Ending, Internal, WrongData, Orders, Path, NoRoom, Status, SixBytes, Signs, Touch, roleOfPath, pathOf}
+use Rattle.ctap1_stated.specs.Path.{Ending, Internal, WrongData, Orders, Path, NoRoom, Ends, SixBytes, Signs, Touch, roleOfPath, pathOf}
 use Rattle.ctap1_stated.specs.Decision.{refusalResult, touchChecked, onMoment, decisionOf}
 use Rattle.ctap1_stated.specs.Calls.{toldBy, TouchAt, CheckAt, AskAt, DecideAt, panelCalls}
 
@@ -30,9 +30,9 @@ kept p t x = by (settleOf p t) refl x
   where
     by : (o : Outcome Presence) → settleOf p t ≡ o → (x : Path) → toldBy (roleOfPath x) (onMoment p t x o) ≡ doneBy (roleOfPath x) p t
     by (R n) e x = seen-refused (roleOfPath x) n p ∙ sym (done-refused p t n e (roleOfPath x))
-    by (SW n) e x = absurd (settle-no-status p t n e)
+    by (Word s) e x = absurd (settle-no-status p t s e)
     by (Gives q) e NoRoom = sym (done-short p t q e)
-    by (Gives q) e (Status n) = sym (done-settling p t q e)
+    by (Gives q) e (Ends s) = sym (done-settling p t q e)
     by (Gives q) e SixBytes = sym (done-settling p t q e)
     by (Gives q) e (Signs Internal) = sym (done-settling p t q e)
     by (Gives q) e (Signs WrongData) = sym (done-settling p t q e)

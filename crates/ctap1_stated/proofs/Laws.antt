@@ -1,7 +1,7 @@
 -- What other crates cite.
 use Prim.Native.Nat.{ℕ}
 use mathlib.Core.Path.{_≡_}
-use Rattle.outcome.specs.Outcome.{Outcome, R, SW, Gives}
+use Rattle.outcome.specs.Outcome.{StatusWord, Outcome, R, Word, SW, Gives}
 use Rattle.command_stated.specs.Command.{commandOf}
 use Rattle.u2f_up_stated.specs.declared.Presence.{Presence}
 use Rattle.ctap1_stated.specs.Words.{Inputs, Given, Body, Ordered, Result}
@@ -16,7 +16,7 @@ pub use Rattle.ctap1_stated.proofs.Ways.{row}
 
 -- whatever holds of these answers holds of every decision's
 pub every-answer : (P : Outcome Given → Type 0) (p : Presence) (t : ℕ) (a : Inputs)
-    → P (R 6) → P (R 1) → P (R 2) → P (SW 0x6f00) → P (SW 0x6986) → P (SW 0x6985) → P (SW 0x6a80) → ((n : ℕ) → commandOf (a .frame) ≡ SW n → P (SW n))
+    → P (R 6) → P (R 1) → P (R 2) → P (SW 0x6f00) → P (SW 0x6986) → P (SW 0x6985) → P (SW 0x6a80) → ((s : StatusWord) → commandOf (a .frame) ≡ Word s → P (Word s))
     → P (Gives (Body 6)) → P (Gives Ordered) → P (decisionOf p t a .answer)
 every-answer P p t a six one two internal forbidden unsatisfied wrong status body order = by (decisionOf p t a) (row p t a)
   where

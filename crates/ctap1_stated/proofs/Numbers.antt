@@ -1,6 +1,6 @@
 -- The numbers tell the answers apart: each view has a way back.
 use mathlib.Core.Path.{_≡_, refl, ap}
-use Rattle.outcome.specs.Outcome.{Outcome, R, SW, Gives}
+use Rattle.outcome.specs.Outcome.{Outcome, R, Word, Gives}
 use Rattle.outcome.proofs.Laws.{one-to-one}
 use Rattle.outcome.proofs.Laws.{statusOf, status-back, refusalOf, refusal-back}
 use Rattle.ctap1_stated.specs.Words.{Given, Body, Ordered, Handed, Decision, Decided, decidedOf, decisionSaid}
@@ -8,7 +8,7 @@ use Rattle.ctap1_stated.specs.declared.Decided.the-variants as Decided�
 
 decidedBack : Outcome Given → Decided
 decidedBack (R n) = Decided′.Refused (refusalOf n)
-decidedBack (SW n) = Decided′.Status (statusOf n)
+decidedBack (Word s) = Decided′.Status (statusOf s)
 decidedBack (Gives (Body n)) = Decided′.Body n
 decidedBack (Gives Ordered) = Decided′.Order
 

@@ -6,11 +6,11 @@ use mathlib.Core.List.{List, [], _∷_, _++_}
 use mathlib.Core.Logic.{inr, ⊎-elim}
 use native.Mathlib.Omega.{arith}
 use lib.ListN.{length, replicate}
-use Rattle.outcome.specs.Outcome.{Outcome, R, SW, Gives}
-use Rattle.outcome.proofs.Laws.{sw-same, sw-gives, r-gives, r-sw}
+use Rattle.outcome.specs.Outcome.{StatusWord, Outcome, R, Word, SW, Gives, plainWord, wrongLength}
+use Rattle.outcome.proofs.Laws.{sw-same, word-same, word-gives, r-gives, r-word}
 use Rattle.octets.specs.Bytes.{partOf, byte}
 use Rattle.apdu_stated.specs.Answers.{Says}
-use Rattle.apdu_stated.specs.Reading.{readOf, sayOf, lengthsOf, shortOf, extendedOf, afterData, dataOf}
+use Rattle.apdu_stated.specs.Reading.{readBy, sayOf, lengthsOf, shortOf, extendedOf, afterData, dataOf}
 use Rattle.command_stated.specs.Command.{Register, Authenticate, Version, commandOf, onReading, byInstruction, registerOf, authenticateOf, versionOf, applicationOf, challengeOf}
 use Rattle.u2f_up_stated.specs.Moments.{Told, fresh, settleOf, grantedOf, checkedOf, touchOf, checkOf}
 use Rattle.u2f_up_stated.specs.History.{TouchAccepted, TouchIgnored, TouchFound, NoTouchFound, lastMoment, latest, isPromptStanding, unspent, foretold}
@@ -59,27 +59,27 @@ abbrev saidOf : (ins p1 shape lc at : ℕ) → Says
 saidOf ins p1 shape lc at = record { header = record { cla = 0x00; ins = ins; p1 = p1; p2 = 0x00 }; shape = shape; lc = lc; le = 0; dataAt = at }
 
 register-read : commandOf registerFrame ≡ Gives (Register (saidOf 0x01 0x00 3 64 5))
-unfolding commandOf onReading byInstruction registerOf readOf sayOf lengthsOf shortOf extendedOf afterData
+unfolding commandOf onReading byInstruction registerOf readBy sayOf lengthsOf shortOf extendedOf afterData
 register-read = refl
 
 read-03 : commandOf (signFrame 0x03) ≡ Gives (Authenticate 0x03 (saidOf 0x02 0x03 3 65 5))
-unfolding commandOf onReading byInstruction authenticateOf readOf sayOf lengthsOf shortOf extendedOf afterData dataOf partOf
+unfolding commandOf onReading byInstruction authenticateOf readBy sayOf lengthsOf shortOf extendedOf afterData dataOf partOf
 read-03 = refl
 
 read-07 : commandOf (signFrame 0x07) ≡ Gives (Authenticate 0x07 (saidOf 0x02 0x07 3 65 5))
-unfolding commandOf onReading byInstruction authenticateOf readOf sayOf lengthsOf shortOf extendedOf afterData dataOf partOf
+unfolding commandOf onReading byInstruction authenticateOf readBy sayOf lengthsOf shortOf extendedOf afterData dataOf partOf
 read-07 = refl
 
 read-08 : commandOf (signFrame 0x08) ≡ Gives (Authenticate 0x08 (saidOf 0x02 0x08 3 65 5))
-unfolding commandOf onReading byInstruction authenticateOf readOf sayOf lengthsOf shortOf extendedOf afterData dataOf partOf
+unfolding commandOf onReading byInstruction authenticateOf readBy sayOf lengthsOf shortOf extendedOf afterData dataOf partOf
 read-08 = refl
 
 version-read : commandOf versionFrame ≡ Gives Version
-unfolding commandOf onReading byInstruction versionOf readOf sayOf lengthsOf shortOf extendedOf afterData
+unfolding commandOf onReading byInstruction versionOf readBy sayOf lengthsOf shortOf extendedOf afterData
 version-read = refl
 
 none-read : commandOf [] ≡ SW 0x6a80
-unfolding commandOf onReading readOf
+unfolding commandOf onReading readBy
 none-read = refl
 
 -- ---- the table: a decision that keeps to it is the definition
@@ -113,7 +113,7 @@ noAndFailed d = let z = two 0x6986 0x6f00 (differ Wrong.noAndFailed d (fresh 100
 -- 139 bytes are enough for h 0 and c 0
 pub room140 : Claims.DecidesExactly Wrong.room140 → ⊥
 unfolding decisionOf pathOf allowedPath commandPath versionPath registerPath loginPath registerEnding countedEnding settleOf checkedOf
-room140 d = r-sw 2 0x6985 (sym (rw register-read at (differ Wrong.room140 d (fresh 1000) 0 (lent registerFrame works [] 139))))
+room140 d = r-word 2 (plainWord 0x6985) (sym (rw register-read at (differ Wrong.room140 d (fresh 1000) 0 (lent registerFrame works [] 139))))
 
 -- a store that failed, without a touch
 pub storeFirst : Claims.DecidesExactly Wrong.storeFirst → ⊥
@@ -122,12 +122,12 @@ storeFirst d = let z = two 0x6985 0x6f00 (rw register-read at (differ Wrong.stor
 
 pub missingTaken : Claims.DecidesExactly Wrong.missingTaken → ⊥
 unfolding decisionOf pathOf allowedPath commandPath versionPath registerPath loginPath registerEnding countedEnding settleOf checkedOf
-missingTaken d = sw-gives 0x6f00 Ordered (rw register-read at (differ Wrong.missingTaken d held 0 (lent registerFrame notAttested [] 139)))
+missingTaken d = word-gives (plainWord 0x6f00) Ordered (rw register-read at (differ Wrong.missingTaken d held 0 (lent registerFrame notAttested [] 139)))
 
 -- no room and no touch
 pub touchFirst : Claims.DecidesExactly Wrong.touchFirst → ⊥
 unfolding decisionOf pathOf allowedPath commandPath versionPath registerPath loginPath registerEnding countedEnding settleOf checkedOf
-touchFirst d = r-sw 2 0x6985 (rw register-read at (differ Wrong.touchFirst d (fresh 1000) 0 (lent registerFrame works [] 138)))
+touchFirst d = r-word 2 (plainWord 0x6985) (rw register-read at (differ Wrong.touchFirst d (fresh 1000) 0 (lent registerFrame works [] 138)))
 
 pub checkOnlyFirst : Claims.DecidesExactly Wrong.checkOnlyFirst → ⊥
 unfolding decisionOf pathOf allowedPath commandPath versionPath registerPath loginPath registerEnding countedEnding settleOf checkedOf
@@ -135,7 +135,7 @@ checkOnlyFirst d = let z = two 0x6a80 0x6985 (rw read-07 at (differ Wrong.checkO
 
 pub roomFirst : Claims.DecidesExactly Wrong.roomFirst → ⊥
 unfolding decisionOf pathOf allowedPath commandPath versionPath registerPath loginPath registerEnding countedEnding settleOf checkedOf
-roomFirst d = r-sw 2 0x6985 (sym (rw read-07 at (differ Wrong.roomFirst d (fresh 1000) 0 (lent (signFrame 0x07) works [] 0))))
+roomFirst d = r-word 2 (plainWord 0x6985) (sym (rw read-07 at (differ Wrong.roomFirst d (fresh 1000) 0 (lent (signFrame 0x07) works [] 0))))
 
 pub room76 : Claims.DecidesExactly Wrong.room76 → ⊥
 unfolding decisionOf pathOf allowedPath commandPath versionPath registerPath loginPath registerEnding countedEnding settleOf checkedOf
@@ -147,18 +147,18 @@ room78 d = r-gives 2 Ordered (sym (rw read-08 at (differ Wrong.room78 d (fresh 1
 
 pub touchOf08 : Claims.DecidesExactly Wrong.touchOf08 → ⊥
 unfolding decisionOf pathOf allowedPath commandPath versionPath registerPath loginPath registerEnding countedEnding settleOf checkedOf
-touchOf08 d = sw-gives 0x6985 Ordered (rw read-03 at (differ Wrong.touchOf08 d (fresh 1000) 0 (lent (signFrame 0x03) works [] 77)))
+touchOf08 d = word-gives (plainWord 0x6985) Ordered (rw read-03 at (differ Wrong.touchOf08 d (fresh 1000) 0 (lent (signFrame 0x03) works [] 77)))
 
 pub touchTurned : Claims.DecidesExactly Wrong.touchTurned → ⊥
 unfolding decisionOf pathOf allowedPath commandPath versionPath registerPath loginPath registerEnding countedEnding settleOf checkedOf
-touchTurned d = sw-gives 0x6985 Ordered (rw read-03 at (differ Wrong.touchTurned d (fresh 1000) 0 (lent (signFrame 0x03) works [] 77)))
+touchTurned d = word-gives (plainWord 0x6985) Ordered (rw read-03 at (differ Wrong.touchTurned d (fresh 1000) 0 (lent (signFrame 0x03) works [] 77)))
 
 -- challenge all 00, application all 01: the bytes to sign begin with the application
 abbrev apartFrame : List ℕ
 apartFrame = 0x00 ∷ 0x02 ∷ 0x08 ∷ 0x00 ∷ 0x41 ∷ replicate 32 0x00 ++ replicate 32 0x01 ++ 0x00 ∷ []
 
 apart-read : commandOf apartFrame ≡ Gives (Authenticate 0x08 (saidOf 0x02 0x08 3 65 5))
-unfolding commandOf onReading byInstruction authenticateOf readOf sayOf lengthsOf shortOf extendedOf afterData dataOf partOf
+unfolding commandOf onReading byInstruction authenticateOf readBy sayOf lengthsOf shortOf extendedOf afterData dataOf partOf
 apart-read = refl
 
 pub challengeFirst : Claims.DecidesExactly Wrong.challengeFirst → ⊥
@@ -192,7 +192,7 @@ present08 d =
 
 -- a check at 0 prompts, the touch at 1 is accepted, and P1 03 at 2 and at 3 get an order each
 pub touchKept : Claims.OrdersHaveTheirTouch Wrong.touchKept → ⊥
-unfolding decisionOf pathOf allowedPath commandPath versionPath registerPath loginPath registerEnding countedEnding settleOf checkedOf after history latest touchOf checkOf grantedOf commandOf onReading byInstruction authenticateOf readOf sayOf lengthsOf shortOf extendedOf afterData dataOf partOf
+unfolding decisionOf pathOf allowedPath commandPath versionPath registerPath loginPath registerEnding countedEnding settleOf checkedOf after history latest touchOf checkOf grantedOf commandOf onReading byInstruction authenticateOf readBy sayOf lengthsOf shortOf extendedOf afterData dataOf partOf
 touchKept d =
     let a = lent (signFrame 0x03) works [] 77 in
     let says : SaysPresent (authenticateOrdered a (saidOf 0x02 0x03 3 65 5) true 7) = inr (kind-is a 0x03 (saidOf 0x02 0x03 3 65 5) true 7 read-03, presence-is a 0x03 (saidOf 0x02 0x03 3 65 5) true 7 read-03) in
@@ -222,7 +222,7 @@ pub takesAt6985 : Claims.CounterExactly Wrong.takesAt6985 → ⊥
 unfolding decisionOf pathOf allowedPath commandPath versionPath registerPath loginPath registerEnding countedEnding settleOf checkedOf
 takesAt6985 d =
     let a = lent (signFrame 0x03) works [] 77 in
-    sw-gives 0x6985 Ordered (rw read-03 at (d (fresh 1000) 0 a (refl, refl) .0 (rw read-03 refl) .0))
+    word-gives (plainWord 0x6985) Ordered (rw read-03 at (d (fresh 1000) 0 a (refl, refl) .0 (rw read-03 refl) .0))
 
 pub notTaken : Claims.CounterExactly Wrong.notTaken → ⊥
 unfolding decisionOf pathOf allowedPath commandPath versionPath registerPath loginPath registerEnding countedEnding settleOf checkedOf
@@ -263,7 +263,7 @@ unfolding decisionOf pathOf allowedPath commandPath versionPath registerPath log
 orderAt6985 d =
     let a = lent (signFrame 0x03) works [] 77 in
     let o = authenticateOrdered a (saidOf 0x02 0x03 3 65 5) true 7 in
-    let none : Wrong.orderAt6985 (fresh 1000) 0 a .answer ≡ Gives Ordered → ⊥ = λ e. sw-gives 0x6985 Ordered (rw read-03 at e) in
+    let none : Wrong.orderAt6985 (fresh 1000) 0 a .answer ≡ Gives Ordered → ⊥ = λ e. word-gives (plainWord 0x6985) Ordered (rw read-03 at e) in
     let blank : o ≡ blankOrder = rw read-03 at (d (fresh 1000) 0 a (record { order = Wrong.orderAt6985 (fresh 1000) 0 a .order; certificate = []; signed = true; signature = []; reply = [] }) none refl .0) in
     omega (arith, kind-is a 0x03 (saidOf 0x02 0x03 3 65 5) true 7 read-03, ap (λ (q : Order). kindNo (q .kind)) blank)
 
@@ -305,6 +305,35 @@ checkOnlySpends d =
     let a = lent (signFrame 0x07) works [] 0 in
     closed-open 0 (rw read-07 at (ap (λ (r : Result). r .presence .touch) (d held 0 a (saidOf 0x02 0x07 3 65 5) (passes 1000 0 (omega arith) (omega arith) (omega arith)) read-07)))
 
+-- ---- where a length went wrong, at `00 01`: missing at 6
+abbrev cutFrame : List ℕ
+cutFrame = 0x00 ∷ 0x01 ∷ 0x00 ∷ 0x00 ∷ 0x00 ∷ 0x01 ∷ []
+
+cut-read : commandOf cutFrame ≡ wrongLength 1 6
+unfolding commandOf onReading readBy sayOf lengthsOf extendedOf
+cut-read = refl
+
+place-is : (v w : StatusWord) → _≡_ {A = Outcome Given} (Word v) (Word w) → v .place ≡ w .place
+place-is v w e = ap (λ (x : StatusWord). x .place) (word-same v w e)
+
+pub pairDropped : Claims.LengthsCarried Wrong.pairDropped → ⊥
+unfolding pathOf allowedPath commandPath settleOf
+pairDropped d =
+    let a = lent cutFrame works [] 0 in
+    omega (arith, place-is _ _ (rw cut-read at (d (fresh 1000) 0 a 1 6 .1 (passes 1000 0 (omega arith) (omega arith) (omega arith), refl, cut-read))))
+
+pub pairOneOn : Claims.LengthsCarried Wrong.pairOneOn → ⊥
+unfolding pathOf allowedPath commandPath settleOf
+pairOneOn d =
+    let a = lent cutFrame works [] 0 in
+    omega (arith, place-is _ _ (rw cut-read at (d (fresh 1000) 0 a 1 6 .1 (passes 1000 0 (omega arith) (omega arith) (omega arith), refl, cut-read))))
+
+pub pairDroppedAlone : Claims.DecisionPairsExactly Wrong.pairDropped → ⊥
+unfolding pathOf allowedPath commandPath settleOf
+pairDroppedAlone d =
+    let a = lent cutFrame works [] 0 in
+    omega (arith, d (fresh 1000) 0 .paired a (record { number = 0x6700; kind = 0; place = 0 }) (rw cut-read refl) refl .0)
+
 -- ---- the record
 pub statusLeaves : Claims.KeepsToItsRole Wrong.statusLeaves → ⊥
 unfolding decisionOf pathOf allowedPath commandPath versionPath registerPath loginPath registerEnding countedEnding settleOf checkedOf doneBy
@@ -320,13 +349,13 @@ accepted-not e = let z : _≡_ {A = ℕ} 0 1 = cc in omega arith
 
 -- a check-only at 0 is said to prompt; the touch at 1 is not accepted
 pub checkOnlyAsCheck : Claims.Demand3OfThePanel Wrong.checkOnlyAsCheck → ⊥
-unfolding decisionOf pathOf allowedPath commandPath versionPath registerPath loginPath registerEnding countedEnding settleOf checkedOf after history foretold isPromptStanding latest lastMoment touchOf grantedOf commandOf onReading byInstruction authenticateOf readOf sayOf lengthsOf shortOf extendedOf afterData dataOf partOf
+unfolding decisionOf pathOf allowedPath commandPath versionPath registerPath loginPath registerEnding countedEnding settleOf checkedOf after history foretold isPromptStanding latest lastMoment touchOf grantedOf commandOf onReading byInstruction authenticateOf readBy sayOf lengthsOf shortOf extendedOf afterData dataOf partOf
 checkOnlyAsCheck d =
     accepted-not (sym (d 1000 (omega arith) (omega arith) (DecideAt 0 (lent (signFrame 0x07) works [] 0) ∷ []) .foretells (TouchAt 1)))
 
 -- P1 03 at 0 is said not to prompt; the touch at 1 is accepted
 pub touchAsOther : Claims.Demand3OfThePanel Wrong.touchAsOther → ⊥
-unfolding decisionOf pathOf allowedPath commandPath versionPath registerPath loginPath registerEnding countedEnding settleOf checkedOf after history foretold isPromptStanding latest lastMoment touchOf grantedOf commandOf onReading byInstruction authenticateOf readOf sayOf lengthsOf shortOf extendedOf afterData dataOf partOf
+unfolding decisionOf pathOf allowedPath commandPath versionPath registerPath loginPath registerEnding countedEnding settleOf checkedOf after history foretold isPromptStanding latest lastMoment touchOf grantedOf commandOf onReading byInstruction authenticateOf readBy sayOf lengthsOf shortOf extendedOf afterData dataOf partOf
 touchAsOther d =
     accepted-not ((d 1000 (omega arith) (omega arith) (DecideAt 0 (lent (signFrame 0x03) works [] 77) ∷ []) .foretells (TouchAt 1)))
 

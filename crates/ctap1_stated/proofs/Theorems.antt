@@ -1,6 +1,6 @@
 -- The claims of specs/Claims.antt, each under its own name.
 use Prim.Native.Nat.{ℕ, _+_, _*_, _<_, _≤_}
-use mathlib.Core.Path.{_≡_, refl, ap, sym, _∙_}
+use mathlib.Core.Path.{_≡_, refl, ap, sym, subst, _∙_}
 use mathlib.Core.Bool.{Bool, true, false, true≢false}
 use mathlib.Core.Logic.{_↔_, _⊎_, inl, inr}
 use mathlib.Core.List.{List, [], _∷_, _++_}
@@ -8,16 +8,17 @@ use mathlib.Core.Option.{Option, some}
 use native.Mathlib.Omega.{arith}
 use borrow.Author.Tests.{eq-eqb, ne-eqb}
 use lib.ListN.{length, drop}
-use Rattle.outcome.specs.Outcome.{Outcome, R, Gives}
-use Rattle.outcome.proofs.Laws.{gives-same, sw-gives, r-gives, r-sw, both-are}
+use Rattle.outcome.specs.Outcome.{StatusWord, Outcome, R, Word, Gives, plainWord, wrongLength}
+use Rattle.outcome.proofs.Laws.{gives-same, word-same, word-gives, r-gives, r-word, both-are}
 use Rattle.octets.specs.Bytes.{byte}
 use Rattle.octets.proofs.Laws.{laid-fits}
 use Rattle.apdu_stated.specs.Answers.{Says}
 use Rattle.command_stated.specs.Command.{Command, Register, Authenticate, commandOf}
+use Rattle.command_stated.proofs.Laws.{CommandPairsExactly}
 use Rattle.u2f_up_stated.specs.Moments.{movedTo, touchClosed}
 use Rattle.u2f_up_stated.specs.History.{Role, Mark, Checking, TouchFound, isTouchFound, isNamed, heldAt, serverOf, servers}
 use Rattle.u2f_up_stated.specs.Runs.{after, comesTo, cameOf, history}
-use Rattle.u2f_up_stated.specs.Terms.{HasTouch}
+use Rattle.u2f_up_stated.specs.Terms.{Passes, HasTouch}
 use Rattle.u2f_up_stated.specs.declared.Presence.{Presence}
 use Rattle.u2f_up_stated.proofs.Laws.{demand-3, servers-next, named-later, named-counts, count, length-those}
 use Rattle.signing_stated.specs.Orders.{kindNo, certificateLength, blankOrder, isOfLayout}
@@ -32,7 +33,7 @@ use Rattle.ctap1_stated.specs.Table
 use Rattle.ctap1_stated.specs.Claims
 use Rattle.ctap1_stated.specs.declared.Allowed.the-variants as Allowed′
 use Rattle.ctap1_stated.specs.declared.Counter.the-variants as Counter′
-use Rattle.ctap1_stated.proofs.Ways.{Way, refused, stated, versioned, enrolled, signed-03, signed-08, way, row, sound, registering-checks, signing-checks}
+use Rattle.ctap1_stated.proofs.Ways.{Stated, its-own, framed, Way, refused, stated, versioned, enrolled, signed-03, signed-08, way, row, sound, registering-checks, signing-checks}
 use Rattle.ctap1_stated.proofs.Commands as Commands
 use Rattle.ctap1_stated.proofs.Kept.{panel-keeps}
 use Rattle.ctap1_stated.proofs.Numbers.{decided-apart, decision-apart}
@@ -55,7 +56,7 @@ RepliesExactly p t a old long = go (decisionOf p t a) (way p t a)
   where
     go : (r : Result) → Way p t a r → Left a old r
     go _ (refused n) = inr (λ n x. r-gives _ _ x, refl)
-    go _ (stated n q) = inr (λ n x. sw-gives _ _ x, refl)
+    go _ (stated n q w) = inr (λ n x. word-gives _ _ x, refl)
     go _ (versioned c room) = inl (refl, room, laid-fits versionBytes old (omega arith))
     go _ (enrolled said x l h) = inr (λ n x. body-order _ (sym x), refl)
     go _ (signed-03 said n x l k) = inr (λ n x. body-order _ (sym x), refl)
@@ -67,7 +68,7 @@ RefusalChangesNothing p t a n old e = go (decisionOf p t a) (way p t a) e
   where
     go : (r : Result) → Way p t a r → r .answer ≡ R n → (r .presence ≡ p) × (replyLeft r old ≡ old) × (r .taken ≡ false) × (r .order ≡ blankOrder)
     go _ (refused m) x = (refl, refl, refl, refl)
-    go _ (stated m q) x = absurd (r-sw _ _ (sym x))
+    go _ (stated m q w) x = absurd (r-word _ _ (sym x))
     go _ (versioned c room) x = absurd (r-gives _ _ (sym x))
     go _ (enrolled said y l h) x = absurd (r-gives _ _ (sym x))
     go _ (signed-03 said m y l k) x = absurd (r-gives _ _ (sym x))
@@ -78,7 +79,7 @@ CounterExactly p t a blocks = (λ e. forth (decisionOf p t a) (way p t a) e, λ 
   where
     forth : (r : Result) → Way p t a r → r .taken ≡ true → (r .answer ≡ Gives Ordered) × (kindNo (r .order .kind) ≡ 0x02)
     forth _ (refused m) x = absurd (true≢false (sym x))
-    forth _ (stated m q) x = absurd (true≢false (sym x))
+    forth _ (stated m q w) x = absurd (true≢false (sym x))
     forth _ (versioned c room) x = absurd (true≢false (sym x))
     forth _ (enrolled said y l h) x = absurd (true≢false (sym x))
     forth _ (signed-03 said m y l k) x = (refl, Commands.kind-is a 0x03 said true m (y .1 .1))
@@ -86,7 +87,7 @@ CounterExactly p t a blocks = (λ e. forth (decisionOf p t a) (way p t a) e, λ 
 
     back : (r : Result) → Way p t a r → r .answer ≡ Gives Ordered → kindNo (r .order .kind) ≡ 0x02 → r .taken ≡ true
     back _ (refused m) x k = absurd (r-gives _ _ x)
-    back _ (stated m q) x k = absurd (sw-gives _ _ x)
+    back _ (stated m q w) x k = absurd (word-gives _ _ x)
     back _ (versioned c room) x k = absurd (body-order _ x)
     back _ (enrolled said y l h) x k = absurd (omega (arith, Commands.register-kind a blocks said (y .1 .1) h))
     back _ (signed-03 said m y l n) x k = refl
@@ -98,7 +99,7 @@ OrdersOfLayout p t a blocks e = go (decisionOf p t a) (way p t a) e
   where
     go : (r : Result) → Way p t a r → r .answer ≡ Gives Ordered → isOfLayout (r .order) ≡ true
     go _ (refused m) x = absurd (r-gives _ _ x)
-    go _ (stated m q) x = absurd (sw-gives _ _ x)
+    go _ (stated m q w) x = absurd (word-gives _ _ x)
     go _ (versioned c room) x = absurd (body-order _ x)
     go _ (enrolled said y l h) x = Commands.register-of-layout a blocks said (y .1 .1) h
     go _ (signed-03 said m y l k) x = Commands.of-layout a 0x03 said true m (y .1 .1)
@@ -109,7 +110,7 @@ NoOrderIsBlank p t a f none same = (blank, Commands.blank-refused .1 f (same ∙
   where
     go : (r : Result) → Way p t a r → (r .answer ≡ Gives Ordered → ⊥) → r .order ≡ blankOrder
     go _ (refused m) n = refl
-    go _ (stated m q) n = refl
+    go _ (stated m q w) n = refl
     go _ (versioned c room) n = refl
     go _ (enrolled said y l h) n = absurd (n refl)
     go _ (signed-03 said m y l k) n = absurd (n refl)
@@ -120,7 +121,7 @@ NoOrderIsBlank p t a f none same = (blank, Commands.blank-refused .1 f (same ∙
 
 room-was-asked : (p : Presence) (t : ℕ) (a : Inputs) → AreBlocks a → (r : Result) → Way p t a r → r .answer ≡ Gives Ordered → roomAsked (r .order) ≤ a .room
 room-was-asked p t a blocks _ (refused m) x = absurd (r-gives _ _ x)
-room-was-asked p t a blocks _ (stated m q) x = absurd (sw-gives _ _ x)
+room-was-asked p t a blocks _ (stated m q w) x = absurd (word-gives _ _ x)
 room-was-asked p t a blocks _ (versioned c room) x = absurd (body-order _ x)
 room-was-asked p t a blocks _ (enrolled said y l h) x = rw (Commands.register-room a blocks said (y .1 .1) h) (y .2)
 room-was-asked p t a blocks _ (signed-03 said m y l k) x = rw (Commands.room-is a 0x03 said true m (y .1 .1)) (y .3)
@@ -137,11 +138,56 @@ CertificateOfOrder p t a blocks e = go (decisionOf p t a) (way p t a) e
     go : (r : Result) → Way p t a r → r .answer ≡ Gives Ordered
         → ((kindNo (r .order .kind) ≡ 0x01) × (certificateLength (r .order) ≡ length (a .certificate))) ⊎ ((kindNo (r .order .kind) ≡ 0x02) × (certificateLength (r .order) ≡ 0))
     go _ (refused m) x = absurd (r-gives _ _ x)
-    go _ (stated m q) x = absurd (sw-gives _ _ x)
+    go _ (stated m q w) x = absurd (word-gives _ _ x)
     go _ (versioned c room) x = absurd (body-order _ x)
     go _ (enrolled said y l h) x = inl (Commands.register-kind a blocks said (y .1 .1) h, Commands.register-certificate a blocks said (y .1 .1) h)
     go _ (signed-03 said m y l k) x = inr (Commands.kind-is a 0x03 said true m (y .1 .1), Commands.certificate-is a 0x03 said true m (y .1 .1))
     go _ (signed-08 said m y k) x = inr (Commands.kind-is a 0x08 said false m (y .1 .1), Commands.certificate-is a 0x08 said false m (y .1 .1))
+
+-- ---- where a length went wrong
+module _ (p : Presence) (t : ℕ) (a : Inputs) where
+  word-number : (v w : StatusWord) → _≡_ {A = Outcome Given} (Word v) (Word w) → v .number ≡ w .number
+  word-number v w e = ap (λ (x : StatusWord). x .number) (word-same v w e)
+
+  carried : (kind place : ℕ) (r : Result) → Way p t a r → r .answer ≡ wrongLength kind place
+      → Passes p t × (a .hardware .allowed ≡ Allowed′.Yes) × (commandOf (a .frame) ≡ wrongLength kind place)
+  carried kind place _ (refused m) x = absurd (r-word _ _ x)
+  carried kind place _ (stated s q (its-own n other)) x = absurd (other (word-number _ _ x))
+  carried kind place _ (stated s q (framed ok y e)) x = (ok, y, e ∙ ap Word (word-same s _ x))
+  carried kind place _ (versioned c room) x = absurd (word-gives _ _ (sym x))
+  carried kind place _ (enrolled said y l h) x = absurd (word-gives _ _ (sym x))
+  carried kind place _ (signed-03 said m y l k) x = absurd (word-gives _ _ (sym x))
+  carried kind place _ (signed-08 said m y k) x = absurd (word-gives _ _ (sym x))
+
+  -- a status word of the decision: its own, or the frame's
+  said-word : (s : StatusWord) (r : Result) → Way p t a r → r .answer ≡ Word s → Stated p t a s
+  said-word s _ (refused m) x = absurd (r-word _ _ x)
+  said-word s _ (stated v q w) x = subst (Stated p t a) (word-same v s x) w
+  said-word s _ (versioned c room) x = absurd (word-gives _ _ (sym x))
+  said-word s _ (enrolled said y l h) x = absurd (word-gives _ _ (sym x))
+  said-word s _ (signed-03 said m y l k) x = absurd (word-gives _ _ (sym x))
+  said-word s _ (signed-08 said m y k) x = absurd (word-gives _ _ (sym x))
+
+  paired : (s : StatusWord) → Stated p t a s → s .number ≡ 0x6700 → (1 ≤ s .kind) × (s .kind ≤ 3)
+  paired _ (its-own n other) e = absurd (other e)
+  paired s (framed ok y c) e = CommandPairsExactly .paired (a .frame) s c e
+
+  not-paired : (s : StatusWord) → Stated p t a s → (s .number ≡ 0x6700 → ⊥) → s ≡ plainWord (s .number)
+  not-paired _ (its-own n other) e = refl
+  not-paired s (framed ok y c) e = CommandPairsExactly .no-other (a .frame) s c e
+
+pub LengthsCarried : Claims.LengthsCarried decisionOf
+LengthsCarried p t a kind place = (
+  λ e. carried p t a kind place (decisionOf p t a) (way p t a) e,
+  λ x. ap (λ (r : Result). r .answer) (sound p t a _ (Table.frame (x .0) (x .1) _ (x .2))),
+)
+
+pub DecisionPairsExactly : Claims.DecisionPairsExactly decisionOf
+DecisionPairsExactly p t =
+    record {
+      paired = λ a s e. paired p t a s (said-word p t a s (decisionOf p t a) (way p t a) e);
+      no-other = λ a s e. not-paired p t a s (said-word p t a s (decisionOf p t a) (way p t a) e);
+    }
 
 -- ---- check-only
 pub CheckOnlyLooksAtNoTouch : Claims.CheckOnlyLooksAtNoTouch decisionOf
@@ -180,7 +226,7 @@ OrdersNeedATouch = record {
   where
     touch : (p : Presence) (t : ℕ) (a : Inputs) (r : Result) → Way p t a r → r .answer ≡ Gives Ordered → SaysPresent (r .order) → HasTouch p t × (r .presence ≡ touchClosed (movedTo p t))
     touch p t a _ (refused m) x o = absurd (r-gives _ _ x)
-    touch p t a _ (stated m q) x o = absurd (sw-gives _ _ x)
+    touch p t a _ (stated m q w) x o = absurd (word-gives _ _ x)
     touch p t a _ (versioned c room) x o = absurd (body-order _ x)
     touch p t a _ (enrolled said y l h) x o = (l, refl)
     touch p t a _ (signed-03 said m y l k) x o = (l, refl)
@@ -189,7 +235,7 @@ OrdersNeedATouch = record {
     present : (p : Presence) (t : ℕ) (a : Inputs) (p1 : ℕ) (said : Says) → commandOf (a .frame) ≡ Gives (Authenticate p1 said) → (r : Result) → Way p t a r → r .answer ≡ Gives Ordered
         → ((byte (r .order .bytes) 32 ≡ 0x01) ↔ (p1 ≡ 0x03)) × ((byte (r .order .bytes) 32 ≡ 0x00) ↔ (p1 ≡ 0x08))
     present p t a p1 said c _ (refused m) x = absurd (r-gives _ _ x)
-    present p t a p1 said c _ (stated m q) x = absurd (sw-gives _ _ x)
+    present p t a p1 said c _ (stated m q w) x = absurd (word-gives _ _ x)
     present p t a p1 said c _ (versioned d room) x = absurd (body-order _ x)
     present p t a p1 said c _ (enrolled told y l h) x = absurd (not-register a p1 said told c (y .1 .1))
     present p t a p1 said c _ (signed-03 told m y l k) x =
@@ -205,7 +251,7 @@ OrdersNeedATouch = record {
         → (n : ℕ) × (a .hardware .counter ≡ Counter′.Offered n) × (r .taken ≡ true)
         × (byte (r .order .bytes) 33 * 0x1000000 + byte (r .order .bytes) 34 * 0x10000 + byte (r .order .bytes) 35 * 256 + byte (r .order .bytes) 36 ≡ n)
     counter p t a p1 said c _ (refused m) x = absurd (r-gives _ _ x)
-    counter p t a p1 said c _ (stated m q) x = absurd (sw-gives _ _ x)
+    counter p t a p1 said c _ (stated m q w) x = absurd (word-gives _ _ x)
     counter p t a p1 said c _ (versioned d room) x = absurd (body-order _ x)
     counter p t a p1 said c _ (enrolled told y l h) x = absurd (not-register a p1 said told c (y .1 .1))
     counter p t a p1 said c _ (signed-03 told m y l k) x = (m, k, refl, Commands.counter-is a 0x03 told true m (y .1 .1))
@@ -214,7 +260,7 @@ OrdersNeedATouch = record {
 -- such an order comes from a call that reaches the touch check, and the check succeeds
 seen-spending : (p : Presence) (t : ℕ) (a : Inputs) (r : Result) → Way p t a r → r .answer ≡ Gives Ordered → SaysPresent (r .order) → (roleOf a ≡ Checking) × (seen Checking (r .answer) ≡ Gives true)
 seen-spending p t a _ (refused m) x o = absurd (r-gives _ _ x)
-seen-spending p t a _ (stated m q) x o = absurd (sw-gives _ _ x)
+seen-spending p t a _ (stated m q w) x o = absurd (word-gives _ _ x)
 seen-spending p t a _ (versioned c room) x o = absurd (body-order _ x)
 seen-spending p t a _ (enrolled said y l h) x o = (registering-checks p t a said y, refl)
 seen-spending p t a _ (signed-03 said m y l k) x o = (signing-checks p t a said y, refl)

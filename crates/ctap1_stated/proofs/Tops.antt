@@ -10,7 +10,7 @@ use borrow.Author.Tests.{ne-eqb}
 use lib.Dec.{ltb, eqb}
 use lib.ListN.{length}
 use Rattle.outcome.specs.Notation.{if_then_else_}
-use Rattle.outcome.specs.Outcome.{Outcome, statusNo, refusalNo}
+use Rattle.outcome.specs.Outcome.{Outcome, wordOf, refusalNo}
 use Rattle.outcome.specs.declared.ApduStatusCode.{ApduStatusCode}
 use Rattle.outcome.specs.declared.Refusal.{Refusal}
 use Rattle.apdu_stated.specs.Answers.{Says, saysOf}
@@ -28,7 +28,7 @@ use Rattle.u2f_up_stated.specs.declared.Ready.the-variants as Ready′
 use Rattle.signing_stated.specs.Finishing.{registerRoom, authenticateRoom}
 use Rattle.ctap1_stated.specs.Words.{Inputs, Hardware, Result, Allowed, Handed, WithBlock, handedOf}
 use Rattle.ctap1_stated.specs.Numbers.{allowedOf}
-use Rattle.ctap1_stated.specs.Decision.{refusalResult, statusResult, ended, touchChecked, along, onMoment, decisionOf, replyLeft, leftOf}
+use Rattle.ctap1_stated.specs.Decision.{refusalResult, wordResult, statusResult, ended, touchChecked, along, onMoment, decisionOf, replyLeft, leftOf}
 use Rattle.ctap1_stated.specs.Path.{Ending, Internal, WrongData, Orders, Path, NoRoom, Status, SixBytes, Signs, Touch, versionPath, registerPath, registerEnding, countedEnding, loginPath, commandPath, allowedPath, pathOf}
 use Rattle.ctap1_stated.specs.declared.Allowed.the-variants as Allowed′
 use Rattle.ctap1_stated.proofs.Cases.{beside, with-block}
@@ -102,7 +102,7 @@ module _ (i : Inputs) (kept : Presence) (t : ℕ) (settled : Presence) (c : U2fC
   lands d old e = ap (λ (x : Result). leftOf x old) (here d e)
 
   module _ (old : List ℕ) where
-    pub on-status : (r : Handed) → (s : ApduStatusCode) → c ≡ U2fCommand′.Status s → r ≡ handedOf (statusResult (statusNo s) settled) → beside r old ≡ leftOf (along (commandPath i (commandOf (i .frame))) kept settled t) old
+    pub on-status : (r : Handed) → (s : ApduStatusCode) → c ≡ U2fCommand′.Status s → r ≡ handedOf (wordResult (wordOf s) settled) → beside r old ≡ leftOf (along (commandPath i (commandOf (i .frame))) kept settled t) old
     unfolding commandPath
     on-status r s e q = with-block r _ old q ∙ lands (U2fCommand′.Status s) old e
 

@@ -3,11 +3,12 @@
 use Prim.Native.Nat.{ℕ, _≤_}
 use mathlib.Core.Path.{_≡_, refl, ap, _∙_}
 use mathlib.Core.Bool.{Bool, true, false, not}
+use native.Mathlib.Omega.{arith}
 use borrow.Author.Tests.{lt-ltb, le-ltb, ltb-true, ltb-false, eqb-true, eqb-false, ne-eqb, not-true, not-false}
 use lib.Dec.{ltb, eqb}
 use lib.ListN.{length}
 use Rattle.outcome.specs.Notation.{if_then_else_}
-use Rattle.outcome.specs.Outcome.{Outcome, R, SW, Gives}
+use Rattle.outcome.specs.Outcome.{StatusWord, Outcome, R, Word, Gives, plainWord}
 use Rattle.apdu_stated.specs.Answers.{Says}
 use Rattle.command_stated.specs.Command.{Command, Register, Authenticate, Version, commandOf}
 use Rattle.u2f_up_stated.specs.Moments.{movedTo, touchClosed, promptOpened}
@@ -17,7 +18,7 @@ use Rattle.u2f_up_stated.specs.declared.Presence.{Presence}
 use Rattle.u2f_up_stated.proofs.Laws.{bad-window, bad-moment, has-touch, settle-r6, settle-r1, settle-moves, checked-live, checked-dead}
 use Rattle.ctap1_stated.specs.Words.{Inputs, Result, Allowed, Attestation, Counter, isPresent}
 use Rattle.ctap1_stated.specs.Path.{Ending, Internal, Orders, Path, Touch, registerOrdered, authenticateOrdered, enrolmentOrder, registerEnding, countedEnding, loginPath, registerPath, versionPath, authenticatePath, commandPath, allowedPath, pathOf, roleOf}
-use Rattle.ctap1_stated.specs.Decision.{refusalResult, statusResult, bodyResult, orderResult, ended, along, decisionOf}
+use Rattle.ctap1_stated.specs.Decision.{refusalResult, wordResult, statusResult, bodyResult, orderResult, ended, along, decisionOf}
 use Rattle.ctap1_stated.specs.Terms.{Comes, roomOfRegister, Registering, Signing}
 use Rattle.ctap1_stated.specs.Table
 use Rattle.ctap1_stated.specs.Table.{Answers}
@@ -139,7 +140,7 @@ module _ (p : Presence) (t : ℕ) (a : Inputs) where
     command-at : (o : Outcome Command) → a .hardware .allowed ≡ Allowed′.Yes → commandOf (a .frame) ≡ o → At (commandPath a o)
     unfolding commandPath versionPath registerPath
     command-at (R n) y e = absurd (never-refused (a .frame) n e)
-    command-at (SW n) y e = Table.frame ok y n e
+    command-at (Word s) y e = Table.frame ok y s e
     command-at (Gives Version) y e = split a At (ltb (a .room) 6) _ _ (λ h. Table.version-short ok (y, e) (ltb-true (a .room) 6 h)) (λ h. Table.version ok (y, e) (ltb-false (a .room) 6 h))
     command-at (Gives (Register said)) y e = register-at said (y, e)
     command-at (Gives (Authenticate p1 said)) y e = authenticate-at p1 said (y, e)
@@ -160,9 +161,14 @@ module _ (p : Presence) (t : ℕ) (a : Inputs) where
       at (no w) (no m) = rw (settle-moves p t (w, m)) (allowed-at (w, m) (a .hardware .allowed) refl)
 
   -- ---- the ways that the other claims tell apart
+  -- a status word: one of the decision's own, which has no pair, or the frame's
+  pub data Stated : StatusWord → Type 0 where
+    its-own : (n : ℕ) → (n ≡ 0x6700 → ⊥) → Stated (plainWord n)
+    framed : {s : StatusWord} → Passes p t → a .hardware .allowed ≡ Allowed′.Yes → commandOf (a .frame) ≡ Word s → Stated s
+
   pub data Way : Result → Type 0 where
     refused : (n : ℕ) → Way (refusalResult n p)
-    stated : (n : ℕ) (q : Presence) → Way (statusResult n q)
+    stated : (s : StatusWord) (q : Presence) → Stated s → Way (wordResult s q)
     versioned : Comes a Version → 6 ≤ a .room → Way (bodyResult 6 (movedTo p t))
     enrolled : (said : Says) → Registering p t a said → HasTouch p t → length (a .newHandle) ≤ 255 → Way (orderResult (registerOrdered a said) (touchClosed (movedTo p t)) false)
     signed-03 : (said : Says) (n : ℕ) → Signing p t a 0x03 said → HasTouch p t → a .hardware .counter ≡ Counter′.Offered n
@@ -177,25 +183,25 @@ module _ (p : Presence) (t : ℕ) (a : Inputs) where
       by : (r : Result) → Answers p t a r → Way r
       by _ (Table.r6 b) = refused 6
       by _ (Table.r1 g b) = refused 1
-      by _ (Table.failed ok y) = stated 0x6f00 _
-      by _ (Table.forbidden ok y) = stated 0x6986 _
-      by _ (Table.frame ok y n e) = stated n _
+      by _ (Table.failed ok y) = stated _ _ (its-own 0x6f00 (λ e. omega arith))
+      by _ (Table.forbidden ok y) = stated _ _ (its-own 0x6986 (λ e. omega arith))
+      by _ (Table.frame ok y s e) = stated s _ (framed ok y e)
       by _ (Table.version-short ok c h) = refused 2
       by _ (Table.version ok c h) = versioned c h
       by _ (Table.register-short said ok c h) = refused 2
-      by _ (Table.register-6985 said x n) = stated 0x6985 _
-      by _ (Table.not-stored said x l s) = stated 0x6f00 _
-      by _ (Table.long said x l s k) = stated 0x6f00 _
-      by _ (Table.missing said x l s k m) = stated 0x6f00 _
-      by _ (Table.no-attestation said x l s k m) = stated 0x6f00 _
+      by _ (Table.register-6985 said x n) = stated _ _ (its-own 0x6985 (λ e. omega arith))
+      by _ (Table.not-stored said x l s) = stated _ _ (its-own 0x6f00 (λ e. omega arith))
+      by _ (Table.long said x l s k) = stated _ _ (its-own 0x6f00 (λ e. omega arith))
+      by _ (Table.missing said x l s k m) = stated _ _ (its-own 0x6f00 (λ e. omega arith))
+      by _ (Table.no-attestation said x l s k m) = stated _ _ (its-own 0x6f00 (λ e. omega arith))
       by _ (Table.enrols said x l s k m) = enrolled said x l k
-      by _ (Table.bad-handle p1 said ok c g) = stated 0x6a80 _
-      by _ (Table.check-only said ok c g) = stated 0x6985 _
+      by _ (Table.bad-handle p1 said ok c g) = stated _ _ (its-own 0x6a80 (λ e. omega arith))
+      by _ (Table.check-only said ok c g) = stated _ _ (its-own 0x6985 (λ e. omega arith))
       by _ (Table.sign-short p1 said ok c g n h) = refused 2
-      by _ (Table.sign-6985 said x n) = stated 0x6985 _
-      by _ (Table.no-counter-03 said x l k) = stated 0x6a80 _
+      by _ (Table.sign-6985 said x n) = stated _ _ (its-own 0x6985 (λ e. omega arith))
+      by _ (Table.no-counter-03 said x l k) = stated _ _ (its-own 0x6a80 (λ e. omega arith))
       by _ (Table.signs-03 said n x l k) = signed-03 said n x l k
-      by _ (Table.no-counter-08 said x k) = stated 0x6a80 _
+      by _ (Table.no-counter-08 said x k) = stated _ _ (its-own 0x6a80 (λ e. omega arith))
       by _ (Table.signs-08 said n x k) = signed-08 said n x k
 
 -- ---- a decision that comes to the touch check has that role

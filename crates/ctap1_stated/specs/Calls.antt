@@ -1,5 +1,5 @@
 -- Document 01, 'Moments and touches', "In history terms": the calls on a presence record, decisions among them.
-use Rattle.ctap1_stated.specs.Words.{Outcome, R, SW, Gives, ℕ, Bool, true, not, eqb, Presence, Inputs, Given, Result}
+use Rattle.ctap1_stated.specs.Words.{Outcome, R, Word, Gives, ℕ, Bool, true, not, eqb, Presence, Inputs, Given, Result}
 use Rattle.ctap1_stated.specs.Path.{roleOf}
 use Rattle.ctap1_stated.specs.Decision.{decisionOf}
 use Rattle.u2f_up_stated.specs.Moments.{Told, touchOf, checkOf, askOf}
@@ -10,12 +10,12 @@ use Rattle.u2f_up_stated.specs.Runs.{Caller}
 -- Register or from P1 03"; "A call spends a touch if the check succeeds, also when a later step answers 6f00 or 6a80"
 abbrev pub seenOfCheck : Outcome Given → Outcome Bool
 seenOfCheck (R n) = R n
-seenOfCheck (SW n) = Gives (not (eqb n 0x6985))
+seenOfCheck (Word s) = Gives (not (eqb (s .number) 0x6985))
 seenOfCheck (Gives g) = Gives true
 
 abbrev pub seenOfOther : Outcome Given → Outcome Bool
 seenOfOther (R n) = R n
-seenOfOther (SW n) = Gives true
+seenOfOther (Word s) = Gives true
 seenOfOther (Gives g) = Gives true
 
 abbrev pub seen : Role → Outcome Given → Outcome Bool

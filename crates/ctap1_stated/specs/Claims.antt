@@ -3,7 +3,7 @@
 -- of a record, a moment and all that is lent.
 use mathlib.Core.Logic.{_↔_, _⊎_}
 use mathlib.Core.Option.{some}
-use Rattle.ctap1_stated.specs.Words.{AtMostOne, R, SW, Gives, [], _∷_, _++_, drop, ℕ, _+_, _*_, _<_, _≤_, _≡_, Bool, true, false, List, length, Presence, Decision, Decided, Inputs, Allowed, Attestation, Hardware, HardwareSaid, Body, Ordered, Result, decidedOf}
+use Rattle.ctap1_stated.specs.Words.{AtMostOne, R, SW, Gives, wrongLength, [], _∷_, _++_, drop, ℕ, _+_, _*_, _<_, _≤_, _≡_, Bool, true, false, List, length, Presence, Decision, Decided, Inputs, Allowed, Attestation, Hardware, HardwareSaid, Body, Ordered, Result, decidedOf}
 use Rattle.ctap1_stated.specs.Numbers.{allowedOf, attestationOf}
 use Rattle.ctap1_stated.specs.Calls.{PanelCall, DecideAt, callsWith}
 use Rattle.ctap1_stated.specs.Contracts.{Buffers, Decide}
@@ -12,6 +12,7 @@ use Rattle.ctap1_stated.specs.Table.{Answers}
 use Rattle.ctap1_stated.specs.declared.Allowed.the-variants as Allowed′
 use Rattle.ctap1_stated.specs.declared.Attestation.the-variants as Attestation′
 use Rattle.ctap1_stated.specs.declared.Counter.the-variants as Counter′
+use Rattle.outcome.specs.Terms.{PairsExactly}
 use Rattle.octets.specs.Bytes.{byte}
 use Rattle.apdu_stated.specs.Answers.{Says}
 use Rattle.command_stated.specs.Command.{Authenticate, commandOf}
@@ -110,6 +111,20 @@ CertificateOfOrder decide =
     (p : Presence) (t : ℕ) (a : Inputs) → AreBlocks a → decide p t a .answer ≡ Gives Ordered
     → ((kindNo (decide p t a .order .kind) ≡ 0x01) × (certificateLength (decide p t a .order) ≡ length (a .certificate)))
     ⊎ ((kindNo (decide p t a .order .kind) ≡ 0x02) × (certificateLength (decide p t a .order) ≡ 0))
+
+-- ---- where a length went wrong: 02, E1
+
+-- "Command reading, strict reading and decision carry the pair upward": a decision's 6700 is its frame's, with the pair that command
+-- reading found, and a frame's 6700 is the decision's where R6, R1 and 'allowed' are passed. A decision that drops the pair
+-- (`pairDropped`) fails it, and one whose place is a byte on (`pairOneOn`).
+abbrev pub LengthsCarried : Decider → Type 0
+LengthsCarried decide =
+    (p : Presence) (t : ℕ) (a : Inputs) (kind place : ℕ) → (decide p t a .answer ≡ wrongLength kind place)
+    ↔ (Passes p t × (a .hardware .allowed ≡ Allowed′.Yes) × (commandOf (a .frame) ≡ wrongLength kind place))
+
+-- A 6700 has a pair, and no other status word of a decision has one. `pairDropped` fails it.
+abbrev pub DecisionPairsExactly : Decider → Type 0
+DecisionPairsExactly decide = (p : Presence) (t : ℕ) → PairsExactly (λ (a : Inputs). decide p t a .answer)
 
 -- ---- check-only
 

@@ -1,8 +1,8 @@
 -- Document 01, 'The decision', with the record: R6 and R1, then along the path, with the touch check and its 6985 said once; and
 -- 'Refusal numbers' as far as they speak of the decision; then what the reply buffer and the lent block hold.
 use Rattle.ctap1_stated.specs.Words.{ℕ, Bool, false, not, List, [], _∷_, Presence, Order}
-use Rattle.ctap1_stated.specs.Words.{if_then_else_, Outcome, R, SW, Gives, Inputs, Given, Body, Ordered, Result, WithBlock, handedOf}
-use Rattle.ctap1_stated.specs.Path.{Ending, Internal, WrongData, Orders, Path, NoRoom, Status, SixBytes, Signs, Touch, pathOf}
+use Rattle.ctap1_stated.specs.Words.{if_then_else_, StatusWord, Outcome, R, Word, Gives, plainWord, Inputs, Given, Body, Ordered, Result, WithBlock, handedOf}
+use Rattle.ctap1_stated.specs.Path.{Ending, Internal, WrongData, Orders, Path, NoRoom, Ends, SixBytes, Signs, Touch, pathOf}
 use Rattle.octets.specs.Bytes.{laid}
 use Rattle.u2f_up_stated.specs.Moments.{settleOf, checkedOf}
 use Rattle.u2f_up_stated.specs.declared.Finding.{Finding}
@@ -15,8 +15,11 @@ abbrev pub refusalResult : ℕ → Presence → Result
 refusalResult n kept = record { answer = R n; presence = kept; order = blankOrder; taken = false }
 
 -- a status word, with the record as the checks so far left it
+abbrev pub wordResult : StatusWord → Presence → Result
+wordResult s p = record { answer = Word s; presence = p; order = blankOrder; taken = false }
+
 abbrev pub statusResult : ℕ → Presence → Result
-statusResult n p = record { answer = SW n; presence = p; order = blankOrder; taken = false }
+statusResult n p = wordResult (plainWord n) p
 
 abbrev pub bodyResult : ℕ → Presence → Result
 bodyResult n p = record { answer = Gives (Body n); presence = p; order = blankOrder; taken = false }
@@ -39,7 +42,7 @@ touchChecked f e =
 
 abbrev pub along : Path → (kept settled : Presence) (t : ℕ) → Result
 along NoRoom kept settled t = refusalResult 2 kept
-along (Status n) kept settled t = statusResult n settled
+along (Ends s) kept settled t = wordResult s settled
 along SixBytes kept settled t = bodyResult 6 settled
 along (Signs e) kept settled t = ended e settled
 along (Touch e) kept settled t = touchChecked (checkedOf settled t) e
@@ -47,7 +50,7 @@ along (Touch e) kept settled t = touchChecked (checkedOf settled t) e
 -- 1. "R6, R1." (Settling gives no status word.)
 abbrev pub onMoment : Presence → ℕ → Path → Outcome Presence → Result
 onMoment p t path (R n) = refusalResult n p
-onMoment p t path (SW n) = statusResult n p
+onMoment p t path (Word s) = wordResult s p
 onMoment p t path (Gives settled) = along path p settled t
 
 -- the decision on the record p at moment t
@@ -64,7 +67,7 @@ versionBytes = 0x55 ∷ 0x32 ∷ 0x46 ∷ 0x5F ∷ 0x56 ∷ 0x32 ∷ []
 -- buffer." The only body that a decision gives is Version's
 abbrev pub replyAfter : Outcome Given → List ℕ → List ℕ
 replyAfter (R n) old = old
-replyAfter (SW n) old = old
+replyAfter (Word s) old = old
 replyAfter (Gives (Body n)) old = laid versionBytes old
 replyAfter (Gives Ordered) old = old
 
@@ -76,7 +79,7 @@ replyLeft r old = replyAfter (r .answer) old
 -- 01: "the bytes to sign in a block of 385 bytes"; every answer but an order leaves the lent block as it was
 abbrev pub blockAfter : Outcome Given → (bytes old : List ℕ) → List ℕ
 blockAfter (R n) bytes old = old
-blockAfter (SW n) bytes old = old
+blockAfter (Word s) bytes old = old
 blockAfter (Gives (Body n)) bytes old = old
 blockAfter (Gives Ordered) bytes old = bytes
 

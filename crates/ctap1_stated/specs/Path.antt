@@ -1,7 +1,7 @@
 -- Document 01, 'The decision', checks 2 to 6, as one path: what is lent in, without the record and the moment, says how far a
 -- decision comes and with what. What the record adds stands in specs/Decision.antt.
 use Rattle.ctap1_stated.specs.Words.{ℕ, Bool, true, false, not, List, ltb, eqb, length, Order, Allowed, Counter, Hardware}
-use Rattle.ctap1_stated.specs.Words.{if_then_else_, Outcome, R, SW, Gives, isPresent, Inputs, Enrolment}
+use Rattle.ctap1_stated.specs.Words.{if_then_else_, StatusWord, Outcome, R, Word, Gives, plainWord, isPresent, Inputs, Enrolment}
 use Rattle.ctap1_stated.specs.declared.Allowed.the-variants as Allowed′
 use Rattle.ctap1_stated.specs.declared.Counter.the-variants as Counter′
 use Rattle.octets.specs.Bytes.{bytes4}
@@ -21,10 +21,14 @@ pub data Ending : Type 0 where
 -- how far a decision comes, once the moment is settled
 pub data Path : Type 0 where
   NoRoom : Path  -- R2
-  Status : ℕ → Path  -- a status word, without the touch check
+  Ends : StatusWord → Path  -- a status word, without the touch check
   SixBytes : Path  -- Version's body
   Signs : Ending → Path  -- P1 08: the last step, without the touch check
   Touch : Ending → Path  -- the touch check, 6985; with a touch the last step
+
+-- the same with a status word that has no pair
+abbrev pub Status : ℕ → Path
+Status n = Ends (plainWord n)
 
 -- 01: the order's contents
 unfoldable pub enrolmentOrder : List ℕ → Says → Enrolment → Order
@@ -90,11 +94,12 @@ registerPath a said =
 unfoldable pub versionPath : ℕ → Path
 versionPath room = if ltb room 6 then NoRoom else SixBytes
 
--- 3. "the frame's status", 4. Version, 5. Register. (Command reading gives no refusal: its words have one, and the
--- first line is never met. A type of its own for it would be one more word for the reader.)
+-- 3. "the frame's status", with its pair (02, E1: "Command reading, strict reading and decision carry the pair upward"), 4. Version,
+-- 5. Register. (Command reading gives no refusal: its words have one, and the first line is never met. A type of its own for it would be
+-- one more word for the reader.)
 unfoldable pub commandPath : Inputs → Outcome Command → Path
 commandPath a (R n) = NoRoom
-commandPath a (SW n) = Status n
+commandPath a (Word s) = Ends s
 commandPath a (Gives Version) = versionPath (a .room)
 commandPath a (Gives (Register said)) = registerPath a said
 commandPath a (Gives (Authenticate p1 said)) = authenticatePath a p1 said
@@ -112,7 +117,7 @@ pathOf a = allowedPath (a .hardware .allowed) a
 -- at the record. "never a 6985 from P1 07": that is a status without the touch check
 abbrev pub roleOfPath : Path → Role
 roleOfPath NoRoom = Short
-roleOfPath (Status n) = Settling
+roleOfPath (Ends s) = Settling
 roleOfPath SixBytes = Settling
 roleOfPath (Signs e) = Settling
 roleOfPath (Touch e) = Checking

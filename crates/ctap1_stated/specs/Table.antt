@@ -1,6 +1,6 @@
 -- Document 01, 'The decision', as one table, with no word of ours for a path: each row with its conditions, in the document's
 -- order, and the whole result: answer, record, order, whether the counter was taken.
-use Rattle.ctap1_stated.specs.Words.{ℕ, _<_, _≤_, _≡_, true, false, R, SW, Gives, Body, Ordered, length, Presence, Inputs, Result}
+use Rattle.ctap1_stated.specs.Words.{ℕ, _<_, _≤_, _≡_, true, false, StatusWord, R, Word, SW, Gives, Body, Ordered, length, Presence, Inputs, Result}
 use Rattle.ctap1_stated.specs.Terms.{result, movedAt, spentAt, promptedAt, orderOfRegister, orderOfAuthenticate, Comes, roomOfRegister, Registering, Signing}
 use Rattle.ctap1_stated.specs.declared.Allowed.the-variants as Allowed′
 use Rattle.ctap1_stated.specs.declared.Attestation.the-variants as Attestation′
@@ -17,8 +17,8 @@ pub data Answers (p : Presence) (t : ℕ) (a : Inputs) : Result → Type 0 where
   -- 2. "failed gives 6f00, no gives 6986"
   failed : Passes p t → a .hardware .allowed ≡ Allowed′.Failed → Answers p t a (result (SW 0x6f00) (movedAt p t) blankOrder false)
   forbidden : Passes p t → a .hardware .allowed ≡ Allowed′.No → Answers p t a (result (SW 0x6986) (movedAt p t) blankOrder false)
-  -- 3. "the frame's status, as above"
-  frame : Passes p t → a .hardware .allowed ≡ Allowed′.Yes → (n : ℕ) → commandOf (a .frame) ≡ SW n → Answers p t a (result (SW n) (movedAt p t) blankOrder false)
+  -- 3. "the frame's status, as above", with its pair: 02, E1, "carry the pair upward"
+  frame : Passes p t → a .hardware .allowed ≡ Allowed′.Yes → (s : StatusWord) → commandOf (a .frame) ≡ Word s → Answers p t a (result (Word s) (movedAt p t) blankOrder false)
   -- 4. "Version: buffer under 6 gives R2; else the body is the six bytes .., status 9000."
   version-short : Passes p t → Comes a Version → a .room < 6 → Answers p t a (result (R 2) p blankOrder false)
   version : Passes p t → Comes a Version → 6 ≤ a .room → Answers p t a (result (Gives (Body 6)) (movedAt p t) blankOrder false)

@@ -6,7 +6,7 @@ pub use mathlib.Core.List.{List, [], _∷_, _++_}
 pub use lib.Dec.{ltb, eqb}
 pub use lib.ListN.{length, drop}
 pub use Rattle.outcome.specs.Notation.{if_then_else_, AtMostOne}
-pub use Rattle.outcome.specs.Outcome.{Outcome, R, SW, Gives, statusNo, refusalNo}
+pub use Rattle.outcome.specs.Outcome.{StatusWord, Outcome, R, Word, SW, Gives, plainWord, wrongLength, wordOf, refusalNo}
 pub use Rattle.u2f_up_stated.specs.declared.Presence.{Presence}
 pub use Rattle.signing_stated.specs.declared.Head.{Head}
 pub use Rattle.signing_stated.specs.Words.{Order, headOf}
@@ -52,7 +52,7 @@ pub data Given : Type 0 where
 -- 01: the answer's numbers, one line a case
 abbrev pub decidedOf : Decided → Outcome Given
 decidedOf (Decided′.Refused why) = R (refusalNo why)
-decidedOf (Decided′.Status s) = SW (statusNo s)
+decidedOf (Decided′.Status s) = Word (wordOf s)
 decidedOf (Decided′.Body n) = Gives (Body n)
 decidedOf Decided′.Order = Gives Ordered
 

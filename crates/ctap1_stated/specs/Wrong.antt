@@ -1,11 +1,11 @@
 -- Wrong programs, each with one fault. proofs/Refuted.antt shows of each that a claim is false of it.
 use Prim.Native.Nat.{_%_}
 use lib.Dec.{leb}
-use Rattle.ctap1_stated.specs.Words.{ℕ, _+_, Bool, true, false, not, List, [], _∷_, ltb, eqb, length, if_then_else_, Outcome, R, SW, Gives}
+use Rattle.ctap1_stated.specs.Words.{ℕ, _+_, Bool, true, false, not, List, [], _∷_, ltb, eqb, length, if_then_else_, StatusWord, Outcome, R, Word, SW, Gives, plainWord}
 use Rattle.ctap1_stated.specs.Words.{Presence, Order, Inputs, Hardware, HardwareSaid, Allowed, Attestation, Counter, Given, Body, Ordered, Result, isPresent}
 use Rattle.ctap1_stated.specs.Numbers.{allowedOf, attestationOf, hardwareOf}
-use Rattle.ctap1_stated.specs.Path.{Ending, Internal, WrongData, Orders, Path, NoRoom, Status, SixBytes, Signs, Touch, registerOrdered, registerEnding, countedEnding, registerPath, authenticatePath, commandPath, pathOf}
-use Rattle.ctap1_stated.specs.Decision.{refusalResult, statusResult, ended, along, onMoment, decisionOf}
+use Rattle.ctap1_stated.specs.Path.{Ending, Internal, WrongData, Orders, Path, NoRoom, Ends, Status, SixBytes, Signs, Touch, registerOrdered, registerEnding, countedEnding, registerPath, authenticatePath, commandPath, pathOf}
+use Rattle.ctap1_stated.specs.Decision.{refusalResult, wordResult, statusResult, ended, along, onMoment, decisionOf}
 use Rattle.ctap1_stated.specs.Calls.{PanelCall, TouchAt, CheckAt, AskAt, DecideAt, callOf, panelDoes, toldBy}
 use Rattle.ctap1_stated.specs.Terms.{Decider}
 use Rattle.ctap1_stated.specs.declared.Allowed.the-variants as Allowed′
@@ -27,7 +27,7 @@ decideBy path p t a = onMoment p t (path a) (settleOf p t)
 -- "2. failed gives 6f00, no gives 6986. 3. the frame's status": the frame's status first
 abbrev onFrame : Inputs → Outcome Command → Path
 onFrame a (R n) = pathOf a
-onFrame a (SW n) = Status n
+onFrame a (Word s) = Ends s
 onFrame a (Gives c) = pathOf a
 
 abbrev pub frameFirst : Decider
@@ -50,7 +50,7 @@ ifAllowed Allowed′.Yes x = x
 -- another Register
 abbrev registerOr : (Inputs → Says → Path) → Inputs → Outcome Command → Path
 registerOr path a (R n) = commandPath a (R n)
-registerOr path a (SW n) = commandPath a (SW n)
+registerOr path a (Word s) = commandPath a (Word s)
 registerOr path a (Gives Version) = commandPath a (Gives Version)
 registerOr path a (Gives (Register said)) = path a said
 registerOr path a (Gives (Authenticate p1 said)) = commandPath a (Gives (Authenticate p1 said))
@@ -107,7 +107,7 @@ certificateMore = registerAs (registerEnds 255 isPresent longerOrder)
 -- another Authenticate
 abbrev authenticateOr : (Inputs → ℕ → Says → Path) → Inputs → Outcome Command → Path
 authenticateOr path a (R n) = commandPath a (R n)
-authenticateOr path a (SW n) = commandPath a (SW n)
+authenticateOr path a (Word s) = commandPath a (Word s)
 authenticateOr path a (Gives Version) = commandPath a (Gives Version)
 authenticateOr path a (Gives (Register said)) = commandPath a (Gives (Register said))
 authenticateOr path a (Gives (Authenticate p1 said)) = path a p1 said
@@ -157,7 +157,7 @@ touchOf08 = authenticateAs (λ a p1 said. if not (a .hardware .good) then Status
 -- "for P1 03 touch check, 6985": from P1 03 straight to the counter
 abbrev straightened : Path → Path
 straightened NoRoom = NoRoom
-straightened (Status n) = Status n
+straightened (Ends s) = Ends s
 straightened SixBytes = SixBytes
 straightened (Signs e) = Signs e
 straightened (Touch Internal) = Touch Internal
@@ -171,7 +171,7 @@ straight = decideBy (λ a. straightened (pathOf a))
 -- "the offered counter is reported as taken": it is not
 abbrev untaken : Path → Path
 untaken NoRoom = NoRoom
-untaken (Status n) = Status n
+untaken (Ends s) = Ends s
 untaken SixBytes = SixBytes
 untaken (Signs Internal) = Signs Internal
 untaken (Signs WrongData) = Signs WrongData
@@ -184,7 +184,7 @@ notTaken = decideBy (λ a. untaken (pathOf a))
 -- ---- another walk along the path
 abbrev onWalk : (Path → Presence → Presence → ℕ → Result) → Presence → ℕ → Path → Outcome Presence → Result
 onWalk walk p t path (R n) = refusalResult n p
-onWalk walk p t path (SW n) = statusResult n p
+onWalk walk p t path (Word s) = wordResult s p
 onWalk walk p t path (Gives settled) = walk path p settled t
 
 abbrev decideAlong : (Path → Presence → Presence → ℕ → Result) → Decider
@@ -192,7 +192,7 @@ decideAlong walk p t a = onWalk walk p t (pathOf a) (settleOf p t)
 
 abbrev shortAs : (Presence → Presence → ℕ → Result) → Path → Presence → Presence → ℕ → Result
 shortAs short NoRoom kept settled t = short kept settled t
-shortAs short (Status n) kept settled t = along (Status n) kept settled t
+shortAs short (Ends s) kept settled t = along (Ends s) kept settled t
 shortAs short SixBytes kept settled t = along SixBytes kept settled t
 shortAs short (Signs e) kept settled t = along (Signs e) kept settled t
 shortAs short (Touch e) kept settled t = along (Touch e) kept settled t
@@ -211,27 +211,34 @@ r2Takes = decideAlong (shortAs (λ kept settled t. record { answer = R 2; presen
 abbrev pub r2Moves : Decider
 r2Moves = decideAlong (shortAs (λ kept settled t. refusalResult 2 settled))
 
-abbrev statusAs : (ℕ → Presence → Presence → ℕ → Result) → Path → Presence → Presence → ℕ → Result
+abbrev statusAs : (StatusWord → Presence → Presence → ℕ → Result) → Path → Presence → Presence → ℕ → Result
 statusAs status NoRoom kept settled t = along NoRoom kept settled t
-statusAs status (Status n) kept settled t = status n kept settled t
+statusAs status (Ends s) kept settled t = status s kept settled t
 statusAs status SixBytes kept settled t = along SixBytes kept settled t
 statusAs status (Signs e) kept settled t = along (Signs e) kept settled t
 statusAs status (Touch e) kept settled t = along (Touch e) kept settled t
 
 -- "each .. decision sets the last moment to t": a status leaves it
 abbrev pub statusLeaves : Decider
-statusLeaves = decideAlong (statusAs (λ n kept settled t. statusResult n kept))
+statusLeaves = decideAlong (statusAs (λ s kept settled t. wordResult s kept))
+
+-- 02, E1: "carry the pair upward": here the pair is dropped between command reading and decision; and here it is told one byte on
+abbrev pub pairDropped : Decider
+pairDropped = decideAlong (statusAs (λ s kept settled t. statusResult (s .number) settled))
+
+abbrev pub pairOneOn : Decider
+pairOneOn = decideAlong (statusAs (λ s kept settled t. wordResult (record { number = s .number; kind = s .kind; place = s .place + 1 }) settled))
 
 -- "A check-only 6985 opening a prompt, or spending a touch"
 abbrev pub checkOnlyPrompts : Decider
-checkOnlyPrompts = decideAlong (statusAs (λ n kept settled t. statusResult n (if eqb n 0x6985 then promptOpened settled t else settled)))
+checkOnlyPrompts = decideAlong (statusAs (λ s kept settled t. wordResult s (if eqb (s .number) 0x6985 then promptOpened settled t else settled)))
 
 abbrev pub checkOnlySpends : Decider
-checkOnlySpends = decideAlong (statusAs (λ n kept settled t. statusResult n (if eqb n 0x6985 then touchClosed settled else settled)))
+checkOnlySpends = decideAlong (statusAs (λ s kept settled t. wordResult s (if eqb (s .number) 0x6985 then touchClosed settled else settled)))
 
 abbrev touchAs : (Finding → Presence → Ending → Result) → Path → Presence → Presence → ℕ → Result
 touchAs touch NoRoom kept settled t = along NoRoom kept settled t
-touchAs touch (Status n) kept settled t = along (Status n) kept settled t
+touchAs touch (Ends s) kept settled t = along (Ends s) kept settled t
 touchAs touch SixBytes kept settled t = along SixBytes kept settled t
 touchAs touch (Signs e) kept settled t = along (Signs e) kept settled t
 touchAs touch (Touch e) kept settled t = touch (checkedOf settled t) settled e
@@ -261,7 +268,7 @@ touchTurned = decideAlong (touchAs (λ f settled e. if f .yes then statusResult 
 -- "the six bytes 55 32 46 5F 56 32": U2F_V1
 abbrev replyAs : (List ℕ → List ℕ) → Outcome Given → List ℕ → List ℕ
 replyAs body (R n) old = old
-replyAs body (SW n) old = old
+replyAs body (Word s) old = old
 replyAs body (Gives (Body n)) old = body old
 replyAs body (Gives Ordered) old = old
 
@@ -291,7 +298,7 @@ callsBy role = record { asCall = rolesBy role; does = doesBy (λ x r. toldBy (ro
 -- "never a 6985 from P1 07": it is taken for a prompting refusal
 abbrev roleOf07 : Path → Role
 roleOf07 NoRoom = Short
-roleOf07 (Status n) = if eqb n 0x6985 then Checking else Settling
+roleOf07 (Ends s) = if eqb (s .number) 0x6985 then Checking else Settling
 roleOf07 SixBytes = Settling
 roleOf07 (Signs e) = Settling
 roleOf07 (Touch e) = Checking
@@ -302,7 +309,7 @@ checkOnlyAsCheck = callsBy roleOf07
 -- "a 6985 from Register or from P1 03": it is taken for an answer without the touch check
 abbrev roleOfTouch : Path → Role
 roleOfTouch NoRoom = Short
-roleOfTouch (Status n) = Settling
+roleOfTouch (Ends s) = Settling
 roleOfTouch SixBytes = Settling
 roleOfTouch (Signs e) = Settling
 roleOfTouch (Touch e) = Settling
@@ -313,7 +320,7 @@ touchAsOther = callsBy roleOfTouch
 -- "A call spends a touch if the check succeeds, also when a later step answers 6f00 or 6a80": seen to spend by orders alone
 abbrev orderSeen : Outcome Given → Outcome Bool
 orderSeen (R n) = R n
-orderSeen (SW n) = Gives false
+orderSeen (Word s) = Gives false
 orderSeen (Gives g) = Gives true
 
 abbrev pub ordersAloneSpend : Caller PanelCall

@@ -21,6 +21,7 @@ fn hardware(desk: &Desk) -> HardwareSaid {
 fn ordered(order: OrderNumbers, taken: bool) -> Answer {
     Answer {
         word: answers::ORDER,
+        kind: 0,
         count: 2,
         numbers: [order.kind as u64, taken as u64, 0, 0, 0],
         has_bytes: true,
@@ -35,7 +36,7 @@ fn decided(desk: &mut Desk, decision: DecisionSaid) -> Answer {
     let order = decision.order;
     held::keep(desk, presence);
     if decision.answer <= 7 {
-        return answers::bare(decision.answer);
+        return answers::status(decision.answer, decision.fault, decision.place);
     }
     held::keep_order(
         desk,
@@ -46,7 +47,10 @@ fn decided(desk: &mut Desk, decision: DecisionSaid) -> Answer {
     if decision.answer == 0x0100 {
         return ordered(order, decision.taken);
     }
-    held::wrote(decision.answer, decision.length)
+    if decision.answer == 0x9000 {
+        return held::wrote(decision.answer, decision.length);
+    }
+    answers::status(decision.answer, decision.fault, decision.place)
 }
 
 fn asked(desk: &Desk, space: &[u8], reply: &mut [u8], block: &mut [u8; 385]) -> DecisionSaid {

@@ -4,6 +4,7 @@
 -- input where it bites stand beside it in that crate's specs/Claims.antt; that nothing but f meets it, in proofs/Only.antt.
 use Rattle.apdu_stated.specs.Claims as Frames
 use Rattle.apdu_stated.specs.Reading.{readOf, strictOf, dataOf}
+use Rattle.apdu_stated.specs.Terms.{InTable}
 use Rattle.apdu_stated.specs.Writing.{writingOf}
 use Rattle.command_stated.specs.Claims as Commands
 use Rattle.command_stated.specs.Command.{commandOf, challengeOf, applicationOf, handleOf, challengePlaceOf, applicationPlaceOf, handlePlaceOf}
@@ -50,15 +51,20 @@ pub record EveryInputIsAnswered : Type 0 where
   -- the enrolment that was lost: an order has asked for its room before the touch was spent
   pub room-was-asked : Decision.RoomWasAsked decisionOf
 
--- 2. "Results equal the Rust's": that is run, not proved (oracle/compare, and the Rust's own answers in crates/lines/data/rust).
+-- 2. "Results equal the Rust's", statuses by their number alone: that is run, not proved (oracle/compare, and the Rust's own answers in
+-- crates/lines/data/rust).
 -- Proved is what stands below.
 pub record AsTheDocumentsSay : Type 0 where
   -- "Frame reading and writing are proved against the ISO 7816-3 case table with the tolerated forms listed"
-  pub reading : Frames.ReadingExactly readOf
+  pub reading : Frames.ReadingExactly InTable readOf
   pub strict : Frames.StrictExactly strictOf
   pub iso : Frames.IsoExactly readOf
   pub tolerated : Frames.ToleratedExactly readOf
   pub frames-to-try : Frames.ExamplesRead readOf
+  -- 02, E1: "Tell us where the length went wrong": the places in the document's numbers (that they are the only ones, and when each
+  -- comes, is in `reading`, `strict` and the demand above); "Command reading, strict reading and decision carry the pair upward"
+  pub places : Frames.PlacesExactly readOf strictOf
+  pub carried-by-decisions : Decision.LengthsCarried decisionOf
   -- the parts of a frame that are handed back stand where they are said to
   pub parts : Commands.CutAtPlaces challengeOf applicationOf handleOf challengePlaceOf applicationPlaceOf handlePlaceOf
   pub parts-in-c : Panel.PlacesCut frameNumbers commandNumbers

@@ -62,6 +62,7 @@ pub fn keep_block(out: &mut [u8], bytes: &[u8]) {
 pub fn wrote(answer: u16, length: usize) -> Answer {
     Answer {
         word: answer,
+        kind: 0,
         count: 0,
         numbers: [0; 5],
         has_bytes: answer == 0x9000,
@@ -85,6 +86,7 @@ fn fill(out: &mut [u8], b: usize) {
 fn holding(room: usize) -> Answer {
     Answer {
         word: answers::HOLDS,
+        kind: 0,
         count: 0,
         numbers: [0; 5],
         has_bytes: true,

@@ -1,6 +1,6 @@
 // Runs case files on the panel of crate `pipe`. Its arguments name them: each line is a comment (#), a name for bytes (NAME = HEX,
-// or NAME = HEX * TIMES), a call (>) or the answer that it must get (<). Prints each answer that is another, each line that is
-// none of these, and how many calls each file had.
+// or NAME = HEX * TIMES), a call (>) or the answer that it must get (<; one that ends in ` ..` may go on with more words). Prints each
+// answer that is another, each line that is none of these, and how many calls each file had.
 fn run_file(name: &[u8]) {
     let mut text = files::file_space();
     let n = files::read(name, &mut text);

@@ -1,3 +1,4 @@
+pub mod Cases
 pub mod Numbers
 pub mod Laws
 pub mod Theorems

@@ -2,7 +2,11 @@
 use Prim.Native.Nat.{ℕ, zero, suc, _≤_}
 use mathlib.Core.Path.{_≡_, refl}
 use native.Mathlib.Omega.{arith}
-use Rattle.outcome.specs.Outcome.{statusNo, refusalNo, lastRefusal}
+use Rattle.outcome.specs.Outcome.{FaultNumbers, faultPair, noFault, SW, wrongLength, statusNo, faultOf, wordOf, refusalNo, lastRefusal}
+use Rattle.outcome.specs.declared.ApduStatusCode.{ApduStatusCode}
+use Rattle.outcome.specs.declared.ApduStatusCode.the-variants.{Success, WrongData, WrongLength, CondUseNotSatisfied, CommandNotAllowed, InsInvalid, ClaInvalid, InternalException}
+use Rattle.outcome.specs.declared.LengthFault.{LengthFault}
+use Rattle.outcome.specs.declared.LengthFault.the-variants.{Missing, Surplus, LcAgainstIns}
 use Rattle.outcome.specs.Claims
 use Rattle.outcome.specs.declared.Refusal.{Refusal}
 use Rattle.outcome.specs.declared.Refusal.the-variants.{R1, R2, R3, R4, R5, R6, R7}
@@ -14,7 +18,7 @@ StatusNumbers =
     record {
       success = refl;
       wrong-data = refl;
-      wrong-length = refl;
+      wrong-length = λ fault place. refl;
       no-touch = refl;
       not-allowed = refl;
       unknown-ins = refl;
@@ -22,10 +26,32 @@ StatusNumbers =
       internal = refl;
     }
 
+pub FaultExactly : Claims.FaultExactly faultOf
+FaultExactly = record { missing = λ place. refl; surplus = λ place. refl; against-ins = λ place. refl; other = other }
+  where
+    other : (s : ApduStatusCode) → ((f : LengthFault) (place : ℕ) → s ≡ WrongLength f place → ⊥) → faultOf s ≡ faultPair 0 0
+    other Success n = refl
+    other WrongData n = refl
+    other (WrongLength f place) n = absurd (n f place refl)
+    other CondUseNotSatisfied n = refl
+    other CommandNotAllowed n = refl
+    other InsInvalid n = refl
+    other ClaInvalid n = refl
+    other InternalException n = refl
+
+pub NoFaultExactly : Claims.NoFaultExactly noFault
+NoFaultExactly = refl
+
+pub WordsExactly : Claims.WordsExactly (λ A n. SW {A = A} n) (λ A kind place. wrongLength {A = A} kind place)
+WordsExactly = record { plain-is = λ A n. refl; wrong-is = λ A kind place. refl }
+
+pub WordExactly : Claims.WordExactly statusNo faultOf wordOf
+WordExactly = record { numbered = λ s. refl; kind = λ s. refl; place = λ s. refl }
+
 pub RefusalNumbers : Claims.RefusalNumbers refusalNo
 RefusalNumbers = record { r1 = refl; r2 = refl; r3 = refl; r4 = refl; r5 = refl; r6 = refl; r7 = refl }
 
-pub StatusOneToOne : Claims.StatusOneToOne statusNo
+pub StatusOneToOne : Claims.StatusOneToOne wordOf
 StatusOneToOne = status-one-to-one
 
 pub RefusalOneToOne : Claims.RefusalOneToOne refusalNo
@@ -55,4 +81,4 @@ RefusalRange = record { within = within; each = each }
     each (suc (suc (suc (suc (suc (suc (suc (suc n)))))))) low high = absurd (omega arith)
 
 pub ResultsDetermined : Claims.ResultsDetermined
-ResultsDetermined = record { status-number = λ s a b. both-are a b; refusal-number = λ r a b. both-are a b }
+ResultsDetermined = record { status-number = λ s a b. both-are a b; fault = λ s a b. both-are a b; no-fault = both-are; refusal-number = λ r a b. both-are a b }

@@ -1,27 +1,87 @@
--- Document 01, 'Refusal numbers', and the status words that its sections name; ISO 7816-4 has their meanings.
--- Covered: each refusal's number and each status word's number. What a call gives is said in these words everywhere.
+-- Document 01, 'Refusal numbers', and the status words that its sections name; ISO 7816-4 has their meanings. Document 02, E1: what
+-- a 6700 says beside its number. Covered: each refusal's number, each status word's number and pair. What a call gives is said in
+-- these words everywhere.
 use Prim.Native.Nat.{ℕ}
 use Rattle.outcome.specs.declared.ApduStatusCode.{ApduStatusCode}
 use Rattle.outcome.specs.declared.ApduStatusCode.the-variants.{Success, WrongData, WrongLength, CondUseNotSatisfied, CommandNotAllowed, InsInvalid, ClaInvalid, InternalException}
+use Rattle.outcome.specs.declared.LengthFault.{LengthFault}
+use Rattle.outcome.specs.declared.LengthFault.the-variants.{Missing, Surplus, LcAgainstIns}
+pub use Rattle.outcome.specs.declared.FaultNumbers.{FaultNumbers}
 use Rattle.outcome.specs.declared.Refusal.{Refusal}
 use Rattle.outcome.specs.declared.Refusal.the-variants.{R1, R2, R3, R4, R5, R6, R7}
 
--- What a call comes to, in the document's numbers: a refusal, a status word, or what was asked for.
+-- A status word: its number, and the pair of a kind and a place that tells where a length went wrong. 02, E1: "A 6700 should say
+-- whether bytes are missing or surplus, and a place". Where there is no pair, both are 0.
+pub record StatusWord : Type 0 where
+  pub number : ℕ
+  pub kind : ℕ
+  pub place : ℕ
+
+-- What a call comes to, in the documents' numbers: a refusal, a status word, or what was asked for.
 pub data Outcome (A : Type 0) : Type 0 where
   R : ℕ → Outcome A
-  SW : ℕ → Outcome A
+  Word : StatusWord → Outcome A
   Gives : A → Outcome A
+
+-- a status word without a pair: every one but 6700
+abbrev pub plainWord : ℕ → StatusWord
+plainWord n = record { number = n; kind = 0; place = 0 }
+
+abbrev pub SW : {A : Type 0} → ℕ → Outcome A
+SW n = Word (plainWord n)
+
+-- 6700, with its pair
+abbrev pub wrongLength : {A : Type 0} → (kind place : ℕ) → Outcome A
+wrongLength kind place = Word (record { number = 0x6700; kind = kind; place = place })
+
+-- 02, E1: "for missing bytes the frame's length; for surplus the first byte that no field can claim"; "The 6700s for Lc against INS
+-- are a third kind, with place 4 in every shape". The kinds' numbers are ours.
+abbrev pub missingAt : {A : Type 0} → ℕ → Outcome A
+missingAt place = wrongLength 1 place
+
+abbrev pub surplusAt : {A : Type 0} → ℕ → Outcome A
+surplusAt place = wrongLength 2 place
+
+abbrev pub againstIns : {A : Type 0} → Outcome A
+againstIns = wrongLength 3 4
 
 -- ISO 7816-4; 01, 'Eight frame shapes', 'From frame to command', 'The decision'
 abbrev pub statusNo : ApduStatusCode → ℕ
 statusNo Success = 0x9000  -- done
 statusNo WrongData = 0x6a80  -- wrong data
-statusNo WrongLength = 0x6700  -- wrong length
+statusNo (WrongLength fault place) = 0x6700  -- wrong length
 statusNo CondUseNotSatisfied = 0x6985  -- conditions of use not satisfied: no touch
 statusNo CommandNotAllowed = 0x6986  -- command not allowed
 statusNo InsInvalid = 0x6d00  -- unknown INS
 statusNo ClaInvalid = 0x6e00  -- unknown CLA
 statusNo InternalException = 0x6f00  -- no precise diagnosis
+
+-- 02, E1: the kinds, in numbers of ours
+abbrev pub faultKind : LengthFault → ℕ
+faultKind Missing = 1
+faultKind Surplus = 2
+faultKind LcAgainstIns = 3
+
+-- over plain numbers: ours, 0 and 0 where there is no pair
+abbrev pub faultPair : (kind place : ℕ) → FaultNumbers
+faultPair kind place = record { kind = kind; place = place }
+
+abbrev pub noFault : FaultNumbers
+noFault = faultPair 0 0
+
+abbrev pub faultOf : ApduStatusCode → FaultNumbers
+faultOf Success = noFault
+faultOf WrongData = noFault
+faultOf (WrongLength fault place) = faultPair (faultKind fault) place
+faultOf CondUseNotSatisfied = noFault
+faultOf CommandNotAllowed = noFault
+faultOf InsInvalid = noFault
+faultOf ClaInvalid = noFault
+faultOf InternalException = noFault
+
+-- a status word as it is said everywhere: its number and its pair
+abbrev pub wordOf : ApduStatusCode → StatusWord
+wordOf s = record { number = statusNo s; kind = faultOf s .kind; place = faultOf s .place }
 
 -- 01, 'Refusal numbers'
 abbrev pub refusalNo : Refusal → ℕ

@@ -2,6 +2,7 @@
 // the same in C, and .ci/header compares the two. The structs stand in panel_stated, the conversions in plain_frames,
 // plain_presence and plain_orders.
 use apdu::Reading;
+use ctap1::Decided;
 use ctap1::HardwareSaid;
 use panel_stated::Asked;
 use panel_stated::CommandSaid;
@@ -24,21 +25,21 @@ pub extern "C" fn brinecandle_read(frame: &[u8]) -> FrameSaid
 {
     let reading = apdu::read(frame);
     match reading {
-        Reading::Frame(says) => {
-            return plain_frames::frame_numbers(says);
-        }
-        Reading::Status(status) => {
-            return plain_frames::frame_status(status);
-        }
+        Reading::Frame(says) => return plain_frames::frame_numbers(says),
+        Reading::Status(status) => return plain_frames::frame_status(status),
     }
 }
 
-// The same without shape 6.
+// The same without shape 6, and by cases too.
 #[no_mangle]
 pub extern "C" fn brinecandle_read_strict(frame: &[u8]) -> FrameSaid
     ensures { λ r. ⌜ BrinecandleReadStrict (now (frame .entry)) r ⌝ }
 {
-    plain_frames::frame_plain(apdu::read_strict(frame))
+    let reading = apdu::read_strict(frame);
+    match reading {
+        Reading::Frame(says) => return plain_frames::frame_numbers(says),
+        Reading::Status(status) => return plain_frames::frame_status(status),
+    }
 }
 
 // Writes a frame at the front of out.
@@ -100,7 +101,7 @@ pub extern "C" fn brinecandle_is_up_needed(presence: PresenceRecord, t: u64) -> 
 }
 
 // Decides what a frame is answered. The block is written for an order alone: a refused call leaves an order that waits
-// for its signature whole.
+// for its signature whole. By cases, as brinecandle_read.
 #[no_mangle]
 pub extern "C" fn brinecandle_decide(
     frame: &[u8],
@@ -117,7 +118,7 @@ pub extern "C" fn brinecandle_decide(
     ensures { λ r. ⌜ BrinecandleDecide (record { frame = now (frame .entry); moment = t; presence = presence; hardware = hardware; newHandle = now (handle .entry); certificate = now (certificate .entry); x = now (x .entry); y = now (y .entry); reply = now (reply .entry); block = now (block .entry) }) r (now (reply .exit)) (now (block .exit)) ⌝ }
 {
     let kept = plain_presence::record_lent(presence);
-    plain_orders::decision_plain(ctap1::decide(
+    let decision = ctap1::decide(
         frame,
         t,
         kept,
@@ -128,7 +129,17 @@ pub extern "C" fn brinecandle_decide(
         y,
         reply,
         block,
-    ))
+    );
+    let answer = decision.answer;
+    let order = decision.order;
+    let taken = decision.taken;
+    let after = decision.presence;
+    match answer {
+        Decided::Refused(why) => return plain_orders::refused_numbers(why, taken, after),
+        Decided::Status(status) => return plain_orders::status_numbers(status, taken, after),
+        Decided::Body(length) => return plain_orders::body_numbers(length, taken, after),
+        Decided::Order => return plain_orders::order_numbers(order, taken, after),
+    }
 }
 
 // Turns an order and its signature into a reply. The order is whatever the firmware hands in: a kind that is none is R7.

@@ -5,7 +5,7 @@ use panel_stated::FrameSaid;
 
 fn frame(f: FrameSaid) -> Answer {
     if f.answer != 0x9000 {
-        return answers::bare(f.answer);
+        return answers::status(f.answer, f.fault, f.place);
     }
     let five = [
         f.shape as u64,
@@ -19,7 +19,7 @@ fn frame(f: FrameSaid) -> Answer {
 
 fn command(c: CommandSaid) -> Answer {
     if c.answer != 0x9000 {
-        return answers::bare(c.answer);
+        return answers::status(c.answer, c.fault, c.place);
     }
     let challenge = c.challenge as u64;
     let application = c.application as u64;

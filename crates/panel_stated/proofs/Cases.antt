@@ -5,7 +5,8 @@ use mathlib.Core.List.{List}
 use native.Mathlib.Omega.{arith}
 use borrow.Author.Tests.{ne-eqb}
 use lib.ListN.{length}
-use Rattle.outcome.specs.Outcome.{Gives, statusNo, refusalNo}
+use Rattle.outcome.specs.Outcome.{R, Word, Gives, statusNo, faultOf, wordOf, refusalNo, noFault, plainWord}
+use Rattle.outcome.specs.declared.FaultNumbers.{FaultNumbers}
 use Rattle.outcome.specs.declared.ApduStatusCode.{ApduStatusCode}
 use Rattle.outcome.specs.declared.Refusal.{Refusal}
 use Rattle.apdu_stated.specs.Words.{shapeNo}
@@ -26,8 +27,8 @@ use Rattle.command_stated.specs.declared.Ctap1Flags.{Ctap1Flags}
 use Rattle.command_stated.specs.declared.U2fCommand.{U2fCommand}
 use Rattle.command_stated.specs.declared.U2fCommand.the-variants as U2fCommand′
 use Rattle.panel_stated.specs.Words.{FrameSaid, CommandSaid, Wrote, Shaped, PresenceRecord, Made, Stepped, Asked, OrderNumbers, DecisionSaid, Kinded}
-use Rattle.panel_stated.specs.Numbers.{shapeOf, greatestNo, windowOf, windowNo, presenceOf, presenceNumbers, isYes, kindOf, decidedNo}
-use Rattle.panel_stated.specs.Exports.{noFrame, frameNumbers, lengthNumbers, ToWrite, writeNumbered, bufferAs, bareCommand, commandNumbers, noRecord, madeNumbers, askedNumbers, stepNumbers, bodyLength, headAfter, handedNumbers, decisionNumbers, ToFinish, orderFrom, finishNumbered}
+use Rattle.panel_stated.specs.Numbers.{shapeOf, greatestNo, windowOf, windowNo, presenceOf, presenceNumbers, isYes, kindOf, noOrder}
+use Rattle.panel_stated.specs.Exports.{frameNumbers, lengthNumbers, ToWrite, writeNumbered, bufferAs, bareCommand, commandNumbers, noRecord, madeNumbers, askedNumbers, stepNumbers, headAfter, decidedNumbers, handedNumbers, decisionNumbers, ToFinish, orderFrom, finishNumbered}
 use Rattle.panel_stated.specs.declared.Shaped.the-variants as Shaped′
 use mathlib.Core.Bool.{true, false, Bool}
 use Rattle.u2f_up_stated.specs.Moments.{touchOf, checkOf, askOf}
@@ -47,7 +48,7 @@ use Rattle.signing_stated.specs.declared.Finished.the-variants as Finished′
 use Rattle.signing_stated.specs.declared.Kind.{Kind}
 use Rattle.signing_stated.specs.declared.Kind.the-variants as Kind′
 use Rattle.signing_stated.specs.declared.Head.{Head}
-use Rattle.ctap1_stated.specs.Words.{Result, WithBlock, decidedOf, decisionSaid, decisionWith}
+use Rattle.ctap1_stated.specs.Words.{Body, Ordered, Result, WithBlock, decisionSaid, decisionWith}
 use Rattle.ctap1_stated.specs.Decision.{replyLeft, blockLeft, leftOf}
 use Rattle.ctap1_stated.specs.Decision.{decisionOf}
 use Rattle.ctap1_stated.specs.declared.Decided.{Decided}
@@ -66,28 +67,28 @@ through f x y r e is = is ∙ ap f e
 module _ (says : Apdu) (at : Place) (is-at : at ≡ placeOf (saysOf says)) where
   pub said : (shape : ℕ) → shape ≡ shapeNo (says .shape)
       → _≡_ {A = FrameSaid}
-      (record { answer = 0x9000; cla = says .header .cla; ins = says .header .ins; p1 = says .header .p1; p2 = says .header .p2; shape = shape; lc = says .lc; le = says .le; start = at .start; end = at .end })
+      (record { answer = 0x9000; fault = 0; cla = says .header .cla; ins = says .header .ins; p1 = says .header .p1; p2 = says .header .p2; shape = shape; lc = says .lc; le = says .le; start = at .start; end = at .end; place = 0 })
       (frameNumbers (Gives (saysOf says)))
   said shape is-shape = rw (is-shape, is-at)
 
   pub register-said :
       _≡_ {A = CommandSaid}
-      (record { answer = 0x9000; command = 0x01; p1 = 0; challenge = at .start; application = at .start + 32; handle = 0; «handle_end» = 0 })
+      (record { answer = 0x9000; fault = 0; command = 0x01; p1 = 0; challenge = at .start; application = at .start + 32; handle = 0; «handle_end» = 0; place = 0 })
       (commandNumbers (Gives (Register (saysOf says))))
   register-said = rw is-at
 
   pub authenticate-said : (flags : Ctap1Flags) (p1 : ℕ) (handle : Place) → p1 ≡ flagsNo flags → handle ≡ handlePlaceOf (saysOf says)
       → _≡_ {A = CommandSaid}
-      (record { answer = 0x9000; command = 0x02; p1 = p1; challenge = at .start; application = at .start + 32; handle = handle .start; «handle_end» = handle .end })
+      (record { answer = 0x9000; fault = 0; command = 0x02; p1 = p1; challenge = at .start; application = at .start + 32; handle = handle .start; «handle_end» = handle .end; place = 0 })
       (commandNumbers (Gives (Authenticate (flagsNo flags) (saysOf says))))
   authenticate-said flags p1 handle is-p1 is-handle = rw (is-at, is-p1, is-handle)
 
-module _ (reading : Reading) where
-  pub frame-given : (says : Apdu) (r : FrameSaid) → reading ≡ Reading′.Frame says → r ≡ frameNumbers (Gives (saysOf says)) → r ≡ frameNumbers (readingOf reading)
-  frame-given says r z is = is ∙ rw z
-
-  pub frame-status : (s : ApduStatusCode) (n : ℕ) → reading ≡ Reading′.Status s → n ≡ statusNo s → noFrame n ≡ frameNumbers (readingOf reading)
-  frame-status s n z is = rw (is, z)
+-- a status word's numbers beside each other
+pub frame-said : (s : ApduStatusCode) (n : ℕ) (fault : FaultNumbers) → n ≡ statusNo s → fault ≡ faultOf s
+    → _≡_ {A = FrameSaid}
+    (record { answer = n; fault = fault .kind; cla = 0; ins = 0; p1 = 0; p2 = 0; shape = 0; lc = 0; le = 0; start = 0; end = 0; place = fault .place })
+    (frameNumbers (Word (wordOf s)))
+frame-said s n fault is is-fault = rw (is, is-fault)
 
 -- ---- command reading
 module _ (read : U2fCommand) (r : CommandSaid) where
@@ -97,11 +98,11 @@ module _ (read : U2fCommand) (r : CommandSaid) where
   pub command-authenticate : (flags : Ctap1Flags) (says : Apdu) → read ≡ U2fCommand′.Authenticate flags says → r ≡ commandNumbers (Gives (Authenticate (flagsNo flags) (saysOf says))) → r ≡ commandNumbers (commandSaid read)
   command-authenticate flags says z is = is ∙ rw z
 
-  pub command-version : read ≡ U2fCommand′.Version → r ≡ bareCommand 0x9000 0x03 → r ≡ commandNumbers (commandSaid read)
-  command-version z is = is ∙ rw z
+  pub command-version : (fault : FaultNumbers) → read ≡ U2fCommand′.Version → fault ≡ noFault → r ≡ bareCommand (record { number = 0x9000; kind = fault .kind; place = fault .place }) 0x03 → r ≡ commandNumbers (commandSaid read)
+  command-version fault z is-fault is = is ∙ rw (is-fault, z)
 
-  pub command-status : (s : ApduStatusCode) (n : ℕ) → read ≡ U2fCommand′.Status s → n ≡ statusNo s → r ≡ bareCommand n 0 → r ≡ commandNumbers (commandSaid read)
-  command-status s n z is-n is = is ∙ rw (is-n, z)
+  pub command-status : (s : ApduStatusCode) (n : ℕ) (fault : FaultNumbers) → read ≡ U2fCommand′.Status s → n ≡ statusNo s → fault ≡ faultOf s → r ≡ bareCommand (record { number = n; kind = fault .kind; place = fault .place }) 0 → r ≡ commandNumbers (commandSaid read)
+  command-status s n fault z is-n is-fault is = is ∙ rw (is-n, is-fault, z)
 
 -- ---- writing
 module _ (written : Written) where
@@ -219,14 +220,34 @@ unfolding kindOf
 no-kind number a b = rw (ne-eqb number 1 a, ne-eqb number 2 b)
 
 -- ---- the decision
-pub order-said : (answer : Decided) (order : Head) (kind : ℕ) → answer ≡ Decided′.Order → kind ≡ kindNo (order .kind)
-    → _≡_ {A = OrderNumbers} (record { kind = kind; «to_sign» = order .«to_sign»; «certificate_length» = order .«certificate_length» }) (headAfter (decidedOf answer) order)
-order-said answer order kind z is = rw (is, z)
+pub put-together : (answer : ℕ) (fault : FaultNumbers) (taken : Bool) (long : ℕ) (order : OrderNumbers) (p : Presence) (n : PresenceRecord) → n ≡ presenceNumbers p
+    → _≡_ {A = DecisionSaid}
+    (record { answer = answer; fault = fault .kind; taken = taken; length = long; order = order; presence = n; place = fault .place })
+    (record { answer = answer; fault = fault .kind; taken = taken; length = long; order = order; presence = presenceNumbers p; place = fault .place })
+put-together answer fault taken long order p n is = rw is
 
-pub decided : (d : Decision) (answer long : ℕ) (order : OrderNumbers) (p : PresenceRecord)
-    → answer ≡ decidedNo (decidedOf (d .answer)) → long ≡ bodyLength (decidedOf (d .answer)) → order ≡ headAfter (decidedOf (d .answer)) (d .order) → p ≡ presenceNumbers (d .presence)
-    → _≡_ {A = DecisionSaid} (record { answer = answer; taken = d .taken; length = long; order = order; presence = p }) (handedNumbers (decisionSaid d))
-decided d answer long order p is-answer is-long is-order is-p = rw (is-answer, is-long, is-order, is-p)
+-- its numbers, by its answer
+module _ (taken : Bool) (p : Presence) (r : DecisionSaid) (fault : FaultNumbers) (order : OrderNumbers) where
+  -- as the code puts them together
+  abbrev Put : ℕ → ℕ → Type 0
+  Put answer long = r ≡ record { answer = answer; fault = fault .kind; taken = taken; length = long; order = order; presence = presenceNumbers p; place = fault .place }
+
+  module _ (is-fault : fault ≡ noFault) where
+    pub refused-put : (why : Refusal) (n : ℕ) → n ≡ refusalNo why → order ≡ noOrder → Put n 0 → r ≡ decidedNumbers (R (refusalNo why)) noOrder taken p
+    refused-put why n is none put = put ∙ rw (is, none, is-fault)
+
+    pub body-put : (long : ℕ) → order ≡ noOrder → Put 0x9000 long → r ≡ decidedNumbers (Gives (Body long)) noOrder taken p
+    body-put long none put = put ∙ rw (none, is-fault)
+
+    pub order-put : (head : Head) → order ≡ headAfter (Gives Ordered) head → Put 0x0100 0 → r ≡ decidedNumbers (Gives Ordered) (headAfter (Gives Ordered) head) taken p
+    order-put head is put = put ∙ rw (is, is-fault)
+
+  pub status-put : (s : ApduStatusCode) (n : ℕ) → n ≡ statusNo s → fault ≡ faultOf s → order ≡ noOrder → Put n 0 → r ≡ decidedNumbers (Word (wordOf s)) noOrder taken p
+  status-put s n is is-fault none put = put ∙ rw (is, none, is-fault)
+
+pub head-put : (head : Head) (kind : ℕ) → kind ≡ kindNo (head .kind)
+    → _≡_ {A = OrderNumbers} (record { kind = kind; «to_sign» = head .«to_sign»; «certificate_length» = head .«certificate_length» }) (headAfter (Gives Ordered) head)
+head-put head kind is = rw is
 
 abbrev asked : (frame : List ℕ) (k : Hardware) (handle certificate x y : List ℕ) (room : ℕ) → Inputs
 asked frame k handle certificate x y room =
@@ -239,8 +260,25 @@ module _ (frame : List ℕ) (t : ℕ) (handle certificate x y : List ℕ) (n : P
   same room = rw is-p
 
   module _ (room : ℕ) (d : Decision) (old new : List ℕ) (is-d : decisionWith d new ≡ leftOf (decisionOf p t (asked frame k handle certificate x y room)) old) where
-    pub decide-answer : (r : DecisionSaid) → r ≡ handedNumbers (decisionSaid d) → r ≡ decisionNumbers (decisionOf (presenceOf n) t (asked frame k handle certificate x y room))
-    decide-answer r is = is ∙ ap (λ (w : WithBlock). handedNumbers (w .said)) is-d ∙ ap decisionNumbers (same room)
+    handed-answer : (r : DecisionSaid) → r ≡ handedNumbers (decisionSaid d) → r ≡ decisionNumbers (decisionOf (presenceOf n) t (asked frame k handle certificate x y room))
+    handed-answer r is = is ∙ ap (λ (w : WithBlock). handedNumbers (w .said)) is-d ∙ ap decisionNumbers (same room)
+
+    -- by the decision's answer
+    module _ (r : DecisionSaid) where
+      abbrev Decides : Type 0
+      Decides = r ≡ decisionNumbers (decisionOf (presenceOf n) t (asked frame k handle certificate x y room))
+
+      pub decide-refused : (why : Refusal) → d .answer ≡ Decided′.Refused why → r ≡ decidedNumbers (R (refusalNo why)) noOrder (d .taken) (d .presence) → Decides
+      decide-refused why z is = handed-answer r (is ∙ rw z)
+
+      pub decide-status : (s : ApduStatusCode) → d .answer ≡ Decided′.Status s → r ≡ decidedNumbers (Word (wordOf s)) noOrder (d .taken) (d .presence) → Decides
+      decide-status s z is = handed-answer r (is ∙ rw z)
+
+      pub decide-body : (long : ℕ) → d .answer ≡ Decided′.Body long → r ≡ decidedNumbers (Gives (Body long)) noOrder (d .taken) (d .presence) → Decides
+      decide-body long z is = handed-answer r (is ∙ rw z)
+
+      pub decide-order : d .answer ≡ Decided′.Order → r ≡ decidedNumbers (Gives Ordered) (headAfter (Gives Ordered) (d .order)) (d .taken) (d .presence) → Decides
+      decide-order z is = handed-answer r (is ∙ rw z)
 
     pub decide-block : new ≡ blockLeft (decisionOf (presenceOf n) t (asked frame k handle certificate x y room)) old
     decide-block = ap (λ (w : WithBlock). w .block) is-d ∙ ap (λ (s : Result). blockLeft s old) (same room)

@@ -7,9 +7,11 @@ use native.Mathlib.Omega.{arith}
 use lib.Dec.{ltb, eqb}
 use lib.ListN.{length, drop}
 use Rattle.outcome.specs.Notation.{if_then_else_}
-use Rattle.outcome.specs.Outcome.{Outcome, R, SW, Gives}
+use Rattle.outcome.specs.Outcome.{Outcome, R, Word, Gives}
 use Rattle.apdu_stated.specs.Answers.{Says}
-use Rattle.apdu_stated.specs.Reading.{readOf, sayOf, lengthsOf, strictOf, strictly}
+use Rattle.apdu_stated.specs.declared.Entry.{Entry}
+use Rattle.apdu_stated.specs.declared.Entry.the-variants.{Ordinary, Strict}
+use Rattle.apdu_stated.specs.Reading.{readBy, readOf, sayOf, lengthsOf, strictOf}
 use Rattle.apdu_stated.specs.Table.{canCarry}
 use Rattle.apdu_stated.specs.Writing.{Parts, frameOf, writeOf}
 use Rattle.apdu_stated.specs.declared.Lengths.{Lengths}
@@ -23,10 +25,10 @@ use Rattle.ctap1_stated.specs.declared.Allowed.{Allowed}
 use Rattle.ctap1_stated.specs.declared.Allowed.the-variants as Allowed′
 use Rattle.panel_stated.specs.Terms.{IsNumbered}
 use mathlib.Core.Path.{_≡_, refl, sym}
-use Rattle.outcome.proofs.Laws.{r-sw, r-gives}
+use Rattle.outcome.proofs.Laws.{r-word, r-gives}
 use Rattle.ctap1_stated.specs.Decision as Decision′
 use Rattle.ctap1_stated.specs.Words.{Inputs}
-use Rattle.ctap1_stated.specs.Path.{Ending, Internal, WrongData, Orders, Path, NoRoom, Status, SixBytes, Signs, Touch, loginPath, versionPath, registerPath, commandPath, allowedPath, pathOf}
+use Rattle.ctap1_stated.specs.Path.{Ending, Internal, WrongData, Orders, Path, NoRoom, Ends, SixBytes, Signs, Touch, loginPath, versionPath, registerPath, commandPath, allowedPath, pathOf}
 use Rattle.ctap1_stated.specs.Decision.{ended, along, onMoment, decisionOf}
 
 -- both branches of a test
@@ -43,21 +45,17 @@ say-said : (frame : List ℕ) (l : Lengths) → IsNumbered (sayOf frame l)
 unfolding sayOf
 say-said frame (Lengths′.Found s lc le) = tt
 say-said frame Lengths′.Missing = (omega arith, omega arith)
-say-said frame Lengths′.Surplus = (omega arith, omega arith)
+say-said frame (Lengths′.Surplus place) = (omega arith, omega arith)
+
+read-by-said : (entry : Entry) (frame : List ℕ) → IsNumbered (readBy entry frame)
+unfolding readBy
+read-by-said entry frame = test (ltb (length frame) 4) _ _ (omega arith, omega arith) (say-said frame (lengthsOf entry (drop 4 frame)))
 
 pub read-said : (frame : List ℕ) → IsNumbered (readOf frame)
-unfolding readOf
-read-said frame = test (ltb (length frame) 4) _ _ (omega arith, omega arith) (say-said frame (lengthsOf (drop 4 frame)))
-
-strictly-said : (o : Outcome Says) → IsNumbered o → IsNumbered (strictly o)
-unfolding strictly
-strictly-said (R n) h = h
-strictly-said (SW n) h = h
-strictly-said (Gives says) h = test (eqb (says .shape) 6) _ _ (omega arith, omega arith) tt
+read-said = read-by-said Ordinary
 
 pub strict-said : (frame : List ℕ) → IsNumbered (strictOf frame)
-unfolding strictOf
-strict-said frame = strictly-said (readOf frame) (read-said frame)
+strict-said = read-by-said Strict
 
 pub write-said : (w : Parts) (room : ℕ) → IsNumbered (writeOf w room)
 unfolding writeOf
@@ -81,7 +79,7 @@ instruction-said frame said =
 reading-said : (frame : List ℕ) (o : Outcome Says) → IsNumbered o → IsNumbered (onReading frame o)
 unfolding onReading
 reading-said frame (R n) h = h
-reading-said frame (SW n) h = h
+reading-said frame (Word s) h = h
 reading-said frame (Gives said) h = instruction-said frame said
 
 pub command-said : (frame : List ℕ) → IsNumbered (commandOf frame)
@@ -99,7 +97,7 @@ settle-said p t = test (isR6 (p .w)) _ _ (omega arith, omega arith) (test (isR1 
 
 on-settled : (p : Presence) (o : Outcome Presence) (go : Presence → Told) → IsNumbered o → ((q : Presence) → IsNumbered (go q .outcome)) → IsNumbered (onSettled p o go .outcome)
 on-settled p (R n) go h k = h
-on-settled p (SW n) go h k = h
+on-settled p (Word s) go h k = h
 on-settled p (Gives q) go h k = k q
 
 module _ (p : Presence) (t : ℕ) where
@@ -118,7 +116,7 @@ module _ (p : Presence) (t : ℕ) where
 -- ---- the decision
 abbrev OfPath : Path → Type 0
 OfPath NoRoom = Unit {0}
-OfPath (Status n) = (0x6000 ≤ n) × (n < 0x9000)
+OfPath (Ends s) = (0x6000 ≤ s .number) × (s .number < 0x9000)
 OfPath SixBytes = Unit {0}
 OfPath (Signs e) = Unit {0}
 OfPath (Touch e) = Unit {0}
@@ -134,7 +132,7 @@ module _ (a : Inputs) where
   command-path : (o : Outcome Command) → IsNumbered o → OfPath (commandPath a o)
   unfolding commandPath versionPath registerPath
   command-path (R n) h = tt
-  command-path (SW n) h = h
+  command-path (Word s) h = h
   command-path (Gives Version) h = either OfPath (ltb (a .room) 6) _ _ tt tt
   command-path (Gives (Register said)) h =
       either OfPath (ltb (a .room) (registerRoom (length (a .newHandle)) (length (a .certificate)))) _ _ tt tt
@@ -161,7 +159,7 @@ touch-numbered false e p = (omega arith, omega arith)
 
 along-numbered : (path : Path) → OfPath path → (kept settled : Presence) (t : ℕ) → IsNumbered (along path kept settled t .answer)
 along-numbered NoRoom h kept settled t = (omega arith, omega arith)
-along-numbered (Status n) h kept settled t = h
+along-numbered (Ends s) h kept settled t = h
 along-numbered SixBytes h kept settled t = tt
 along-numbered (Signs e) h kept settled t = ended-numbered e settled
 along-numbered (Touch e) h kept settled t = touch-numbered (checkedOf settled t .yes) e (checkedOf settled t .presence)
@@ -172,22 +170,22 @@ decision-said p t a = by-moment (settleOf p t) (settle-said p t)
   where
     by-moment : (o : Outcome Presence) → IsNumbered o → IsNumbered (onMoment p t (pathOf a) o .answer)
     by-moment (R n) h = h
-    by-moment (SW n) h = h
+    by-moment (Word s) h = h
     by-moment (Gives settled) h = along-numbered (pathOf a) (path-numbered a) p settled t
 
 -- a refused decision hands back the record that it was lent
 ended-refused : (e : Ending) (p : Presence) (k : ℕ) → ended e p .answer ≡ R k → ⊥
-ended-refused Internal p k e = r-sw _ _ (sym e)
-ended-refused WrongData p k e = r-sw _ _ (sym e)
+ended-refused Internal p k e = r-word _ _ (sym e)
+ended-refused WrongData p k e = r-word _ _ (sym e)
 ended-refused (Orders o taken) p k e = r-gives _ _ (sym e)
 
 touch-refused : (yes : Bool) (e : Ending) (p : Presence) (k : ℕ) → (if not yes then Decision′.statusResult 0x6985 p else ended e p) .answer ≡ R k → ⊥
 touch-refused true e p k z = ended-refused e p k z
-touch-refused false e p k z = r-sw _ _ (sym z)
+touch-refused false e p k z = r-word _ _ (sym z)
 
 along-refused : (path : Path) (kept settled : Presence) (t k : ℕ) → along path kept settled t .answer ≡ R k → along path kept settled t .presence ≡ kept
 along-refused NoRoom kept settled t k e = refl
-along-refused (Status n) kept settled t k e = absurd (r-sw _ _ (sym e))
+along-refused (Ends s) kept settled t k e = absurd (r-word _ _ (sym e))
 along-refused SixBytes kept settled t k e = absurd (r-gives _ _ (sym e))
 along-refused (Signs x) kept settled t k e = absurd (ended-refused x settled k e)
 along-refused (Touch x) kept settled t k e = absurd (touch-refused (checkedOf settled t .yes) x (checkedOf settled t .presence) k e)
@@ -198,7 +196,7 @@ decision-refused p t a k = by-moment (settleOf p t)
   where
     by-moment : (o : Outcome Presence) → onMoment p t (pathOf a) o .answer ≡ R k → onMoment p t (pathOf a) o .presence ≡ p
     by-moment (R n) e = refl
-    by-moment (SW n) e = refl
+    by-moment (Word s) e = refl
     by-moment (Gives settled) e = along-refused (pathOf a) p settled t k e
 
 -- ---- finishing

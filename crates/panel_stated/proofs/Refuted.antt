@@ -6,9 +6,9 @@ use mathlib.Core.Logic.{inl, inr}
 use mathlib.Core.List.{List, [], _∷_}
 use native.Mathlib.Omega.{arith}
 use lib.ListN.{length, replicate}
-use Rattle.outcome.specs.Outcome.{Outcome, R, SW, Gives}
+use Rattle.outcome.specs.Outcome.{StatusWord, Outcome, R, Word, SW, Gives, plainWord}
 use Rattle.apdu_stated.specs.Answers.{Says}
-use Rattle.apdu_stated.specs.Reading.{readOf, lengthsOf, sayOf}
+use Rattle.apdu_stated.specs.Reading.{readBy, lengthsOf, sayOf}
 use Rattle.u2f_up_stated.specs.History.{Call, Checking}
 use Rattle.u2f_up_stated.specs.Runs.{own, after, doneBy}
 use Rattle.panel_stated.specs.Terms.{numbersAfter}
@@ -96,7 +96,7 @@ login = record { kind = Kind′.Authenticate; «to_sign» = 69; «certificate_le
 
 abbrev said : Outcome (List ℕ) → ℕ
 said (R n) = n
-said (SW n) = n
+said (Word s) = s .number
 said (Gives body) = 0x9000
 
 pub certificateLengthAsToSign : Claims.OrderBack Wrong.certificateLengthAsToSign → ⊥
@@ -104,9 +104,26 @@ unfolding finishOf isAuthenticateLayout kindOf
 certificateLengthAsToSign p =
     let e : _≡_ {A = ℕ} 7 0x9000 = ap said (p login [] 1 [] (replicate 77 0)) in omega arith
 
+-- missing at 6
+abbrev missing6 : StatusWord
+missing6 = record { number = 0x6700; kind = 1; place = 6 }
+
 -- ---- what is not said is 0
 pub shape1BesideStatus : Claims.FrameNumbers Wrong.shape1BesideStatus → ⊥
-shape1BesideStatus p = let e : _≡_ {A = ℕ} 1 0 = ap (λ (f : FrameSaid). f .shape) (p .status 0x6700) in omega arith
+shape1BesideStatus p = let e : _≡_ {A = ℕ} 1 0 = ap (λ (f : FrameSaid). f .shape) (p .status missing6) in omega arith
+
+pub frameFaultUnsaid : Claims.FrameNumbers Wrong.frameFaultUnsaid → ⊥
+frameFaultUnsaid p = let e : _≡_ {A = ℕ} 0 6 = ap (λ (f : FrameSaid). f .place) (p .status missing6) in omega arith
+
+pub kindForPlace : Claims.FrameNumbers Wrong.kindForPlace → ⊥
+kindForPlace p = let e : _≡_ {A = ℕ} 1 6 = ap (λ (f : FrameSaid). f .place) (p .status missing6) in omega arith
+
+pub commandFaultUnsaid : Claims.CommandNumbers Wrong.commandFaultUnsaid → ⊥
+commandFaultUnsaid p = let e : _≡_ {A = ℕ} 0 6 = ap (λ (c : CommandSaid). c .place) (p .status missing6) in omega arith
+
+pub decisionFaultUnsaid : Claims.DecisionNumbers Wrong.decisionFaultUnsaid → ⊥
+decisionFaultUnsaid p =
+    let e : _≡_ {A = ℕ} 0 6 = (p .status (record { answer = Word missing6; presence = fresh 5000; order = login; taken = false }) missing6 refl .2) in omega arith
 
 abbrev registering : Says
 registering = record { header = record { cla = 0; ins = 1; p1 = 3; p2 = 0 }; shape = 3; dataAt = 5; lc = 64; le = 0 }
@@ -144,14 +161,14 @@ pub ordersAlike : Claims.OrderNumbersExactly Wrong.ordersAlike → ⊥
 ordersAlike p = let e : _≡_ {A = ℕ} 1 2 = ap (λ (n : OrderNumbers). n .kind) (p .authenticate login refl) in omega arith
 
 pub blockAfterStatus : Claims.BlockExactly Wrong.blockAfterStatus → ⊥
-blockAfterStatus p = let e : _≡_ {A = ℕ} 0 1 = ap length (p .status 0x6985 [] (1 ∷ [])) in omega arith
+blockAfterStatus p = let e : _≡_ {A = ℕ} 0 1 = ap length (p .status (plainWord 0x6985) [] (1 ∷ [])) in omega arith
 
 pub blockAfterRefusal : Claims.BlockExactly Wrong.blockAfterRefusal → ⊥
 blockAfterRefusal p = let e : _≡_ {A = ℕ} 0 1 = ap length (p .refused 2 [] (1 ∷ [])) in omega arith
 
 -- ---- places: a frame of four bytes, whose data ends with it
 pub placesOneOn : Claims.PlacesCut Wrong.placesOneOn commandNumbers → ⊥
-unfolding readOf lengthsOf sayOf
+unfolding readBy lengthsOf sayOf
 placesOneOn p =
     let e : 5 ≤ 4 = p .«data» (0 ∷ 3 ∷ 0 ∷ 0 ∷ []) (record { header = record { cla = 0; ins = 3; p1 = 0; p2 = 0 }; shape = 1; dataAt = 4; lc = 0; le = 0 }) refl .0 in
     omega arith

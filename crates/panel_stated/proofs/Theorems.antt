@@ -5,14 +5,15 @@ use mathlib.Core.Logic.{_↔_, _⊎_, inl, inr}
 use native.Mathlib.Omega.{arith}
 use borrow.Author.Tests.{ne-eqb, le-ltb}
 use lib.ListN.{length}
-use Rattle.outcome.specs.Outcome.{Outcome, R, SW, Gives, lastRefusal}
-use Rattle.outcome.proofs.Laws.{sw-gives, r-gives, r-sw, both-are}
+use Rattle.outcome.specs.Outcome.{StatusWord, Outcome, R, Word, Gives, lastRefusal}
+use Rattle.outcome.specs.Terms.{HasStatus}
+use Rattle.outcome.proofs.Laws.{word-same, word-gives, r-gives, r-word, both-are}
 use Rattle.apdu_stated.specs.Writing.{partsOf}
 use Rattle.u2f_up_stated.specs.declared.Window.{Window}
 use Rattle.u2f_up_stated.specs.declared.Window.the-variants.{Closed, Opened}
 use Rattle.signing_stated.specs.Orders.{kindNo}
 use Rattle.ctap1_stated.specs.Words.{Given, Body, Ordered}
-use Rattle.panel_stated.specs.Numbers.{answerNo, decidedNo, greatestNo, windowOf, windowNo, presenceOf, presenceNumbers, shapeOf, kindOf}
+use Rattle.panel_stated.specs.Numbers.{answerNo, decidedNo, faultNo, placeNo, greatestNo, windowOf, windowNo, presenceOf, presenceNumbers, shapeOf, kindOf}
 use Rattle.ctap1_stated.specs.Decision.{blockAfter}
 use Rattle.panel_stated.specs.Exports.{ToWrite, ToFinish, inputsOf, writeAs, finishAs, writeNumbered, finishNumbered, orderAfter, frameNumbers, commandNumbers, lengthNumbers, askedNumbers, stepNumbers, madeNumbers, decisionNumbers, decidedBy, bodyLength}
 use Rattle.panel_stated.specs.Claims
@@ -62,23 +63,26 @@ EveryOutcomeNumbered =
     finish (Kinded′.As k) i = Outcomes.finish-said _
     finish Kinded′.Nothing i = (omega arith, omega arith)
 
+same-number : {A : Type 0} (v w : StatusWord) → _≡_ {A = Outcome A} (Word v) (Word w) → v .number ≡ w .number
+same-number v w e = ap (λ (s : StatusWord). s .number) (word-same v w e)
+
 pub AnswerTells : Claims.AnswerTells answerNo
 AnswerTells = record { given = given; refused = refused; status = status }
   where
     given : (o : Outcome Bool) → IsNumbered o → (answerNo o ≡ 0x9000) ↔ ((a : Bool) × (o ≡ Gives a))
     given (R n) h = (λ e. absurd (omega (arith, e, h .1)), λ x. absurd (r-gives _ _ (x .1)))
-    given (SW n) h = (λ e. absurd (omega (arith, e, h .1)), λ x. absurd (sw-gives _ _ (x .1)))
+    given (Word s) h = (λ e. absurd (omega (arith, e, h .1)), λ x. absurd (word-gives _ _ (x .1)))
     given (Gives a) h = (λ e. (a, refl), λ x. refl)
 
     refused : (o : Outcome Bool) → IsNumbered o → (n : ℕ) → n ≤ lastRefusal → (answerNo o ≡ n) ↔ (o ≡ R n)
     refused (R m) h n low = (λ e. ap R e, λ e. cc)
-    refused (SW m) h n low = (λ e. absurd (omega (arith, e, h .0, low)), λ e. absurd (r-sw _ _ (sym e)))
+    refused (Word s) h n low = (λ e. absurd (omega (arith, e, h .0, low)), λ e. absurd (r-word _ _ (sym e)))
     refused (Gives a) h n low = (λ e. absurd (omega (arith, e, low)), λ e. absurd (r-gives _ _ (sym e)))
 
-    status : (o : Outcome Bool) → IsNumbered o → (n : ℕ) → 0x6000 ≤ n → n < 0x9000 → (answerNo o ≡ n) ↔ (o ≡ SW n)
-    status (R m) h n low high = (λ e. absurd (omega (arith, e, h .1, low)), λ e. absurd (r-sw _ _ e))
-    status (SW m) h n low high = (λ e. ap SW e, λ e. cc)
-    status (Gives a) h n low high = (λ e. absurd (omega (arith, e, high)), λ e. absurd (sw-gives _ _ (sym e)))
+    status : (o : Outcome Bool) → IsNumbered o → (n : ℕ) → 0x6000 ≤ n → n < 0x9000 → (answerNo o ≡ n) ↔ HasStatus n o
+    status (R m) h n low high = (λ e. absurd (omega (arith, e, h .1, low)), λ x. absurd (r-word _ _ (x .is)))
+    status (Word s) h n low high = (λ e. record { word = s; is = refl; numbered = e }, λ x. same-number s (x .word) (x .is) ∙ x .numbered)
+    status (Gives a) h n low high = (λ e. absurd (omega (arith, e, high)), λ x. absurd (word-gives _ _ (sym (x .is))))
 
 pub DecisionTells : Claims.DecisionTells decidedNo
 DecisionTells = record { ordered = ordered; body = body; refused = refusal; status = status }
@@ -88,39 +92,39 @@ DecisionTells = record { ordered = ordered; body = body; refused = refusal; stat
 
     ordered : (o : Outcome Given) → IsNumbered o → (decidedNo o ≡ 0x0100) ↔ (o ≡ Gives Ordered)
     ordered (R n) h = (λ e. absurd (omega (arith, e, h .1)), λ e. absurd (r-gives _ _ e))
-    ordered (SW n) h = (λ e. absurd (omega (arith, e, h .0)), λ e. absurd (sw-gives _ _ e))
+    ordered (Word s) h = (λ e. absurd (omega (arith, e, h .0)), λ e. absurd (word-gives _ _ e))
     ordered (Gives (Body n)) h = (λ e. absurd (omega (arith, e)), λ e. absurd (body-order n e))
     ordered (Gives Ordered) h = (λ e. refl, λ e. refl)
 
     body : (o : Outcome Given) → IsNumbered o → (decidedNo o ≡ 0x9000) ↔ ((n : ℕ) × (o ≡ Gives (Body n)))
     body (R n) h = (λ e. absurd (omega (arith, e, h .1)), λ x. absurd (r-gives _ _ (x .1)))
-    body (SW n) h = (λ e. absurd (omega (arith, e, h .1)), λ x. absurd (sw-gives _ _ (x .1)))
+    body (Word s) h = (λ e. absurd (omega (arith, e, h .1)), λ x. absurd (word-gives _ _ (x .1)))
     body (Gives (Body n)) h = (λ e. (n, refl), λ x. refl)
     body (Gives Ordered) h = (λ e. absurd (omega (arith, e)), λ x. absurd (body-order (x .0) (sym (x .1))))
 
     refusal : (o : Outcome Given) → IsNumbered o → (n : ℕ) → 1 ≤ n → n ≤ lastRefusal → (decidedNo o ≡ n) ↔ (o ≡ R n)
     refusal (R m) h n low high = (λ e. ap R e, λ e. cc)
-    refusal (SW m) h n low high = (λ e. absurd (omega (arith, e, h .0, high)), λ e. absurd (r-sw _ _ (sym e)))
+    refusal (Word s) h n low high = (λ e. absurd (omega (arith, e, h .0, high)), λ e. absurd (r-word _ _ (sym e)))
     refusal (Gives (Body m)) h n low high = (λ e. absurd (omega (arith, e, high)), λ e. absurd (r-gives _ _ (sym e)))
     refusal (Gives Ordered) h n low high = (λ e. absurd (omega (arith, e, high)), λ e. absurd (r-gives _ _ (sym e)))
 
-    status : (o : Outcome Given) → IsNumbered o → (n : ℕ) → 0x6000 ≤ n → n < 0x9000 → (decidedNo o ≡ n) ↔ (o ≡ SW n)
-    status (R m) h n low high = (λ e. absurd (omega (arith, e, h .1, low)), λ e. absurd (r-sw _ _ e))
-    status (SW m) h n low high = (λ e. ap SW e, λ e. cc)
-    status (Gives (Body m)) h n low high = (λ e. absurd (omega (arith, e, high)), λ e. absurd (sw-gives _ _ (sym e)))
-    status (Gives Ordered) h n low high = (λ e. absurd (omega (arith, e, low)), λ e. absurd (sw-gives _ _ (sym e)))
+    status : (o : Outcome Given) → IsNumbered o → (n : ℕ) → 0x6000 ≤ n → n < 0x9000 → (decidedNo o ≡ n) ↔ HasStatus n o
+    status (R m) h n low high = (λ e. absurd (omega (arith, e, h .1, low)), λ x. absurd (r-word _ _ (x .is)))
+    status (Word s) h n low high = (λ e. record { word = s; is = refl; numbered = e }, λ x. same-number s (x .word) (x .is) ∙ x .numbered)
+    status (Gives (Body m)) h n low high = (λ e. absurd (omega (arith, e, high)), λ x. absurd (word-gives _ _ (sym (x .is))))
+    status (Gives Ordered) h n low high = (λ e. absurd (omega (arith, e, low)), λ x. absurd (word-gives _ _ (sym (x .is))))
 
 pub NoAnswerIs0 : Claims.NoAnswerIs0 answerNo decidedNo
 NoAnswerIs0 = record { answered = answered; decision = decision }
   where
     answered : (o : Outcome Bool) → IsNumbered o → answerNo o ≡ 0 → ⊥
     answered (R n) h e = omega (arith, e, h .0)
-    answered (SW n) h e = omega (arith, e, h .0)
+    answered (Word s) h e = omega (arith, e, h .0)
     answered (Gives b) h e = omega (arith, e)
 
     decision : (o : Outcome Given) → IsNumbered o → decidedNo o ≡ 0 → ⊥
     decision (R n) h e = omega (arith, e, h .0)
-    decision (SW n) h e = omega (arith, e, h .0)
+    decision (Word s) h e = omega (arith, e, h .0)
     decision (Gives (Body n)) h e = omega (arith, e)
     decision (Gives Ordered) h e = omega (arith, e)
 
@@ -278,13 +282,13 @@ PlacesCut =
 refused-record : (p : Presence) (o : Outcome Presence) (go : Presence → Told) → IsNumbered o
     → ((q : Presence) → (b : Bool) × (go q .outcome ≡ Gives b)) → answerNo (onSettled p o go .outcome) ≤ lastRefusal → onSettled p o go .presence ≡ p
 refused-record p (R n) go h given low = refl
-refused-record p (SW n) go h given low = refl
+refused-record p (Word s) go h given low = refl
 refused-record p (Gives q) go h given low = absurd (omega (arith, ap answerNo (given q .1)))
 
 decision-kept : (p : Presence) (t : ℕ) (a : Inputs) → (o : Outcome Given) → decisionOf p t a .answer ≡ o → IsNumbered o
     → 1 ≤ decidedNo o → decidedNo o ≤ lastRefusal → decisionOf p t a .presence ≡ p
 decision-kept p t a (R n) e h low high = Outcomes.decision-refused p t a n e
-decision-kept p t a (SW n) e h low high = absurd (omega (arith, h .0))
+decision-kept p t a (Word s) e h low high = absurd (omega (arith, h .0))
 decision-kept p t a (Gives (Body n)) e h low high = absurd (omega arith)
 decision-kept p t a (Gives Ordered) e h low high = absurd (omega arith)
 
@@ -303,10 +307,10 @@ RefusalHandsBack =
 pub DecisionNumbers : Claims.DecisionNumbers decisionNumbers
 DecisionNumbers =
     record {
-      refused = λ r n e. (ap decidedNo e, ap bodyLength e);
-      status = λ r n e. (ap decidedNo e, ap bodyLength e);
-      body = λ r n e. (ap decidedNo e, ap bodyLength e);
-      ordered = λ r e. (ap decidedNo e, ap bodyLength e);
+      refused = λ r n e. (ap decidedNo e, ap faultNo e, ap placeNo e, ap bodyLength e);
+      status = λ r s e. (ap decidedNo e, ap faultNo e, ap placeNo e, ap bodyLength e);
+      body = λ r n e. (ap decidedNo e, ap faultNo e, ap placeNo e, ap bodyLength e);
+      ordered = λ r e. (ap decidedNo e, ap faultNo e, ap placeNo e, ap bodyLength e);
       taken = λ r. refl;
       order = λ r. refl;
       presence = λ r. refl;
@@ -329,7 +333,8 @@ pub ResultsDetermined : Claims.ResultsDetermined
 ResultsDetermined =
     record {
       shape-numbered = λ n a b. both-are a b;
-      frame-plain = λ reading a b. both-are a b;
+      frame-numbers = λ says a b. both-are a b;
+      frame-status = λ s a b. both-are a b;
       write-plain = λ w a b p q. written a b (both-are _ _ (p .0) (q .0)) (both-are _ _ (p .1) (q .1));
       command-plain = λ read a b. both-are a b;
       record-lent = λ n a b. both-are a b;
@@ -338,7 +343,10 @@ ResultsDetermined =
       asked-plain = λ answer a b. both-are a b;
       step-plain = λ step a b. both-are a b;
       kind-numbered = λ n a b. both-are a b;
-      decision-plain = λ decision a b. both-are a b;
+      refused-numbers = λ why taken p a b. both-are a b;
+      status-numbers = λ s taken p a b. both-are a b;
+      body-numbers = λ n taken p a b. both-are a b;
+      order-numbers = λ head taken p a b. both-are a b;
       finished-plain = λ finished a b. both-are a b;
       brinecandle-read = λ frame a b. both-are a b;
       brinecandle-read-strict = λ frame a b. both-are a b;

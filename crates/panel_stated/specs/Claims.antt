@@ -2,13 +2,13 @@
 -- proofs/Only.antt that no others meet the claims named '..Numbers', proofs/Refuted.antt that the wrong programs of
 -- specs/Wrong.antt do not.
 use mathlib.Core.Logic.{_↔_, _⊎_}
-use Rattle.panel_stated.specs.Words.{ℕ, _≡_, _≤_, _<_, Bool, List, AtMostOne, Outcome, R, SW, Gives, lastRefusal, Closed, Opened, Presence, Order}
+use Rattle.panel_stated.specs.Words.{ℕ, _≡_, _≤_, _<_, Bool, List, AtMostOne, StatusWord, Outcome, R, Word, Gives, HasStatus, lastRefusal, Closed, Opened, Presence, Order, Head}
 use Rattle.panel_stated.specs.Words.{Instruction, Le1, Lc1Data, Lc1DataLe1, Lc3Data, Lc3DataLe1, Lc3DataLe2, Le3}
 use Rattle.panel_stated.specs.Words.{PresenceRecord, OrderNumbers, Shaped, Kinded}
 use Rattle.panel_stated.specs.Words.{FrameSaid, CommandSaid, Wrote, Made, Stepped, Asked, DecisionSaid}
 use Rattle.panel_stated.specs.Words.{Says, Command, Register, Authenticate, Version, Told, length, _+_, false, readOf, strictOf, commandOf, newOf, touchOf, checkOf, askOf, finishOf, Given, Body, Ordered, Result}
 use Rattle.panel_stated.specs.Exports.{orderAfter, ToWrite, ToDecide, ToFinish, decidedBy, writeNumbered, finishNumbered}
-use Rattle.panel_stated.specs.Contracts.{ShapeNumbered, FramePlain, WritePlain, CommandPlain, RecordLent, RecordPlain, MadePlain, AskedPlain, StepPlain, KindNumbered, DecisionPlain, FinishedPlain}
+use Rattle.panel_stated.specs.Contracts.{ShapeNumbered, FramePlain, WritePlain, CommandPlain, RecordLent, RecordPlain, MadePlain, AskedPlain, StepPlain, KindNumbered, RefusedPlain, StatusPlain, BodyPlain, OrderPlain, FinishedPlain}
 use Rattle.panel_stated.specs.Contracts.{BrinecandleRead, BrinecandleReadStrict, BrinecandleWrite, BrinecandleReadCommand, BrinecandleNew, BrinecandleGrantUp, BrinecandleConsumeUp, BrinecandleIsUpNeeded, BrinecandleDecide, BrinecandleFinish}
 use Rattle.octets.specs.Bytes.{partOf}
 use Rattle.apdu_stated.specs.Reading.{dataOf}
@@ -16,12 +16,14 @@ use Rattle.command_stated.specs.Command.{challengeOf, applicationOf, handleOf}
 use Rattle.panel_stated.specs.Numbers.{presenceNumbers, isYes}
 use Rattle.u2f_up_stated.specs.Runs.{Caller, Keeps, after, next}
 use Rattle.panel_stated.specs.Terms.{numbersAfter, IsNumbered, IsOfMoment, AreOf64Bits, Carries, AfterWriting, AfterDeciding}
-use Rattle.apdu_stated.specs.declared.Reading.{Reading}
+use Rattle.outcome.specs.declared.ApduStatusCode.{ApduStatusCode}
+use Rattle.outcome.specs.declared.Refusal.{Refusal}
+use Rattle.apdu_stated.specs.declared.Apdu.{Apdu}
+use Rattle.apdu_stated.specs.declared.Reading.the-variants as Reading′
 use Rattle.command_stated.specs.declared.U2fCommand.{U2fCommand}
 use Rattle.u2f_up_stated.specs.declared.Ready.{Ready}
 use Rattle.u2f_up_stated.specs.declared.Answer.{Answer}
 use Rattle.u2f_up_stated.specs.declared.Step.{Step}
-use Rattle.ctap1_stated.specs.declared.Decision.{Decision}
 use Rattle.signing_stated.specs.declared.Finished.{Finished}
 use Rattle.signing_stated.specs.declared.Kind.the-variants as Kind′
 use Rattle.panel_stated.specs.declared.Shaped.the-variants as Shaped′
@@ -44,12 +46,12 @@ pub record EveryOutcomeNumbered : Type 0 where
   pub finish : (i : ToFinish) → IsNumbered (finishNumbered i)
 
 -- So the number 9000 is exactly what was asked for, a refusal's number exactly that refusal, and a status word's exactly that
--- status word. 01: "a definition gives this paper's number and values for each of its cases". A table that gives 9000 for a
+-- status word, whatever its pair. 01: "a definition gives this paper's number and values for each of its cases". A table that gives 9000 for a
 -- status word (`statusAs9000`) fails it, at a frame of three bytes.
 pub record AnswerTells (number : Outcome Bool → ℕ) : Type 0 where
   pub given : (o : Outcome Bool) → IsNumbered o → (number o ≡ 0x9000) ↔ ((a : Bool) × (o ≡ Gives a))
   pub refused : (o : Outcome Bool) → IsNumbered o → (n : ℕ) → n ≤ lastRefusal → (number o ≡ n) ↔ (o ≡ R n)
-  pub status : (o : Outcome Bool) → IsNumbered o → (n : ℕ) → 0x6000 ≤ n → n < 0x9000 → (number o ≡ n) ↔ (o ≡ SW n)
+  pub status : (o : Outcome Bool) → IsNumbered o → (n : ℕ) → 0x6000 ≤ n → n < 0x9000 → (number o ≡ n) ↔ HasStatus n o
 
 -- Of a decision, 0100 is exactly an order, 9000 exactly a body, a refusal's number exactly that refusal, a status word's exactly
 -- that. A table that numbers an order as R2 (`orderNumbered2`) fails it: the firmware would take the order for a refusal.
@@ -57,7 +59,7 @@ pub record DecisionTells (number : Outcome Given → ℕ) : Type 0 where
   pub ordered : (o : Outcome Given) → IsNumbered o → (number o ≡ 0x0100) ↔ (o ≡ Gives Ordered)
   pub body : (o : Outcome Given) → IsNumbered o → (number o ≡ 0x9000) ↔ ((n : ℕ) × (o ≡ Gives (Body n)))
   pub refused : (o : Outcome Given) → IsNumbered o → (n : ℕ) → 1 ≤ n → n ≤ lastRefusal → (number o ≡ n) ↔ (o ≡ R n)
-  pub status : (o : Outcome Given) → IsNumbered o → (n : ℕ) → 0x6000 ≤ n → n < 0x9000 → (number o ≡ n) ↔ (o ≡ SW n)
+  pub status : (o : Outcome Given) → IsNumbered o → (n : ℕ) → 0x6000 ≤ n → n < 0x9000 → (number o ≡ n) ↔ HasStatus n o
 
 -- 0 is no answer's number: memory of zeros is neither an order nor anything else that a call has answered. Ours; DECISIONS, "one answer
 -- number". A table that numbers an order 0 (`orderIs0`) fails it: a decision that was never asked for would be signed.
@@ -146,13 +148,16 @@ OrderBack plain =
 -- ---- what is not said is 0
 
 -- A frame's numbers, or a status word beside zeros. 01: "data comes back as a part of the caller's frame". A table that says shape 1
--- beside a status word (`shape1BesideStatus`) fails it.
+-- beside a status word (`shape1BesideStatus`) fails it, one that keeps a 6700's pair to itself (`frameFaultUnsaid`), and one that tells
+-- its place as its kind (`kindForPlace`).
 pub record FrameNumbers (plain : Outcome Says → FrameSaid) : Type 0 where
-  pub refused : (n : ℕ) → plain (R n) ≡ record { answer = n; cla = 0; ins = 0; p1 = 0; p2 = 0; shape = 0; lc = 0; le = 0; start = 0; end = 0 }
-  pub status : (n : ℕ) → plain (SW n) ≡ record { answer = n; cla = 0; ins = 0; p1 = 0; p2 = 0; shape = 0; lc = 0; le = 0; start = 0; end = 0 }
+  pub refused : (n : ℕ) → plain (R n) ≡ record { answer = n; fault = 0; cla = 0; ins = 0; p1 = 0; p2 = 0; shape = 0; lc = 0; le = 0; start = 0; end = 0; place = 0 }
+  pub status : (s : StatusWord) → plain (Word s)
+      ≡ record { answer = s .number; fault = s .kind; cla = 0; ins = 0; p1 = 0; p2 = 0; shape = 0; lc = 0; le = 0; start = 0; end = 0; place = s .place }
   pub given : (s : Says) → plain (Gives s)
       ≡ record {
         answer = 0x9000;
+        fault = 0;
         cla = s .header .cla;
         ins = s .header .ins;
         p1 = s .header .p1;
@@ -162,60 +167,75 @@ pub record FrameNumbers (plain : Outcome Says → FrameSaid) : Type 0 where
         le = s .le;
         start = s .dataAt;
         end = s .dataAt + s .lc;
+        place = 0;
       }
 
 -- A command's numbers, or a status word beside zeros. 01: "Data: challenge 32, application 32", "The key handle is handed back as
 -- the part of the frame after data[64], up to the data's end and without the Le". A table that says a Register's P1
--- (`registerWithP1`) fails it.
+-- (`registerWithP1`) fails it, and one that keeps a 6700's pair to itself (`commandFaultUnsaid`).
 pub record CommandNumbers (plain : Outcome Command → CommandSaid) : Type 0 where
-  pub refused : (n : ℕ) → plain (R n) ≡ record { answer = n; command = 0; p1 = 0; challenge = 0; application = 0; handle = 0; «handle_end» = 0 }
-  pub status : (n : ℕ) → plain (SW n) ≡ record { answer = n; command = 0; p1 = 0; challenge = 0; application = 0; handle = 0; «handle_end» = 0 }
-  pub version : plain (Gives Version) ≡ record { answer = 0x9000; command = 3; p1 = 0; challenge = 0; application = 0; handle = 0; «handle_end» = 0 }
+  pub refused : (n : ℕ) → plain (R n)
+      ≡ record { answer = n; fault = 0; command = 0; p1 = 0; challenge = 0; application = 0; handle = 0; «handle_end» = 0; place = 0 }
+  pub status : (s : StatusWord) → plain (Word s)
+      ≡ record {
+        answer = s .number;
+        fault = s .kind;
+        command = 0;
+        p1 = 0;
+        challenge = 0;
+        application = 0;
+        handle = 0;
+        «handle_end» = 0;
+        place = s .place;
+      }
+  pub version : plain (Gives Version) ≡ record { answer = 0x9000; fault = 0; command = 3; p1 = 0; challenge = 0; application = 0; handle = 0; «handle_end» = 0; place = 0 }
   pub register : (s : Says) → plain (Gives (Register s))
-      ≡ record { answer = 0x9000; command = 1; p1 = 0; challenge = s .dataAt; application = s .dataAt + 32; handle = 0; «handle_end» = 0 }
+      ≡ record { answer = 0x9000; fault = 0; command = 1; p1 = 0; challenge = s .dataAt; application = s .dataAt + 32; handle = 0; «handle_end» = 0; place = 0 }
   pub authenticate : (p1 : ℕ) (s : Says) → plain (Gives (Authenticate p1 s))
       ≡ record {
         answer = 0x9000;
+        fault = 0;
         command = 2;
         p1 = p1;
         challenge = s .dataAt;
         application = s .dataAt + 32;
         handle = s .dataAt + 65;
         «handle_end» = s .dataAt + s .lc;
+        place = 0;
       }
 
 -- A written length, or 0 beside a refusal or a status word. A table that says a length beside a refusal (`lengthBesideRefusal`), or
 -- never one (`lengthUnsaid`), fails it.
 pub record LengthNumbers (plain : Outcome ℕ → Wrote) : Type 0 where
   pub refused : (n : ℕ) → plain (R n) ≡ record { answer = n; length = 0 }
-  pub status : (n : ℕ) → plain (SW n) ≡ record { answer = n; length = 0 }
+  pub status : (s : StatusWord) → plain (Word s) ≡ record { answer = s .number; length = 0 }
   pub given : (n : ℕ) → plain (Gives n) ≡ record { answer = 0x9000; length = n }
 
 -- What a touch, a check or an ask says: `yes` beside 9000 alone. A table that says yes beside a refusal (`yesBesideRefusal`) fails it:
 -- the firmware would take a refused touch for an accepted one. So does one that never says yes (`alwaysNo`).
 pub record AskedNumbers (plain : Outcome Bool → Asked) : Type 0 where
   pub refused : (n : ℕ) → plain (R n) ≡ record { answer = n; yes = false }
-  pub status : (n : ℕ) → plain (SW n) ≡ record { answer = n; yes = false }
+  pub status : (s : StatusWord) → plain (Word s) ≡ record { answer = s .number; yes = false }
   pub given : (b : Bool) → plain (Gives b) ≡ record { answer = 0x9000; yes = b }
 
 -- The same beside the record after the call. `stepYesBesideRefusal` fails it, and a record without its last moment (`lastMomentLost`).
 pub record StepNumbers (plain : Told → Stepped) : Type 0 where
   pub refused : (n : ℕ) (p : Presence) → plain (record { outcome = R n; presence = p }) ≡ record { answer = n; yes = false; presence = presenceNumbers p }
-  pub status : (n : ℕ) (p : Presence) → plain (record { outcome = SW n; presence = p }) ≡ record { answer = n; yes = false; presence = presenceNumbers p }
+  pub status : (s : StatusWord) (p : Presence) → plain (record { outcome = Word s; presence = p }) ≡ record { answer = s .number; yes = false; presence = presenceNumbers p }
   pub given : (b : Bool) (p : Presence) → plain (record { outcome = Gives b; presence = p }) ≡ record { answer = 0x9000; yes = b; presence = presenceNumbers p }
 
 -- 01: "a refused making hands back no record": four zeros, which no call takes, since W is 0. A making that hands back a fresh record
 -- beside its refusal (`madeBesideRefusal`) fails it, as does one that never hands one back (`madeWithoutRecord`).
 pub record MadeNumbers (plain : Outcome Presence → Made) : Type 0 where
   pub refused : (n : ℕ) → plain (R n) ≡ record { answer = n; presence = record { w = 0; prompt = 0; touch = 0; last = 0 } }
-  pub status : (n : ℕ) → plain (SW n) ≡ record { answer = n; presence = record { w = 0; prompt = 0; touch = 0; last = 0 } }
+  pub status : (s : StatusWord) → plain (Word s) ≡ record { answer = s .number; presence = record { w = 0; prompt = 0; touch = 0; last = 0 } }
   pub given : (p : Presence) → plain (Gives p) ≡ record { answer = 0x9000; presence = presenceNumbers p }
 
 -- The numbers of a decision's order: kind 1 or 2, the number of bytes to sign, the certificate length; zeros where there is none.
 -- A table that numbers an Authenticate order 1 (`ordersAlike`) fails it.
 pub record OrderNumbersExactly (plain : Outcome Given → Order → OrderNumbers) : Type 0 where
   pub refused : (n : ℕ) (o : Order) → plain (R n) o ≡ record { kind = 0; «to_sign» = 0; «certificate_length» = 0 }
-  pub status : (n : ℕ) (o : Order) → plain (SW n) o ≡ record { kind = 0; «to_sign» = 0; «certificate_length» = 0 }
+  pub status : (s : StatusWord) (o : Order) → plain (Word s) o ≡ record { kind = 0; «to_sign» = 0; «certificate_length» = 0 }
   pub body : (n : ℕ) (o : Order) → plain (Gives (Body n)) o ≡ record { kind = 0; «to_sign» = 0; «certificate_length» = 0 }
   pub register : (o : Order) → o .kind ≡ Kind′.Register
       → plain (Gives Ordered) o ≡ record { kind = 1; «to_sign» = o .«to_sign»; «certificate_length» = o .«certificate_length» }
@@ -223,12 +243,13 @@ pub record OrderNumbersExactly (plain : Outcome Given → Order → OrderNumbers
       → plain (Gives Ordered) o ≡ record { kind = 2; «to_sign» = o .«to_sign»; «certificate_length» = o .«certificate_length» }
 
 -- A decision's numbers. A decision whose counter was taken and goes out as not taken (`takenUnsaid`) fails it: the counter would not
--- grow.
+-- grow; and one that keeps the pair of a 6700 to itself (`decisionFaultUnsaid`).
 pub record DecisionNumbers (plain : Result → DecisionSaid) : Type 0 where
-  pub refused : (r : Result) (n : ℕ) → r .answer ≡ R n → (plain r .answer ≡ n) × (plain r .length ≡ 0)
-  pub status : (r : Result) (n : ℕ) → r .answer ≡ SW n → (plain r .answer ≡ n) × (plain r .length ≡ 0)
-  pub body : (r : Result) (n : ℕ) → r .answer ≡ Gives (Body n) → (plain r .answer ≡ 0x9000) × (plain r .length ≡ n)
-  pub ordered : (r : Result) → r .answer ≡ Gives Ordered → (plain r .answer ≡ 0x0100) × (plain r .length ≡ 0)
+  pub refused : (r : Result) (n : ℕ) → r .answer ≡ R n → (plain r .answer ≡ n) × (plain r .fault ≡ 0) × (plain r .place ≡ 0) × (plain r .length ≡ 0)
+  pub status : (r : Result) (s : StatusWord) → r .answer ≡ Word s
+      → (plain r .answer ≡ s .number) × (plain r .fault ≡ s .kind) × (plain r .place ≡ s .place) × (plain r .length ≡ 0)
+  pub body : (r : Result) (n : ℕ) → r .answer ≡ Gives (Body n) → (plain r .answer ≡ 0x9000) × (plain r .fault ≡ 0) × (plain r .place ≡ 0) × (plain r .length ≡ n)
+  pub ordered : (r : Result) → r .answer ≡ Gives Ordered → (plain r .answer ≡ 0x0100) × (plain r .fault ≡ 0) × (plain r .place ≡ 0) × (plain r .length ≡ 0)
   pub taken : (r : Result) → plain r .taken ≡ r .taken
   pub order : (r : Result) → plain r .order ≡ orderAfter (r .answer) (r .order)  -- by `OrderNumbersExactly`
   pub presence : (r : Result) → plain r .presence ≡ presenceNumbers (r .presence)  -- by `RecordNumbers` and `NumbersBack`
@@ -237,7 +258,7 @@ pub record DecisionNumbers (plain : Result → DecisionSaid) : Type 0 where
 -- word (`blockAfterStatus`) or a refusal (`blockAfterRefusal`) fails it: an order that waits for its signature is lost.
 pub record BlockExactly (after : Outcome Given → (bytes old : List ℕ) → List ℕ) : Type 0 where
   pub refused : (n : ℕ) (bytes old : List ℕ) → after (R n) bytes old ≡ old
-  pub status : (n : ℕ) (bytes old : List ℕ) → after (SW n) bytes old ≡ old
+  pub status : (s : StatusWord) (bytes old : List ℕ) → after (Word s) bytes old ≡ old
   pub body : (n : ℕ) (bytes old : List ℕ) → after (Gives (Body n)) bytes old ≡ old
   pub ordered : (bytes old : List ℕ) → after (Gives Ordered) bytes old ≡ bytes
 
@@ -261,7 +282,8 @@ pub record PlacesCut (frames : Outcome Says → FrameSaid) (commands : Outcome C
 -- ---- two results that satisfy a contract are equal, and so are the contents of what was lent
 pub record ResultsDetermined : Type 0 where
   pub shape-numbered : (n : ℕ) → AtMostOne (ShapeNumbered n)
-  pub frame-plain : (reading : Reading) → AtMostOne (FramePlain reading)
+  pub frame-numbers : (says : Apdu) → AtMostOne (FramePlain (Reading′.Frame says))
+  pub frame-status : (s : ApduStatusCode) → AtMostOne (FramePlain (Reading′.Status s))
   pub write-plain : (w : ToWrite) → AtMostOne (λ (r : AfterWriting). WritePlain w (r .said) (r .buffer))
   pub command-plain : (read : U2fCommand) → AtMostOne (CommandPlain read)
   pub record-lent : (n : PresenceRecord) → AtMostOne (RecordLent n)
@@ -270,7 +292,10 @@ pub record ResultsDetermined : Type 0 where
   pub asked-plain : (answer : Answer) → AtMostOne (AskedPlain answer)
   pub step-plain : (step : Step) → AtMostOne (StepPlain step)
   pub kind-numbered : (n : ℕ) → AtMostOne (KindNumbered n)
-  pub decision-plain : (decision : Decision) → AtMostOne (DecisionPlain decision)
+  pub refused-numbers : (why : Refusal) (taken : Bool) (p : Presence) → AtMostOne (RefusedPlain why taken p)
+  pub status-numbers : (s : ApduStatusCode) (taken : Bool) (p : Presence) → AtMostOne (StatusPlain s taken p)
+  pub body-numbers : (n : ℕ) (taken : Bool) (p : Presence) → AtMostOne (BodyPlain n taken p)
+  pub order-numbers : (head : Head) (taken : Bool) (p : Presence) → AtMostOne (OrderPlain head taken p)
   pub finished-plain : (finished : Finished) → AtMostOne (FinishedPlain finished)
   pub brinecandle-read : (frame : List ℕ) → AtMostOne (BrinecandleRead frame)
   pub brinecandle-read-strict : (frame : List ℕ) → AtMostOne (BrinecandleReadStrict frame)

@@ -1,9 +1,9 @@
 -- What is promised of each public function of plain_frames, plain_presence, plain_orders and panel, over what it is lent, its
 -- result, and the final contents of what it writes.
-use Rattle.panel_stated.specs.Words.{ℕ, _≡_, List, Presence, readOf, strictOf, commandOf, newOf, touchOf, checkOf, askOf, lengthOf, replyOf, replyLeft, blockLeft}
+use Rattle.panel_stated.specs.Words.{ℕ, _≡_, Bool, List, R, Word, Gives, Body, Ordered, Head, Presence, readOf, strictOf, commandOf, newOf, touchOf, checkOf, askOf, lengthOf, replyOf, replyLeft, blockLeft}
 use Rattle.panel_stated.specs.Words.{PresenceRecord, FrameSaid, CommandSaid, Wrote, Made, Stepped, Asked, DecisionSaid, Shaped, Kinded}
-use Rattle.panel_stated.specs.Numbers.{presenceOf, presenceNumbers, shapeOf, kindOf}
-use Rattle.panel_stated.specs.Exports.{frameNumbers, lengthNumbers, ToWrite, writeNumbered, bufferAs, commandNumbers, madeNumbers, askedNumbers, stepNumbers, handedNumbers, decisionNumbers, ToDecide, decidedBy, ToFinish, finishNumbered}
+use Rattle.panel_stated.specs.Numbers.{presenceOf, presenceNumbers, shapeOf, kindOf, noOrder}
+use Rattle.panel_stated.specs.Exports.{frameNumbers, lengthNumbers, ToWrite, writeNumbered, bufferAs, commandNumbers, madeNumbers, askedNumbers, stepNumbers, headAfter, decidedNumbers, decisionNumbers, ToDecide, decidedBy, ToFinish, finishNumbered}
 use Rattle.apdu_stated.specs.Answers.{readingOf}
 use Rattle.apdu_stated.specs.declared.Reading.{Reading}
 use Rattle.command_stated.specs.Command.{commandSaid}
@@ -12,8 +12,9 @@ use Rattle.u2f_up_stated.specs.Answers.{readyOf, outcomeOf, toldOf}
 use Rattle.u2f_up_stated.specs.declared.Ready.{Ready}
 use Rattle.u2f_up_stated.specs.declared.Answer.{Answer}
 use Rattle.u2f_up_stated.specs.declared.Step.{Step}
-use Rattle.ctap1_stated.specs.Words.{decisionSaid}
-use Rattle.ctap1_stated.specs.declared.Decision.{Decision}
+use Rattle.outcome.specs.Outcome.{wordOf, refusalNo}
+use Rattle.outcome.specs.declared.ApduStatusCode.{ApduStatusCode}
+use Rattle.outcome.specs.declared.Refusal.{Refusal}
 use Rattle.signing_stated.specs.Finishing.{finishedOf}
 use Rattle.signing_stated.specs.declared.Finished.{Finished}
 
@@ -50,8 +51,18 @@ StepPlain step r = r ≡ stepNumbers (toldOf step)
 abbrev pub KindNumbered : ℕ → Kinded → Type 0
 KindNumbered number r = r ≡ kindOf number
 
-abbrev pub DecisionPlain : Decision → DecisionSaid → Type 0
-DecisionPlain decision r = r ≡ handedNumbers (decisionSaid decision)
+-- a decision by its four answers: a refusal, a status word, a body, an order
+abbrev pub RefusedPlain : Refusal → (taken : Bool) → Presence → DecisionSaid → Type 0
+RefusedPlain why taken p r = r ≡ decidedNumbers (R (refusalNo why)) noOrder taken p
+
+abbrev pub StatusPlain : ApduStatusCode → (taken : Bool) → Presence → DecisionSaid → Type 0
+StatusPlain status taken p r = r ≡ decidedNumbers (Word (wordOf status)) noOrder taken p
+
+abbrev pub BodyPlain : ℕ → (taken : Bool) → Presence → DecisionSaid → Type 0
+BodyPlain length taken p r = r ≡ decidedNumbers (Gives (Body length)) noOrder taken p
+
+abbrev pub OrderPlain : Head → (taken : Bool) → Presence → DecisionSaid → Type 0
+OrderPlain head taken p r = r ≡ decidedNumbers (Gives Ordered) (headAfter (Gives Ordered) head) taken p
 
 abbrev pub FinishedPlain : Finished → Wrote → Type 0
 FinishedPlain finished r = r ≡ lengthNumbers (finishedOf finished)

@@ -1,10 +1,10 @@
 -- What each export answers, in plain numbers, by the outcome that the definitions of the other crates give for its call.
 -- A number that an answer has no use for is 0.
-use Rattle.panel_stated.specs.Words.{ℕ, _+_, Bool, false, List, length, Outcome, R, SW, Gives, ApduHeader, Presence, Kind, Head, Order, headOf}
+use Rattle.panel_stated.specs.Words.{ℕ, _+_, Bool, false, List, length, StatusWord, Outcome, R, Word, Gives, plainWord, ApduHeader, Presence, Kind, Head, Order, headOf}
 use Rattle.panel_stated.specs.Words.{PresenceRecord, HardwareSaid, OrderNumbers, FrameSaid, CommandSaid, Wrote, Made, Stepped, Asked, DecisionSaid, Shaped, Kinded}
 use Rattle.panel_stated.specs.Words.{Says, placeOf, partsOf, writeOf, bufferOf, Command, Register, Authenticate, Version, handlePlaceOf, Told}
 use Rattle.panel_stated.specs.Words.{kindNo, finishOf, Given, Body, Ordered, Result, Handed, handedOf, decisionOf}
-use Rattle.panel_stated.specs.Numbers.{answerNo, decidedNo, presenceOf, presenceNumbers, isYes, hardwareOf, shapeOf, kindOf, noOrder}
+use Rattle.panel_stated.specs.Numbers.{answerNo, decidedNo, faultNo, placeNo, presenceOf, presenceNumbers, isYes, hardwareOf, shapeOf, kindOf, noOrder}
 use Rattle.ctap1_stated.specs.Words.{Inputs}
 use Rattle.panel_stated.specs.declared.Shaped.the-variants as Shaped′
 use Rattle.panel_stated.specs.declared.Kinded.the-variants as Kinded′
@@ -15,6 +15,7 @@ abbrev pub saidNumbers : Says → FrameSaid
 saidNumbers said =
     record {
       answer = 0x9000;
+      fault = 0;
       cla = said .header .cla;
       ins = said .header .ins;
       p1 = said .header .p1;
@@ -24,21 +25,22 @@ saidNumbers said =
       le = said .le;
       start = placeOf said .start;
       end = placeOf said .end;
+      place = 0;
     }
 
--- a status word alone
-abbrev pub noFrame : ℕ → FrameSaid
-noFrame n = record { answer = n; cla = 0; ins = 0; p1 = 0; p2 = 0; shape = 0; lc = 0; le = 0; start = 0; end = 0 }
+-- a status word alone, with what it says of the length
+abbrev pub noFrame : StatusWord → FrameSaid
+noFrame s = record { answer = s .number; fault = s .kind; cla = 0; ins = 0; p1 = 0; p2 = 0; shape = 0; lc = 0; le = 0; start = 0; end = 0; place = s .place }
 
 abbrev pub frameNumbers : Outcome Says → FrameSaid
-frameNumbers (R n) = noFrame n
-frameNumbers (SW n) = noFrame n
+frameNumbers (R n) = noFrame (plainWord n)
+frameNumbers (Word s) = noFrame s
 frameNumbers (Gives said) = saidNumbers said
 
 -- a length: of a frame that was written, of a reply's body
 abbrev pub lengthIn : Outcome ℕ → ℕ
 lengthIn (R n) = 0
-lengthIn (SW n) = 0
+lengthIn (Word s) = 0
 lengthIn (Gives n) = n
 
 abbrev pub lengthNumbers : Outcome ℕ → Wrote
@@ -66,36 +68,40 @@ writeNumbered w = writeAs (shapeOf (w .shape)) w
 
 -- ---- commands
 -- a command without parts, or a status word alone
-abbrev pub bareCommand : (answer command : ℕ) → CommandSaid
-bareCommand a c = record { answer = a; command = c; p1 = 0; challenge = 0; application = 0; handle = 0; «handle_end» = 0 }
+abbrev pub bareCommand : StatusWord → (command : ℕ) → CommandSaid
+bareCommand s c = record { answer = s .number; fault = s .kind; command = c; p1 = 0; challenge = 0; application = 0; handle = 0; «handle_end» = 0; place = s .place }
 
 -- 01, From frame to command: "Data: challenge 32, application 32." "The key handle is handed back as the part of the frame"
 abbrev pub commandGiven : Command → CommandSaid
-commandGiven Version = bareCommand 0x9000 0x03
+commandGiven Version = bareCommand (plainWord 0x9000) 0x03
 commandGiven (Register said) =
     record {
       answer = 0x9000;
+      fault = 0;
       command = 0x01;
       p1 = 0;
       challenge = said .dataAt;
       application = said .dataAt + 32;
       handle = 0;
       «handle_end» = 0;
+      place = 0;
     }
 commandGiven (Authenticate p1 said) =
     record {
       answer = 0x9000;
+      fault = 0;
       command = 0x02;
       p1 = p1;
       challenge = said .dataAt;
       application = said .dataAt + 32;
       handle = handlePlaceOf said .start;
       «handle_end» = handlePlaceOf said .end;
+      place = 0;
     }
 
 abbrev pub commandNumbers : Outcome Command → CommandSaid
-commandNumbers (R n) = bareCommand n 0
-commandNumbers (SW n) = bareCommand n 0
+commandNumbers (R n) = bareCommand (plainWord n) 0
+commandNumbers (Word s) = bareCommand s 0
 commandNumbers (Gives c) = commandGiven c
 
 -- ---- presence
@@ -105,7 +111,7 @@ noRecord = record { w = 0; prompt = 0; touch = 0; last = 0 }
 
 abbrev pub recordIn : Outcome Presence → PresenceRecord
 recordIn (R n) = noRecord
-recordIn (SW n) = noRecord
+recordIn (Word s) = noRecord
 recordIn (Gives p) = presenceNumbers p
 
 abbrev pub madeNumbers : Outcome Presence → Made
@@ -114,7 +120,7 @@ madeNumbers o = record { answer = answerNo o; presence = recordIn o }
 -- a touch was accepted, a check found a touch, a prompt is live
 abbrev pub yesIn : Outcome Bool → Bool
 yesIn (R n) = false
-yesIn (SW n) = false
+yesIn (Word s) = false
 yesIn (Gives b) = b
 
 abbrev pub askedNumbers : Outcome Bool → Asked
@@ -126,14 +132,14 @@ stepNumbers told = record { answer = answerNo (told .outcome); yes = yesIn (told
 -- ---- decision
 abbrev pub bodyLength : Outcome Given → ℕ
 bodyLength (R n) = 0
-bodyLength (SW n) = 0
+bodyLength (Word s) = 0
 bodyLength (Gives (Body n)) = n
 bodyLength (Gives Ordered) = 0
 
 -- an order's kind, number of bytes to sign, and certificate length
 abbrev pub headAfter : Outcome Given → Head → OrderNumbers
 headAfter (R n) head = noOrder
-headAfter (SW n) head = noOrder
+headAfter (Word s) head = noOrder
 headAfter (Gives (Body n)) head = noOrder
 headAfter (Gives Ordered) head =
     record { kind = kindNo (head .kind); «to_sign» = head .«to_sign»; «certificate_length» = head .«certificate_length» }
@@ -141,16 +147,21 @@ headAfter (Gives Ordered) head =
 abbrev pub orderAfter : Outcome Given → Order → OrderNumbers
 orderAfter o order = headAfter o (headOf order)
 
--- the block goes out beside these: `blockLeft`
-abbrev pub handedNumbers : Handed → DecisionSaid
-handedNumbers h =
+-- a decision's numbers; the block goes out beside these: `blockLeft`
+abbrev pub decidedNumbers : Outcome Given → OrderNumbers → (taken : Bool) → Presence → DecisionSaid
+decidedNumbers answer order taken p =
     record {
-      answer = decidedNo (h .answer);
-      taken = h .taken;
-      length = bodyLength (h .answer);
-      order = headAfter (h .answer) (h .head);
-      presence = presenceNumbers (h .presence);
+      answer = decidedNo answer;
+      fault = faultNo answer;
+      taken = taken;
+      length = bodyLength answer;
+      order = order;
+      presence = presenceNumbers p;
+      place = placeNo answer;
     }
+
+abbrev pub handedNumbers : Handed → DecisionSaid
+handedNumbers h = decidedNumbers (h .answer) (headAfter (h .answer) (h .head)) (h .taken) (h .presence)
 
 abbrev pub decisionNumbers : Result → DecisionSaid
 decisionNumbers r = handedNumbers (handedOf r)

@@ -1,6 +1,6 @@
 -- Document 01, 'Forms that change': "exported to it over plain numbers and byte slices". Which number stands for what:
 -- answers, windows and records, shapes and kinds. The hardware's answers are ctap1_stated's, which takes them as numbers.
-use Rattle.panel_stated.specs.Words.{ℕ, zero, suc, _+_, eqb, if_then_else_, Outcome, R, SW, Gives}
+use Rattle.panel_stated.specs.Words.{ℕ, zero, suc, _+_, eqb, if_then_else_, Outcome, R, Word, Gives}
 use Rattle.panel_stated.specs.Words.{Instruction, Le1, Lc1Data, Lc1DataLe1, Lc3Data, Lc3DataLe1, Lc3DataLe2, Le3}
 use Rattle.panel_stated.specs.Words.{Window, Closed, Opened, Presence}
 pub use Rattle.ctap1_stated.specs.Numbers.{allowedOf, attestationOf, isYes, counterOf, hardwareOf}
@@ -12,15 +12,26 @@ use Rattle.panel_stated.specs.declared.Kinded.the-variants as Kinded′
 -- ours: DECISIONS, "one answer number": a refusal is its number, a status word is itself, and what was asked for comes with 9000
 abbrev pub answerNo : {A : Type 0} → Outcome A → ℕ
 answerNo (R n) = n
-answerNo (SW n) = n
+answerNo (Word s) = s .number
 answerNo (Gives a) = 0x9000
 
 -- the same for a decision, where an order is 0100: the number of no refusal, no status word and no memory of zeros
 abbrev pub decidedNo : Outcome Given → ℕ
 decidedNo (R n) = n
-decidedNo (SW n) = n
+decidedNo (Word s) = s .number
 decidedNo (Gives (Body n)) = 0x9000
 decidedNo (Gives Ordered) = 0x0100
+
+-- 02, E1: the kind and place of a 6700; ours: 0 and 0 beside every other answer
+abbrev pub faultNo : {A : Type 0} → Outcome A → ℕ
+faultNo (R n) = 0
+faultNo (Word s) = s .kind
+faultNo (Gives a) = 0
+
+abbrev pub placeNo : {A : Type 0} → Outcome A → ℕ
+placeNo (R n) = 0
+placeNo (Word s) = s .place
+placeNo (Gives a) = 0
 
 -- ours: DECISIONS, "a window as one number": 0 is closed, any other number a window that was opened at the moment before it
 abbrev pub windowOf : ℕ → Window

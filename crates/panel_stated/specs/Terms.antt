@@ -1,12 +1,12 @@
 -- Words that the claims use.
 use mathlib.Core.List.{[], _∷_}
 use Rattle.u2f_up_stated.specs.Runs.{Caller}
-use Rattle.panel_stated.specs.Words.{Made, PresenceRecord, Presence, ℕ, _≤_, _<_, List, Outcome, R, SW, Gives, lastRefusal, Window, Closed, Opened, _^_, Wrote, DecisionSaid, Says, Command, Register, Authenticate}
+use Rattle.panel_stated.specs.Words.{Made, PresenceRecord, Presence, ℕ, _≤_, _<_, List, Outcome, R, Word, Gives, lastRefusal, Window, Closed, Opened, _^_, Wrote, DecisionSaid, Says, Command, Register, Authenticate}
 
 -- a refusal's number is one of the refusals', and a status word's, where it is not what was asked for, is above them and not 9000
 abbrev pub IsNumbered : {A : Type 0} → Outcome A → Type 0
 IsNumbered (R n) = (1 ≤ n) × (n ≤ lastRefusal)
-IsNumbered (SW n) = (0x6000 ≤ n) × (n < 0x9000)
+IsNumbered (Word s) = (0x6000 ≤ s .number) × (s .number < 0x9000)
 IsNumbered (Gives a) = Unit {0}
 
 -- a window that a call can have opened: closed, or opened at a moment below 2^48

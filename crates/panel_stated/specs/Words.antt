@@ -7,7 +7,8 @@ pub use mathlib.Core.List.{List}
 pub use lib.Dec.{eqb}
 pub use lib.ListN.{length}
 pub use Rattle.outcome.specs.Notation.{if_then_else_, AtMostOne}
-pub use Rattle.outcome.specs.Outcome.{Outcome, R, SW, Gives, lastRefusal}
+pub use Rattle.outcome.specs.Outcome.{StatusWord, Outcome, R, Word, SW, Gives, plainWord, lastRefusal}
+pub use Rattle.outcome.specs.Terms.{HasStatus}
 pub use Rattle.apdu_stated.specs.declared.Case.{Case}
 pub use Rattle.apdu_stated.specs.declared.Case.the-variants.{Instruction, Le1, Lc1Data, Lc1DataLe1, Lc3Data, Lc3DataLe1, Lc3DataLe2, Le3}
 pub use Rattle.apdu_stated.specs.declared.ApduHeader.{ApduHeader}

@@ -1,6 +1,6 @@
 -- Wrong programs, one fault each, said as what they do otherwise than the definition. proofs/Refuted.antt has that each fails
 -- its claim.
-use Rattle.panel_stated.specs.Words.{ℕ, _+_, Bool, true, false, eqb, List, if_then_else_, Outcome, R, SW, Gives, Window, Closed, Opened, Presence, Order, Instruction}
+use Rattle.panel_stated.specs.Words.{ℕ, _+_, Bool, true, false, eqb, List, if_then_else_, Outcome, R, Word, Gives, Window, Closed, Opened, Presence, Order, Instruction}
 use Rattle.panel_stated.specs.Words.{DecisionSaid, PresenceRecord, OrderNumbers, FrameSaid, CommandSaid, Wrote, Made, Stepped, Asked, Shaped, Kinded}
 use Rattle.panel_stated.specs.Words.{Says, Command, Register, Authenticate, Version, Told, Result, Given, Body, Ordered, toSign, certificateLength}
 use Rattle.panel_stated.specs.Numbers.{greatestNo, presenceOf, presenceNumbers, shapeOf, kindOf}
@@ -15,20 +15,20 @@ use lib.Dec.{leb}
 -- "one answer number": a status word under what was asked for
 abbrev pub statusAs9000 : Outcome Bool → ℕ
 statusAs9000 (R n) = n
-statusAs9000 (SW n) = 0x9000
+statusAs9000 (Word s) = 0x9000
 statusAs9000 (Gives b) = 0x9000
 
 -- "one answer number": an order under R2's
 abbrev pub orderNumbered2 : Outcome Given → ℕ
 orderNumbered2 (R n) = n
-orderNumbered2 (SW n) = n
+orderNumbered2 (Word s) = s .number
 orderNumbered2 (Gives (Body n)) = 0x9000
 orderNumbered2 (Gives Ordered) = 2
 
 -- "one answer number": an order under the number of memory that nothing has written
 abbrev pub orderIs0 : Outcome Given → ℕ
 orderIs0 (R n) = n
-orderIs0 (SW n) = n
+orderIs0 (Word s) = s .number
 orderIs0 (Gives (Body n)) = 0x9000
 orderIs0 (Gives Ordered) = 0
 
@@ -82,30 +82,32 @@ certificateLengthAsToSign o order =
 -- shape 1 beside a status word
 abbrev pub shape1BesideStatus : Outcome Says → FrameSaid
 shape1BesideStatus (R n) = frameNumbers (R n)
-shape1BesideStatus (SW n) = record { answer = n; cla = 0; ins = 0; p1 = 0; p2 = 0; shape = 1; lc = 0; le = 0; start = 0; end = 0 }
+shape1BesideStatus (Word s) = record { answer = s .number; fault = s .kind; cla = 0; ins = 0; p1 = 0; p2 = 0; shape = 1; lc = 0; le = 0; start = 0; end = 0; place = s .place }
 shape1BesideStatus (Gives s) = frameNumbers (Gives s)
 
 -- "P1 is not looked at": a Register's P1 goes out
 abbrev pub registerWithP1 : Outcome Command → CommandSaid
 registerWithP1 (R n) = commandNumbers (R n)
-registerWithP1 (SW n) = commandNumbers (SW n)
+registerWithP1 (Word s) = commandNumbers (Word s)
 registerWithP1 (Gives Version) = commandNumbers (Gives Version)
 registerWithP1 (Gives (Register s)) =
     record {
       answer = 0x9000;
+      fault = 0;
       command = 1;
       p1 = s .header .p1;
       challenge = s .dataAt;
       application = s .dataAt + 32;
       handle = 0;
       «handle_end» = 0;
+      place = 0;
     }
 registerWithP1 (Gives (Authenticate p1 s)) = commandNumbers (Gives (Authenticate p1 s))
 
 -- a length beside a refusal
 abbrev pub lengthBesideRefusal : Outcome ℕ → Wrote
 lengthBesideRefusal (R n) = record { answer = n; length = 1 }
-lengthBesideRefusal (SW n) = lengthNumbers (SW n)
+lengthBesideRefusal (Word s) = lengthNumbers (Word s)
 lengthBesideRefusal (Gives n) = lengthNumbers (Gives n)
 
 -- what was written has no length
@@ -115,7 +117,7 @@ lengthUnsaid o = record { answer = lengthNumbers o .answer; length = 0 }
 -- yes beside a refusal
 abbrev pub yesBesideRefusal : Outcome Bool → Asked
 yesBesideRefusal (R n) = record { answer = n; yes = true }
-yesBesideRefusal (SW n) = askedNumbers (SW n)
+yesBesideRefusal (Word s) = askedNumbers (Word s)
 yesBesideRefusal (Gives b) = askedNumbers (Gives b)
 
 -- every answer is no
@@ -137,7 +139,7 @@ stepYesBesideRefusal told =
 -- "a refused making hands back no record": one that a call would take
 abbrev pub madeBesideRefusal : Outcome Presence → Made
 madeBesideRefusal (R n) = record { answer = n; presence = record { w = 1; prompt = 0; touch = 0; last = 0 } }
-madeBesideRefusal (SW n) = madeNumbers (SW n)
+madeBesideRefusal (Word s) = madeNumbers (Word s)
 madeBesideRefusal (Gives p) = madeNumbers (Gives p)
 
 -- a making that hands back no record, whether refused or not
@@ -147,36 +149,81 @@ madeWithoutRecord o = record { answer = madeNumbers o .answer; presence = record
 -- every order numbered as a Register
 abbrev pub ordersAlike : Outcome Given → Order → OrderNumbers
 ordersAlike (R n) o = orderAfter (R n) o
-ordersAlike (SW n) o = orderAfter (SW n) o
+ordersAlike (Word s) o = orderAfter (Word s) o
 ordersAlike (Gives (Body n)) o = orderAfter (Gives (Body n)) o
 ordersAlike (Gives Ordered) o = record { kind = 1; «to_sign» = toSign o; «certificate_length» = certificateLength o }
 
 -- "the bytes to sign in a block of 385 bytes": the lent block written after a status word, and after a refusal
 abbrev pub blockAfterStatus : Outcome Given → (bytes old : List ℕ) → List ℕ
 blockAfterStatus (R n) bytes old = old
-blockAfterStatus (SW n) bytes old = bytes
+blockAfterStatus (Word s) bytes old = bytes
 blockAfterStatus (Gives g) bytes old = blockAfter (Gives g) bytes old
 
 abbrev pub blockAfterRefusal : Outcome Given → (bytes old : List ℕ) → List ℕ
 blockAfterRefusal (R n) bytes old = bytes
-blockAfterRefusal (SW n) bytes old = old
+blockAfterRefusal (Word s) bytes old = old
 blockAfterRefusal (Gives g) bytes old = blockAfter (Gives g) bytes old
 
 -- ---- places
 -- "data comes back as a part of the caller's frame": each place one byte on
 abbrev pub placesOneOn : Outcome Says → FrameSaid
 placesOneOn (R n) = frameNumbers (R n)
-placesOneOn (SW n) = frameNumbers (SW n)
+placesOneOn (Word s) = frameNumbers (Word s)
 placesOneOn (Gives s) =
     let n = frameNumbers (Gives s) in
-    record { answer = n .answer; cla = n .cla; ins = n .ins; p1 = n .p1; p2 = n .p2; shape = n .shape; lc = n .lc; le = n .le; start = n .start + 1; end = n .end + 1 }
+    record { answer = n .answer; fault = n .fault; cla = n .cla; ins = n .ins; p1 = n .p1; p2 = n .p2; shape = n .shape; lc = n .lc; le = n .le; start = n .start + 1; end = n .end + 1; place = n .place }
 
 -- ---- decisions and runs
 -- "the offered counter is reported as taken": it is not
 abbrev pub takenUnsaid : Result → DecisionSaid
 takenUnsaid r =
     let n = decisionNumbers r in
-    record { answer = n .answer; taken = false; length = n .length; order = n .order; presence = n .presence }
+    record { answer = n .answer; fault = n .fault; taken = false; length = n .length; order = n .order; presence = n .presence; place = n .place }
+
+-- 02, E1: "carry the pair upward"; ours: out to C too. Here the pair stays behind, beside a frame's status, a command's and a decision's
+abbrev pub frameFaultUnsaid : Outcome Says → FrameSaid
+frameFaultUnsaid o =
+    let n = frameNumbers o in
+    record { answer = n .answer; fault = 0; cla = n .cla; ins = n .ins; p1 = n .p1; p2 = n .p2; shape = n .shape; lc = n .lc; le = n .le; start = n .start; end = n .end; place = 0 }
+
+abbrev pub commandFaultUnsaid : Outcome Command → CommandSaid
+commandFaultUnsaid o =
+    let n = commandNumbers o in
+    record {
+      answer = n .answer;
+      fault = 0;
+      command = n .command;
+      p1 = n .p1;
+      challenge = n .challenge;
+      application = n .application;
+      handle = n .handle;
+      «handle_end» = n .«handle_end»;
+      place = 0;
+    }
+
+abbrev pub decisionFaultUnsaid : Result → DecisionSaid
+decisionFaultUnsaid r =
+    let n = decisionNumbers r in
+    record { answer = n .answer; fault = 0; taken = n .taken; length = n .length; order = n .order; presence = n .presence; place = 0 }
+
+-- kind and place change places
+abbrev pub kindForPlace : Outcome Says → FrameSaid
+kindForPlace o =
+    let n = frameNumbers o in
+    record {
+      answer = n .answer;
+      fault = n .place;
+      cla = n .cla;
+      ins = n .ins;
+      p1 = n .p1;
+      p2 = n .p2;
+      shape = n .shape;
+      lc = n .lc;
+      le = n .le;
+      start = n .start;
+      end = n .end;
+      place = n .fault;
+    }
 
 -- "a window as one number": the same in a run, from the making on
 abbrev pub runsAtItsNumber : PresenceRecord → Presence

@@ -4,6 +4,9 @@
 // The presence record and an order cross as #[repr(C)] structs of numbers, by value: the firmware can copy, print and store
 // them, no call keeps a pointer to them, and a struct lent for writing would be proved by hand. An order's block of 385 bytes
 // crosses as an array lent beside it, since an array does not cross by value. Slices are a pointer and a length.
+//
+// Where a frame's length is wrong, `fault` is 1 to 3 and `place` where; else both are 0. `fault` stands beside the answer, where the two
+// are stored at once.
 use apdu_stated::Case;
 use signing_stated::Kind;
 
@@ -20,6 +23,7 @@ pub struct PresenceRecord {
 #[repr(C)]
 pub struct FrameSaid {
     pub answer: u16,
+    pub fault: u16,
     pub cla: u8,
     pub ins: u8,
     pub p1: u8,
@@ -29,18 +33,21 @@ pub struct FrameSaid {
     pub le: u32,
     pub start: usize,
     pub end: usize,
+    pub place: usize,
 }
 
 // A command by its INS, and where its parts start in the frame: challenge and application have 32 bytes each.
 #[repr(C)]
 pub struct CommandSaid {
     pub answer: u16,
+    pub fault: u16,
     pub command: u8,
     pub p1: u8,
     pub challenge: usize,
     pub application: usize,
     pub handle: usize,
     pub handle_end: usize,
+    pub place: usize,
 }
 
 // A length that was written at the front of a buffer: a frame's, or a reply's.
@@ -80,10 +87,12 @@ pub struct OrderNumbers {
 #[repr(C)]
 pub struct DecisionSaid {
     pub answer: u16,
+    pub fault: u16,
     pub taken: bool,
     pub length: usize,
     pub order: OrderNumbers,
     pub presence: PresenceRecord,
+    pub place: usize,
 }
 
 // A number that is one of the eight shapes', or none.

@@ -7,6 +7,7 @@ use apdu::Written;
 use command::Ctap1Flags;
 use command::U2fCommand;
 use outcome::ApduStatusCode;
+use outcome::FaultNumbers;
 use panel_stated::CommandSaid;
 use panel_stated::FrameSaid;
 use panel_stated::Shaped;
@@ -44,6 +45,7 @@ pub fn frame_numbers(says: Apdu) -> FrameSaid
     let at = apdu::data_place(says);
     FrameSaid {
         answer: 0x9000,
+        fault: 0,
         cla: header.cla,
         ins: header.ins,
         p1: header.p1,
@@ -53,14 +55,17 @@ pub fn frame_numbers(says: Apdu) -> FrameSaid
         le: says.le,
         start: at.start,
         end: at.end,
+        place: 0,
     }
 }
 
 pub fn frame_status(status: ApduStatusCode) -> FrameSaid
     ensures { λ r. ⌜ FramePlain (Status status) r ⌝ }
 {
+    let fault = outcome::fault(status);
     FrameSaid {
         answer: outcome::status_number(status),
+        fault: fault.kind,
         cla: 0,
         ins: 0,
         p1: 0,
@@ -70,15 +75,7 @@ pub fn frame_status(status: ApduStatusCode) -> FrameSaid
         le: 0,
         start: 0,
         end: 0,
-    }
-}
-
-pub fn frame_plain(reading: Reading) -> FrameSaid
-    ensures { λ r. ⌜ FramePlain reading r ⌝ }
-{
-    match reading {
-        Reading::Frame(says) => frame_numbers(says),
-        Reading::Status(status) => frame_status(status),
+        place: fault.place,
     }
 }
 
@@ -116,12 +113,14 @@ fn register_numbers(says: Apdu) -> CommandSaid
     let at = apdu::data_place(says);
     CommandSaid {
         answer: 0x9000,
+        fault: 0,
         command: 0x01,
         p1: 0,
         challenge: at.start,
         application: at.start + 32,
         handle: 0,
         handle_end: 0,
+        place: 0,
     }
 }
 
@@ -132,27 +131,31 @@ fn authenticate_numbers(flags: Ctap1Flags, says: Apdu) -> CommandSaid
     let handle = command::handle_place(says);
     CommandSaid {
         answer: 0x9000,
+        fault: 0,
         command: 0x02,
         p1: command::flags_number(flags),
         challenge: at.start,
         application: at.start + 32,
         handle: handle.start,
         handle_end: handle.end,
+        place: 0,
     }
 }
 
 // A command that has no parts, or a status word.
-fn bare(answer: u16, command: u8) -> CommandSaid
-    ensures { λ r. ⌜ r ≡ bareCommand answer command ⌝ }
+fn bare(answer: u16, command: u8, fault: FaultNumbers) -> CommandSaid
+    ensures { λ r. ⌜ r ≡ bareCommand (record { number = answer; kind = fault .kind; place = fault .place }) command ⌝ }
 {
     CommandSaid {
         answer,
+        fault: fault.kind,
         command,
         p1: 0,
         challenge: 0,
         application: 0,
         handle: 0,
         handle_end: 0,
+        place: fault.place,
     }
 }
 
@@ -162,8 +165,12 @@ pub fn command_plain(read: U2fCommand) -> CommandSaid
     match read {
         U2fCommand::Register(says) => register_numbers(says),
         U2fCommand::Authenticate(flags, says) => authenticate_numbers(flags, says),
-        U2fCommand::Version => bare(0x9000, 0x03),
-        U2fCommand::Status(status) => bare(outcome::status_number(status), 0),
+        U2fCommand::Version => bare(0x9000, 0x03, outcome::no_fault()),
+        U2fCommand::Status(status) => bare(
+            outcome::status_number(status),
+            0,
+            outcome::fault(status),
+        ),
     }
 }
 

@@ -1,6 +1,7 @@
 // Decisions and orders as plain numbers.
-use ctap1_stated::Decided;
-use ctap1_stated::Decision;
+use outcome::ApduStatusCode;
+use outcome::FaultNumbers;
+use outcome::Refusal;
 use panel_stated::DecisionSaid;
 use panel_stated::Kinded;
 use panel_stated::OrderNumbers;
@@ -8,11 +9,10 @@ use panel_stated::Wrote;
 use signing_stated::Finished;
 use signing_stated::Head;
 use signing_stated::Kind;
+use u2f_up_stated::Presence;
 ghost use mathlib.Core.Path.{_≡_};
-ghost use Rattle.ctap1_stated.specs.Words.{decidedOf};
-ghost use Rattle.panel_stated.specs.Numbers.{noOrder, decidedNo};
-ghost use Rattle.panel_stated.specs.Exports.{bodyLength, headAfter};
-ghost use Rattle.panel_stated.specs.Contracts.{KindNumbered, DecisionPlain, FinishedPlain};
+ghost use Rattle.panel_stated.specs.Numbers.{noOrder, presenceNumbers};
+ghost use Rattle.panel_stated.specs.Contracts.{KindNumbered, RefusedPlain, StatusPlain, BodyPlain, OrderPlain, FinishedPlain};
 
 // The answer that is no refusal, no status word and not 0: what stands in the block is to be signed.
 const ORDER: u16 = 0x0100;
@@ -27,44 +27,6 @@ pub fn kind_numbered(number: u32) -> Kinded
     }
 }
 
-fn decided_number(answer: Decided) -> u16
-    ensures { λ r. ⌜ r ≡ decidedNo (decidedOf answer) ⌝ }
-{
-    match answer {
-        Decided::Refused(why) => outcome::refusal_number(why) as u16,
-        Decided::Status(status) => outcome::status_number(status),
-        Decided::Body(_) => 0x9000,
-        Decided::Order => ORDER,
-    }
-}
-
-fn body_length(answer: Decided) -> usize
-    ensures { λ r. ⌜ r ≡ bodyLength (decidedOf answer) ⌝ }
-{
-    match answer {
-        Decided::Refused(_) => 0,
-        Decided::Status(_) => 0,
-        Decided::Body(length) => length,
-        Decided::Order => 0,
-    }
-}
-
-fn order_said(answer: Decided, order: Head) -> OrderNumbers
-    ensures { λ r. ⌜ r ≡ headAfter (decidedOf answer) order ⌝ }
-{
-    let kind = order.kind;
-    match answer {
-        Decided::Refused(_) => no_order(),
-        Decided::Status(_) => no_order(),
-        Decided::Body(_) => no_order(),
-        Decided::Order => OrderNumbers {
-            kind: signing::kind_number(kind) as u32,
-            to_sign: order.to_sign,
-            certificate_length: order.certificate_length,
-        },
-    }
-}
-
 fn no_order() -> OrderNumbers
     ensures { λ r. ⌜ r ≡ noOrder ⌝ }
 {
@@ -75,19 +37,58 @@ fn no_order() -> OrderNumbers
     }
 }
 
-pub fn decision_plain(decision: Decision) -> DecisionSaid
-    ensures { λ r. ⌜ DecisionPlain decision r ⌝ }
+fn numbers(
+    answer: u16,
+    fault: FaultNumbers,
+    length: usize,
+    order: OrderNumbers,
+    taken: bool,
+    kept: Presence,
+) -> DecisionSaid
+    ensures { λ r. ⌜ r ≡ record { answer = answer; fault = fault .kind; taken = taken; length = length; order = order; presence = presenceNumbers kept; place = fault .place } ⌝ }
 {
-    let answer = decision.answer;
-    let order = decision.order;
-    let kept = decision.presence;
     DecisionSaid {
-        answer: decided_number(answer),
-        taken: decision.taken,
-        length: body_length(answer),
-        order: order_said(answer, order),
+        answer,
+        fault: fault.kind,
+        taken,
+        length,
+        order,
         presence: plain_presence::record_plain(kept),
+        place: fault.place,
     }
+}
+
+// A decision in numbers, by its four cases: one that is answered case by case is written where its caller wants it, at once.
+pub fn refused_numbers(why: Refusal, taken: bool, kept: Presence) -> DecisionSaid
+    ensures { λ r. ⌜ RefusedPlain why taken kept r ⌝ }
+{
+    let answer = outcome::refusal_number(why) as u16;
+    numbers(answer, outcome::no_fault(), 0, no_order(), taken, kept)
+}
+
+pub fn status_numbers(status: ApduStatusCode, taken: bool, kept: Presence) -> DecisionSaid
+    ensures { λ r. ⌜ StatusPlain status taken kept r ⌝ }
+{
+    let answer = outcome::status_number(status);
+    numbers(answer, outcome::fault(status), 0, no_order(), taken, kept)
+}
+
+pub fn body_numbers(length: usize, taken: bool, kept: Presence) -> DecisionSaid
+    ensures { λ r. ⌜ BodyPlain length taken kept r ⌝ }
+{
+    numbers(0x9000, outcome::no_fault(), length, no_order(), taken, kept)
+}
+
+pub fn order_numbers(order: Head, taken: bool, kept: Presence) -> DecisionSaid
+    ensures { λ r. ⌜ OrderPlain order taken kept r ⌝ }
+{
+    let kind = order.kind;
+    let said = OrderNumbers {
+        kind: signing::kind_number(kind) as u32,
+        to_sign: order.to_sign,
+        certificate_length: order.certificate_length,
+    };
+    numbers(ORDER, outcome::no_fault(), 0, said, taken, kept)
 }
 
 pub fn finished_plain(finished: Finished) -> Wrote

@@ -78,11 +78,41 @@ pub fn waited(desk: &mut Desk, name: &[u8]) {
     }
 }
 
+// How much of a wanted answer is looked at: all of it, or what stands before a ` ..` at its end.
+fn held_to(wanted: &[u8]) -> usize {
+    let n = wanted.len();
+    if n < 3 {
+        return n;
+    }
+    if check::same(octets::part(wanted, n - 3, n), b" ..") {
+        return n - 3;
+    }
+    n
+}
+
+// Whether an answer is the one wanted. One that ends in ` ..` is met by what stands before that, alone or with more words after it.
+fn is_met(wanted: &[u8], said: &[u8]) -> bool {
+    let n = held_to(wanted);
+    if n == wanted.len() {
+        return check::same(wanted, said);
+    }
+    if said.len() < n {
+        return false;
+    }
+    if !check::same(octets::part(wanted, 0, n), octets::part(said, 0, n)) {
+        return false;
+    }
+    if said.len() == n {
+        return true;
+    }
+    said[n] == b' '
+}
+
 // The answer that a call got, held to the one that it must get.
 pub fn answered(desk: &mut Desk, name: &[u8], space: &[u8], said: &[u8]) {
     more(desk, CALLS);
     let wanted = octets::part(space, desk[text::END], desk[WANTED]);
-    if check::same(wanted, said) {
+    if is_met(wanted, said) {
         return;
     }
     more(desk, OTHERS);

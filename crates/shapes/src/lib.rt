@@ -1,13 +1,14 @@
 // The eight shapes in code: a shape's row of the table, what a shape can carry, and which shape a payload is in. Reading and
 // writing of whole frames stand on it (apdu). The table itself is apdu_stated's specs/Table.antt.
-ghost use Prim.Native.Nat.{_<_, _≤_};
+ghost use Prim.Native.Nat.{_+_, _<_, _≤_};
 ghost use mathlib.Core.Path.{_≡_};
 ghost use lib.ListN.{length};
 ghost use Rattle.octets.specs.Bytes.{byte};
 ghost use Rattle.apdu_stated.specs.Table.{lcMost};
-ghost use Rattle.apdu_stated.specs.Reading.{shortOf, extendedOf, afterData};
+ghost use Rattle.apdu_stated.specs.Reading.{shortOf, loneLe, extendedOf, afterData};
 ghost use Rattle.apdu_stated.specs.Contracts.{Row, Fits, Payload, lcFound};
 use apdu_stated::Case;
+use apdu_stated::Entry;
 use apdu_stated::Lengths;
 use apdu_stated::TableRow;
 
@@ -76,13 +77,24 @@ fn short(p: &[u8], lc: u8) -> Lengths
     if p.len() == 2 + n {
         return Lengths::Found(Case::Lc1DataLe1, lc as usize, le::read(&p[1 + n..2 + n]));
     }
-    Lengths::Surplus
+    Lengths::Surplus(6 + n)
+}
+
+// An extended Lc, data, and one byte of Le: ISO has no such case.
+fn lone_le(p: &[u8], n: usize, entry: Entry) -> Lengths
+    requires { ⌜ (length (now p) ≡ 4 + n) × (n ≤ 65535) ⌝ }
+    ensures { λ r. ⌜ (r ≡ loneLe entry (now (p .entry)) n) × (lcFound r ≤ 65535) ⌝ }
+{
+    match entry {
+        Entry::Ordinary => Lengths::Found(Case::Lc3DataLe1, n, le::read(&p[3 + n..4 + n])),
+        Entry::Strict => Lengths::Surplus(7 + n),
+    }
 }
 
 // Data of lc bytes after an extended Lc, and perhaps Le.
-fn after_data(p: &[u8], lc: u16) -> Lengths
+fn after_data(p: &[u8], lc: u16, entry: Entry) -> Lengths
     requires { ⌜ 3 < length (now p) ⌝ }
-    ensures { λ r. ⌜ (r ≡ afterData (now (p .entry)) lc) × (lcFound r ≤ 65535) ⌝ }
+    ensures { λ r. ⌜ (r ≡ afterData entry (now (p .entry)) lc) × (lcFound r ≤ 65535) ⌝ }
 {
     let n = lc as usize;
     if p.len() < 3 + n {
@@ -92,18 +104,18 @@ fn after_data(p: &[u8], lc: u16) -> Lengths
         return Lengths::Found(Case::Lc3Data, n, 0);
     }
     if p.len() == 4 + n {
-        return Lengths::Found(Case::Lc3DataLe1, n, le::read(&p[3 + n..4 + n]));
+        return lone_le(p, n, entry);
     }
     if p.len() == 5 + n {
         return Lengths::Found(Case::Lc3DataLe2, n, le::read(&p[3 + n..5 + n]));
     }
-    Lengths::Surplus
+    Lengths::Surplus(9 + n)
 }
 
 // A payload that begins with 00: an extended Le alone, or an extended Lc.
-fn extended(p: &[u8]) -> Lengths
+fn extended(p: &[u8], entry: Entry) -> Lengths
     requires { ⌜ 1 < length (now p) ⌝ }
-    ensures { λ r. ⌜ (r ≡ extendedOf (now (p .entry))) × (lcFound r ≤ 65535) ⌝ }
+    ensures { λ r. ⌜ (r ≡ extendedOf entry (now (p .entry))) × (lcFound r ≤ 65535) ⌝ }
 {
     if p.len() < 3 {
         return Lengths::Missing;
@@ -112,12 +124,12 @@ fn extended(p: &[u8]) -> Lengths
     if p.len() == 3 {
         return Lengths::Found(Case::Le3, 0, le::read(&p[0..3]));
     }
-    after_data(p, lc)
+    after_data(p, lc, entry)
 }
 
 // What a payload, the bytes after the header, says.
-pub fn payload(p: &[u8]) -> Lengths
-    ensures { λ r. ⌜ Payload (now (p .entry)) r ⌝ }
+pub fn payload(p: &[u8], entry: Entry) -> Lengths
+    ensures { λ r. ⌜ Payload entry (now (p .entry)) r ⌝ }
 {
     if p.len() == 0 {
         return Lengths::Found(Case::Instruction, 0, 0);
@@ -127,7 +139,7 @@ pub fn payload(p: &[u8]) -> Lengths
         return Lengths::Found(Case::Le1, 0, le::read(&p[0..1]));
     }
     if first == 0 {
-        return extended(p);
+        return extended(p, entry);
     }
     short(p, first)
 }

@@ -3,7 +3,7 @@ use Prim.Native.Nat.{ℕ}
 use mathlib.Core.Path.{_≡_, refl, ap}
 use lib.Dec.{eqb}
 use Rattle.outcome.specs.Notation.{if_then_else_}
-use Rattle.outcome.specs.Outcome.{Outcome, R, SW, Gives}
+use Rattle.outcome.specs.Outcome.{Outcome, R, Word, Gives}
 use Rattle.outcome.proofs.Laws.{one-to-one, statusOf, status-back, refusalOf, refusal-back}
 use Rattle.signing_stated.specs.Orders.{Kind, Register, Authenticate, kindNo}
 use Rattle.signing_stated.specs.Finishing.{Finished, Refused, Status, Body, finishedOf}
@@ -21,7 +21,7 @@ kind-one-to-one = one-to-one kindNo kindFrom kind-back
 
 finishedFrom : Outcome ℕ → Finished
 finishedFrom (R n) = Refused (refusalOf n)
-finishedFrom (SW n) = Status (statusOf n)
+finishedFrom (Word s) = Status (statusOf s)
 finishedFrom (Gives n) = Body n
 
 finished-back : (f : Finished) → finishedFrom (finishedOf f) ≡ f

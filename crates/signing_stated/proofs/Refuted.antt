@@ -6,7 +6,7 @@ use mathlib.Core.Logic.{_⊎_, inl}
 use mathlib.Core.List.{List, [], _∷_, _++_}
 use native.Mathlib.Omega.{arith}
 use lib.ListN.{length, replicate}
-use Rattle.outcome.specs.Outcome.{Outcome, R, SW, Gives}
+use Rattle.outcome.specs.Outcome.{Outcome, R, Word, Gives}
 use Rattle.outcome.specs.declared.Refusal.the-variants.{R2, R4}
 use Rattle.octets.specs.Bytes.{byte}
 use Rattle.signing_stated.specs.Claims
@@ -21,13 +21,13 @@ use Rattle.signing_stated.proofs.Theorems.{LayoutExactly, BlankRefused}
 -- the number of an answer, to tell two apart
 abbrev said : Outcome ℕ → ℕ
 said (R n) = n
-said (SW n) = n
+said (Word s) = s .number
 said (Gives n) = 0x9000
 
 -- the length that an answer says
 abbrev counted : Outcome ℕ → ℕ
 counted (R n) = 0
-counted (SW n) = 0
+counted (Word s) = 0
 counted (Gives n) = n
 
 -- ---- numbers
@@ -296,7 +296,7 @@ logged = record { application = replicate 32 1; presence = 0; counter = replicat
 
 bytesIn : Outcome (List ℕ) → List ℕ
 bytesIn (R n) = []
-bytesIn (SW n) = []
+bytesIn (Word s) = []
 bytesIn (Gives body) = body
 
 pub sendsChallenge : Claims.RegisterRoundTrip Wrong.sendsChallenge → ⊥

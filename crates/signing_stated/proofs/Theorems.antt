@@ -8,7 +8,7 @@ use native.Mathlib.Omega.{arith}
 use borrow.Author.Tests.{le-leb, leb-true}
 use lib.Dec.{leb}
 use lib.ListN.{length, drop, replicate, length-append, length-replicate}
-use Rattle.outcome.specs.Outcome.{Outcome, R, SW, Gives}
+use Rattle.outcome.specs.Outcome.{Outcome, R, Word, SW, Gives}
 use Rattle.outcome.proofs.Laws.{both-are}
 use Rattle.octets.specs.Bytes.{byte, bytes4, laid}
 use Rattle.octets.proofs.Laws.{laid-fits, length-laid}
@@ -221,7 +221,7 @@ RoomAskedExactly o room a = asked-for o room a .1
 -- ---- finishing
 gives-length : (x : Outcome (List ℕ)) (n : ℕ) → lengthOf x ≡ Gives n → (body : List ℕ) × (x ≡ Gives body) × (n ≡ length body)
 gives-length (R m) n e = let z : _≡_ {A = ℕ} 0 1 = cc in absurd (omega arith)
-gives-length (SW m) n e = let z : _≡_ {A = ℕ} 0 1 = cc in absurd (omega arith)
+gives-length (Word s) n e = let z : _≡_ {A = ℕ} 0 1 = cc in absurd (omega arith)
 gives-length (Gives body) n e = (body, refl, cc)
 
 pub BodyWithinRoom : Claims.BodyWithinRoom endOf

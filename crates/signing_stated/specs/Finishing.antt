@@ -7,7 +7,7 @@ use mathlib.Core.List.{List}
 use lib.Dec.{eqb, ltb}
 use lib.ListN.{length}
 use Rattle.outcome.specs.Notation.{if_then_else_}
-use Rattle.outcome.specs.Outcome.{Outcome, R, SW, Gives, statusNo, refusalNo}
+use Rattle.outcome.specs.Outcome.{Outcome, R, Word, SW, Gives, wordOf, refusalNo}
 use Rattle.octets.specs.Bytes.{laid}
 use Rattle.signing_stated.specs.Orders.{Kind, Register, Authenticate, Head, Order, headOf, toSign, certificateLength, isOfLayout, registerFieldsOf, authenticateFieldsOf}
 use Rattle.signing_stated.specs.Layouts.{registerBody, authenticateBody}
@@ -59,19 +59,19 @@ finishOf i =
 -- 01: "R refusal, status, 9000 with a body of n bytes"
 abbrev pub finishedOf : Finished → Outcome ℕ
 finishedOf (Refused r) = R (refusalNo r)
-finishedOf (Status s) = SW (statusNo s)
+finishedOf (Status s) = Word (wordOf s)
 finishedOf (Body n) = Gives n
 
 -- the answer says the body's length
 abbrev pub lengthOf : Outcome (List ℕ) → Outcome ℕ
 lengthOf (R n) = R n
-lengthOf (SW n) = SW n
+lengthOf (Word s) = Word s
 lengthOf (Gives body) = Gives (length body)
 
 -- 01: "A 9000 body fills the front of the buffer; the rest stays"; every other answer leaves the buffer as it was
 abbrev pub replyOf : Outcome (List ℕ) → List ℕ → List ℕ
 replyOf (R n) old = old
-replyOf (SW n) old = old
+replyOf (Word s) old = old
 replyOf (Gives body) old = laid body old
 
 -- what finishing comes to: its answer, and the reply buffer after the call

@@ -6,7 +6,7 @@ use mathlib.Core.List.{List, [], _∷_, _++_}
 use lib.Dec.{eqb, leb, ltb}
 use lib.ListN.{length, take, replicate}
 use Rattle.outcome.specs.Notation.{if_then_else_}
-use Rattle.outcome.specs.Outcome.{Outcome, R, SW, Gives, statusNo}
+use Rattle.outcome.specs.Outcome.{Outcome, R, Word, SW, Gives, wordOf}
 use Rattle.outcome.specs.declared.Refusal.the-variants.{R1, R2, R3, R4, R5, R6, R7}
 use Rattle.octets.specs.Bytes.{byte, laid}
 use Rattle.signing_stated.specs.Layouts.{RegisterFields, registerToSign, registerBody, presenceByte}
@@ -33,7 +33,7 @@ r4SaidAsR2 (Refused R4) = R 2
 r4SaidAsR2 (Refused R5) = R 5
 r4SaidAsR2 (Refused R6) = R 6
 r4SaidAsR2 (Refused R7) = R 7
-r4SaidAsR2 (Status s) = SW (statusNo s)
+r4SaidAsR2 (Status s) = Word (wordOf s)
 r4SaidAsR2 (Body n) = Gives n
 
 -- ---- orders
@@ -232,7 +232,7 @@ overlongBody i = takes73 i
 -- what is done to the buffer where there is a body, and where there is none
 abbrev onBody : Outcome ℕ → (body other : List ℕ) → List ℕ
 onBody (R n) body other = other
-onBody (SW n) body other = other
+onBody (Word s) body other = other
 onBody (Gives n) body other = body
 
 -- "Register 05, public key, ..": the public key's 04 first
@@ -246,7 +246,7 @@ writesNothing i = record { answer = endOf i .answer; reply = i .reply }
 -- 'What each statement has to say': "one that gives an invented body length": that of the longest signature
 abbrev inventedFor : Outcome ℕ → ℕ → Outcome ℕ
 inventedFor (R n) m = R n
-inventedFor (SW n) m = SW n
+inventedFor (Word s) m = Word s
 inventedFor (Gives n) m = Gives m
 
 abbrev pub lengthInvented : Finishing → Ended

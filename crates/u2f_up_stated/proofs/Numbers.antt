@@ -1,7 +1,7 @@
 -- The numbers tell the answers apart: each view has a way back.
 use mathlib.Core.Path.{_≡_, refl, ap}
 use mathlib.Core.Bool.{Bool, true, false}
-use Rattle.outcome.specs.Outcome.{Outcome, R, SW, Gives}
+use Rattle.outcome.specs.Outcome.{Outcome, R, Word, Gives}
 use Rattle.outcome.proofs.Laws.{one-to-one}
 use Rattle.outcome.proofs.Laws.{refusalOf, refusal-back}
 use Rattle.u2f_up_stated.specs.Words.{Presence}
@@ -12,7 +12,7 @@ use Rattle.u2f_up_stated.specs.declared.Answer.the-variants as Answer′
 
 readyBack : Outcome Presence → Ready
 readyBack (R n) = Ready′.Refused (refusalOf n)
-readyBack (SW n) = Ready′.Refused (refusalOf n)
+readyBack (Word s) = Ready′.Refused (refusalOf 0)
 readyBack (Gives p) = Ready′.Record p
 
 ready-back : (a : Ready) → readyBack (readyOf a) ≡ a
@@ -25,7 +25,7 @@ ready-apart = one-to-one readyOf readyBack ready-back
 
 answerBack : Outcome Bool → Answer
 answerBack (R n) = Answer′.Refused (refusalOf n)
-answerBack (SW n) = Answer′.Refused (refusalOf n)
+answerBack (Word s) = Answer′.Refused (refusalOf 0)
 answerBack (Gives true) = Answer′.Yes
 answerBack (Gives false) = Answer′.No
 

@@ -7,8 +7,8 @@ use native.Mathlib.Omega.{arith}
 use native.Mathlib.Decide.{ℕ-discrete, decLt, decLe}
 use lib.Dec.{leb, eqb}
 use borrow.Author.Tests.{lt-ltb, le-ltb, le-leb, lt-leb, eq-eqb, ne-eqb}
-use Rattle.outcome.proofs.Laws.{r-gives, r-sw, sw-gives}
-use Rattle.u2f_up_stated.specs.Words.{Outcome, R, SW, Gives, Window, Closed, Opened, Presence}
+use Rattle.outcome.proofs.Laws.{r-gives, r-word, word-gives}
+use Rattle.u2f_up_stated.specs.Words.{StatusWord, Outcome, R, Word, Gives, Window, Closed, Opened, Presence}
 use Rattle.u2f_up_stated.specs.Moments.{Told, isLive, isR6, isR1, movedTo, touchClosed, promptOpened, settleOf, checkedOf, onSettled}
 use Rattle.u2f_up_stated.specs.Terms.{BadWindow, BadMoment, Passes, HasPrompt, HasTouch, SettlesFirst}
 
@@ -69,13 +69,13 @@ module _ (p : Presence) (t : ℕ) where
       by (no g) (no h) = rw (settle-moves (g, h)) (moves (g, h))
 
   -- settling gives no status word
-  pub settle-no-status : (n : ℕ) → settleOf p t ≡ SW n → ⊥
-  settle-no-status n e = by (settleOf p t) settle-way e
+  pub settle-no-status : (w : StatusWord) → settleOf p t ≡ Word w → ⊥
+  settle-no-status w e = by (settleOf p t) settle-way e
     where
-      by : (o : Outcome Presence) → SettleWay o → o ≡ SW n → ⊥
-      by _ (r6 b) x = r-sw _ _ x
-      by _ (r1 g b) x = r-sw _ _ x
-      by _ (moves ok) x = sw-gives _ _ (sym x)
+      by : (o : Outcome Presence) → SettleWay o → o ≡ Word w → ⊥
+      by _ (r6 b) x = r-word _ _ x
+      by _ (r1 g b) x = r-word _ _ x
+      by _ (moves ok) x = word-gives _ _ (sym x)
 
 -- ---- a call that settles first, and then gives no refusal
 module _ (goOn : Presence → ℕ → Presence → Told) (given : (p : Presence) (t : ℕ) (q : Presence) → (b : Bool) × (goOn p t q .outcome ≡ Gives b)) where

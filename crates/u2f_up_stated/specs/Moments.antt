@@ -1,7 +1,7 @@
 -- Document 01, 'Moments and touches' and, of 'Refusal numbers', R1 and R6: the presence record, and what touch, check and
 -- ask do to it. In a record, w is W, prompt and touch are the two windows, last is the last moment.
 use Rattle.u2f_up_stated.specs.Words.{ℕ, _+_, _^_, Bool, true, false, _||_, ltb, leb, eqb, if_then_else_}
-use Rattle.u2f_up_stated.specs.Words.{Outcome, R, SW, Gives, Window, Closed, Opened, Presence, Finding}
+use Rattle.u2f_up_stated.specs.Words.{Outcome, R, Word, Gives, Window, Closed, Opened, Presence, Finding}
 
 -- 01, Moments and touches: "A window opened at m with length d is live at t when t < m + d, as whole numbers"
 abbrev pub isLive : Window → ℕ → ℕ → Bool
@@ -83,7 +83,7 @@ refused n p = record { outcome = R n; presence = p }
 -- A call that first settles its moment and then goes on with the record it got. (Settling gives no status word.)
 abbrev pub onSettled : Presence → Outcome Presence → (Presence → Told) → Told
 onSettled p (R n) goOn = refused n p
-onSettled p (SW n) goOn = record { outcome = SW n; presence = p }
+onSettled p (Word s) goOn = record { outcome = Word s; presence = p }
 onSettled p (Gives q) goOn = goOn q
 
 -- Touch at t.

@@ -1,6 +1,6 @@
 -- Runs: calls on a presence record, each taking the record that the one before gave back, and the history that this makes.
 use mathlib.Core.List.{List, [], _∷_}
-use Rattle.u2f_up_stated.specs.Words.{ℕ, Bool, true, if_then_else_, Outcome, R, SW, Gives, _≡_, Presence}
+use Rattle.u2f_up_stated.specs.Words.{ℕ, Bool, true, if_then_else_, Outcome, R, Word, Gives, _≡_, Presence}
 use Rattle.u2f_up_stated.specs.Moments.{Told, fresh, settleOf, refused, onSettled, touchOf, checkOf, askOf}
 use Rattle.u2f_up_stated.specs.History.{Role, Touching, Checking, Asking, Settling, Short, Call, Event}
 use Rattle.u2f_up_stated.specs.History.{Came, RefusedBy, TouchAccepted, TouchIgnored, TouchFound, NoTouchFound, PromptStands, NoPromptStands, Passed}
@@ -38,7 +38,7 @@ cameOfGiven Short given = Passed
 
 abbrev pub cameOf : Role → Outcome Bool → Came
 cameOf role (R n) = RefusedBy n
-cameOf role (SW n) = Passed
+cameOf role (Word s) = Passed
 cameOf role (Gives given) = cameOfGiven role given
 
 module _ {D : Type 0} (𝒞 : Caller D) (w : ℕ) where

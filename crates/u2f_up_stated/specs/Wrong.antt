@@ -79,7 +79,7 @@ leavesTheMoment p t = onSettled p (settleOf p t) (λ q. gave (grantedOf p t))
 -- "An R refusal changes no buffer and no record": a refused touch closes the windows
 abbrev closedBy : Presence → Outcome Presence → (Presence → Told) → Told
 closedBy p (R n) goOn = refused n (record { w = p .w; prompt = Closed; touch = Closed; last = p .last })
-closedBy p (Outcome.SW n) goOn = record { outcome = Outcome.SW n; presence = p }
+closedBy p (Outcome.Word s) goOn = record { outcome = Outcome.Word s; presence = p }
 closedBy p (Gives q) goOn = goOn q
 
 abbrev pub refusalCloses : Presence → ℕ → Told

@@ -1,23 +1,11 @@
 -- `authenticate` meets its contract: each way through the tests is a case of `authenticateOf`.
 use borrow.Author.Needs.{needs}
-use Rattle.command_stated.proofs.Cases
 use Rattle.command.proofs.authenticate.Statement.{statement}
 use Rattle.command.proofs.authenticate.Tie as tie
-
-cast-lc : tie.Need-cast-lc
-cast-lc c = search needs
+use Rattle.command_stated.proofs.Cases
 
 returns : tie.Need-returns
 returns c = search (needs, Cases.auth-short)
-
-data-requires : tie.Need-data-requires
-data-requires c κs = search needs
-
-length-at-requires : tie.Need-length-at-requires
-length-at-requires c κs = search needs
-
-add-if2 : tie.Need-add-if2
-add-if2 c = search needs
 
 returns-2 : tie.Need-returns-2
 returns-2 c = search (needs, Cases.auth-other)
@@ -38,11 +26,13 @@ pub authenticate-spec : {M : Type 1} → statement M
 authenticate-spec =
     tie.close
     (tie.spec
-    cast-lc
+    (λ c. search needs)
+    (λ c κs. search needs)
     returns
-    data-requires
-    length-at-requires
-    add-if2
+    (λ c κs. search needs)
+    (λ c κs. search needs)
+    (λ c. search needs)
+    (λ c κs. search needs)
     returns-2
     returns-3
     returns-4

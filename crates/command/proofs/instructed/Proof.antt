@@ -1,8 +1,8 @@
 -- `instructed` meets its contract: each way through the tests is a case of `byInstruction`.
 use borrow.Author.Needs.{needs}
-use Rattle.command_stated.proofs.Cases
 use Rattle.command.proofs.instructed.Statement.{statement}
 use Rattle.command.proofs.instructed.Tie as tie
+use Rattle.command_stated.proofs.Cases
 
 returns : tie.Need-returns
 returns c = search (needs, Cases.wrong-cla)
@@ -12,9 +12,6 @@ returns-2 c = search (needs, Cases.register-other)
 
 returns-3 : tie.Need-returns-3
 returns-3 c = search (needs, Cases.register-64)
-
-authenticate-requires : tie.Need-authenticate-requires
-authenticate-requires c κs = search needs
 
 returns-4 : tie.Need-returns-4
 returns-4 c = search (needs, Cases.authenticates)
@@ -33,10 +30,12 @@ instructed-spec =
     tie.close
     (tie.spec
     returns
+    (λ c κs. search needs)
     returns-2
     returns-3
-    authenticate-requires
+    (λ c κs. search needs)
     returns-4
+    (λ c κs. search needs)
     returns-5
     returns-6
     returns-7)

@@ -1,19 +1,23 @@
--- `brinecandle_read_strict` meets its contract.
+-- `brinecandle_read_strict` meets its contract: by the reading.
 use borrow.Author.Needs.{needs}
-use Rattle.panel_stated.proofs.Cases
-use Rattle.panel_stated.specs.Exports.{frameNumbers}
 use Rattle.panel.proofs.brinecandle_read_strict.Statement.{statement}
 use Rattle.panel.proofs.brinecandle_read_strict.Tie as tie
-
-read-strict-requires : tie.Need-read-strict-requires
-read-strict-requires c κs = search needs
-
-frame-plain-requires : tie.Need-frame-plain-requires
-frame-plain-requires c κs = search needs
+use Rattle.plain_frames.proofs.Laws
 
 returns : tie.Need-returns
-returns c = Cases.through frameNumbers _ _ _ (c .before .read-strict .ensures) (c .frame-plain .ensures)
+returns c = search (needs, Laws.frame-read)
+
+returns-2 : tie.Need-returns-2
+returns-2 c = search (needs, Laws.frame-unread)
 
 pub brinecandle-read-strict-spec : {M : Type 1} → statement M
 brinecandle-read-strict-spec =
-    tie.close (tie.spec read-strict-requires frame-plain-requires returns)
+    tie.close
+    (tie.spec
+    (λ c κs. search needs)
+    (λ c. search needs)
+    (λ c κs. search needs)
+    returns
+    (λ c. search needs)
+    (λ c κs. search needs)
+    returns-2)

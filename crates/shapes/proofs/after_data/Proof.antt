@@ -1,9 +1,9 @@
 -- `after_data` meets its contract: each way through the tests is a case of `afterData`.
 use borrow.Author.Needs.{needs}
-use Rattle.apdu_stated.proofs.Cases
-use Rattle.shapes.proofs.Fields
 use Rattle.shapes.proofs.after_data.Statement.{statement}
 use Rattle.shapes.proofs.after_data.Tie as tie
+use Rattle.apdu_stated.proofs.Cases
+use Rattle.shapes.proofs.Fields
 
 returns : tie.Need-returns
 returns c = (search (needs, Cases.after-missing), search needs)
@@ -12,7 +12,7 @@ returns-2 : tie.Need-returns-2
 returns-2 c = (search (needs, Cases.after-plain), search needs)
 
 returns-3 : tie.Need-returns-3
-returns-3 c = (search (needs, Fields.after-le1), search needs)
+returns-3 c = (search (needs, Cases.after-one), search needs)
 
 returns-4 : tie.Need-returns-4
 returns-4 c = (search (needs, Fields.after-le2), search needs)
@@ -29,11 +29,6 @@ after-data-spec =
     (λ c. search needs)
     returns-2
     (λ c. search needs)
-    (λ c. search needs)
-    (λ c. search needs)
-    (λ c. search needs)
-    (λ c. search needs)
-    (λ c. search needs)
     (λ c κs. search needs)
     returns-3
     (λ c. search needs)
@@ -44,4 +39,5 @@ after-data-spec =
     (λ c. search needs)
     (λ c κs. search needs)
     returns-4
+    (λ c. search needs)
     returns-5)

@@ -1,9 +1,9 @@
 -- `short` meets its contract: each way through the tests is a case of `shortOf`.
 use borrow.Author.Needs.{needs}
-use Rattle.apdu_stated.proofs.Cases
-use Rattle.shapes.proofs.Fields
 use Rattle.shapes.proofs.short.Statement.{statement}
 use Rattle.shapes.proofs.short.Tie as tie
+use Rattle.apdu_stated.proofs.Cases
+use Rattle.shapes.proofs.Fields
 
 returns : tie.Need-returns
 returns c = (search (needs, Cases.short-missing), search needs)
@@ -34,4 +34,5 @@ short-spec =
     (λ c. search needs)
     (λ c κs. search needs)
     returns-3
+    (λ c. search needs)
     returns-4)
