@@ -1,6 +1,6 @@
 /* A whole panel on a pipe: the firmware that links the proved core, with its peer in the place of finger, clock, key store,
- * counter and signer. It holds the presence record and one order (include/brinecandle_panel.h) and the reply buffer; there is
- * no heap.
+ * counter and signer. It holds the presence record, one order and one remainder (include/brinecandle_panel.h), the reply buffer and
+ * the one for part and status; there is no heap.
  *
  * A call is a line of words between single spaces, and each is answered by one line, in its order. Numbers are decimal, a
  * header's four bytes and all byte strings are in hex, `-` is the empty byte string. Moments T are in milliseconds.
@@ -12,13 +12,13 @@
  *   room N                                 ok                     the reply buffer has N bytes from now on (1024 at first)
  *   read FRAME   strict FRAME              SHAPE LC LE START END  data from START, up to and without END
  *   write CLA INS P1 P2 SHAPE LE DATA      9000 FRAME             written into the reply buffer
- *   command FRAME                          register CHALLENGE APPLICATION | version
+ *   command FRAME                          register CHALLENGE APPLICATION | version | getresponse
  *                                          | authenticate P1 CHALLENGE APPLICATION HANDLE END    places in the frame
  *   decide T ALLOWED FRAME HANDLE STORED CERTIFICATE ATTESTATION X Y GOOD COUNTER COUNTED
- *                                          9000 BODY | order KIND TAKEN TOSIGN CERTIFICATELENGTH
+ *                                          9000 BODY | order KIND TAKEN TOSIGN CERTIFICATELENGTH | part RESPONSE
  *          ALLOWED 0 no, 1 yes, else failed; ATTESTATION 0 missing, 1 present, else failed; STORED, GOOD, COUNTED 1 yes,
  *          else no; these and SHAPE have 32 bits; KIND 1 Register, 2 Authenticate; TAKEN 0 or 1
- *   try T ALLOWED .. COUNTED               9000 | order TAKEN     what decide would answer; it changes nothing
+ *   try T ALLOWED .. COUNTED               9000 | order TAKEN | part    what decide would answer; it changes nothing
  *   finish CERTIFICATE SIGNED SIGNATURE    9000 BODY              of the order held; SIGNED 1 yes, else no, of 32 bits
  *
  * and, to look closer and to come to any state:
@@ -29,6 +29,20 @@
  *   reply                                  ok BYTES               what stands in the room of the reply buffer
  *   data FRAME                             9000 DATA | none
  *   parts FRAME                            9000 CHALLENGE APPLICATION | 9000 CHALLENGE APPLICATION HANDLE | none
+ *
+ * A body in parts. It stands in the room of the reply buffer, and what goes out in the buffer for part and status:
+ *
+ *   outroom N                              ok                     that buffer has N bytes from now on (1024 at first)
+ *   outfill BYTE                           ok                     every byte of it, beyond its room too
+ *   out                                    ok BYTES               what stands in its room
+ *   ramp BYTE                              ok                     byte i of the reply buffer, beyond its room too, is (BYTE + i) % 251
+ *   remainder                              PLACE COUNT            what is still to be fetched
+ *   remain PLACE COUNT                     ok                     the remainder from now on, of any numbers
+ *   limit                                  LIMIT                  of the last decision that was not refused; 0 is none
+ *   cut N                                  9000 RESPONSE          the first part of the N bytes at the reply buffer's front, at that limit
+ *   next LIMIT                             9000 RESPONSE          the next part of the remainder, at a limit of 32 bits
+ *   respond STATUS BODY                    9000 RESPONSE          body and status, of 16 bits
+ *   response RESPONSE                      STATUS LENGTH          of a response that was read
  *
  * Any of them may be refused, `R1` to `R7`, or answered with a status word, as `6985`. A 6700 (read, strict, command, decide and try
  * answer it) goes on with what is wrong with the length, and where, counted from the frame's start:
@@ -62,6 +76,8 @@ enum { ROOM = 1024, ROOM_MOST = 131072, LINE_MOST = 1048576, WORDS_MOST = 13, PI
 static struct brinecandle_panel panel;
 static uint8_t reply[ROOM_MOST];
 static size_t room = ROOM;
+static uint8_t out[ROOM_MOST]; /* part and status */
+static size_t out_room = ROOM;
 
 /* ---- lines in and out */
 
@@ -399,7 +415,7 @@ static bool call_command(char **word)
         then_number(command.handle);
         then_number(command.handle_end);
     } else {
-        put_text("version");
+        put_text(command.command == BRINECANDLE_U2F_VERSION ? "version" : "getresponse");
     }
     return true;
 }
@@ -424,6 +440,8 @@ static bool lent(char **word, struct brinecandle_lent *to)
     to->y = y.at;
     to->reply = reply;
     to->reply_length = room;
+    to->part = out;
+    to->part_length = out_room;
     return true;
 }
 
@@ -433,6 +451,11 @@ static bool call_decide(char **word)
     if (!lent(word, &with))
         return false;
     struct brinecandle_decided decided = brinecandle_panel_decide(&panel, with);
+    if (decided.answer == BRINECANDLE_PART) {
+        put_text("part");
+        then_bytes(out, decided.length);
+        return true;
+    }
     if (decided.answer != BRINECANDLE_ORDER) {
         put_status(decided.answer, decided.fault, decided.place);
         if (decided.answer == BRINECANDLE_OK)
@@ -449,10 +472,16 @@ static bool call_decide(char **word)
 
 static bool call_try(char **word)
 {
+    static uint8_t scratch[ROOM_MOST];
     struct brinecandle_lent with;
     if (!lent(word, &with))
         return false;
+    with.part = scratch;
     struct brinecandle_decided decided = brinecandle_panel_try(&panel, with);
+    if (decided.answer == BRINECANDLE_PART) {
+        put_text("part");
+        return true;
+    }
     if (decided.answer != BRINECANDLE_ORDER) {
         put_status(decided.answer, decided.fault, decided.place);
         return true;
@@ -568,7 +597,7 @@ static bool call_parts(char **word)
     if (!bytes(word[0], &frame))
         return false;
     struct brinecandle_command said = brinecandle_read_command(frame.at, frame.length);
-    if (said.answer != BRINECANDLE_OK || said.command == BRINECANDLE_U2F_VERSION) {
+    if (said.command != BRINECANDLE_U2F_REGISTER && said.command != BRINECANDLE_U2F_AUTHENTICATE) {
         put_text("none");
         return true;
     }
@@ -577,6 +606,135 @@ static bool call_parts(char **word)
     then_bytes(frame.at + said.application, 32);
     if (said.command == BRINECANDLE_U2F_AUTHENTICATE)
         then_bytes(frame.at + said.handle, said.handle_end - said.handle);
+    return true;
+}
+
+/* ---- a body in parts */
+
+static bool call_outroom(char **word)
+{
+    uint64_t n;
+    if (!number(word[0], ROOM_MOST, &n))
+        return false;
+    out_room = (size_t)n;
+    put_text("ok");
+    return true;
+}
+
+static bool call_outfill(char **word)
+{
+    uint8_t b;
+    if (!byte(word[0], &b))
+        return false;
+    for (size_t i = 0; i < ROOM_MOST; i++)
+        out[i] = b;
+    put_text("ok");
+    return true;
+}
+
+static bool call_out(char **word)
+{
+    (void)word;
+    put_text("ok");
+    then_bytes(out, out_room);
+    return true;
+}
+
+static bool call_ramp(char **word)
+{
+    uint8_t b;
+    if (!byte(word[0], &b))
+        return false;
+    for (size_t i = 0; i < ROOM_MOST; i++)
+        reply[i] = (uint8_t)((b + i) % 251);
+    put_text("ok");
+    return true;
+}
+
+static bool call_remainder(char **word)
+{
+    (void)word;
+    put_number(panel.remainder.place);
+    then_number(panel.remainder.count);
+    return true;
+}
+
+static bool call_remain(char **word)
+{
+    uint64_t place, count;
+    if (!number(word[0], UINT64_MAX, &place) || !number(word[1], UINT64_MAX, &count))
+        return false;
+    panel.remainder = (struct brinecandle_remainder){(size_t)place, (size_t)count};
+    put_text("ok");
+    return true;
+}
+
+static bool call_limit(char **word)
+{
+    (void)word;
+    put_number(panel.limit);
+    return true;
+}
+
+/* A response at the front of the buffer for part and status. */
+static void put_response(uint16_t answer, size_t length)
+{
+    put_answer(answer);
+    if (answer == BRINECANDLE_OK)
+        then_bytes(out, length);
+}
+
+static bool call_cut(char **word)
+{
+    uint64_t n;
+    if (!number(word[0], UINT64_MAX, &n))
+        return false;
+    struct brinecandle_wrote wrote = brinecandle_panel_respond(&panel, (struct brinecandle_answered){
+        .answer = BRINECANDLE_OK,
+        .length = (size_t)n,
+        .reply = reply,
+        .reply_length = room,
+        .part = out,
+        .part_length = out_room,
+    });
+    put_response(wrote.answer, wrote.length);
+    return true;
+}
+
+static bool call_next(char **word)
+{
+    uint32_t limit;
+    if (!number32(word[0], &limit))
+        return false;
+    struct brinecandle_part part = brinecandle_next_part(reply, room, panel.remainder, limit, out, out_room);
+    panel.remainder = part.remainder;
+    put_response(part.answer, part.length);
+    return true;
+}
+
+static bool call_respond(char **word)
+{
+    uint64_t status;
+    struct bytes body;
+    if (!number(word[0], UINT16_MAX, &status) || !bytes(word[1], &body))
+        return false;
+    struct brinecandle_wrote wrote = brinecandle_write_response(body.at, body.length, (uint16_t)status, out, out_room);
+    put_response(wrote.answer, wrote.length);
+    return true;
+}
+
+static bool call_response(char **word)
+{
+    struct bytes response;
+    if (!bytes(word[0], &response))
+        return false;
+    struct brinecandle_response said = brinecandle_read_response(response.at, response.length);
+    if (said.answer != BRINECANDLE_OK) {
+        put_answer(said.answer);
+        return true;
+    }
+    put_number(said.status);
+    then_number(said.length);
     return true;
 }
 
@@ -589,7 +747,10 @@ static const struct call {
     {"record", 0, call_record},   {"room", 1, call_room},      {"read", 1, call_read},     {"strict", 1, call_strict},
     {"write", 7, call_write},     {"command", 1, call_command}, {"decide", 12, call_decide}, {"finish", 3, call_finish},
     {"resume", 4, call_resume},   {"hold", 4, call_hold},      {"fill", 1, call_fill},     {"reply", 0, call_reply},
-    {"data", 1, call_data},       {"parts", 1, call_parts},    {"try", 12, call_try},
+    {"data", 1, call_data},       {"parts", 1, call_parts},    {"try", 12, call_try},      {"outroom", 1, call_outroom},
+    {"outfill", 1, call_outfill}, {"out", 0, call_out},        {"ramp", 1, call_ramp},     {"remainder", 0, call_remainder},
+    {"remain", 2, call_remain},   {"limit", 0, call_limit},    {"cut", 1, call_cut},       {"next", 1, call_next},
+    {"respond", 2, call_respond}, {"response", 1, call_response},
 };
 
 /* ---- the pipe */

@@ -1,15 +1,16 @@
 /* A token as small as a microcontroller's: what it keeps is one struct of static memory, well under 4 KiB, and there is no heap. It
- * shares its core part with the panel on a pipe: include/brinecandle_panel.h keeps record, order and block for both.
+ * shares its core part with the panel on a pipe: include/brinecandle_panel.h keeps record, order, block and remainder for both.
  *
  * Above the line `the board` stands what a firmware needs: the clock widened, the press handed in once, the dry run, the counter
- * written down before anything is signed, and what the host is told. Below it stands in for the hardware, over a pipe, so that it
+ * written down before anything is signed, and what the host is told, in parts where its frame takes no more. It serves a wireless
+ * reader too, whose applet selection firmware/reader.h answers. Below it stands in for the hardware, over a pipe, so that it
  * can be tried on any machine: for each message it gets a tick, whether the button was pressed, and a frame,
  *
  *   TICK (4, big-endian)  PRESSED (1)  LENGTH (2, big-endian; 0: no frame)  FRAME
  *
  * and it answers
  *
- *   LIGHT (1: it blinks)  LENGTH (2, big-endian)  BODY AND STATUS WORD
+ *   LIGHT (1: it blinks)  LENGTH (2, big-endian)  RESPONSE
  *
  * Keys, certificate and signatures of this board are bytes of no meaning. Copy the upper part, and write the lower one anew.
  */
@@ -17,6 +18,7 @@
 #include <unistd.h>
 
 #include "brinecandle_panel.h"
+#include "reader.h"
 
 enum {
     WINDOW = 5000,  /* a touch is good for so many milliseconds */
@@ -74,7 +76,8 @@ static struct {
     uint8_t frame[FRAME];
     struct new_key key;
     uint8_t signature[SIGNATURE];
-    uint8_t reply[REPLY + 2]; /* two more for the status word */
+    uint8_t reply[REPLY];    /* bodies, uncut: one stays until all of it is fetched */
+    uint8_t part[REPLY + 2]; /* what goes out: a frame may take the whole body, and its status word */
 } token;
 
 _Static_assert(sizeof token < 4096, "the token is meant to be small");
@@ -89,12 +92,25 @@ static uint64_t now(void)
     return token.turns + tick;
 }
 
-/* The body at the front of the reply, and the status word after it. */
-static void tell(uint16_t status, size_t length)
+/* What a decision or a finishing came to, as the host gets it. A refusal is not for the host. */
+static void tell(uint16_t answer, size_t length)
 {
-    token.reply[length] = (uint8_t)(status >> 8);
-    token.reply[length + 1] = (uint8_t)status;
-    board_send(token.reply, length + 2);
+    struct brinecandle_wrote wrote = brinecandle_panel_respond(&token.panel, (struct brinecandle_answered){
+        .answer = brinecandle_is_refusal(answer) ? BRINECANDLE_INTERNAL_EXCEPTION : answer,
+        .length = length,
+        .reply = token.reply,
+        .reply_length = sizeof token.reply,
+        .part = token.part,
+        .part_length = sizeof token.part,
+    });
+    board_send(token.part, wrote.length);
+}
+
+/* Nothing is left to fetch, though the core has not seen the frame. */
+static void drop_rest(void)
+{
+    struct brinecandle_remainder nothing = {0, 0};
+    token.panel.remainder = nothing;
 }
 
 /* The frame still stands where it was decided on, and its handle with it. */
@@ -118,12 +134,9 @@ static void sign_and_tell(struct brinecandle_decided decided, struct brinecandle
         .signature = token.signature,
         .signature_length = signed_length,
         .reply = token.reply,
-        .reply_length = REPLY,
+        .reply_length = sizeof token.reply,
     });
-    if (brinecandle_is_refusal(wrote.answer))
-        tell(BRINECANDLE_INTERNAL_EXCEPTION, 0);
-    else
-        tell(wrote.answer, wrote.length);
+    tell(wrote.answer, wrote.length);
 }
 
 /* Answers token.frame, which nothing writes to while this runs. */
@@ -141,7 +154,9 @@ static void answer(size_t length, uint64_t t)
         .x = token.key.x,
         .y = token.key.y,
         .reply = token.reply,
-        .reply_length = REPLY,
+        .reply_length = sizeof token.reply,
+        .part = token.part,
+        .part_length = sizeof token.part,
     };
     struct brinecandle_command command = brinecandle_read_command(token.frame, length);
     const uint8_t *application = token.frame + command.application;
@@ -161,10 +176,25 @@ static void answer(size_t length, uint64_t t)
     struct brinecandle_decided decided = brinecandle_panel_decide(&token.panel, lent);
     if (decided.answer == BRINECANDLE_ORDER)
         sign_and_tell(decided, command, lent.hardware.counter);
-    else if (!brinecandle_is_refusal(decided.answer))
-        tell(decided.answer, decided.length);
     else
-        tell(BRINECANDLE_INTERNAL_EXCEPTION, 0);
+        tell(decided.answer, decided.length);
+}
+
+/* A frame as it was received. */
+static void serve(size_t length, uint64_t t)
+{
+    if (FRAME < length) { /* no command, and more than there is room for */
+        drop_rest();
+        tell(BRINECANDLE_WRONG_LENGTH, 0);
+        return;
+    }
+    struct brinecandle_wrote selected = reader_selected(token.frame, length, token.part, sizeof token.part);
+    if (selected.answer == BRINECANDLE_OK) {
+        drop_rest();
+        board_send(token.part, selected.length);
+        return;
+    }
+    answer(length, t);
 }
 
 int main(void)
@@ -181,10 +211,8 @@ int main(void)
         if (board_pressed())
             said = brinecandle_panel_touch(&token.panel, t);
         size_t length = board_receive(token.frame, FRAME);
-        if (FRAME < length) /* no command, and more than there is room for */
-            tell(BRINECANDLE_WRONG_LENGTH, 0);
-        else if (length)
-            answer(length, t);
+        if (length)
+            serve(length, t);
         said = brinecandle_panel_ask(&token.panel, t);
         board_light(said.answer == BRINECANDLE_OK && said.yes);
     }

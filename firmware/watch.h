@@ -1,7 +1,7 @@
 /* For firmware/test: every call of the panel is looked at as a whole. What a case file does not see, since the panel does not say
- * it, is held to the header here: fields that an answer has no use for are 0, a refusal hands back the record that was lent, and
- * buffer and block hold what they held wherever the header does not say that they are written. A call that does otherwise ends the
- * panel, so that its answers are missing.
+ * it, is held to the header here: fields that an answer has no use for are 0, a refusal hands back the record and the remainder that
+ * were lent, and buffers and block hold what they held wherever the header does not say that they are written. A call that does
+ * otherwise ends the panel, so that its answers are missing.
  */
 #ifndef WATCH_H
 #define WATCH_H
@@ -19,6 +19,7 @@ static void held(bool is, const char *what)
 }
 
 static uint8_t watched_buffer[131072];
+static uint8_t watched_part[131072];
 static uint8_t watched_block[BRINECANDLE_BLOCK];
 
 static void keep(uint8_t *to, const uint8_t *from, size_t length)
@@ -119,7 +120,7 @@ static struct brinecandle_command watched_read_command(const uint8_t *frame, siz
     watched_fault(said.answer, said.fault, said.place, frame, length, brinecandle_read);
     if (said.answer != BRINECANDLE_OK)
         held(!said.command, "command: a command beside a status word");
-    if (said.answer != BRINECANDLE_OK || said.command == BRINECANDLE_U2F_VERSION)
+    if (said.command != BRINECANDLE_U2F_REGISTER && said.command != BRINECANDLE_U2F_AUTHENTICATE)
         held(!said.challenge && !said.application, "command: parts where there are none");
     else
         held(said.application == said.challenge + 32 && said.application + 32 <= length, "command: places");
@@ -165,20 +166,105 @@ static struct brinecandle_asked watched_is_up_needed(struct brinecandle_presence
     return said;
 }
 
+static bool same_remainder(struct brinecandle_remainder a, struct brinecandle_remainder b)
+{
+    return a.place == b.place && a.count == b.count;
+}
+
+/* The bytes of a part's response, out of the body; `part` before the call is in watched_part. */
+static void watched_response(const uint8_t *body, struct brinecandle_remainder before, struct brinecandle_remainder after, uint32_t limit,
+                             const uint8_t *part, size_t length, size_t room)
+{
+    held(2 <= length && length <= room, "part: its length");
+    size_t n = length - 2;
+    held(n <= before.count && (!limit || n <= limit), "part: more than it may have");
+    held(n == before.count || n == limit, "part: less than it may have");
+    held(after.place == before.place + n && after.count == before.count - n, "part: what remains");
+    held(same_from(0, part, body + before.place, n), "part: other bytes");
+    held(after.count ? part[n] == 0x61 && part[n + 1] == (after.count < 256 ? after.count : 0) : part[n] == 0x90 && !part[n + 1],
+         "part: its status");
+    held(same_from(length, part, watched_part, room), "part: more than was said");
+}
+
+static struct brinecandle_part watched_next_part(const uint8_t *body, size_t body_length, struct brinecandle_remainder remainder,
+                                                 uint32_t limit, uint8_t *part, size_t room)
+{
+    keep(watched_buffer, body, body_length);
+    keep(watched_part, part, room);
+    struct brinecandle_part said = brinecandle_next_part(body, body_length, remainder, limit, part, room);
+    held(same_from(0, body, watched_buffer, body_length), "part: the body");
+    if (said.answer == BRINECANDLE_OK) {
+        watched_response(body, remainder, said.remainder, limit, part, said.length, room);
+        return said;
+    }
+    held(said.answer == BRINECANDLE_R2 && !said.length && same_remainder(said.remainder, remainder), "part: R2 and more");
+    held(same_from(0, part, watched_part, room), "part: R2, and written");
+    return said;
+}
+
+static struct brinecandle_wrote watched_write_response(const uint8_t *body, size_t body_length, uint16_t status, uint8_t *out,
+                                                       size_t room)
+{
+    keep(watched_buffer, out, room);
+    struct brinecandle_wrote said = watched_wrote(brinecandle_write_response(body, body_length, status, out, room), out, room);
+    held(said.answer == (room < body_length + 2 ? BRINECANDLE_R2 : BRINECANDLE_OK), "respond: the answer");
+    if (said.answer == BRINECANDLE_OK)
+        held(said.length == body_length + 2 && same_from(0, out, body, body_length) && out[body_length] == status >> 8
+                 && out[body_length + 1] == (status & 255),
+             "respond: the response");
+    return said;
+}
+
+static struct brinecandle_response watched_read_response(const uint8_t *response, size_t length)
+{
+    struct brinecandle_response said = brinecandle_read_response(response, length);
+    if (length < 2)
+        held(said.answer == BRINECANDLE_R2 && !said.status && !said.length, "response: under two bytes");
+    else
+        held(said.answer == BRINECANDLE_OK && said.length == length - 2
+                 && said.status == (response[length - 2] << 8 | response[length - 1]),
+             "response: body and status");
+    return said;
+}
+
+/* Of the decision, what has to do with parts. A frame that is read and has INS C0 keeps what it is not given. */
+static void watched_session(struct brinecandle_decision said, const uint8_t *frame, size_t frame_length, struct brinecandle_remainder before,
+                            const uint8_t *reply, const uint8_t *part, size_t room)
+{
+    static const struct brinecandle_remainder nothing;
+    struct brinecandle_frame read = brinecandle_read(frame, frame_length);
+    bool is_read = read.answer == BRINECANDLE_OK;
+    bool asks_on = is_read && read.ins == BRINECANDLE_GET_RESPONSE;
+    uint32_t limit = !is_read || 4 < read.shape ? BRINECANDLE_NO_LIMIT : read.le ? read.le : 256;
+    held(said.limit == limit, "decide: the limit");
+    if (said.answer == BRINECANDLE_PART) {
+        held(asks_on && before.count, "decide: a part that was not asked for");
+        watched_response(reply, before, said.remainder, limit, part, said.length, room);
+        return;
+    }
+    held(same_from(0, part, watched_part, room), "decide: the buffer for a part");
+    held(same_remainder(said.remainder, asks_on || is_refused(said.answer) ? before : nothing), "decide: what remains");
+}
+
 static struct brinecandle_decision watched_decide(const uint8_t *frame, size_t frame_length, uint64_t t,
                                                   struct brinecandle_presence presence, struct brinecandle_hardware hardware,
                                                   const uint8_t *handle, size_t handle_length, const uint8_t *certificate,
                                                   size_t certificate_length, const uint8_t *x, const uint8_t *y,
-                                                  uint8_t *reply, size_t room, uint8_t *block)
+                                                  struct brinecandle_remainder remainder, uint8_t *reply, size_t room, uint8_t *block,
+                                                  uint8_t *part, size_t part_room)
 {
     keep(watched_buffer, reply, room);
+    keep(watched_part, part, part_room);
     keep(watched_block, block, BRINECANDLE_BLOCK);
     struct brinecandle_decision said = brinecandle_decide(frame, frame_length, t, presence, hardware, handle, handle_length,
-                                                          certificate, certificate_length, x, y, reply, room, block);
+                                                          certificate, certificate_length, x, y, remainder, reply, room, block,
+                                                          part, part_room);
+    size_t written = said.answer == BRINECANDLE_OK ? 6 : 0;
     held(said.answer, "decide: 0");
     watched_fault(said.answer, said.fault, said.place, frame, frame_length, brinecandle_read);
-    held(said.answer == BRINECANDLE_OK ? said.length == 6 : !said.length, "decide: a length");
-    held(said.length <= room && same_from(said.length, reply, watched_buffer, room), "decide: the reply");
+    held(said.answer == BRINECANDLE_PART || said.length == written, "decide: a length");
+    held(written <= room && same_from(written, reply, watched_buffer, room), "decide: the reply");
+    watched_session(said, frame, frame_length, remainder, reply, part, part_room);
     if (is_refused(said.answer))
         held(same_record(said.presence, presence), "decide: a refusal and another record");
     else
@@ -221,5 +307,8 @@ static struct brinecandle_wrote watched_finish(struct brinecandle_order order, c
 #define brinecandle_is_up_needed watched_is_up_needed
 #define brinecandle_decide watched_decide
 #define brinecandle_finish watched_finish
+#define brinecandle_write_response watched_write_response
+#define brinecandle_read_response watched_read_response
+#define brinecandle_next_part watched_next_part
 
 #endif

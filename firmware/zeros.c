@@ -18,13 +18,29 @@ static void held(bool is, const char *what)
 
 static const uint8_t enrol[5 + 64] = {0, BRINECANDLE_U2F_REGISTER, 0, 0, 64};
 static const uint8_t x[32], y[32];
-static uint8_t block[BRINECANDLE_BLOCK], reply[139];
+static uint8_t block[BRINECANDLE_BLOCK], reply[139], part[2];
+static const struct brinecandle_remainder nothing;
 
 /* A Register with neither handle nor certificate, all answers yes. */
 static struct brinecandle_decision enrolled(struct brinecandle_presence presence, uint8_t *to, size_t room)
 {
     const struct brinecandle_hardware yes = {.allowed = BRINECANDLE_YES, .attestation = BRINECANDLE_YES, .stored = BRINECANDLE_YES};
-    return brinecandle_decide(enrol, sizeof enrol, 100, presence, yes, 0, 0, 0, 0, x, y, to, room, block);
+    return brinecandle_decide(enrol, sizeof enrol, 100, presence, yes, 0, 0, 0, 0, x, y, nothing, to, room, block, 0, 0);
+}
+
+/* A GET RESPONSE with no buffer at all. */
+static uint16_t fetched(struct brinecandle_remainder remainder)
+{
+    static const uint8_t fetch[4] = {0, BRINECANDLE_GET_RESPONSE};
+    const struct brinecandle_presence presence = {.w = 5000};
+    const struct brinecandle_hardware yes = {.allowed = BRINECANDLE_YES};
+    return brinecandle_decide(fetch, sizeof fetch, 100, presence, yes, 0, 0, 0, 0, x, y, remainder, 0, 0, block, 0, 0).answer;
+}
+
+static struct brinecandle_decision no_frame(struct brinecandle_presence presence, uint64_t t)
+{
+    const struct brinecandle_hardware yes = {.allowed = BRINECANDLE_YES};
+    return brinecandle_decide(0, 0, t, presence, yes, 0, 0, 0, 0, x, y, nothing, 0, 0, block, 0, 0);
 }
 
 static void null_pointers(void)
@@ -36,10 +52,17 @@ static void null_pointers(void)
     held(brinecandle_read_command(0, 0).answer == BRINECANDLE_WRONG_DATA, "command of no frame");
     held(brinecandle_write(0, 3, 0, 0, 1, 0, 0, 0, reply, sizeof reply).length == 4, "write of no data");
     held(brinecandle_write(0, 3, 0, 0, 1, 0, 0, 0, 0, 0).answer == BRINECANDLE_R2, "write into no buffer");
-    held(brinecandle_decide(0, 0, 1, touched, (struct brinecandle_hardware){.allowed = BRINECANDLE_YES}, 0, 0, 0, 0, x, y, 0, 0, block).answer
-             == BRINECANDLE_R1, "decide on no frame, too early");
-    held(brinecandle_decide(0, 0, 50, touched, (struct brinecandle_hardware){.allowed = BRINECANDLE_YES}, 0, 0, 0, 0, x, y, 0, 0, block).answer
-             == BRINECANDLE_WRONG_DATA, "decide on no frame");
+    held(no_frame(touched, 1).answer == BRINECANDLE_R1, "decide on no frame, too early");
+    held(no_frame(touched, 50).answer == BRINECANDLE_WRONG_DATA, "decide on no frame");
+    held(fetched(nothing) == BRINECANDLE_COND_USE_NOT_SATISFIED, "nothing fetched");
+    held(fetched((struct brinecandle_remainder){0, 1}) == BRINECANDLE_R2, "fetched from no body");
+    held(brinecandle_read_response(0, 0).answer == BRINECANDLE_R2, "response of no bytes");
+    held(brinecandle_write_response(0, 0, BRINECANDLE_OK, 0, 0).answer == BRINECANDLE_R2, "response into no buffer");
+    held(brinecandle_write_response(0, 0, BRINECANDLE_OK, part, sizeof part).length == 2 && part[0] == 0x90 && !part[1], "response of no body");
+    held(brinecandle_next_part(0, 0, nothing, 1, 0, 0).answer == BRINECANDLE_R2, "a part into no buffer");
+    held(brinecandle_next_part(0, 0, nothing, 1, part, sizeof part).length == 2, "a part of no body");
+    held(brinecandle_next_part(0, 0, (struct brinecandle_remainder){SIZE_MAX, 1}, 1, part, sizeof part).answer == BRINECANDLE_R2,
+         "a remainder whose end has no number");
     held(enrolled(touched, 0, 0).answer == BRINECANDLE_R2, "decide with no buffer");
     struct brinecandle_order order = enrolled(touched, reply, sizeof reply).order;
     held(order.kind == BRINECANDLE_KIND_REGISTER && order.to_sign == 130, "decide with neither handle nor certificate");
@@ -65,6 +88,10 @@ static void zeros(void)
     held(brinecandle_panel_try(&panel, (struct brinecandle_lent){.x = x, .y = y}).answer == BRINECANDLE_R6, "a panel of zeros, tried");
     held(brinecandle_panel_finish(&panel, (struct brinecandle_signed){.is_signed = BRINECANDLE_YES}).answer == BRINECANDLE_R7,
          "a panel of zeros, finished");
+    held(brinecandle_panel_respond(&panel, (struct brinecandle_answered){.part = part, .part_length = sizeof part}).answer == 0,
+         "an answer of zeros, told");
+    held(brinecandle_panel_respond(&panel, (struct brinecandle_answered){.answer = BRINECANDLE_ORDER}).answer == BRINECANDLE_ORDER,
+         "an order, told");
 }
 
 int main(void)

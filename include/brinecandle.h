@@ -1,24 +1,25 @@
 /* Brinecandle: the proved U2F core of a sign-in panel, for C.
  *
  * Link target/staticlib/libpanel.a (x86-64; it needs memcpy and memset, no heap, no other library). brinecandle_panel.h has a
- * thin wrapper that keeps record and order; docs/FIRMWARE.md says what a firmware does with all this, step by step.
+ * thin wrapper that keeps record, order and remainder; docs/FIRMWARE.md says what a firmware does with all this, step by step.
  *
  * Every function may be called with any numbers and any bytes. A pointer must point to as many bytes as the length after it
  * says or its array has, to be read (const) or written, and what is lent for writing must overlap nothing else that is lent.
- * With length 0 the pointer may be null. No call keeps a pointer, and none has a state of its own: the record and the orders
- * are the caller's. A frame stays in the caller's buffer, and places in it are handed back: it must not change between its
+ * With length 0 the pointer may be null. No call keeps a pointer, and none has a state of its own: the record, the orders and
+ * what remains of a body are the caller's. A frame stays in the caller's buffer, and places in it are handed back: it must not change between its
  * reading and its decision, so copy it first out of a buffer that DMA or another core writes to.
  *
  * Every call is pure: what it answers and writes depends on what it is lent and on nothing else. So a decision can be tried
- * beforehand, on the same record and with scratch for what it writes (block, reply), to learn whether a touch will be found
- * before a key is made or stored: lend handle and certificate of the lengths that they will have. See brinecandle_decide.
+ * beforehand, on the same record and with scratch for what it writes, to learn whether a touch will be found before a key is made
+ * or stored: lend handle and certificate of the lengths that they will have. See brinecandle_decide, 'dry run'.
  *
  * An answer is one number:
  *   0             none: no call answers it, so memory of zeros is no answer
  *   1 .. 7        a refusal, R1 to R7: nothing was decided and nothing was changed
  *   0x0100        an order to sign (brinecandle_decide alone)
+ *   0x0200        a part of an earlier body, as a response with its status inside (brinecandle_decide alone)
  *   0x9000        done
- *   other         a status word for the host: 0x6700, 0x6985, 0x6986, 0x6a80, 0x6d00, 0x6e00, 0x6f00
+ *   other         a status word for the host: 0x6700, 0x6985, 0x6986, 0x6a80, 0x6a86, 0x6d00, 0x6e00, 0x6f00
  *
  * A reading, a command and a decision have a pair beside it, `fault` and `place`: with 0x6700 they say what is wrong with the length and
  * at which byte (see 'frames'), with every other answer both are 0. They are for the firmware: the host gets the two bytes alone.
@@ -29,11 +30,13 @@
  *   R4  certificate length is not the order's
  *
  * A refusal is for the firmware and no status word: never send it. Put right what was wrong and decide the same frame again, or
- * tell the host 0x6f00. What the host gets is the body, if there is one, and the status word's two bytes, the high one first:
- * keep two more bytes than the reply asks for.
+ * tell the host 0x6f00. What the host gets is a response, a body and the status word's two bytes, the high one first: see
+ * 'responses'. A body goes there cut by what the frame takes; every other status goes out with no body.
  *
- * Whatever a function's own text does not name stays as it was: after R1 to R7 every buffer and the record, after an order or
- * a status word other than 0x9000 the reply buffer. Numbers that an answer has no use for are 0.
+ * Whatever a function's own text does not name stays as it was: after R1 to R7 every buffer, the record and the remainder, after an
+ * order or a status word other than 0x9000 every buffer but an order's block. The status 61 XX is no call's answer: it goes out with
+ * its part, inside the response, and changes the buffer for part and status, never the uncut body. Numbers that an answer has no use
+ * for are 0.
  *
  * Not told apart by the compiler: handle and certificate, x and y, two lengths. Take the wrapper, where they have names; of a
  * decision and a finishing it also has the bare calls with names (brinecandle_decide_lent, brinecandle_finish_signed).
@@ -43,8 +46,8 @@
 
 /* docs/CHANGES.md says when these move */
 #define BRINECANDLE_VERSION_MAJOR 0
-#define BRINECANDLE_VERSION_MINOR 5
-#define BRINECANDLE_VERSION "0.5"
+#define BRINECANDLE_VERSION_MINOR 6
+#define BRINECANDLE_VERSION "0.6"
 
 #include <stdbool.h>
 #include <stddef.h>
@@ -82,10 +85,12 @@ enum {
     BRINECANDLE_R7 = 7, /* the order */
     BRINECANDLE_LAST_REFUSAL = 7, /* refusals are 1 up to this */
     BRINECANDLE_ORDER = 0x0100,
+    BRINECANDLE_PART = 0x0200,
     BRINECANDLE_WRONG_LENGTH = 0x6700,
-    BRINECANDLE_COND_USE_NOT_SATISFIED = 0x6985, /* no touch yet; or check only, and the handle is good */
+    BRINECANDLE_COND_USE_NOT_SATISFIED = 0x6985, /* no touch yet; check only, and the handle is good; or nothing is left to fetch */
     BRINECANDLE_COMMAND_NOT_ALLOWED = 0x6986,
     BRINECANDLE_WRONG_DATA = 0x6a80,
+    BRINECANDLE_INCORRECT_P1P2 = 0x6a86, /* of GET RESPONSE alone */
     BRINECANDLE_INS_INVALID = 0x6d00,
     BRINECANDLE_CLA_INVALID = 0x6e00,
     BRINECANDLE_INTERNAL_EXCEPTION = 0x6f00,
@@ -98,6 +103,7 @@ enum {
     BRINECANDLE_U2F_REGISTER = 1, /* commands, as their INS */
     BRINECANDLE_U2F_AUTHENTICATE = 2,
     BRINECANDLE_U2F_VERSION = 3,
+    BRINECANDLE_GET_RESPONSE = 0xc0,
     BRINECANDLE_ENFORCE_UP_AND_SIGN = 3, /* an Authenticate's P1 */
     BRINECANDLE_CHECK_ONLY = 7,
     BRINECANDLE_DONT_ENFORCE_UP_AND_SIGN = 8,
@@ -105,6 +111,7 @@ enum {
     BRINECANDLE_KIND_REGISTER = 1,
     BRINECANDLE_KIND_AUTHENTICATE = 2,
     BRINECANDLE_YES = 1, /* of the hardware and the signer; any other number is not yes */
+    BRINECANDLE_NO_LIMIT = 0, /* a body goes out whole */
     BRINECANDLE_BLOCK = 385 /* bytes of an order's block */
 };
 
@@ -116,7 +123,7 @@ enum {
  *   BRINECANDLE_SURPLUS          there are bytes that no field can claim; place is the first of them: 6 + Lc after a short Lc, 9 + Lc after
  *                                an extended one. In the strict reading a frame of shape 6 has one too, its Le byte, at 7 + Lc
  *   BRINECANDLE_LC_AGAINST_INS   the frame is read, but this command does not have such an Lc: another than 64 for Register, than 0 for
- *                                Version; for Authenticate under 65, or another than 65 and the handle's length. place is 4, where the
+ *                                Version and GET RESPONSE; for Authenticate under 65, or another than 65 and the handle's length. place is 4, where the
  *                                Lc field stands or would stand: in shapes 1, 2 and 8 there is none, and the 4 bytes of shape 1 end there
  * So a place need not lie inside the frame. A reading never says the last kind, a command and a decision say all three. */
 
@@ -157,11 +164,11 @@ struct brinecandle_wrote brinecandle_write(uint8_t cla, uint8_t ins, uint8_t p1,
                                            const uint8_t *content, size_t content_length, uint32_t le,
                                            uint8_t *out, size_t out_length);
 
-/* A command: 1 Register, 2 Authenticate, 3 Version, as the INS. The challenge is 32 bytes from frame[challenge], the
- * application 32 bytes from frame[application], both 0 for Version. Authenticate alone has p1 (3, 7 or 8) and a key handle,
- * frame[handle] up to and without frame[handle_end]; otherwise these are 0. */
+/* A command: 1 Register, 2 Authenticate, 3 Version, 0xc0 GET RESPONSE, as the INS. The challenge is 32 bytes from frame[challenge],
+ * the application 32 bytes from frame[application], both 0 for Version and GET RESPONSE. Authenticate alone has p1 (3, 7 or 8) and a
+ * key handle, frame[handle] up to and without frame[handle_end]; otherwise these are 0. */
 struct brinecandle_command {
-    uint16_t answer; /* 0x9000, or the frame's status: 0x6a80, 0x6700, 0x6e00, 0x6d00 */
+    uint16_t answer; /* 0x9000, or the frame's status: 0x6a80, 0x6700, 0x6e00, 0x6d00, 0x6a86 */
     uint16_t fault;  /* with 0x6700 what is wrong; else 0 */
     uint8_t command;
     uint8_t p1;
@@ -172,7 +179,7 @@ struct brinecandle_command {
     size_t place; /* with 0x6700 where; else 0 */
 };
 
-/* Reads any bytes as a command. */
+/* Reads any bytes as a command. Of GET RESPONSE CLA is looked at first, then P1 and P2 (0x6a86 where either is not 0), then Lc. */
 BRINECANDLE_TAKE_IT
 struct brinecandle_command brinecandle_read_command(const uint8_t *frame, size_t frame_length);
 
@@ -225,6 +232,57 @@ struct brinecandle_asked {
 BRINECANDLE_TAKE_IT
 struct brinecandle_asked brinecandle_is_up_needed(struct brinecandle_presence presence, uint64_t t);
 
+/* ---- responses. What a host gets is a body, which may be empty, and two status bytes. A frame in shape 1 to 4 takes no more body at a
+ * time than its Le, and 256 bytes where it has none; in shape 5 to 8 it takes all. That number is the frame's limit: 1 to 256, or 0 for
+ * none. brinecandle_decide hands it out, since a body may be made only after it, by brinecandle_finish.
+ *
+ * So a body goes out in parts. The first is made by brinecandle_next_part from (0, n), n being the body's length; each GET RESPONSE
+ * that the host sends then gets the next one, by brinecandle_decide, out of the same bytes: they must stay as they are, and where they
+ * are, until nothing remains. A part's status is 0x9000 where nothing is left after it, and else 0x61 and how many bytes are left, 00
+ * for 256 and more. Every other status goes out by brinecandle_write_response, not as a first part. */
+
+/* What of a body was not yet sent: from which place on, and how many bytes. Nothing where `count` is 0: a GET RESPONSE then gets
+ * 0x6985 whatever `place` is, and zeros say so best. It belongs to the one who asks: firmware with USB and wireless may hold one for
+ * each, with a body for each. */
+struct brinecandle_remainder {
+    size_t place;
+    size_t count;
+};
+
+/* Writes body and status at the front of `out` and leaves the rest of it: 0x9000 and the response's length, two more than the body's.
+ * R2 where `out` is shorter than that. The status may be any number. */
+BRINECANDLE_TAKE_IT
+struct brinecandle_wrote brinecandle_write_response(const uint8_t *body, size_t body_length, uint16_t status,
+                                                    uint8_t *out, size_t out_length);
+
+/* A response that was read: its body is the first `length` bytes of it. */
+struct brinecandle_response {
+    uint16_t answer; /* 0x9000; R2 under two bytes */
+    uint16_t status;
+    size_t length;
+};
+
+/* Reads any bytes as a response. */
+BRINECANDLE_TAKE_IT
+struct brinecandle_response brinecandle_read_response(const uint8_t *response, size_t response_length);
+
+/* A part: `length` bytes at the front of the buffer are its response. `remainder` is what remains after it; after R2 what came in. */
+struct brinecandle_part {
+    uint16_t answer; /* 0x9000, R2 */
+    size_t length;
+    struct brinecandle_remainder remainder;
+};
+
+/* Writes the next part of what remains of a body, and its status, at the front of `part`; the rest of it is left, and the body is only
+ * read. With (0, n) it is the first part, and what it hands back takes the place of any older remainder. The part has `limit` bytes, or
+ * all that remain where these are fewer or `limit` is 0; a limit above 256, which no frame has, is taken as it stands. R2 where the
+ * lent body ends before the remainder does, then R2 where `part` is shorter than the part and two bytes. Of nothing the next part is
+ * empty, with 0x9000; its place is looked at all the same, and one behind the body's end is R2. */
+BRINECANDLE_TAKE_IT
+struct brinecandle_part brinecandle_next_part(const uint8_t *body, size_t body_length,
+                                              struct brinecandle_remainder remainder, uint32_t limit,
+                                              uint8_t *part, size_t part_length);
+
 /* ---- decision and finishing */
 
 /* The hardware's answers. One that a command does not need is not looked at. */
@@ -248,13 +306,15 @@ struct brinecandle_order {
 /* `taken` asks of the firmware: write down that this number of the counter is used up, before anything is signed and whatever
  * becomes of the order, so that it is never offered again. */
 struct brinecandle_decision {
-    uint16_t answer; /* 0x0100 order; 0x9000 Version's body; R6, R1, R2; status word */
+    uint16_t answer; /* 0x0100 order; 0x0200 part; 0x9000 Version's body; R6, R1, R2; status word */
     uint16_t fault;  /* with 0x6700 what brinecandle_read_command says of this frame; else 0 */
     bool taken;      /* the offered counter stands in the order */
-    size_t length;   /* of the body */
+    size_t length;   /* of the body; with 0x0200 of the part's response */
     struct brinecandle_order order;
-    struct brinecandle_presence presence; /* the record to go on with, as above */
-    size_t place;                         /* of the fault; else 0 */
+    struct brinecandle_presence presence;   /* the record to go on with, as above */
+    size_t place;                           /* of the fault; else 0 */
+    struct brinecandle_remainder remainder; /* to go on with: take it over from every decision, too */
+    uint32_t limit;                         /* the frame's, whatever the answer is; 0 for bytes in no shape */
 };
 
 /* Decides what a frame is answered at moment t. `handle` and `certificate` are the new handle and the attestation
@@ -263,10 +323,25 @@ struct brinecandle_decision {
  * R2 where `reply` is too short for the longest reply to this command: 6 for Version, 139 and the lengths of handle and
  * certificate for Register, 77 for Authenticate. It comes before a touch is spent or the counter is taken.
  *
+ * `reply` is the buffer of uncut bodies: a Version writes it, brinecandle_finish writes it, and a GET RESPONSE reads it, all of its
+ * reply_length bytes being the lent body. `part` is the buffer for part and status: a GET RESPONSE alone writes it, and with
+ * BRINECANDLE_PART its first `length` bytes are the response to send as it is. After every other frame it is as it was, and so is
+ * `reply` after a GET RESPONSE. Lend both at every decision, apart from each other; of `part` 258 bytes are enough for frames in shape 1
+ * to 4, and two more than the longest body for all.
+ *
+ * GET RESPONSE is a decision like any other: R6, R1, `allowed` and the frame's shape come first, and it moves the last moment. Then
+ * 0x6e00 for CLA, 0x6a86 for P1 or P2 not 0, 0x6700 for Lc not 0, 0x6985 where nothing remains, which opens no prompt, and R2 as
+ * brinecandle_next_part has it. What it gets is the next part of `remainder` at the limit of its own frame.
+ *
+ * The remainder handed back is the one that came in after R6, R1 and R2 to any frame, and after a status word to a GET RESPONSE in any
+ * shape; after a part it is what that left. Any other frame, in a shape with another INS or in no shape, leaves nothing, (0, 0),
+ * whatever status word, body or order it is answered with. Touches, checks and finishing have nothing to do with it.
+ *
  * Whether there is an order depends on the handle and the certificate by their lengths alone. So for a dry run lend any bytes in
- * their place, `stored` 1, and scratch as reply and block. Where the answer is no order, it is the answer: take over its record.
- * Where it is one, throw the result away, its record too, make and store the key, and decide again on the old record at the same
- * moment. */
+ * their place, `stored` 1, and scratch as block and part; as reply too, as long as the real one, where the frame is no GET RESPONSE, which
+ * reads it. Where the answer is an order, throw the result away, record and remainder with it, make and store the key, and decide again
+ * on the old record at the same moment. Where it is 0x9000 or a part, it stands in scratch: decide again on the buffers themselves. Any
+ * other answer is the answer: take over its record and remainder. */
 BRINECANDLE_TAKE_IT
 struct brinecandle_decision brinecandle_decide(const uint8_t *frame, size_t frame_length, uint64_t t,
                                                struct brinecandle_presence presence,
@@ -274,10 +349,12 @@ struct brinecandle_decision brinecandle_decide(const uint8_t *frame, size_t fram
                                                const uint8_t *handle, size_t handle_length,
                                                const uint8_t *certificate, size_t certificate_length,
                                                const uint8_t x[32], const uint8_t y[32],
+                                               struct brinecandle_remainder remainder,
                                                uint8_t *reply, size_t reply_length,
-                                               uint8_t block[385]);
+                                               uint8_t block[385],
+                                               uint8_t *part, size_t part_length);
 
-/* Turns an order and its signature into the reply's body, at the front of `reply`; the rest of it is left. Checks in this
+/* Turns an order and its signature into the reply's body, uncut, at the front of `reply`; the rest of it is left. Checks in this
  * order: R7, R4, R2, 0x6f00 where the signer failed (`is_signed` other than 1), R3. An empty signature with `is_signed` 1 is
  * answered 0x9000, with a body that ends where the signature would begin, of no use to a host: say that the signer failed.
  *
@@ -333,6 +410,17 @@ BRINECANDLE_SIZE(touch, 40);
 BRINECANDLE_AT(asked, answer, 0);
 BRINECANDLE_AT(asked, yes, 2);
 BRINECANDLE_SIZE(asked, 4);
+BRINECANDLE_AT(remainder, place, 0);
+BRINECANDLE_AT(remainder, count, 8);
+BRINECANDLE_SIZE(remainder, 16);
+BRINECANDLE_AT(response, answer, 0);
+BRINECANDLE_AT(response, status, 2);
+BRINECANDLE_AT(response, length, 8);
+BRINECANDLE_SIZE(response, 16);
+BRINECANDLE_AT(part, answer, 0);
+BRINECANDLE_AT(part, length, 8);
+BRINECANDLE_AT(part, remainder, 16);
+BRINECANDLE_SIZE(part, 32);
 BRINECANDLE_AT(hardware, allowed, 0);
 BRINECANDLE_AT(hardware, attestation, 4);
 BRINECANDLE_AT(hardware, stored, 8);
@@ -351,7 +439,9 @@ BRINECANDLE_AT(decision, length, 8);
 BRINECANDLE_AT(decision, order, 16);
 BRINECANDLE_AT(decision, presence, 40);
 BRINECANDLE_AT(decision, place, 72);
-BRINECANDLE_SIZE(decision, 80);
+BRINECANDLE_AT(decision, remainder, 80);
+BRINECANDLE_AT(decision, limit, 96);
+BRINECANDLE_SIZE(decision, 104);
 
 #if defined(__cplusplus)
 }

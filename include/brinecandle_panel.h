@@ -1,12 +1,13 @@
 /* Brinecandle for C, the part that every firmware would write for itself: one panel, which keeps the presence record, one order
- * and its block. Every call here writes the record back, so that no touch serves twice; there is one order at a time, and it is
- * cleared once it is answered, so that it is finished once. Nothing here decides anything: it is over brinecandle.h, whose
- * contracts hold for the answers.
+ * and its block, and what remains of a body that goes out in parts. Every call here writes the record back, so that no touch serves
+ * twice; there is one order at a time, and it is cleared once it is answered, so that it is finished once. Nothing here decides
+ * anything: it is over brinecandle.h, whose contracts hold for the answers.
  *
- *   static struct brinecandle_panel panel;                 zeros: no record yet (R6), no order (R7)
+ *   static struct brinecandle_panel panel;                 zeros: no record yet (R6), no order (R7), nothing to fetch
  *   brinecandle_panel_new(&panel, 5000);
  *   brinecandle_panel_try, brinecandle_panel_decide        by what they answer: sign panel.block, up to panel.order.to_sign
  *   brinecandle_panel_finish
+ *   brinecandle_panel_respond                              what the host gets, of either
  *
  * All calls on one panel belong in one thread of control: a touch that an interrupt reports is put aside for the main loop.
  */
@@ -18,7 +19,9 @@
 struct brinecandle_panel {
     struct brinecandle_presence presence;
     struct brinecandle_order order;
-    uint8_t block[BRINECANDLE_BLOCK]; /* the bytes to sign, where the order's kind is not 0 */
+    uint8_t block[BRINECANDLE_BLOCK];       /* the bytes to sign, where the order's kind is not 0 */
+    uint32_t limit;                         /* of the frame whose body is to be sent next */
+    struct brinecandle_remainder remainder; /* of the body in the reply buffer. For a second side keep a second one, and put in its own */
 };
 
 /* What a decision is lent, by name. `handle`, `certificate`, `x` and `y` are those that a Register would use, x and y of 32 bytes. */
@@ -33,8 +36,10 @@ struct brinecandle_lent {
     size_t certificate_length;
     const uint8_t *x;
     const uint8_t *y;
-    uint8_t *reply;
+    uint8_t *reply; /* uncut bodies: what of one remains is read here */
     size_t reply_length;
+    uint8_t *part; /* part and status */
+    size_t part_length;
 };
 
 /* What a finishing is lent, by name. */
@@ -48,13 +53,25 @@ struct brinecandle_signed {
     size_t reply_length;
 };
 
-/* A decision without record and order, which the panel keeps. */
+/* What a response is made of, by name. `answer` and `length` are those of a decision or a finishing, the buffers those that it was
+ * lent. */
+struct brinecandle_answered {
+    uint16_t answer;
+    size_t length;
+    const uint8_t *reply;
+    size_t reply_length;
+    uint8_t *part;
+    size_t part_length;
+};
+
+/* A decision without record, order and remainder, which the panel keeps. */
 struct brinecandle_decided {
     uint16_t answer;
     uint16_t fault; /* with BRINECANDLE_WRONG_LENGTH: what is wrong with the length */
     bool taken;     /* write the counter's number down as used up, before anything is signed */
-    size_t length;  /* of the body, with BRINECANDLE_OK */
+    size_t length;  /* of the body, with BRINECANDLE_OK; of the response, with BRINECANDLE_PART */
     size_t place;   /* of the fault */
+    uint32_t limit; /* the frame's */
 };
 
 BRINECANDLE_TAKE_IT
@@ -105,11 +122,13 @@ static inline struct brinecandle_asked brinecandle_panel_ask(const struct brinec
 /* brinecandle_decide and brinecandle_finish, lent by name: for a firmware that keeps record and order by itself, since nothing is
  * kept here. */
 BRINECANDLE_TAKE_IT
-static inline struct brinecandle_decision brinecandle_decide_lent(struct brinecandle_presence presence, struct brinecandle_lent lent,
+static inline struct brinecandle_decision brinecandle_decide_lent(struct brinecandle_presence presence,
+                                                                  struct brinecandle_remainder remainder, struct brinecandle_lent lent,
                                                                   uint8_t block[BRINECANDLE_BLOCK])
 {
     return brinecandle_decide(lent.frame, lent.frame_length, lent.t, presence, lent.hardware, lent.handle, lent.handle_length,
-                              lent.certificate, lent.certificate_length, lent.x, lent.y, lent.reply, lent.reply_length, block);
+                              lent.certificate, lent.certificate_length, lent.x, lent.y, remainder, lent.reply, lent.reply_length,
+                              block, lent.part, lent.part_length);
 }
 
 BRINECANDLE_TAKE_IT
@@ -121,8 +140,16 @@ static inline struct brinecandle_wrote brinecandle_finish_signed(struct brinecan
                               with.signature_length, with.reply, with.reply_length);
 }
 
+BRINECANDLE_TAKE_IT
+static inline struct brinecandle_decided brinecandle_decided_so(struct brinecandle_decision decision)
+{
+    struct brinecandle_decided said = {decision.answer, decision.fault, decision.taken, decision.length, decision.place, decision.limit};
+    return said;
+}
+
 /* A dry run: what brinecandle_panel_decide would answer, with nothing changed: not the panel, and not the reply in the end, of which
- * a Version's six bytes are put back. For a Register lend handle and certificate of the lengths that they will have and `stored` 1. */
+ * a Version's six bytes are put back. The buffer for part and status holds what a GET RESPONSE would leave there. For a Register lend
+ * handle and certificate of the lengths that they will have and `stored` 1. */
 BRINECANDLE_TAKE_IT
 static inline struct brinecandle_decided brinecandle_panel_try(const struct brinecandle_panel *panel, struct brinecandle_lent lent)
 {
@@ -131,24 +158,25 @@ static inline struct brinecandle_decided brinecandle_panel_try(const struct brin
     size_t kept = lent.reply_length < sizeof front ? lent.reply_length : sizeof front;
     for (size_t i = 0; i < kept; i++)
         front[i] = lent.reply[i];
-    struct brinecandle_decision decision = brinecandle_decide_lent(panel->presence, lent, block);
+    struct brinecandle_decision decision = brinecandle_decide_lent(panel->presence, panel->remainder, lent, block);
     for (size_t i = 0; i < kept; i++)
         lent.reply[i] = front[i];
-    struct brinecandle_decided said = {decision.answer, decision.fault, decision.taken, decision.length, decision.place};
-    return said;
+    return brinecandle_decided_so(decision);
 }
 
 /* Decides. With BRINECANDLE_ORDER sign the first panel->order.to_sign bytes of panel->block. A refusal keeps the order that waits for
- * its signature; every other answer puts its own, or none, in the place. */
+ * its signature, and the limit that its body is cut by; every other answer puts its own, or none, in the place. */
 BRINECANDLE_TAKE_IT
 static inline struct brinecandle_decided brinecandle_panel_decide(struct brinecandle_panel *panel, struct brinecandle_lent lent)
 {
-    struct brinecandle_decision decision = brinecandle_decide_lent(panel->presence, lent, panel->block);
-    struct brinecandle_decided said = {decision.answer, decision.fault, decision.taken, decision.length, decision.place};
+    struct brinecandle_decision decision = brinecandle_decide_lent(panel->presence, panel->remainder, lent, panel->block);
     panel->presence = decision.presence;
-    if (!brinecandle_is_refusal(decision.answer))
+    panel->remainder = decision.remainder;
+    if (!brinecandle_is_refusal(decision.answer)) {
         panel->order = decision.order;
-    return said;
+        panel->limit = decision.limit;
+    }
+    return brinecandle_decided_so(decision);
 }
 
 /* Finishes the order that the panel keeps. It is over with BRINECANDLE_OK and with BRINECANDLE_INTERNAL_EXCEPTION (the signer
@@ -162,6 +190,33 @@ static inline struct brinecandle_wrote brinecandle_panel_finish(struct brinecand
         panel->order = none;
     }
     return wrote;
+}
+
+/* Makes what the host gets, at the front of `part`: with BRINECANDLE_OK the first part of the body, cut by the limit of its frame, and
+ * the panel keeps what remains; with BRINECANDLE_PART nothing is to be done, since the response stands there; with a status word it
+ * alone. It says BRINECANDLE_OK and the response's length, or R2. A refusal and an order are for no host: they are handed back as they
+ * are, and nothing is written. */
+BRINECANDLE_TAKE_IT
+static inline struct brinecandle_wrote brinecandle_panel_respond(struct brinecandle_panel *panel, struct brinecandle_answered with)
+{
+    struct brinecandle_wrote said = {with.answer, 0};
+    if (with.answer == BRINECANDLE_OK) {
+        struct brinecandle_remainder whole = {0, with.length};
+        struct brinecandle_part part = brinecandle_next_part(with.reply, with.reply_length, whole, panel->limit, with.part, with.part_length);
+        said.answer = part.answer;
+        said.length = part.length;
+        if (part.answer == BRINECANDLE_OK)
+            panel->remainder = part.remainder;
+        return said;
+    }
+    if (with.answer == BRINECANDLE_PART) {
+        said.answer = BRINECANDLE_OK;
+        said.length = with.length;
+        return said;
+    }
+    if (with.answer <= BRINECANDLE_ORDER) /* refusals lie below it, and so does memory of zeros */
+        return said;
+    return brinecandle_write_response(0, 0, with.answer, with.part, with.part_length);
 }
 
 #endif

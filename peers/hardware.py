@@ -1,5 +1,5 @@
 """The hardware beside the panel, played with real keys: clock, finger, key store, attestation, counter, signer. The host's
-side is fido2's `CtapDevice`: a frame goes in, body and status word come out."""
+side is fido2's `CtapDevice`: a frame goes in, a response comes out."""
 
 import os
 from datetime import datetime
@@ -124,9 +124,13 @@ class Device(CtapDevice):
         decided = self.panel.call("decide", *self.lent(frame, now, key, handle))
         if decided[0] == "order":
             decided = self.carry_out(key, *decided[1:])
-        # the host gets body and status; what a 6700 goes on with is for the panel's own log
-        status, *more = decided
-        return b"".join(map(given, more if status == "9000" else [])) + bytes.fromhex(status)
+        # the host gets a response; what a 6700 goes on with is for the panel's own log
+        word, *more = decided
+        if word == "part":
+            return given(more[0])
+        if word == "9000":
+            return given(self.panel.call("cut", len(given(more[0])))[1])
+        return given(self.panel.call("respond", int(word, 16), b"")[1])
 
     def lent(self, frame, now, key, handle):
         """What a decision is lent, and a dry run too."""

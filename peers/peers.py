@@ -1,9 +1,10 @@
-"""Clients and a server that others wrote, against the panel: python3-fido2 and libu2f-server's own tool, `u2f-server`."""
+"""Clients, a server and a reader that others wrote, against the panel: python3-fido2, libu2f-server's own tool, `u2f-server`, and pcscd."""
 
 import os
 import sys
 import tempfile
 import traceback
+from contextlib import nullcontext
 from hashlib import sha256
 
 from cryptography.exceptions import InvalidSignature as InvalidLogin
@@ -15,6 +16,7 @@ from building import quietly
 from hardware import HANDLE, Attestation, Device
 from panel import Refusal
 from server import ORIGIN, Server, is_known, server_enrolment, server_login
+from wireless import Daemon, Unavailable, laid_on
 
 APPLICATION = sha256(ORIGIN.encode()).digest()
 OTHER_APPLICATION = sha256(b"https://example.org").digest()
@@ -223,6 +225,82 @@ def server_rejects(device):
             assert not accepted and "Unable to verify signature" in said
 
 
+def parts_of(device, first):
+    """The bodies of the responses from the one to that frame on, and their statuses: the frames after it are GET RESPONSE."""
+    frames = [frame for frame, _ in device.card.frames]
+    at = max(i for i, frame in enumerate(frames) if frame[:2] == first)
+    assert all(frame[:4] == bytes.fromhex("00c00000") and len(frame) == 5 for frame in frames[at + 1:])
+    responses = [response for _, response in device.card.frames[at:]]
+    return [response[:-2] for response in responses], [response[-2:].hex() for response in responses]
+
+
+def wireless_version(device):
+    """by the reader: fido2 selects the applet, finds no CTAP2, and asks for the version"""
+    (select, selected), (probe, probed) = device.card.frames
+    assert select.hex() == "00a4040008a0000006472f0001" and selected == b"U2F_V2" + bytes.fromhex("9000")
+    assert probe[:4].hex() == "80108000" and probed.hex() == "6e00"
+    say(f"{select.hex()}: U2F_V2; {probe.hex()}: 6e00")
+    version(device)
+    assert device.exchange("00a4040008a0000006472f0002").hex() == "6a82"
+    say("another applet: 6a82")
+
+
+def wireless_enrolment_and_logins(device):
+    """by the reader, in short frames: fido2 enrols and logs in twice, and fetches by GET RESPONSE"""
+    challenge = os.urandom(32)
+    key = touched(device, lambda: Ctap1(device).register(challenge, APPLICATION))
+    assert_enrolment(device, key, challenge)
+    bodies, statuses = parts_of(device, bytes.fromhex("0001"))
+    left = len(key)
+    for body, status in zip(bodies, statuses):
+        assert len(body) == min(left, 256)
+        left -= len(body)
+        assert status == ("9000" if left == 0 else f"61{left if left < 256 else 0:02x}")
+    assert left == 0 and b"".join(bodies) == key and len(bodies) == -(-len(key) // 256) > 1
+    say(f"it came in {len(bodies)} parts: {', '.join(f'{len(body)} and {status}' for body, status in zip(bodies, statuses))}")
+    for counter in (1, 2):
+        challenge = os.urandom(32)
+        reply = touched(device, lambda: Ctap1(device).authenticate(challenge, APPLICATION, key.key_handle))
+        reply.verify(APPLICATION, challenge, key.public_key)
+        assert (reply.user_presence, reply.counter) == (1, counter)
+        assert parts_of(device, bytes.fromhex("0002"))[1] == ["9000"]
+        say(f"9000, login with counter {counter}, in one part: verified by fido2")
+
+
+def wireless_changed_replies(device):
+    """by the reader: fido2 rejects replies of which one bit was turned"""
+    changed_replies(device)
+
+
+def wireless_fetching(device):
+    """by the reader: what is left of an enrolment is kept by a GET RESPONSE that is refused, and dropped by any other frame"""
+    register = "0001000040" + os.urandom(32).hex() + APPLICATION.hex() + "00"
+    nothing, refused, version_frame = "00c0000000", "00c0010000", "0003000000"
+    assert device.exchange(nothing).hex() == "6985" and not device.asks()
+    say("nothing left: 6985, and the light does not ask")
+
+    def first_part():
+        assert device.exchange(register).hex() == "6985" and device.touch()
+        first = device.exchange(register)
+        assert len(first) == 258 and first[256] == 0x61
+        return first
+
+    first = first_part()
+    assert device.exchange(refused).hex() == "6a86"
+    left = device.exchange("00c00000" + f"{first[257]:02x}")
+    assert len(left) == first[257] + 2 and left[-2:].hex() == "9000"
+    assert device.exchange(nothing).hex() == "6985"
+    say("6a86 in between: the rest comes, then 6985")
+    for other, answer in (version_frame, b"U2F_V2".hex() + "9000"), ("0004000000", "6d00"), ("00c000000001", "6700"):
+        first_part()
+        assert device.exchange(other).hex() == answer and device.exchange(nothing).hex() == "6985"
+    say("Version, an unknown INS, a damaged frame in between: 6985")
+    first_part()
+    assert device.exchange("00a4040008a0000006472f0001").hex() == b"U2F_V2".hex() + "9000"
+    assert device.exchange(nothing).hex() == "6985"
+    say("the applet selected anew: 6985")
+
+
 CASES = [
     (version, 300),
     (enrolment_and_logins, 300),
@@ -240,12 +318,26 @@ CASES = [
     (server_rejects, 300),
 ]
 
+# by the virtual reader; with a certificate of 600 bytes the enrolment takes four parts
+WIRELESS = [
+    (wireless_version, 300),
+    (wireless_enrolment_and_logins, 300),
+    (wireless_enrolment_and_logins, 600),
+    (wireless_changed_replies, 600),
+    (wireless_fetching, 300),
+]
 
-def passes(case, length):
-    print(f"{case.__doc__} (certificate of {length} bytes)")
+
+def itself(device):
+    """The device as the client's, with nothing between."""
+    return nullcontext(device)
+
+
+def passes(case, length, reached=itself):
+    print(f"{case.__doc__} (certificate of {length} bytes)", flush=True)
     try:
-        with Device(Attestation(length)) as device:
-            case(device)
+        with Device(Attestation(length)) as device, reached(device) as by_client:
+            case(by_client)
     except BrokenPipeError:
         raise
     except Exception:
@@ -257,8 +349,15 @@ def passes(case, length):
 
 def main():
     passed = sum(passes(case, length) for case, length in CASES)
-    print(f"peers: {passed} of {len(CASES)} passed")
-    return passed != len(CASES)
+    try:
+        with Daemon():
+            passed += sum(passes(case, length, laid_on) for case, length in WIRELESS)
+    except Unavailable as why:
+        print(f"no wireless reader, so none of {len(WIRELESS)} cases: {why}")
+        say("FAILED")
+    total = len(CASES) + len(WIRELESS)
+    print(f"peers: {passed} of {total} passed")
+    return passed != total
 
 
 if __name__ == "__main__":

@@ -71,6 +71,20 @@ pub struct Order {
 }
 
 #[repr(C)]
+#[derive(Clone, Copy)]
+pub struct Remainder {
+    pub place: usize,
+    pub count: usize,
+}
+
+#[repr(C)]
+pub struct Part {
+    pub answer: u16,
+    pub length: usize,
+    pub remainder: Remainder,
+}
+
+#[repr(C)]
 pub struct Decision {
     pub answer: u16,
     pub fault: u16,
@@ -79,9 +93,12 @@ pub struct Decision {
     pub order: Order,
     pub presence: Presence,
     pub place: usize,
+    pub remainder: Remainder,
+    pub limit: u32,
 }
 
 pub const ORDER: u16 = 0x0100;
+pub const PART: u16 = 0x0200;
 pub const OK: u16 = 0x9000;
 pub const BLOCK: usize = 385;
 
@@ -115,9 +132,12 @@ extern "C" {
         certificate_length: usize,
         x: *const [u8; 32],
         y: *const [u8; 32],
+        remainder: Remainder,
         reply: *mut u8,
         reply_length: usize,
         block: *mut [u8; BLOCK],
+        part: *mut u8,
+        part_length: usize,
     ) -> Decision;
     pub fn brinecandle_finish(
         order: Order,
@@ -130,4 +150,12 @@ extern "C" {
         reply: *mut u8,
         reply_length: usize,
     ) -> Wrote;
+    pub fn brinecandle_next_part(
+        body: *const u8,
+        body_length: usize,
+        remainder: Remainder,
+        limit: u32,
+        part: *mut u8,
+        part_length: usize,
+    ) -> Part;
 }

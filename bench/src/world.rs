@@ -5,7 +5,7 @@ use crate::ctap::ctap1::Ctap1Command;
 use crate::ctap::u2f_up::U2fUserPresenceState;
 use crate::ctap::{CtapState, TOUCH_TIMEOUT_MS};
 use crate::lent::{self, Lent, CERTIFICATE, COUNTER, HANDLE, SIGNATURE, X, Y};
-use crate::panel::{self, Asked, Decision, Frame, Hardware, Order, Presence, Touch, Wrote, BLOCK};
+use crate::panel::{self, Asked, Decision, Frame, Hardware, Order, Part, Presence, Remainder, Touch, Wrote, BLOCK};
 
 /// The room that the panel's firmware has for a reply.
 const ROOM: usize = 1024;
@@ -18,6 +18,10 @@ enum Kind {
     Read,
     /// The row's frame is what has to be written. The Rust has no writer.
     Write,
+    /// The last part of a body, of so many bytes; the row's frame is the body. The Rust cuts nothing.
+    Next(usize),
+    /// The same, asked for by a frame: a GET RESPONSE that fetches the last part of what the reply buffer holds.
+    Fetch,
     Touch,
     Check,
     Ask,
@@ -65,6 +69,11 @@ fn data(length: usize) -> Vec<u8> {
 }
 
 const LENGTHS: [usize; 7] = [0, 1, 10, 255, 256, 4096, 65535];
+const PARTS: [usize; 3] = [1, 32, 256];
+const BODIES: [usize; 3] = [256, 1024, 60000];
+/// What a short frame without an Le takes.
+const FETCHED: usize = 256;
+const NOTHING: Remainder = Remainder { place: 0, count: 0 };
 
 impl Row {
     fn new(name: &str, kind: Kind, before: Before, frame: Vec<u8>) -> Row {
@@ -77,10 +86,16 @@ impl Row {
     }
 
     pub fn all() -> Vec<Row> {
-        [Row::readings(), Row::commands(), Row::touches(), Row::writings()]
-            .into_iter()
-            .flatten()
-            .collect()
+        [
+            Row::readings(),
+            Row::commands(),
+            Row::touches(),
+            Row::writings(),
+            Row::parts(),
+        ]
+        .into_iter()
+        .flatten()
+        .collect()
     }
 
     /// Each shape with each length that it can carry, and a frame under four bytes and one in no shape.
@@ -159,6 +174,25 @@ impl Row {
         }
         rows
     }
+
+    /// Parts of three lengths, each out of bodies of three lengths, and one that is fetched.
+    fn parts() -> Vec<Row> {
+        let mut rows = Vec::new();
+        for part in PARTS {
+            for body in BODIES {
+                let name = format!("next-{part}-of-{body}");
+                rows.push(Row::new(&name, Kind::Next(part), Before::Nothing, data(body)));
+            }
+        }
+        let name = format!("fetch-{FETCHED}-of-{ROOM}");
+        rows.push(Row::new(
+            &name,
+            Kind::Fetch,
+            Before::Nothing,
+            frame(1, [0, 0xc0, 0, 0], &[]),
+        ));
+        rows
+    }
 }
 
 pub type Side = fn(&mut World);
@@ -178,6 +212,9 @@ pub struct World {
     /// What is to be written, and where to.
     said: Frame,
     out: Vec<u8>,
+    /// What remains of a body, and where its parts are written to.
+    remainder: Remainder,
+    part: Vec<u8>,
     grant: fn(&mut Presences, &mut Lent),
     consume: fn(&mut Presences, &mut Lent) -> bool,
     needed: fn(&mut Presences, &mut Lent) -> bool,
@@ -200,7 +237,18 @@ impl World {
             state.u2f_up_state.grant_up(&mut env);
         }
         env.now = NOW;
+        let last = |n: usize, of: usize| Remainder {
+            place: of - n,
+            count: n,
+        };
+        let remainder = match row.kind {
+            Kind::Next(part) => last(part, row.frame.len()),
+            Kind::Fetch => last(FETCHED, ROOM),
+            _ => NOTHING,
+        };
         let mut world = World {
+            part: vec![0; remainder.count + 2],
+            remainder,
             said: unsafe { panel::brinecandle_read(row.frame.as_ptr(), row.frame.len()) },
             out: vec![0; row.frame.len()],
             row,
@@ -238,6 +286,8 @@ impl World {
             ("core", Kind::Read) => Some(|w| drop(w.said())),
             ("rust", Kind::Read) => Some(|w| drop((w.read)(w.row.frame))),
             ("core", Kind::Write) => Some(|w| drop(w.wrote())),
+            ("core", Kind::Next(_)) => Some(|w| drop(w.next())),
+            ("core", Kind::Fetch) => Some(|w| drop(w.decided())),
             ("core", Kind::Touch) => Some(|w| drop(w.touched())),
             ("rust", Kind::Touch) => Some(|w| drop(w.granted())),
             ("core", Kind::Check) => Some(|w| drop(w.checked())),
@@ -286,6 +336,20 @@ impl World {
     }
 
     #[inline(always)]
+    fn next(&mut self) -> Part {
+        unsafe {
+            panel::brinecandle_next_part(
+                self.row.frame.as_ptr(),
+                self.row.frame.len(),
+                self.remainder,
+                self.remainder.count as u32,
+                self.part.as_mut_ptr(),
+                self.part.len(),
+            )
+        }
+    }
+
+    #[inline(always)]
     fn touched(&self) -> Touch {
         unsafe { panel::brinecandle_grant_up(self.presence, NOW) }
     }
@@ -329,9 +393,12 @@ impl World {
                 CERTIFICATE.len(),
                 &X,
                 &Y,
+                self.remainder,
                 self.reply.as_mut_ptr(),
                 self.reply.len(),
                 &mut self.block,
+                self.part.as_mut_ptr(),
+                self.part.len(),
             )
         }
     }
@@ -369,10 +436,15 @@ impl World {
         let (core, rust) = match self.row.kind {
             Kind::Read => (self.core_reading(), self.rust_reading()),
             Kind::Write => (self.core_writing(), (panel::OK, self.row.frame.to_vec(), [0, 0])),
+            Kind::Next(_) | Kind::Fetch => (self.core_part(), self.whole_part()),
             Kind::Touch | Kind::Check | Kind::Ask => (self.core_presence(), self.rust_presence()),
             _ => (self.core_answer(), self.rust_answer()),
         };
-        assert!(core == rust, "{}: the core {core:x?}, the Rust {rust:x?}", self.row.name);
+        assert!(
+            core == rust,
+            "{}: the core {core:x?}, the Rust {rust:x?}",
+            self.row.name
+        );
     }
 
     fn core_reading(&self) -> (u16, Vec<u8>, [u32; 2]) {
@@ -388,6 +460,36 @@ impl World {
     fn core_writing(&mut self) -> (u16, Vec<u8>, [u32; 2]) {
         let wrote = self.wrote();
         (wrote.answer, self.out[..wrote.length].to_vec(), [0, 0])
+    }
+
+    fn core_part(&mut self) -> (u16, Vec<u8>, [u32; 2]) {
+        let (answer, length, after) = match self.row.kind {
+            Kind::Next(_) => {
+                let part = self.next();
+                (part.answer, part.length, part.remainder)
+            }
+            _ => {
+                let decision = self.decided();
+                assert!(decision.answer == panel::PART, "{}: no part", self.row.name);
+                (panel::OK, decision.length, decision.remainder)
+            }
+        };
+        (
+            answer,
+            self.part[..length].to_vec(),
+            [after.place as u32, after.count as u32],
+        )
+    }
+
+    /// What document 02 has it be: the body's last bytes and 9000, after which nothing remains.
+    fn whole_part(&self) -> (u16, Vec<u8>, [u32; 2]) {
+        let body = if self.row.kind == Kind::Fetch {
+            &self.reply[..]
+        } else {
+            self.row.frame
+        };
+        let last = &body[self.remainder.place..];
+        (panel::OK, [last, &[0x90, 0x00]].concat(), [body.len() as u32, 0])
     }
 
     /// What the call says, and whether a prompt and a touch are live after it. The Rust's touch says nothing: that it was

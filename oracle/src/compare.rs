@@ -1,7 +1,8 @@
 //! The comparison: the same calls to the panel and to upstream, answer by answer. Of a 6700 the status alone is compared: upstream
-//! does not say what is wrong with the length, or where.
+//! does not say what is wrong with the length, or where. Bodies are compared uncut, and where upstream says 6d00 to INS C0 the panel is
+//! held to document 02 instead, and counted apart; what the call leaves is compared with upstream's there too.
 
-use crate::device::{read, reading_name, yes_name, Answer, Call, Device, Outcome, Touch, ANSWERS};
+use crate::device::{amended, read, reading_name, yes_name, Answer, Call, Device, Outcome, Touch, ANSWERS};
 use crate::generate::{all, all_count, boundary, damaged, Aimed, Dice, History, ALL_UP_TO};
 use crate::lent::Hardware;
 use crate::panel::{decided, finished, next_line, put_call, put_finish, without_pair, Panel, Record};
@@ -21,6 +22,9 @@ const ENOUGH_CALLS: usize = 1_000;
 /// Lines that are compared too, and are no answers of upstream's.
 const RECORD: &str = "record";
 const FRESH: &str = "new";
+
+/// An answer that is held to document 02.
+const FETCHED: &str = "INS C0, where the Rust says 6d00";
 
 /// What a line of the panel's has to say.
 enum Expected {
@@ -57,6 +61,18 @@ impl Block {
         let shown = device.shown().cloned();
         put_call(&mut self.lines, &Call::Read(frame.clone()));
         self.expected.push((Expected::Reading(frame.clone(), answer), key));
+        if let Some(status) = amended(&frame, outcome.status) {
+            // a command read by itself does not know what remains
+            let said = if status == 0x6985 {
+                "getresponse".into()
+            } else {
+                format!("{status:04x}")
+            };
+            self.words(format!("command {FETCHED}"), |words| {
+                words.extend_from_slice(said.as_bytes())
+            });
+            return;
+        }
         let key = format!("command {}", command_name(&outcome, shown.is_some()));
         self.expected.push((Expected::Command(frame, outcome, shown), key));
     }
@@ -72,6 +88,12 @@ impl Block {
     }
 
     fn command(&mut self, call: &Call, frame: &[u8], outcome: &Outcome) {
+        if let Some(status) = amended(frame, outcome.status) {
+            self.words(format!("decide {FETCHED}"), |said| {
+                said.extend_from_slice(format!("{status:04x}").as_bytes())
+            });
+            return;
+        }
         self.words(outcome.decision_name(frame), |said| decided(call, outcome, said));
         if outcome.ordered {
             put_finish(&mut self.lines, call);

@@ -91,6 +91,19 @@ pub fn read(frame: &[u8]) -> Answer {
     }
 }
 
+/// Upstream answers 6d00 to every INS that it does not have. Document 02, E2, takes GET RESPONSE out of that: its answers are looked up
+/// there, for a device that has no body to fetch. None where upstream's answer stands.
+pub fn amended(frame: &[u8], status: u16) -> Option<u16> {
+    match read(frame) {
+        Answer::Frame(says) if status == 0x6d00 && says.header[1] == 0xc0 => Some(match (says.header, says.lc) {
+            ([_, _, 0, 0], 0) => 0x6985,
+            ([_, _, 0, 0], _) => 0x6700,
+            _ => 0x6a86,
+        }),
+        _ => None,
+    }
+}
+
 impl Device {
     pub fn new() -> Device {
         Device {

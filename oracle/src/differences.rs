@@ -13,9 +13,11 @@ struct Difference {
     room: usize,
     /// The last one shows the difference; the others lead up to it.
     calls: Vec<Call>,
+    /// Lines that the panel alone gets after it.
+    more: &'static str,
     rust: &'static str,
     /// The panel's answers to the last call: three to a read (reading, command and strict reading), and one more where
-    /// upstream came to a signature, to the finish.
+    /// upstream came to a signature, to the finish; then those to what it gets alone.
     panel: &'static [&'static str],
 }
 
@@ -78,6 +80,7 @@ fn show(name: &'static str, calls: Vec<Call>, rust: &'static str, panel: &'stati
         name,
         room: ROOM,
         calls,
+        more: "",
         rust,
         panel,
     }
@@ -85,6 +88,10 @@ fn show(name: &'static str, calls: Vec<Call>, rust: &'static str, panel: &'stati
 
 fn within(room: usize, difference: Difference) -> Difference {
     Difference { room, ..difference }
+}
+
+fn then(more: &'static str, difference: Difference) -> Difference {
+    Difference { more, ..difference }
 }
 
 fn fresh(frame: Vec<u8>, hardware: Hardware) -> Vec<Call> {
@@ -113,12 +120,6 @@ fn against_the_documents() -> Vec<Difference> {
             read(&[0, 3, 0]),
             "6a80",
             &["6a80", "6a80", "6a80"],
-        ),
-        show(
-            "Le is looked at by no command",
-            fresh(version(1), good()),
-            "9000, 6 bytes",
-            &["9000 5532465f5632"],
         ),
         show(
             "Register looks at no P1",
@@ -260,6 +261,42 @@ fn against_upstream() -> Vec<Difference> {
             "6700",
             &["6700 lc 4"],
         ),
+        then(
+            "limit\ncut 6\nremainder\n",
+            show(
+                "a body is cut by Le",
+                fresh(version(1), Hardware::default()),
+                "9000, 6 bytes",
+                &["9000 5532465f5632", "1", "9000 556105", "1 5"],
+            ),
+        ),
+        then(
+            "limit\ncut 6\nremainder\n",
+            show(
+                "an extended frame gets the whole body",
+                fresh(frame(8, [0, 3, 0, 0], &[], 1), Hardware::default()),
+                "9000, 6 bytes",
+                &["9000 5532465f5632", "0", "9000 5532465f56329000", "6 0"],
+            ),
+        ),
+        show(
+            "GET RESPONSE is a command, and nothing remains",
+            fresh(frame(2, [0, 0xc0, 0, 0], &[], 0), Hardware::default()),
+            "6d00",
+            &["6985"],
+        ),
+        show(
+            "GET RESPONSE looks at P1 and P2",
+            fresh(frame(1, [0, 0xc0, 0, 1], &[], 0), Hardware::default()),
+            "6d00",
+            &["6a86"],
+        ),
+        show(
+            "GET RESPONSE looks at Lc",
+            read(&[0, 0xc0, 0, 0, 1, 7]),
+            "shape 3, Lc 1, Le 0",
+            &["3 1 0 5 6", "6700 lc 4", "3 1 0 5 6"],
+        ),
         show("a moment of 2^48", vec![Call::New, Call::Check(1 << 48)], "no", &["R1"]),
     ]
 }
@@ -320,6 +357,7 @@ fn lines(difference: &Difference) -> (Vec<u8>, usize, Answer) {
         (Some(Call::Read(frame)), _) => put_strict(&mut lines, frame),
         _ => {}
     }
+    lines.extend_from_slice(difference.more.as_bytes());
     (lines, before, answer)
 }
 

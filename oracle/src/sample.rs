@@ -1,8 +1,9 @@
 //! A sample of the oracle's answers as a case file of the program `lines`: calls of the pipe panel and what upstream answers, with
 //! no Rust at hand when it is run. Bytes that nothing looks at count up, so that names can stand for them. Of a 6700 the sample holds
-//! the status alone: upstream does not say what is wrong with the length, so the line ends in ` ..`, which lets the answer go on.
+//! the status alone: upstream does not say what is wrong with the length, so the line ends in ` ..`, which lets the answer go on. Commands
+//! with INS C0 are left out: upstream's answer to them is amended (document 02, E2).
 
-use crate::device::{reading_name, yes_name, Answer, Call, Device, Outcome, ANSWERS};
+use crate::device::{amended, reading_name, yes_name, Answer, Call, Device, Outcome, ANSWERS};
 use crate::generate::{all, all_count, boundary, damaged, frame, hardware, plain, Dice, History, LONG};
 use crate::lent::{Allowed, Attested, Hardware};
 use crate::panel::{decided, finished, put_call, put_finish, Record};
@@ -142,6 +143,9 @@ impl Sample {
     /// Both devices get every call. The second has a signer that never fails: it is asked for the bytes to sign where the
     /// first one's failed, which upstream does not hand out then.
     fn call(&mut self, device: &mut Device, signing: &mut Device, call: &Call) {
+        if matches!(call, Call::Command(_, frame, _) if amended(frame, 0x6d00).is_some()) {
+            return;
+        }
         let signed = match call {
             Call::Command(t, frame, hw) => {
                 let mut hw = (**hw).clone();

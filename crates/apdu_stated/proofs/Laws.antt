@@ -2,4 +2,4 @@
 pub use Rattle.apdu_stated.proofs.Ways.{saidBy, FrameWay, under, found, ends, goes-on, frame-way, WriteWay, unfit, no-room, written, write-way}
 pub use Rattle.apdu_stated.proofs.Frames.{data-from, data-within, data-long, read-status, never-third, read-refuses-not}
 pub use Rattle.apdu_stated.proofs.Numbers.{shape-same, apduBack, apdu-back, says-same, reading-same, written-same}
-pub use Rattle.apdu_stated.proofs.Theorems.{ShortExactly as read-short, ReadPairsExactly as read-pairs}
+pub use Rattle.apdu_stated.proofs.Theorems.{ShortExactly as read-short, ReadPairsExactly as read-pairs, ReadExactly as read-exactly}

@@ -9,8 +9,8 @@ ghost use mathlib.Core.Path.{_≡_};
 ghost use Rattle.outcome.specs.Outcome.{againstIns};
 ghost use Rattle.octets.specs.Bytes.{byte};
 ghost use Rattle.apdu_stated.specs.Answers.{saysOf};
-ghost use Rattle.command_stated.specs.Command.{commandSaid, authenticateOf};
-ghost use Rattle.command_stated.specs.Contracts.{FlagsNumber, Instructed, ReadCommand, ChallengePlace, ApplicationPlace, HandlePlace, Challenge, Application, KeyHandle};
+ghost use Rattle.command_stated.specs.Command.{commandSaid, authenticateOf, getResponseOf};
+ghost use Rattle.command_stated.specs.Contracts.{FlagsNumber, Instructed, OnReading, ReadCommand, ChallengePlace, ApplicationPlace, HandlePlace, Challenge, Application, KeyHandle};
 use apdu::Apdu;
 use apdu::Place;
 use apdu::Reading;
@@ -26,6 +26,9 @@ const U2F_REGISTER: u8 = 0x01;
 const U2F_AUTHENTICATE: u8 = 0x02;
 
 const U2F_VERSION: u8 = 0x03;
+
+// ISO 7816-4's GET RESPONSE.
+const GET_RESPONSE: u8 = 0xc0;
 
 // The control byte as its number.
 pub fn flags_number(flags: Ctap1Flags) -> u8
@@ -78,6 +81,23 @@ fn authenticate(frame: &[u8], says: Apdu) -> U2fCommand
     U2fCommand::Status(ApduStatusCode::WrongData)
 }
 
+fn get_response(says: Apdu) -> U2fCommand
+    ensures { λ r. ⌜ commandSaid r ≡ getResponseOf (saysOf says) ⌝ }
+{
+    let header = says.header;
+    let lc = says.lc;
+    if header.p1 != 0 {
+        return U2fCommand::Status(ApduStatusCode::IncorrectP1P2);
+    }
+    if header.p2 != 0 {
+        return U2fCommand::Status(ApduStatusCode::IncorrectP1P2);
+    }
+    if lc != 0 {
+        return against_ins();
+    }
+    U2fCommand::GetResponse
+}
+
 // What a frame that says this asks for: by CLA, then by INS.
 pub fn instructed(frame: &[u8], says: Apdu) -> U2fCommand
     ensures { λ r. ⌜ Instructed (now (frame .entry)) says r ⌝ }
@@ -103,18 +123,27 @@ pub fn instructed(frame: &[u8], says: Apdu) -> U2fCommand
         }
         return U2fCommand::Version;
     }
+    if ins == GET_RESPONSE {
+        return get_response(says);
+    }
     U2fCommand::Status(ApduStatusCode::InsInvalid)
+}
+
+// What a frame asks for that was read so.
+pub fn on_reading(frame: &[u8], reading: Reading) -> U2fCommand
+    ensures { λ r. ⌜ OnReading (now (frame .entry)) reading r ⌝ }
+{
+    match reading {
+        Reading::Frame(says) => instructed(frame, says),
+        Reading::Status(status) => U2fCommand::Status(status),
+    }
 }
 
 // Reads any bytes as a command.
 pub fn read_command(frame: &[u8]) -> U2fCommand
     ensures { λ r. ⌜ ReadCommand (now (frame .entry)) r ⌝ }
 {
-    let reading = apdu::read(frame);
-    match reading {
-        Reading::Frame(says) => instructed(frame, says),
-        Reading::Status(status) => U2fCommand::Status(status),
-    }
+    on_reading(frame, apdu::read(frame))
 }
 
 // Where the challenge of a frame that says this stands: the first 32 bytes of its data.

@@ -16,7 +16,7 @@ use Rattle.apdu_stated.specs.declared.Place.{Place}
 use Rattle.apdu_stated.specs.declared.Reading.{Reading}
 use Rattle.apdu_stated.specs.declared.Reading.the-variants as Reading′
 use Rattle.apdu_stated.specs.Reading.{readOf, dataOf, placeOf}
-use Rattle.command_stated.specs.Command.{Command, Register, Authenticate, Version, isControl, registerOf, authenticateOf, versionOf, byInstruction, onReading, commandOf, challengePlaceOf, applicationPlaceOf, challengeOf, applicationOf, handlePlaceOf, handleOf}
+use Rattle.command_stated.specs.Command.{Command, Register, Authenticate, Version, GetResponse, isControl, registerOf, authenticateOf, versionOf, getResponseOf, byInstruction, onReading, commandOf, challengePlaceOf, applicationPlaceOf, challengeOf, applicationOf, handlePlaceOf, handleOf}
 
 -- past the end there is no byte
 pub byte-none : (s : List ℕ) (i : ℕ) → length s ≤ i → 0 ≡ byte s i
@@ -56,6 +56,24 @@ module _ (frame : List ℕ) (said : Says) where
       pub auth-wrong : (said .header .p1 ≡ 0x03 → ⊥) → (said .header .p1 ≡ 0x07 → ⊥) → (said .header .p1 ≡ 0x08 → ⊥) → SW 0x6a80 ≡ authenticateOf frame said
       auth-wrong n3 n7 n8 = by-control (rw (ne-eqb (said .header .p1) 0x03 n3, ne-eqb (said .header .p1) 0x07 n7, ne-eqb (said .header .p1) 0x08 n8))
 
+  -- ---- GET RESPONSE
+  pub fetch-p1 : (said .header .p1 ≡ 0x00 → ⊥) → SW 0x6a86 ≡ getResponseOf said
+  unfolding getResponseOf
+  fetch-p1 n = rw (ne-eqb (said .header .p1) 0x00 n)
+
+  pub fetch-p2 : said .header .p1 ≡ 0x00 → (said .header .p2 ≡ 0x00 → ⊥) → SW 0x6a86 ≡ getResponseOf said
+  unfolding getResponseOf
+  fetch-p2 p1 n = rw (p1, ne-eqb (said .header .p2) 0x00 n)
+
+  module _ (p1 : said .header .p1 ≡ 0x00) (p2 : said .header .p2 ≡ 0x00) where
+    pub fetch-other : (o : Outcome Command) → o ≡ againstIns → (said .lc ≡ 0 → ⊥) → o ≡ getResponseOf said
+    unfolding getResponseOf
+    fetch-other o is n = is ∙ rw (p1, p2, ne-eqb (said .lc) 0 n)
+
+    pub fetch-0 : said .lc ≡ 0 → Gives GetResponse ≡ getResponseOf said
+    unfolding getResponseOf
+    fetch-0 e = rw (p1, p2, eq-eqb (said .lc) 0 e)
+
   -- ---- by INS
   pub wrong-cla : (said .header .cla ≡ 0x00 → ⊥) → SW 0x6e00 ≡ byInstruction frame said
   unfolding byInstruction
@@ -84,9 +102,27 @@ module _ (frame : List ℕ) (said : Says) where
       unfolding byInstruction versionOf
       version-0 e = rw (cla, ins, eq-eqb (said .lc) 0 e)
 
-    pub unknown : (said .header .ins ≡ 0x01 → ⊥) → (said .header .ins ≡ 0x02 → ⊥) → (said .header .ins ≡ 0x03 → ⊥) → SW 0x6d00 ≡ byInstruction frame said
+    pub fetches : (o : Outcome Command) → said .header .ins ≡ 0xC0 → o ≡ getResponseOf said → o ≡ byInstruction frame said
     unfolding byInstruction
-    unknown n1 n2 n3 = rw (cla, ne-eqb (said .header .ins) 0x01 n1, ne-eqb (said .header .ins) 0x02 n2, ne-eqb (said .header .ins) 0x03 n3)
+    fetches o ins e = e ∙ rw (cla, ins)
+
+    pub unknown : (said .header .ins ≡ 0x01 → ⊥) → (said .header .ins ≡ 0x02 → ⊥) → (said .header .ins ≡ 0x03 → ⊥) → (said .header .ins ≡ 0xC0 → ⊥) → SW 0x6d00 ≡ byInstruction frame said
+    unfolding byInstruction
+    unknown n1 n2 n3 n4 = rw (cla, ne-eqb (said .header .ins) 0x01 n1, ne-eqb (said .header .ins) 0x02 n2, ne-eqb (said .header .ins) 0x03 n3, ne-eqb (said .header .ins) 0xC0 n4)
+
+-- ---- on a reading that is handed in
+module _ (frame : List ℕ) (r : Reading) where
+  pub of-frame : (says : Apdu) (o : Outcome Command) → r ≡ Reading′.Frame says → o ≡ byInstruction frame (saysOf says) → o ≡ onReading frame (readingOf r)
+  unfolding onReading
+  of-frame says o e b = b ∙ ap (λ (x : Reading). onReading frame (readingOf x)) (sym e)
+
+  pub of-status : (s : ApduStatusCode) → r ≡ Reading′.Status s → Word (wordOf s) ≡ onReading frame (readingOf r)
+  unfolding onReading
+  of-status s e = ap (λ (x : Reading). onReading frame (readingOf x)) (sym e)
+
+  pub of-reading : (o : Outcome Command) → readingOf r ≡ readOf frame → o ≡ onReading frame (readingOf r) → o ≡ commandOf frame
+  unfolding commandOf
+  of-reading o is e = e ∙ ap (onReading frame) is
 
 -- ---- on the reading
 module _ (frame : List ℕ) (r : Reading) (is-r : readingOf r ≡ readOf frame) where

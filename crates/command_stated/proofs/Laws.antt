@@ -2,14 +2,17 @@
 use Prim.Native.Nat.{ℕ}
 use mathlib.Core.Path.{_≡_, sym}
 use mathlib.Core.List.{List}
-use Rattle.outcome.specs.Outcome.{Outcome, R, Gives}
+use native.Mathlib.Omega.{arith}
+use Rattle.outcome.specs.Outcome.{StatusWord, Outcome, R, Word, Gives}
 use Rattle.outcome.proofs.Laws.{r-word, r-gives}
 use Rattle.apdu_stated.specs.Answers.{Says}
+use Rattle.apdu_stated.proofs.Laws.{read-status}
 use Rattle.command_stated.specs.Command.{Command, commandOf}
-pub use Rattle.command_stated.proofs.Theorems.{RegisterExactly, AuthenticateExactly, VersionExactly, CommandPairsExactly, RegisterParts, AuthenticateParts, CutAtPlaces}
-pub use Rattle.command_stated.proofs.Ways.{Why, class, instruction, lengths, control, Way, register, authenticate, version, status, Read, read, unread, reading}
+use Rattle.command_stated.proofs.Theorems.{Told, own, because, told}
+pub use Rattle.command_stated.proofs.Theorems.{RegisterExactly, AuthenticateExactly, VersionExactly, GetResponseExactly, CommandPairsExactly, RegisterParts, AuthenticateParts, CutAtPlaces}
+pub use Rattle.command_stated.proofs.Ways.{Why, class, instruction, parameters, lengths, control, Way, register, authenticate, version, fetch, status, Read, read, unread, reading}
 pub use Rattle.command_stated.proofs.Numbers.{flags-same, command-same}
-pub use Rattle.command_stated.proofs.Cases.{on-frame, on-status}
+pub use Rattle.command_stated.proofs.Cases.{on-frame, on-status, of-reading}
 
 -- command reading refuses nothing
 pub never-refused : (frame : List ℕ) (n : ℕ) → commandOf frame ≡ R n → ⊥
@@ -19,8 +22,24 @@ never-refused frame n e = go (commandOf frame) (reading frame) e
     by said _ (register c i l) x = r-gives _ _ (sym x)
     by said _ (authenticate c i l f k) x = r-gives _ _ (sym x)
     by said _ (version c i l) x = r-gives _ _ (sym x)
+    by said _ (fetch c i a b l) x = r-gives _ _ (sym x)
     by said _ (status why) x = r-word _ _ (sym x)
 
     go : (o : Outcome Command) → Read frame o → o ≡ R n → ⊥
     go o (read said r w) x = by said o w x
     go _ (unread m r) x = r-word _ _ (sym x)
+
+-- nor does it say 6985: that is the decision's own word
+pub never-6985 : (frame : List ℕ) (w : StatusWord) → commandOf frame ≡ Word w → w .number ≡ 0x6985 → ⊥
+never-6985 frame w e n = go (told frame w e)
+  where
+    why : {said : Says} {v : StatusWord} → Why frame said v → v .number ≡ 0x6985 → ⊥
+    why (class c) x = omega arith
+    why (instruction c u) x = omega arith
+    why (parameters c u) x = omega arith
+    why (lengths c u) x = omega arith
+    why (control c u) x = omega arith
+
+    go : Told frame w → ⊥
+    go (own r) = read-status frame w (λ x. omega arith) (λ x. omega arith) r
+    go (because s r y) = why y n

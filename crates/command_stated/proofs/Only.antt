@@ -7,7 +7,7 @@ use mathlib.Core.Logic.{inl, inr}
 use native.Mathlib.Omega.{arith}
 use lib.ListN.{length}
 use Rattle.outcome.specs.Notation.{Determines, Determines2}
-use Rattle.outcome.specs.Outcome.{StatusWord, Outcome, Word, Gives}
+use Rattle.outcome.specs.Outcome.{StatusWord, Outcome, R, Word, Gives}
 use Rattle.outcome.proofs.Laws.{word-same, word-gives}
 use Rattle.apdu_stated.specs.Answers.{Says}
 use Rattle.apdu_stated.specs.declared.Entry.the-variants.{Ordinary}
@@ -15,7 +15,7 @@ use Rattle.apdu_stated.specs.Reading.{readOf}
 use Rattle.apdu_stated.proofs.Laws.{FrameWay, under, found, ends, goes-on, frame-way}
 use Rattle.command_stated.specs.Command.{Ctap1Flags, CheckOnly, EnforceUpAndSign, DontEnforceUpAndSign, Command, byInstruction, commandOf}
 use Rattle.command_stated.specs.Claims
-use Rattle.command_stated.proofs.Ways.{Why, class, instruction, lengths, control, Way, register, authenticate, version, status, way, Read, read, unread, reading}
+use Rattle.command_stated.proofs.Ways.{Why, class, instruction, parameters, lengths, control, Way, register, authenticate, version, fetch, status, way, Read, read, unread, reading}
 
 word-is : (v w : StatusWord) → _≡_ {A = Outcome Says} (Word v) (Word w) → v ≡ w
 word-is v w e = word-same v w e
@@ -26,6 +26,7 @@ only-command command exact frame = go (commandOf frame) (reading frame)
     refused : (s : Says) → readOf frame ≡ Gives s → {w : StatusWord} → Why frame s w → command frame ≡ Word w
     refused s r (class c) = exact .class frame .1 (s, r, c)
     refused s r (instruction c w) = exact .instruction frame .1 (s, r, c, w)
+    refused s r (parameters c w) = exact .parameters frame .1 (s, r, c, w)
     refused s r (lengths c w) = exact .against-ins frame .1 (s, r, c, w)
     refused s r (control c w) = exact .control frame .1 (inr (s, r, c, w))
 
@@ -33,6 +34,7 @@ only-command command exact frame = go (commandOf frame) (reading frame)
     by s _ r (register c i l) = exact .register frame s .1 (r, c, i, l)
     by s _ r (authenticate c i l f k) = exact .authenticate frame (s .header .p1) s .1 (r, c, i, l, f, k, refl)
     by s _ r (version c i l) = exact .version frame .1 (s, r, c, i, l)
+    by s _ r (fetch c i a b l) = exact .get-response frame .1 (s, r, c, i, a, b, l)
     by s _ r (status why) = refused s r why
 
     own : (f : Outcome Says) → FrameWay Ordinary frame f → readOf frame ≡ f → (w : StatusWord) → f ≡ Word w → command frame ≡ Word w
@@ -54,6 +56,7 @@ only-instructed by exact frame said = go (byInstruction frame said) (way frame s
     refused : {w : StatusWord} → Why frame said w → by frame said ≡ Word w
     refused (class c) = exact .class frame said .1 c
     refused (instruction c w) = exact .instruction frame said .1 (c, w)
+    refused (parameters c w) = exact .parameters frame said .1 (c, w)
     refused (lengths c w) = exact .against-ins frame said .1 (c, w)
     refused (control c w) = exact .control frame said .1 (c, w)
 
@@ -61,10 +64,16 @@ only-instructed by exact frame said = go (byInstruction frame said) (way frame s
     go _ (register c i l) = exact .register frame said said .1 (refl, c, i, l)
     go _ (authenticate c i l f k) = exact .authenticate frame said (said .header .p1) said .1 (refl, refl, c, i, l, f, k)
     go _ (version c i l) = exact .version frame said .1 (c, i, l)
+    go _ (fetch c i a b l) = exact .get-response frame said .1 (c, i, a, b, l)
     go _ (status why) = refused why
 
 pub InstructedExactly : Determines2 Claims.InstructedExactly
 InstructedExactly f g p q frame said = only-instructed f p frame said ∙ sym (only-instructed g q frame said)
+
+pub OnReadingExactly : Determines2 Claims.OnReadingExactly
+OnReadingExactly f g p q frame (R n) = p .refused frame n ∙ sym (q .refused frame n)
+OnReadingExactly f g p q frame (Word w) = p .status frame w ∙ sym (q .status frame w)
+OnReadingExactly f g p q frame (Gives said) = InstructedExactly _ _ (p .read) (q .read) frame said
 
 pub ChallengeExactly : Determines2 Claims.ChallengeExactly
 ChallengeExactly f g p q frame said = p frame said ∙ sym (q frame said)

@@ -16,7 +16,7 @@ use Rattle.apdu_stated.specs.Terms.{saying, frameWith}
 use Rattle.apdu_stated.specs.declared.ApduHeader.{ApduHeader}
 use Rattle.apdu_stated.specs.declared.Place.{Place}
 use Rattle.command_stated.specs.Command.{Command, Register, Authenticate, Version, registerOf, authenticateOf, versionOf, byInstruction, onReading, commandOf, challengePlaceOf, applicationPlaceOf, challengeOf, applicationOf, handleOf}
-use Rattle.command_stated.specs.Terms.{WrongLc, of-register, too-short, other-handle, UnknownInstruction}
+use Rattle.command_stated.specs.Terms.{WrongLc, of-register, too-short, other-handle, of-p2, UnknownInstruction}
 use Rattle.command_stated.specs.Claims
 use Rattle.command_stated.specs.Wrong
 
@@ -135,7 +135,7 @@ pub vendorAsVersion : Claims.InstructionExactly Wrong.vendorAsVersion → ⊥
 unfolding readBy sayOf lengthsOf shortOf
 vendorAsVersion exact =
     let h = head 0x00 0x40 0x00 in
-    word-gives _ _ (sym (exact (try h (zeros 1)) .1 (said h (zeros 1), refl, refl, record { not-01 = λ e. omega arith; not-02 = λ e. omega arith; not-03 = λ e. omega arith })))
+    word-gives _ _ (sym (exact (try h (zeros 1)) .1 (said h (zeros 1), refl, refl, record { not-01 = λ e. omega arith; not-02 = λ e. omega arith; not-03 = λ e. omega arith; not-C0 = λ e. omega arith })))
 
 pub versionWithData : Claims.VersionExactly Wrong.versionWithData → ⊥
 unfolding readBy sayOf lengthsOf shortOf
@@ -149,7 +149,29 @@ pub unknownByLength : Claims.InstructionExactly Wrong.unknownByLength → ⊥
 unfolding readBy sayOf lengthsOf shortOf versionOf
 unknownByLength exact =
     let h = head 0x00 0x40 0x00 in
-    omega (arith, number-is _ _ (exact (try h (zeros 1)) .1 (said h (zeros 1), refl, refl, record { not-01 = λ e. omega arith; not-02 = λ e. omega arith; not-03 = λ e. omega arith })))
+    omega (arith, number-is _ _ (exact (try h (zeros 1)) .1 (said h (zeros 1), refl, refl, record { not-01 = λ e. omega arith; not-02 = λ e. omega arith; not-03 = λ e. omega arith; not-C0 = λ e. omega arith })))
+
+-- ---- GET RESPONSE
+abbrev fetching : ℕ → ApduHeader
+fetching p2 = record { cla = 0x00; ins = 0xC0; p1 = 0x00; p2 = p2 }
+
+pub threeCommands : Claims.GetResponseExactly Wrong.threeCommands → ⊥
+unfolding readBy sayOf lengthsOf shortOf
+threeCommands exact = word-gives _ _ (exact (frameWith (fetching 0x00) []) .1 (saying (fetching 0x00) 1 4 0 0, refl, refl, refl, refl, refl, refl))
+
+pub p2NotLookedAt : Claims.ParametersExactly Wrong.p2NotLookedAt → ⊥
+unfolding readBy sayOf lengthsOf shortOf
+p2NotLookedAt exact = word-gives _ _ (sym (exact (frameWith (fetching 0x01) []) .1 (saying (fetching 0x01) 1 4 0 0, refl, refl, of-p2 refl (λ e. omega arith))))
+
+pub fetchLengthFirst : Claims.ParametersExactly Wrong.fetchLengthFirst → ⊥
+unfolding readBy sayOf lengthsOf shortOf
+fetchLengthFirst exact = omega (arith, number-is _ _ (exact (try (fetching 0x01) (zeros 1)) .1 (said (fetching 0x01) (zeros 1), refl, refl, of-p2 refl (λ e. omega arith))))
+
+pub onReadingDrops : Claims.OnReadingExactly Wrong.onReadingDrops → ⊥
+onReadingDrops exact = omega (arith, kind-is _ _ (exact .status [] (record { number = 0x6700; kind = 1; place = 6 })))
+
+pub onReadingUnknown : Claims.OnReadingExactly Wrong.onReadingUnknown → ⊥
+onReadingUnknown exact = omega (arith, number-is _ _ (exact .status [] (record { number = 0x6700; kind = 1; place = 6 })))
 
 -- ---- the pair: a Register of shape 5 with one byte of data; `00 01`; a Register of one byte
 pub extendedAt5 : Claims.AgainstInsExactly Wrong.extendedAt5 → ⊥

@@ -5,6 +5,7 @@ use mathlib.Core.Bool.{true}
 use mathlib.Core.List.{List, [], _∷_, _++_, append-nil}
 use mathlib.Core.Logic.{_↔_, _⊎_, inl, inr}
 use native.Mathlib.Omega.{arith}
+use native.Mathlib.Decide.{ℕ-discrete}
 use lib.ListN.{length}
 use Rattle.outcome.specs.Outcome.{StatusWord, Outcome, R, Word, SW, Gives, plainWord, wrongLength, againstIns}
 use Rattle.outcome.specs.Terms.{PairsExactly, HasStatus}
@@ -14,18 +15,19 @@ use Rattle.octets.proofs.Laws.{part-split, part-length, part-byte, part-one}
 use Rattle.apdu_stated.specs.Answers.{Says}
 use Rattle.apdu_stated.specs.Reading.{readOf, dataOf}
 use Rattle.apdu_stated.proofs.Laws.{data-within, data-long, data-from, read-status, read-short, read-pairs, never-third}
-use Rattle.command_stated.specs.Command.{Command, Register, Authenticate, Version, flagsNo, isControl, byInstruction, commandOf, challengePlaceOf, applicationPlaceOf, handlePlaceOf, challengeOf, applicationOf, handleOf}
-use Rattle.command_stated.specs.Terms.{WrongLc, of-register, too-short, other-handle, of-version, WrongControl, UnknownInstruction}
+use Rattle.command_stated.specs.Command.{Command, Register, Authenticate, Version, GetResponse, flagsNo, isControl, getResponseOf, byInstruction, onReading, commandOf, challengePlaceOf, applicationPlaceOf, handlePlaceOf, challengeOf, applicationOf, handleOf}
+use Rattle.command_stated.specs.Terms.{WrongLc, of-register, too-short, other-handle, of-version, of-get-response, WrongParameters, of-p1, of-p2, WrongControl, UnknownInstruction}
 use Rattle.command_stated.specs.Claims
 use Rattle.command_stated.proofs.Cases
 use Rattle.command_stated.proofs.Numbers.{flags-same, command-same}
-use Rattle.command_stated.proofs.Ways.{Why, class, instruction, lengths, control, Way, register, authenticate, version, status, way, Read, read, unread, reading}
+use Rattle.command_stated.proofs.Ways.{Why, class, instruction, parameters, lengths, control, Way, register, authenticate, version, fetch, status, way, Read, read, unread, reading}
 
--- ---- three commands differ
+-- ---- four commands differ
 registered : Command → ℕ
 registered (Register s) = 1
 registered (Authenticate p s) = 2
 registered Version = 3
+registered GetResponse = 4
 
 clash : {A : Type 0} (a b : Command) (m n : ℕ) → registered a ≡ m → registered b ≡ n → (m ≡ n → ⊥) → Gives a ≡ Gives b → A
 clash a b m n p q d e = absurd (d (sym p ∙ ap registered (gives-same a b e) ∙ q))
@@ -44,6 +46,7 @@ RegisterExactly frame said = (λ e. go (commandOf frame) (reading frame) e, λ t
     by s _ r (register c i l) e = subst Facts (same s e) (r, c, i, l)
     by s _ r (authenticate c i l f k) e = clash (Authenticate (s .header .p1) s) (Register said) 2 1 refl refl (λ z. omega arith) e
     by s _ r (version c i l) e = clash Version (Register said) 3 1 refl refl (λ z. omega arith) e
+    by s _ r (fetch c i a b l) e = clash GetResponse (Register said) 4 1 refl refl (λ z. omega arith) e
     by s _ r (status n) e = absurd (word-gives _ _ e)
 
     go : (o : Outcome Command) → Read frame o → o ≡ Gives (Register said) → Facts said
@@ -72,6 +75,7 @@ AuthenticateExactly frame p1 said = (
         let q = same (s .header .p1) s e in
         subst (λ (x : Says). Facts p1 x) (q .1) (r, c, i, l, f, ap isControl (sym (q .0)) ∙ k, q .0)
     by s _ r (version c i l) e = clash Version (Authenticate p1 said) 3 2 refl refl (λ z. omega arith) e
+    by s _ r (fetch c i a b l) e = clash GetResponse (Authenticate p1 said) 4 2 refl refl (λ z. omega arith) e
     by s _ r (status n) e = absurd (word-gives _ _ e)
 
     go : (o : Outcome Command) → Read frame o → o ≡ Gives (Authenticate p1 said) → Facts p1 said
@@ -89,9 +93,31 @@ VersionExactly frame = (λ e. go (commandOf frame) (reading frame) e, λ t. Case
     by s _ r (register c i l) e = clash (Register s) Version 1 3 refl refl (λ z. omega arith) e
     by s _ r (authenticate c i l f k) e = clash (Authenticate (s .header .p1) s) Version 2 3 refl refl (λ z. omega arith) e
     by s _ r (version c i l) e = (s, r, c, i, l)
+    by s _ r (fetch c i a b l) e = clash GetResponse Version 4 3 refl refl (λ z. omega arith) e
     by s _ r (status n) e = absurd (word-gives _ _ e)
 
     go : (o : Outcome Command) → Read frame o → o ≡ Gives Version → Facts
+    go o (read s r w) e = by s o r w e
+    go _ (unread n r) e = absurd (word-gives _ _ e)
+
+pub GetResponseExactly : Claims.GetResponseExactly commandOf
+unfolding registered
+GetResponseExactly frame = (
+  λ e. go (commandOf frame) (reading frame) e,
+  λ t. Cases.by-reading frame (t .0) (t .1) ∙ sym (Cases.fetches frame (t .0) (t .2) (Gives GetResponse) (t .3) (Cases.fetch-0 frame (t .0) (t .4) (t .5) (t .6))),
+)
+  where
+    Facts : Type 0
+    Facts = (said : Says) × (readOf frame ≡ Gives said) × (said .header .cla ≡ 0x00) × (said .header .ins ≡ 0xC0) × (said .header .p1 ≡ 0x00) × (said .header .p2 ≡ 0x00) × (said .lc ≡ 0)
+
+    by : (s : Says) (o : Outcome Command) → readOf frame ≡ Gives s → Way frame s o → o ≡ Gives GetResponse → Facts
+    by s _ r (register c i l) e = clash (Register s) GetResponse 1 4 refl refl (λ z. omega arith) e
+    by s _ r (authenticate c i l f k) e = clash (Authenticate (s .header .p1) s) GetResponse 2 4 refl refl (λ z. omega arith) e
+    by s _ r (version c i l) e = clash Version GetResponse 3 4 refl refl (λ z. omega arith) e
+    by s _ r (fetch c i a b l) e = (s, r, c, i, a, b, l)
+    by s _ r (status n) e = absurd (word-gives _ _ e)
+
+    go : (o : Outcome Command) → Read frame o → o ≡ Gives GetResponse → Facts
     go o (read s r w) e = by s o r w e
     go _ (unread n r) e = absurd (word-gives _ _ e)
 
@@ -107,6 +133,7 @@ told frame w e = go (commandOf frame) (reading frame) e
     by s _ r (register c i l) x = absurd (word-gives _ _ (sym x))
     by s _ r (authenticate c i l f k) x = absurd (word-gives _ _ (sym x))
     by s _ r (version c i l) x = absurd (word-gives _ _ (sym x))
+    by s _ r (fetch c i a b l) x = absurd (word-gives _ _ (sym x))
     by s _ r (status why) x = because s r (subst (Why frame s) (word-same _ _ x) why)
 
     go : (o : Outcome Command) → Read frame o → o ≡ Word w → Told frame w
@@ -117,24 +144,35 @@ module _ (frame : List ℕ) (said : Says) where
   of-class : {w : StatusWord} → Why frame said w → w .number ≡ 0x6e00 → said .header .cla ≡ 0x00 → ⊥
   of-class (class c) e = c
   of-class (instruction c w) e = absurd (omega arith)
+  of-class (parameters c w) e = absurd (omega arith)
   of-class (lengths c w) e = absurd (omega arith)
   of-class (control c w) e = absurd (omega arith)
 
   of-instruction : {w : StatusWord} → Why frame said w → w .number ≡ 0x6d00 → (said .header .cla ≡ 0x00) × UnknownInstruction said
   of-instruction (class c) e = absurd (omega arith)
   of-instruction (instruction c w) e = (c, w)
+  of-instruction (parameters c w) e = absurd (omega arith)
   of-instruction (lengths c w) e = absurd (omega arith)
   of-instruction (control c w) e = absurd (omega arith)
+
+  of-parameters : {w : StatusWord} → Why frame said w → w .number ≡ 0x6a86 → (said .header .cla ≡ 0x00) × WrongParameters said
+  of-parameters (class c) e = absurd (omega arith)
+  of-parameters (instruction c w) e = absurd (omega arith)
+  of-parameters (parameters c w) e = (c, w)
+  of-parameters (lengths c w) e = absurd (omega arith)
+  of-parameters (control c w) e = absurd (omega arith)
 
   of-lengths : {w : StatusWord} → Why frame said w → w .number ≡ 0x6700 → (said .header .cla ≡ 0x00) × WrongLc frame said
   of-lengths (class c) e = absurd (omega arith)
   of-lengths (instruction c w) e = absurd (omega arith)
+  of-lengths (parameters c w) e = absurd (omega arith)
   of-lengths (lengths c w) e = (c, w)
   of-lengths (control c w) e = absurd (omega arith)
 
   of-control : {w : StatusWord} → Why frame said w → w .number ≡ 0x6a80 → (said .header .cla ≡ 0x00) × WrongControl frame said
   of-control (class c) e = absurd (omega arith)
   of-control (instruction c w) e = absurd (omega arith)
+  of-control (parameters c w) e = absurd (omega arith)
   of-control (lengths c w) e = absurd (omega arith)
   of-control (control c w) e = (c, w)
 
@@ -145,9 +183,25 @@ ClassExactly frame = (λ e. go (told frame (plainWord 0x6e00) e), λ t. Cases.by
     go (own r) = absurd (read-status frame (plainWord 0x6e00) (λ x. omega arith) (λ x. omega arith) r)
     go (because s r w) = (s, r, of-class frame s w refl)
 
+-- P1 first: where both are not 0, either names it
+wrong-parameters : (frame : List ℕ) (said : Says) → said .header .cla ≡ 0x00 → WrongParameters said → SW 0x6a86 ≡ byInstruction frame said
+wrong-parameters frame said c (of-p1 i n) = Cases.fetches frame said c (SW 0x6a86) i (Cases.fetch-p1 frame said n)
+wrong-parameters frame said c (of-p2 i n) = Cases.fetches frame said c (SW 0x6a86) i (go (ℕ-discrete (said .header .p1) 0x00))
+  where
+    go : Dec (said .header .p1 ≡ 0x00) → SW 0x6a86 ≡ getResponseOf said
+    go (yes a) = Cases.fetch-p2 frame said a n
+    go (no a) = Cases.fetch-p1 frame said a
+
+pub ParametersExactly : Claims.ParametersExactly commandOf
+ParametersExactly frame = (λ e. go (told frame (plainWord 0x6a86) e), λ t. Cases.by-reading frame (t .0) (t .1) ∙ sym (wrong-parameters frame (t .0) (t .2) (t .3)))
+  where
+    go : Told frame (plainWord 0x6a86) → (said : Says) × (readOf frame ≡ Gives said) × (said .header .cla ≡ 0x00) × WrongParameters said
+    go (own r) = absurd (read-status frame (plainWord 0x6a86) (λ x. omega arith) (λ x. omega arith) r)
+    go (because s r w) = let f = of-parameters frame s w refl in (s, r, f .0, f .1)
+
 pub InstructionExactly : Claims.InstructionExactly commandOf
 InstructionExactly frame =
-    (λ e. go (told frame (plainWord 0x6d00) e), λ t. Cases.by-reading frame (t .0) (t .1) ∙ sym (Cases.unknown frame (t .0) (t .2) (t .3 .not-01) (t .3 .not-02) (t .3 .not-03)))
+    (λ e. go (told frame (plainWord 0x6d00) e), λ t. Cases.by-reading frame (t .0) (t .1) ∙ sym (Cases.unknown frame (t .0) (t .2) (t .3 .not-01) (t .3 .not-02) (t .3 .not-03) (t .3 .not-C0)))
   where
     go : Told frame (plainWord 0x6d00) → (said : Says) × (readOf frame ≡ Gives said) × (said .header .cla ≡ 0x00) × UnknownInstruction said
     go (own r) = absurd (read-status frame (plainWord 0x6d00) (λ x. omega arith) (λ x. omega arith) r)
@@ -157,6 +211,7 @@ InstructionExactly frame =
 third : {frame : List ℕ} {said : Says} {w : StatusWord} → Why frame said w → w .number ≡ 0x6700 → w .kind ≡ 3
 third (class c) e = absurd (omega arith)
 third (instruction c u) e = absurd (omega arith)
+third (parameters c u) e = absurd (omega arith)
 third (lengths c u) e = refl
 third (control c u) e = absurd (omega arith)
 
@@ -166,6 +221,7 @@ wrong-length frame said c (too-short i h) = Cases.authenticates frame said c aga
 wrong-length frame said c (other-handle i h n) =
     Cases.authenticates frame said c againstIns i (Cases.auth-other frame said (dataOf frame said) 0 (byte (dataOf frame said) 64) refl refl h againstIns refl n)
 wrong-length frame said c (of-version i n) = Cases.version-other frame said c i againstIns refl n
+wrong-length frame said c (of-get-response i a b n) = Cases.fetches frame said c againstIns i (Cases.fetch-other frame said a b againstIns refl n)
 
 pub LengthExactly : Claims.LengthExactly commandOf
 LengthExactly frame = (λ t. go (t .word) (t .numbered) (told frame (t .word) (t .is)), back)
@@ -202,6 +258,7 @@ CommandPairsExactly = record { paired = λ frame w e. paired frame w (told frame
     because-none : {frame : List ℕ} {said : Says} {w : StatusWord} → Why frame said w → (w .number ≡ 0x6700 → ⊥) → w ≡ plainWord (w .number)
     because-none (class c) n = refl
     because-none (instruction c u) n = refl
+    because-none (parameters c u) n = refl
     because-none (lengths c u) n = absurd (n refl)
     because-none (control c u) n = refl
 
@@ -234,6 +291,7 @@ module _ (frame : List ℕ) (said : Says) where
       go _ (register c i l) x = absurd (word-gives _ _ (sym x))
       go _ (authenticate c i l f k) x = absurd (word-gives _ _ (sym x))
       go _ (version c i l) x = absurd (word-gives _ _ (sym x))
+      go _ (fetch c i a b l) x = absurd (word-gives _ _ (sym x))
       go _ (status y) x = subst (Why frame said) (word-same _ _ x) y
 
   abbrev Registers : Says → Type 0
@@ -250,6 +308,7 @@ module _ (frame : List ℕ) (said : Says) where
       go _ (register c i l) e = (same e, c, i, l)
       go _ (authenticate c i l f k) e = clash (Authenticate (said .header .p1) said) (Register s) 2 1 refl refl (λ z. omega arith) e
       go _ (version c i l) e = clash Version (Register s) 3 1 refl refl (λ z. omega arith) e
+      go _ (fetch c i a b l) e = clash GetResponse (Register s) 4 1 refl refl (λ z. omega arith) e
       go _ (status y) e = absurd (word-gives _ _ e)
 
   abbrev Authenticates : ℕ → Says → Type 0
@@ -268,6 +327,7 @@ module _ (frame : List ℕ) (said : Says) where
       go _ (register c i l) e = clash (Register said) (Authenticate p1 s) 1 2 refl refl (λ z. omega arith) e
       go _ (authenticate c i l f k) e = let q = same e in (q .1, q .0, c, i, l, f, ap isControl (sym (q .0)) ∙ k)
       go _ (version c i l) e = clash Version (Authenticate p1 s) 3 2 refl refl (λ z. omega arith) e
+      go _ (fetch c i a b l) e = clash GetResponse (Authenticate p1 s) 4 2 refl refl (λ z. omega arith) e
       go _ (status y) e = absurd (word-gives _ _ e)
 
       back : Authenticates p1 s → byInstruction frame said ≡ Gives (Authenticate p1 s)
@@ -284,6 +344,19 @@ module _ (frame : List ℕ) (said : Says) where
       go _ (register c i l) e = clash (Register said) Version 1 3 refl refl (λ z. omega arith) e
       go _ (authenticate c i l f k) e = clash (Authenticate (said .header .p1) said) Version 2 3 refl refl (λ z. omega arith) e
       go _ (version c i l) e = (c, i, l)
+      go _ (fetch c i a b l) e = clash GetResponse Version 4 3 refl refl (λ z. omega arith) e
+      go _ (status y) e = absurd (word-gives _ _ e)
+
+  get-responses : (byInstruction frame said ≡ Gives GetResponse)
+      ↔ ((said .header .cla ≡ 0x00) × (said .header .ins ≡ 0xC0) × (said .header .p1 ≡ 0x00) × (said .header .p2 ≡ 0x00) × (said .lc ≡ 0))
+  unfolding registered
+  get-responses = (go (byInstruction frame said) (way frame said), λ t. sym (Cases.fetches frame said (t .0) (Gives GetResponse) (t .1) (Cases.fetch-0 frame said (t .2) (t .3) (t .4))))
+    where
+      go : (o : Outcome Command) → Way frame said o → o ≡ Gives GetResponse → (said .header .cla ≡ 0x00) × (said .header .ins ≡ 0xC0) × (said .header .p1 ≡ 0x00) × (said .header .p2 ≡ 0x00) × (said .lc ≡ 0)
+      go _ (register c i l) e = clash (Register said) GetResponse 1 4 refl refl (λ z. omega arith) e
+      go _ (authenticate c i l f k) e = clash (Authenticate (said .header .p1) said) GetResponse 2 4 refl refl (λ z. omega arith) e
+      go _ (version c i l) e = clash Version GetResponse 3 4 refl refl (λ z. omega arith) e
+      go _ (fetch c i a b l) e = (c, i, a, b, l)
       go _ (status y) e = absurd (word-gives _ _ e)
 
 pub InstructedExactly : Claims.InstructedExactly byInstruction
@@ -292,14 +365,20 @@ InstructedExactly =
       register = registers;
       authenticate = authenticates;
       version = versions;
+      get-response = get-responses;
+      parameters = λ frame said. (λ e. of-parameters frame said (why frame said _ e) refl, λ t. sym (wrong-parameters frame said (t .0) (t .1)));
       class = λ frame said. (λ e. of-class frame said (why frame said _ e) refl, λ n. sym (Cases.wrong-cla frame said n));
       instruction = λ frame said. (
         λ e. of-instruction frame said (why frame said _ e) refl,
-        λ t. sym (Cases.unknown frame said (t .0) (t .1 .not-01) (t .1 .not-02) (t .1 .not-03)),
+        λ t. sym (Cases.unknown frame said (t .0) (t .1 .not-01) (t .1 .not-02) (t .1 .not-03) (t .1 .not-C0)),
       );
       against-ins = λ frame said. (λ e. of-lengths frame said (why frame said _ e) refl, λ t. sym (wrong-length frame said (t .0) (t .1)));
       control = λ frame said. (λ e. of-control frame said (why frame said _ e) refl, λ t. sym (wrong-control frame said (t .0) (t .1)));
     }
+
+pub OnReadingExactly : Claims.OnReadingExactly onReading
+unfolding onReading
+OnReadingExactly = record { status = λ frame w. refl; refused = λ frame n. refl; read = InstructedExactly }
 
 pub CommandExactly : Claims.CommandExactly commandOf
 CommandExactly =
@@ -307,6 +386,8 @@ CommandExactly =
       register = RegisterExactly;
       authenticate = AuthenticateExactly;
       version = VersionExactly;
+      get-response = GetResponseExactly;
+      parameters = ParametersExactly;
       class = ClassExactly;
       instruction = InstructionExactly;
       against-ins = AgainstInsExactly;
@@ -415,6 +496,7 @@ ResultsDetermined =
     record {
       flags-number = λ f a b. both-are a b;
       instructed = λ frame s a b p q. command-same a b (both-are _ _ p q);
+      on-reading = λ frame r a b p q. command-same a b (both-are _ _ p q);
       read-command = λ frame a b p q. command-same a b (both-are _ _ p q);
       challenge-place = λ s a b. both-are a b;
       application-place = λ s a b. both-are a b;

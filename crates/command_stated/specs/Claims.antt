@@ -2,14 +2,15 @@
 -- proofs/Theorems.antt, nothing else does by proofs/Only.antt, and the programs of Wrong.antt do not by proofs/Refuted.antt.
 -- What a frame says (`readOf`, `dataOf`) is apdu_stated's, and determined there.
 use mathlib.Core.Logic.{_↔_, _⊎_}
-use Rattle.command_stated.specs.Words.{ℕ, _+_, _≤_, _<_, _≡_, true, _||_, eqb, List, _∷_, _++_, length, AtMostOne, Outcome, SW, Gives, HasStatus, wrongLength, byte, partOf, Apdu, Place}
+use Rattle.command_stated.specs.Words.{ℕ, _+_, _≤_, _<_, _≡_, true, _||_, eqb, List, _∷_, _++_, length, AtMostOne, StatusWord, Outcome, R, Word, SW, Gives, HasStatus, wrongLength, byte, partOf, Apdu, Place}
 use Rattle.outcome.specs.Terms.{PairsExactly}
 use Rattle.apdu_stated.specs.Answers.{Says}
+use Rattle.apdu_stated.specs.declared.Reading.{Reading}
 use Rattle.apdu_stated.specs.Reading.{readOf, dataOf}
 use Rattle.apdu_stated.specs.Terms.{span}
-use Rattle.command_stated.specs.Command.{Ctap1Flags, CheckOnly, EnforceUpAndSign, DontEnforceUpAndSign, U2fCommand, Command, Register, Authenticate, Version, flagsNo, commandSaid, commandOf}
-use Rattle.command_stated.specs.Contracts.{FlagsNumber, Instructed, ReadCommand, ChallengePlace, ApplicationPlace, HandlePlace, Challenge, Application, KeyHandle}
-use Rattle.command_stated.specs.Terms.{WrongLc, WrongControl, UnknownInstruction}
+use Rattle.command_stated.specs.Command.{Ctap1Flags, CheckOnly, EnforceUpAndSign, DontEnforceUpAndSign, U2fCommand, Command, Register, Authenticate, Version, GetResponse, flagsNo, commandSaid, commandOf}
+use Rattle.command_stated.specs.Contracts.{FlagsNumber, Instructed, OnReading, ReadCommand, ChallengePlace, ApplicationPlace, HandlePlace, Challenge, Application, KeyHandle}
+use Rattle.command_stated.specs.Terms.{WrongLc, WrongParameters, WrongControl, UnknownInstruction}
 
 -- ---- a command, exactly when
 
@@ -35,6 +36,13 @@ VersionExactly command =
     (frame : List ℕ) → (command frame ≡ Gives Version)
     ↔ ((said : Says) × (readOf frame ≡ Gives said) × (said .header .cla ≡ 0x00) × (said .header .ins ≡ 0x03) × (said .lc ≡ 0))
 
+-- 02, E2: "INS C0, with CLA, P1 and P2 zero, fetches the next part": C0 is a fourth command, at Lc 0. Rejects a reader that knows three
+-- (6d00, as document 01 had it), and one that does not look at P2. Bites at 00 C0 00 00.
+abbrev pub GetResponseExactly : (List ℕ → Outcome Command) → Type 0
+GetResponseExactly command =
+    (frame : List ℕ) → (command frame ≡ Gives GetResponse)
+    ↔ ((said : Says) × (readOf frame ≡ Gives said) × (said .header .cla ≡ 0x00) × (said .header .ins ≡ 0xC0) × (said .header .p1 ≡ 0x00) × (said .header .p2 ≡ 0x00) × (said .lc ≡ 0))
+
 -- ---- a status, exactly when: "In this order: shape (6a80, 6700); CLA not 0 gives 6e00; then by INS"
 
 -- 6e00: the frame has a shape, and CLA is not 0, whatever INS, Lc and P1. Rejects a reader that looks at a Register's, a Version's or
@@ -42,6 +50,12 @@ VersionExactly command =
 abbrev pub ClassExactly : (List ℕ → Outcome Command) → Type 0
 ClassExactly command =
     (frame : List ℕ) → (command frame ≡ SW 0x6e00) ↔ ((said : Says) × (readOf frame ≡ Gives said) × (said .header .cla ≡ 0x00 → ⊥))
+
+-- 6a86: "C0 after the CLA check gives 6a86 for nonzero P1 or P2", and nothing else does. Rejects a reader that looks at C0's Lc first. Bites
+-- at 00 C0 00 01 with data.
+abbrev pub ParametersExactly : (List ℕ → Outcome Command) → Type 0
+ParametersExactly command =
+    (frame : List ℕ) → (command frame ≡ SW 0x6a86) ↔ ((said : Says) × (readOf frame ≡ Gives said) × (said .header .cla ≡ 0x00) × WrongParameters said)
 
 -- 6d00: "40..BF vendor and all others: 6d00, at any Lc." Rejects a vendor's INS taken for Version, and
 -- 6700 for an unknown INS with data. Bites at INS 40.
@@ -58,7 +72,7 @@ LengthExactly command =
     ↔ (HasStatus 0x6700 (readOf frame) ⊎ ((said : Says) × (readOf frame ≡ Gives said) × (said .header .cla ≡ 0x00) × WrongLc frame said))
 
 -- 02, E1: "The 6700s for Lc against INS are a third kind, with place 4 in every shape": Register's Lc, both of Authenticate's tests,
--- Version's Lc. Rejects place 5 for the extended shapes. Bites at a Register of shape 5 with Lc 1.
+-- Version's Lc; and C0's. Rejects place 5 for the extended shapes. Bites at a Register of shape 5 with Lc 1.
 abbrev pub AgainstInsExactly : (List ℕ → Outcome Command) → Type 0
 AgainstInsExactly command =
     (frame : List ℕ) → (command frame ≡ wrongLength 3 4)
@@ -82,11 +96,13 @@ ControlExactly command =
     (frame : List ℕ) → (command frame ≡ SW 0x6a80)
     ↔ ((length frame < 4) ⊎ ((said : Says) × (readOf frame ≡ Gives said) × (said .header .cla ≡ 0x00) × WrongControl frame said))
 
--- The eight together: every answer of command reading, each exactly when. They determine it on every frame.
+-- The ten together: every answer of command reading, each exactly when. They determine it on every frame.
 pub record CommandExactly (command : List ℕ → Outcome Command) : Type 0 where
   pub register : RegisterExactly command
   pub authenticate : AuthenticateExactly command
   pub version : VersionExactly command
+  pub get-response : GetResponseExactly command
+  pub parameters : ParametersExactly command
   pub class : ClassExactly command
   pub instruction : InstructionExactly command
   pub against-ins : AgainstInsExactly command
@@ -102,10 +118,20 @@ pub record InstructedExactly (by : List ℕ → Says → Outcome Command) : Type
       ↔ ((said ≡ s) × (said .header .p1 ≡ p1) × (said .header .cla ≡ 0x00) × (said .header .ins ≡ 0x02)
       × (65 ≤ said .lc) × (said .lc ≡ 65 + byte (dataOf frame said) 64) × (eqb p1 0x03 || eqb p1 0x07 || eqb p1 0x08 ≡ true))
   pub version : (frame : List ℕ) (said : Says) → (by frame said ≡ Gives Version) ↔ ((said .header .cla ≡ 0x00) × (said .header .ins ≡ 0x03) × (said .lc ≡ 0))
+  pub get-response : (frame : List ℕ) (said : Says) → (by frame said ≡ Gives GetResponse)
+      ↔ ((said .header .cla ≡ 0x00) × (said .header .ins ≡ 0xC0) × (said .header .p1 ≡ 0x00) × (said .header .p2 ≡ 0x00) × (said .lc ≡ 0))
+  pub parameters : (frame : List ℕ) (said : Says) → (by frame said ≡ SW 0x6a86) ↔ ((said .header .cla ≡ 0x00) × WrongParameters said)
   pub class : (frame : List ℕ) (said : Says) → (by frame said ≡ SW 0x6e00) ↔ (said .header .cla ≡ 0x00 → ⊥)
   pub instruction : (frame : List ℕ) (said : Says) → (by frame said ≡ SW 0x6d00) ↔ ((said .header .cla ≡ 0x00) × UnknownInstruction said)
   pub against-ins : (frame : List ℕ) (said : Says) → (by frame said ≡ wrongLength 3 4) ↔ ((said .header .cla ≡ 0x00) × WrongLc frame said)
   pub control : (frame : List ℕ) (said : Says) → (by frame said ≡ SW 0x6a80) ↔ ((said .header .cla ≡ 0x00) × WrongControl frame said)
+
+-- And of any frame, however it is said to have been read (ours: `on_reading` takes that from its caller): a status is carried as it is, a
+-- frame is answered as above. Rejects one that drops a status's pair, and one that takes bytes in no shape for an unknown INS.
+pub record OnReadingExactly (on : List ℕ → Outcome Says → Outcome Command) : Type 0 where
+  pub status : (frame : List ℕ) (w : StatusWord) → on frame (Word w) ≡ Word w
+  pub refused : (frame : List ℕ) (n : ℕ) → on frame (R n) ≡ R n
+  pub read : InstructedExactly (λ frame said. on frame (Gives said))
 
 -- ---- the parts of the data, and where they stand
 
@@ -179,6 +205,7 @@ CommandOneToOne = (a b : U2fCommand) → commandSaid a ≡ commandSaid b → a �
 pub record ResultsDetermined : Type 0 where
   pub flags-number : (f : Ctap1Flags) → AtMostOne (FlagsNumber f)
   pub instructed : (frame : List ℕ) (a : Apdu) → AtMostOne (Instructed frame a)
+  pub on-reading : (frame : List ℕ) (reading : Reading) → AtMostOne (OnReading frame reading)
   pub read-command : (frame : List ℕ) → AtMostOne (ReadCommand frame)
   pub challenge-place : (a : Apdu) → AtMostOne (ChallengePlace a)
   pub application-place : (a : Apdu) → AtMostOne (ApplicationPlace a)

@@ -14,6 +14,7 @@ pub data Command : Type 0 where
   Register : Says → Command
   Authenticate : ℕ → Says → Command
   Version : Command
+  GetResponse : Command
 
 -- FIDO: control byte in P1: 07 check only, 03 enforce user presence and sign, 08 don't enforce user presence and sign
 abbrev pub flagsNo : Ctap1Flags → ℕ
@@ -26,6 +27,7 @@ abbrev pub commandSaid : U2fCommand → Outcome Command
 commandSaid (U2fCommand′.Register says) = Gives (Register (saysOf says))
 commandSaid (U2fCommand′.Authenticate flags says) = Gives (Authenticate (flagsNo flags) (saysOf says))
 commandSaid U2fCommand′.Version = Gives Version
+commandSaid U2fCommand′.GetResponse = Gives GetResponse
 commandSaid (U2fCommand′.Status s) = Word (wordOf s)
 
 -- "01 Register: Lc not 64 gives 6700. P1 is not looked at."
@@ -52,13 +54,23 @@ versionOf said =
     if not (eqb (said .lc) 0) then againstIns
     else Gives Version
 
--- "CLA not 0 gives 6e00; then by INS"; "40..BF vendor and all others: 6d00, at any Lc."
+-- 02, E2: "C0 after the CLA check gives 6a86 for nonzero P1 or P2, then 6700 for Lc not 0"
+unfoldable pub getResponseOf : Says → Outcome Command
+getResponseOf said =
+    if not (eqb (said .header .p1) 0x00) then SW 0x6a86
+    else if not (eqb (said .header .p2) 0x00) then SW 0x6a86
+    else if not (eqb (said .lc) 0) then againstIns
+    else Gives GetResponse
+
+-- "CLA not 0 gives 6e00; then by INS"; "40..BF vendor and all others: 6d00, at any Lc.", but for C0: 02, E2: "loses INS C0, where
+-- this amends 01's 6d00"
 unfoldable pub byInstruction : List ℕ → Says → Outcome Command
 byInstruction frame said =
     if not (eqb (said .header .cla) 0x00) then SW 0x6e00
     else if eqb (said .header .ins) 0x01 then registerOf said
     else if eqb (said .header .ins) 0x02 then authenticateOf frame said
     else if eqb (said .header .ins) 0x03 then versionOf said
+    else if eqb (said .header .ins) 0xC0 then getResponseOf said
     else SW 0x6d00
 
 -- "shape (6a80, 6700)" first, the frame's status as it is

@@ -13,6 +13,13 @@ pub data WrongLc (frame : List ℕ) (said : Says) : Type 0 where
   other-handle : said .header .ins ≡ 0x02 → 65 ≤ said .lc → (said .lc ≡ 65 + byte (dataOf frame said) 64 → ⊥) → WrongLc frame said
   -- "03 Version: Lc not 0 gives 6700"
   of-version : said .header .ins ≡ 0x03 → (said .lc ≡ 0 → ⊥) → WrongLc frame said
+  -- 02, E2, C0: "then 6700 for Lc not 0": P1 and P2 come first
+  of-get-response : said .header .ins ≡ 0xC0 → said .header .p1 ≡ 0x00 → said .header .p2 ≡ 0x00 → (said .lc ≡ 0 → ⊥) → WrongLc frame said
+
+-- 02, E2, C0: "6a86 for nonzero P1 or P2"
+pub data WrongParameters (said : Says) : Type 0 where
+  of-p1 : said .header .ins ≡ 0xC0 → (said .header .p1 ≡ 0x00 → ⊥) → WrongParameters said
+  of-p2 : said .header .ins ≡ 0xC0 → (said .header .p2 ≡ 0x00 → ⊥) → WrongParameters said
 
 -- an Authenticate whose data length fits, and whose P1 is no control byte
 pub record WrongControl (frame : List ℕ) (said : Says) : Type 0 where
@@ -23,8 +30,9 @@ pub record WrongControl (frame : List ℕ) (said : Says) : Type 0 where
   pub not-07 : said .header .p1 ≡ 0x07 → ⊥
   pub not-08 : said .header .p1 ≡ 0x08 → ⊥
 
--- an INS that is none of the three
+-- an INS that is none of the four
 pub record UnknownInstruction (said : Says) : Type 0 where
   pub not-01 : said .header .ins ≡ 0x01 → ⊥
   pub not-02 : said .header .ins ≡ 0x02 → ⊥
   pub not-03 : said .header .ins ≡ 0x03 → ⊥
+  pub not-C0 : said .header .ins ≡ 0xC0 → ⊥

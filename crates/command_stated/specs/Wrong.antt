@@ -3,7 +3,7 @@ use Rattle.command_stated.specs.Words.{ℕ, _+_, Bool, not, _||_, List, 
 use Rattle.apdu_stated.specs.Answers.{Says}
 use Rattle.apdu_stated.specs.Reading.{readOf, dataOf}
 use Rattle.apdu_stated.specs.Terms.{span}
-use Rattle.command_stated.specs.Command.{Ctap1Flags, CheckOnly, EnforceUpAndSign, DontEnforceUpAndSign, Command, Register, Authenticate, Version, isControl, registerOf, authenticateOf, versionOf, byInstruction, commandOf, challengeOf, handlePlaceOf}
+use Rattle.command_stated.specs.Command.{Ctap1Flags, CheckOnly, EnforceUpAndSign, DontEnforceUpAndSign, Command, Register, Authenticate, Version, GetResponse, isControl, registerOf, authenticateOf, versionOf, getResponseOf, byInstruction, commandOf, challengeOf, handlePlaceOf}
 
 -- a frame that is read, and then something else than the definition's tests
 abbrev onRead : (Says → Outcome Command) → Outcome Says → Outcome Command
@@ -91,6 +91,33 @@ versionWithData frame = onRead (λ said. if eqb (said .header .ins) 0x03 then Gi
 -- "6d00, at any Lc": here an unknown INS with data gets 6700
 abbrev pub unknownByLength : List ℕ → Outcome Command
 unknownByLength frame = onRead (λ said. if ltb 0x03 (said .header .ins) then versionOf said else byInstruction frame said) (readOf frame)
+
+-- ---- GET RESPONSE: 02, E2, of a frame of CLA 0
+
+-- "this amends 01's 6d00": here C0 is still unknown
+abbrev pub threeCommands : List ℕ → Outcome Command
+threeCommands frame = onRead (λ said. if eqb (said .header .ins) 0xC0 then SW 0x6d00 else byInstruction frame said) (readOf frame)
+
+-- "nonzero P1 or P2": P2 is not looked at
+abbrev pub p2NotLookedAt : List ℕ → Outcome Command
+p2NotLookedAt frame =
+    onRead (λ said. if eqb (said .header .ins) 0xC0 then (if not (eqb (said .header .p1) 0x00) then SW 0x6a86 else if not (eqb (said .lc) 0) then againstIns else Gives GetResponse) else byInstruction frame said) (readOf frame)
+
+-- "then 6700 for Lc not 0": first
+abbrev pub fetchLengthFirst : List ℕ → Outcome Command
+fetchLengthFirst frame =
+    onRead (λ said. if eqb (said .header .ins) 0xC0 then (if not (eqb (said .lc) 0) then againstIns else getResponseOf said) else byInstruction frame said) (readOf frame)
+
+-- ---- on a reading: a status's pair dropped; bytes in no shape told as an unknown INS
+abbrev pub onReadingDrops : List ℕ → Outcome Says → Outcome Command
+onReadingDrops frame (Gives said) = byInstruction frame said
+onReadingDrops frame (Word w) = SW (w .number)
+onReadingDrops frame (R n) = R n
+
+abbrev pub onReadingUnknown : List ℕ → Outcome Says → Outcome Command
+onReadingUnknown frame (Gives said) = byInstruction frame said
+onReadingUnknown frame (Word w) = SW 0x6d00
+onReadingUnknown frame (R n) = R n
 
 -- ---- the pair: 02, E1
 

@@ -15,5 +15,7 @@ pub enum U2fCommand {
     Register(Apdu),
     Authenticate(Ctap1Flags, Apdu),
     Version,
+    // for the wireless reader: the next part of a body
+    GetResponse,
     Status(ApduStatusCode),
 }

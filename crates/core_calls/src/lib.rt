@@ -25,6 +25,7 @@ fn parts(frame: &[u8], out: &mut [u8], at: usize) -> usize {
             spell::bytes(out, end, b" ", command::key_handle(frame, says))
         }
         U2fCommand::Version => spell::put(out, at, b"none"),
+        U2fCommand::GetResponse => spell::put(out, at, b"none"),
         U2fCommand::Status(_) => spell::put(out, at, b"none"),
     }
 }

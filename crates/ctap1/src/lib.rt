@@ -1,11 +1,13 @@
 // The decision: `process_command` of the Rust's ctap1.rs, up to the signature. The room for the whole reply is asked for
 // before the touch is spent and before the counter is taken; what is to be signed goes out as an order.
 use apdu::Apdu;
+use apdu::Reading;
 use command::Ctap1Flags;
 use command::U2fCommand;
 pub use ctap1_stated::Decided;
 pub use ctap1_stated::Decision;
 pub use ctap1_stated::HardwareSaid;
+pub use ctap1_stated::Ruling;
 use outcome::ApduStatusCode;
 use outcome::Refusal;
 use signing::Head;
@@ -15,13 +17,16 @@ ghost use mathlib.Core.Path.{_≡_};
 ghost use mathlib.Core.Bool.{true, false};
 ghost use lib.ListN.{length};
 ghost use Rattle.outcome.specs.Outcome.{Gives, wordOf, refusalNo};
-ghost use Rattle.apdu_stated.specs.Answers.{saysOf};
+ghost use Rattle.apdu_stated.specs.Answers.{saysOf, readingOf};
+ghost use Rattle.apdu_stated.specs.Reading.{readOf};
+ghost use Rattle.response_stated.specs.Words.{rest};
 ghost use Rattle.command_stated.specs.Command.{flagsNo, commandOf};
 ghost use Rattle.u2f_up_stated.specs.Moments.{checkedOf};
 ghost use Rattle.ctap1_stated.specs.Words.{Ordered, handedOf, decisionSaid, decisionWith};
 ghost use Rattle.ctap1_stated.specs.Numbers.{hardwareOf};
-ghost use Rattle.ctap1_stated.specs.Path.{versionPath, enrolmentOrder, registerPath, countedEnding, loginPath, commandPath};
-ghost use Rattle.ctap1_stated.specs.Decision.{refusalResult, wordResult, orderResult, ended, touchChecked, along, replyLeft, leftOf};
+ghost use Rattle.ctap1_stated.specs.Path.{versionPath, enrolmentOrder, registerPath, countedEnding, loginPath, limitOn, commandPath};
+ghost use Rattle.ctap1_stated.specs.Decision.{refusalResult, wordResult, orderResult, ended, touchChecked, along, decisionOf, replyLeft, leftOf};
+ghost use Rattle.ctap1_stated.specs.Session.{asksOn};
 ghost use Rattle.ctap1_stated.specs.Contracts.{Decide};
 
 // The hardware's answers by their numbers: no and yes, and the attestation that is there. Every other number is a failure, or no.
@@ -30,6 +35,8 @@ const NO: u32 = 0;
 const YES: u32 = 1;
 
 const PRESENT: u32 = 1;
+
+const GET_RESPONSE: u8 = 0xc0;
 
 fn refused(why: Refusal, kept: Presence) -> Decision
     ensures { λ r. ⌜ decisionSaid r ≡ handedOf (refusalResult (refusalNo why) kept) ⌝ }
@@ -121,7 +128,7 @@ fn register(
     settled: Presence,
     block: &mut [u8; 385],
 ) -> Decision
-    ensures { λ r. ⌜ decisionWith r (now (block .exit)) ≡ leftOf (along (registerPath (record { frame = now (frame .entry); hardware = hardwareOf hardware; newHandle = now (handle .entry); certificate = now (certificate .entry); x = now (x .entry); y = now (y .entry); room = room }) (saysOf says)) kept settled t) (now (block .entry)) ⌝ }
+    ensures { λ r. ⌜ decisionWith r (now (block .exit)) ≡ leftOf (along (registerPath (record { frame = now (frame .entry); hardware = hardwareOf hardware; newHandle = now (handle .entry); certificate = now (certificate .entry); x = now (x .entry); y = now (y .entry); room = room; remainder = rest 0 0; partRoom = 0 }) (saysOf says)) kept settled t) (now (block .entry)) ⌝ }
 {
     if !signing::has_register_room(room, handle.len(), certificate.len()) {
         return refused(Refusal::R2, kept);
@@ -214,6 +221,7 @@ fn authenticate(
 
 fn commanded(
     frame: &[u8],
+    reading: Reading,
     t: u64,
     kept: Presence,
     hardware: HardwareSaid,
@@ -225,14 +233,16 @@ fn commanded(
     settled: Presence,
     block: &mut [u8; 385],
 ) -> Decision
-    ensures { λ r. ⌜ decisionWith r (now (block .exit)) ≡ leftOf (along (commandPath (record { frame = now (frame .entry); hardware = hardwareOf hardware; newHandle = now (handle .entry); certificate = now (certificate .entry); x = now (x .entry); y = now (y .entry); room = length (now (reply .entry)) }) (commandOf (now (frame .entry)))) kept settled t) (now (block .entry)) ⌝ }
-    ensures { λ _. ⌜ now (reply .exit) ≡ replyLeft (along (commandPath (record { frame = now (frame .entry); hardware = hardwareOf hardware; newHandle = now (handle .entry); certificate = now (certificate .entry); x = now (x .entry); y = now (y .entry); room = length (now (reply .entry)) }) (commandOf (now (frame .entry)))) kept settled t) (now (reply .entry)) ⌝ }
+    requires { ⌜ readingOf reading ≡ readOf (now frame) ⌝ }
+    ensures { λ r. ⌜ decisionWith r (now (block .exit)) ≡ leftOf (along (commandPath (record { frame = now (frame .entry); hardware = hardwareOf hardware; newHandle = now (handle .entry); certificate = now (certificate .entry); x = now (x .entry); y = now (y .entry); room = length (now (reply .entry)); remainder = rest 0 0; partRoom = 0 }) (commandOf (now (frame .entry)))) kept settled t) (now (block .entry)) ⌝ }
+    ensures { λ _. ⌜ now (reply .exit) ≡ replyLeft (along (commandPath (record { frame = now (frame .entry); hardware = hardwareOf hardware; newHandle = now (handle .entry); certificate = now (certificate .entry); x = now (x .entry); y = now (y .entry); room = length (now (reply .entry)); remainder = rest 0 0; partRoom = 0 }) (commandOf (now (frame .entry)))) kept settled t) (now (reply .entry)) ⌝ }
 {
     let room = reply.len();
-    let read = command::read_command(frame);
+    let read = command::on_reading(frame, reading);
     match read {
         U2fCommand::Status(status) => answered(status, settled),
         U2fCommand::Version => version(kept, settled, reply),
+        U2fCommand::GetResponse => answered(ApduStatusCode::CondUseNotSatisfied, settled),
         U2fCommand::Register(says) => register(
             frame,
             t,
@@ -261,9 +271,58 @@ fn commanded(
     }
 }
 
-// What a frame is answered at moment t: a refusal, a status word, Version's body, or an order to sign. `handle` and
-// `certificate` are the new handle and the attestation certificate that a Register would use, x and y its public key. The block is
-// written for an order alone.
+// How many bytes of body a frame takes that was read so; bytes in no shape get no body, and 0 stands there.
+fn limit_of(reading: Reading) -> u32
+    ensures { λ r. ⌜ r ≡ limitOn (readingOf reading) ⌝ }
+{
+    match reading {
+        Reading::Frame(says) => response::limit(says),
+        Reading::Status(_) => 0,
+    }
+}
+
+// Whether a frame that was read so asks for the next part, whatever it is answered.
+fn asks_on(reading: Reading) -> bool
+    ensures { λ r. ⌜ r ≡ asksOn (readingOf reading) ⌝ }
+{
+    match reading {
+        Reading::Frame(says) => {
+            let header = says.header;
+            header.ins == GET_RESPONSE
+        }
+        Reading::Status(_) => false,
+    }
+}
+
+// What a frame says to its session, whatever it is answered.
+struct Said {
+    limit: u32,
+    asks_on: bool,
+}
+
+fn takes(reading: Reading) -> Said
+    ensures { λ r. ⌜ (r .limit ≡ limitOn (readingOf reading)) × (r .«asks_on» ≡ asksOn (readingOf reading)) ⌝ }
+{
+    Said {
+        limit: limit_of(reading),
+        asks_on: asks_on(reading),
+    }
+}
+
+fn beside(found: Said, decision: Decision) -> Ruling
+    ensures { λ r. ⌜ r ≡ record { decision = decision; limit = found .limit; «asks_on» = found .«asks_on» } ⌝ }
+{
+    Ruling {
+        decision,
+        limit: found.limit,
+        asks_on: found.asks_on,
+    }
+}
+
+// What a frame is answered at moment t where nothing is left to fetch: a refusal, a status word, Version's body, or an order to sign.
+// `handle` and `certificate` are the new handle and the attestation certificate that a Register would use, x and y its public key. The
+// block is written for an order alone. The frame is read in each case by itself: once for all of them takes a decision 24 instructions
+// more.
 pub fn decide(
     frame: &[u8],
     t: u64,
@@ -275,22 +334,31 @@ pub fn decide(
     y: &[u8; 32],
     reply: &mut [u8],
     block: &mut [u8; 385],
-) -> Decision
-    ensures { λ r. ⌜ Decide presence t (record { frame = now (frame .entry); hardware = hardwareOf hardware; newHandle = now (handle .entry); certificate = now (certificate .entry); x = now (x .entry); y = now (y .entry); room = length (now (reply .entry)) }) (record { reply = now (reply .entry); block = now (block .entry) }) r (record { reply = now (reply .exit); block = now (block .exit) }) ⌝ }
+) -> Ruling
+    ensures { λ r. ⌜ Decide presence t (record { frame = now (frame .entry); hardware = hardwareOf hardware; newHandle = now (handle .entry); certificate = now (certificate .entry); x = now (x .entry); y = now (y .entry); room = length (now (reply .entry)); remainder = rest 0 0; partRoom = 0 }) (record { reply = now (reply .entry); block = now (block .entry) }) r (record { reply = now (reply .exit); block = now (block .exit) }) ⌝ }
 {
     let ready = u2f_up::settle(presence, t);
     let allowed = hardware.allowed;
     match ready {
-        Ready::Refused(why) => refused(why, presence),
+        Ready::Refused(why) => beside(takes(apdu::read(frame)), refused(why, presence)),
         Ready::Record(settled) => {
             if YES < allowed {
-                return answered(ApduStatusCode::InternalException, settled);
+                return beside(
+                    takes(apdu::read(frame)),
+                    answered(ApduStatusCode::InternalException, settled),
+                );
             }
             if allowed == NO {
-                return answered(ApduStatusCode::CommandNotAllowed, settled);
+                return beside(
+                    takes(apdu::read(frame)),
+                    answered(ApduStatusCode::CommandNotAllowed, settled),
+                );
             }
-            commanded(
+            let reading = apdu::read(frame);
+            let found = takes(reading);
+            let decision = commanded(
                 frame,
+                reading,
                 t,
                 presence,
                 hardware,
@@ -301,7 +369,12 @@ pub fn decide(
                 reply,
                 settled,
                 block,
-            )
+            );
+            Ruling {
+                decision,
+                limit: found.limit,
+                asks_on: found.asks_on,
+            }
         }
     }
 }

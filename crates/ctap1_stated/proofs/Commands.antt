@@ -36,6 +36,7 @@ never-refused frame n e = go (commandOf frame) (reading frame) e
     by said _ (Command′.register c i l) x = r-gives _ _ (sym x)
     by said _ (Command′.authenticate c i l f k) x = r-gives _ _ (sym x)
     by said _ (Command′.version c i l) x = r-gives _ _ (sym x)
+    by said _ (Command′.fetch c i a b l) x = r-gives _ _ (sym x)
     by said _ (Command′.status m) x = r-word _ _ (sym x)
 
     go : (o : Outcome Command) → Command′.Read frame o → o ≡ R n → ⊥

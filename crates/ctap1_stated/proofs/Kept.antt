@@ -8,7 +8,7 @@ use Rattle.u2f_up_stated.specs.History.{Role, Touching, Checking, Asking, Settl
 use Rattle.u2f_up_stated.specs.Runs.{doneBy, Keeps}
 use Rattle.u2f_up_stated.specs.declared.Presence.{Presence}
 use Rattle.u2f_up_stated.proofs.Laws.{done-refused, done-checking, done-settling, done-short, done-touch, done-check, done-ask, settle-no-status}
-use Rattle.ctap1_stated.specs.Path.{Ending, Internal, WrongData, Orders, Path, NoRoom, Ends, SixBytes, Signs, Touch, roleOfPath, pathOf}
+use Rattle.ctap1_stated.specs.Path.{Ending, Internal, WrongData, Orders, Path, NoRoom, Ends, SixBytes, Fetches, Signs, Touch, roleOfPath, pathOf}
 use Rattle.ctap1_stated.specs.Decision.{refusalResult, touchChecked, onMoment, decisionOf}
 use Rattle.ctap1_stated.specs.Calls.{toldBy, TouchAt, CheckAt, AskAt, DecideAt, panelCalls}
 
@@ -34,6 +34,7 @@ kept p t x = by (settleOf p t) refl x
     by (Gives q) e NoRoom = sym (done-short p t q e)
     by (Gives q) e (Ends s) = sym (done-settling p t q e)
     by (Gives q) e SixBytes = sym (done-settling p t q e)
+    by (Gives q) e (Fetches sent) = sym (done-settling p t q e)
     by (Gives q) e (Signs Internal) = sym (done-settling p t q e)
     by (Gives q) e (Signs WrongData) = sym (done-settling p t q e)
     by (Gives q) e (Signs (Orders o taken)) = sym (done-settling p t q e)

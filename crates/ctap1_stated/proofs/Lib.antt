@@ -4,7 +4,9 @@ pub mod Tops
 pub mod Commands
 pub mod Ways
 pub mod Kept
+pub mod Ruled
 pub mod Numbers
 pub mod Only
 pub mod Theorems
+pub mod Asking
 pub mod Laws

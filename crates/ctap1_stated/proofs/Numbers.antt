@@ -3,7 +3,7 @@ use mathlib.Core.Path.{_≡_, refl, ap}
 use Rattle.outcome.specs.Outcome.{Outcome, R, Word, Gives}
 use Rattle.outcome.proofs.Laws.{one-to-one}
 use Rattle.outcome.proofs.Laws.{statusOf, status-back, refusalOf, refusal-back}
-use Rattle.ctap1_stated.specs.Words.{Given, Body, Ordered, Handed, Decision, Decided, decidedOf, decisionSaid}
+use Rattle.ctap1_stated.specs.Words.{Given, Body, Ordered, Part, Handed, Decision, Decided, decidedOf, decisionSaid}
 use Rattle.ctap1_stated.specs.declared.Decided.the-variants as Decided′
 
 decidedBack : Outcome Given → Decided
@@ -11,6 +11,7 @@ decidedBack (R n) = Decided′.Refused (refusalOf n)
 decidedBack (Word s) = Decided′.Status (statusOf s)
 decidedBack (Gives (Body n)) = Decided′.Body n
 decidedBack (Gives Ordered) = Decided′.Order
+decidedBack (Gives (Part n after)) = Decided′.Order
 
 decided-back : (d : Decided) → decidedBack (decidedOf d) ≡ d
 unfolding decidedBack

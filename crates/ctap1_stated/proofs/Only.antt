@@ -1,17 +1,24 @@
 -- Only the definition meets each claim.
-use Prim.Native.Nat.{ℕ, zero, suc}
-use mathlib.Core.Path.{_≡_, sym, ap, _∙_}
+use Prim.Native.Nat.{ℕ, zero, suc, _≤_}
+use mathlib.Core.Path.{_≡_, refl, sym, ap, _∙_}
 use mathlib.Core.List.{List}
 use mathlib.Core.Logic.{⊎-elim}
 use native.Mathlib.Omega.{arith}
-use native.Mathlib.Decide.{ℕ-discrete}
+use native.Mathlib.Decide.{ℕ-discrete, decLe}
 use lib.ListN.{length}
 use Rattle.outcome.specs.Notation.{Determines, Determines3}
+use Rattle.outcome.specs.Outcome.{Outcome, R, Word, Gives}
+use Rattle.outcome.proofs.Laws.{r-gives, word-gives}
+use Rattle.apdu_stated.specs.Answers.{Says}
+use Rattle.apdu_stated.specs.Reading.{readOf}
 use Rattle.u2f_up_stated.specs.declared.Presence.{Presence}
-use Rattle.ctap1_stated.specs.Words.{Inputs, Hardware, Result}
+use Rattle.ctap1_stated.specs.Words.{Remainder, Inputs, Given, Body, Ordered, Part, Hardware, Result}
+use Rattle.ctap1_stated.specs.Decision.{decisionOf}
+use Rattle.ctap1_stated.specs.Session.{remainderLeft}
 use Rattle.ctap1_stated.specs.Terms.{Decider}
 use Rattle.ctap1_stated.specs.Claims
 use Rattle.ctap1_stated.proofs.Ways.{sound}
+use Rattle.ctap1_stated.proofs.Theorems.{part-body, part-order, only-remainder}
 
 pub DecidesExactly : Determines3 Claims.DecidesExactly
 DecidesExactly f g F G p t a = sym (sound p t a (f p t a) (F p t a)) ∙ sound p t a (g p t a) (G p t a)
@@ -24,6 +31,45 @@ RepliesExactly decide f g F G p t a old long =
     (λ x. ⊎-elim (λ y. x .2 ∙ sym (y .2)) (λ y. absurd (y .0 6 (x .0))) (G p t a old long))
     (λ x. ⊎-elim (λ y. absurd (x .0 6 (y .0))) (λ y. x .1 ∙ sym (y .1)) (G p t a old long))
     (F p t a old long)
+
+-- ---- a body in parts
+pub LimitsExactly : Determines Claims.LimitsExactly
+LimitsExactly f g p q frame = by (readOf frame) refl
+  where
+    shaped : (said : Says) → readOf frame ≡ Gives said → Dec (said .shape ≤ 4) → Dec (said .le ≡ 0) → f frame ≡ g frame
+    shaped said r (yes s) (yes e) = p .absent frame said r s e ∙ sym (q .absent frame said r s e)
+    shaped said r (yes s) (no e) = p .given frame said r s e ∙ sym (q .given frame said r s e)
+    shaped said r (no s) e = p .extended frame said r (omega arith) ∙ sym (q .extended frame said r (omega arith))
+
+    none : (o : Outcome Says) → readOf frame ≡ o → ((said : Says) → o ≡ Gives said → ⊥) → f frame ≡ g frame
+    none o r x = p .no-shape frame (λ said e. x said (sym r ∙ e)) ∙ sym (q .no-shape frame (λ said e. x said (sym r ∙ e)))
+
+    by : (o : Outcome Says) → readOf frame ≡ o → f frame ≡ g frame
+    by (R n) r = none (R n) r (λ said e. r-gives _ _ e)
+    by (Word s) r = none (Word s) r (λ said e. word-gives _ _ e)
+    by (Gives said) r = shaped said r (decLe (said .shape) 4) (ℕ-discrete (said .le) 0)
+
+-- of every decision that the definition makes
+pub RemainderExactly : (f g : Inputs → Result → Remainder) → Claims.RemainderExactly decisionOf f → Claims.RemainderExactly decisionOf g
+    → (p : Presence) (t : ℕ) (a : Inputs) → f a (decisionOf p t a) ≡ g a (decisionOf p t a)
+RemainderExactly f g F G p t a = sym (same f F) ∙ same g G
+  where
+    same : (h : Inputs → Result → Remainder) → Claims.RemainderExactly decisionOf h → remainderLeft a (decisionOf p t a) ≡ h a (decisionOf p t a)
+    same h H = only-remainder h H p t a
+
+pub PartsExactly : (limit : List ℕ → ℕ) (f g : Inputs → Result → (body old : List ℕ) → List ℕ) → Claims.PartsExactly decisionOf limit f → Claims.PartsExactly decisionOf limit g
+    → (p : Presence) (t : ℕ) (a : Inputs) (body old : List ℕ) → f a (decisionOf p t a) body old ≡ g a (decisionOf p t a) body old
+PartsExactly limit f g F G p t a body old = by (decisionOf p t a .answer) refl
+  where
+    other : ((n : ℕ) (after : Remainder) → decisionOf p t a .answer ≡ Gives (Part n after) → ⊥) → f a (decisionOf p t a) body old ≡ g a (decisionOf p t a) body old
+    other n = F .other p t a body old n ∙ sym (G .other p t a body old n)
+
+    by : (o : Outcome Given) → decisionOf p t a .answer ≡ o → f a (decisionOf p t a) body old ≡ g a (decisionOf p t a) body old
+    by (R n) e = other (λ m after x. r-gives _ _ (sym e ∙ x))
+    by (Word s) e = other (λ m after x. word-gives _ _ (sym e ∙ x))
+    by (Gives (Body n)) e = other (λ m after x. part-body _ _ _ (sym x ∙ e))
+    by (Gives Ordered) e = other (λ m after x. part-order _ _ (sym x ∙ e))
+    by (Gives (Part n after)) e = F .part p t a body old n after e ∙ sym (G .part p t a body old n after e)
 
 -- ---- the hardware's answers by their numbers
 pub AllowedNumbers : Determines Claims.AllowedNumbers

@@ -7,19 +7,20 @@ use mathlib.Core.Logic.{inr, ⊎-elim}
 use native.Mathlib.Omega.{arith}
 use lib.ListN.{length, replicate}
 use Rattle.outcome.specs.Outcome.{StatusWord, Outcome, R, Word, SW, Gives, plainWord, wrongLength}
-use Rattle.outcome.proofs.Laws.{sw-same, word-same, word-gives, r-gives, r-word}
+use Rattle.outcome.proofs.Laws.{sw-same, gives-same, word-same, word-gives, r-gives, r-word}
 use Rattle.octets.specs.Bytes.{partOf, byte}
 use Rattle.apdu_stated.specs.Answers.{Says}
 use Rattle.apdu_stated.specs.Reading.{readBy, sayOf, lengthsOf, shortOf, extendedOf, afterData, dataOf}
-use Rattle.command_stated.specs.Command.{Register, Authenticate, Version, commandOf, onReading, byInstruction, registerOf, authenticateOf, versionOf, applicationOf, challengeOf}
+use Rattle.command_stated.specs.Command.{Register, Authenticate, Version, GetResponse, commandOf, onReading, byInstruction, registerOf, authenticateOf, versionOf, getResponseOf, applicationOf, challengeOf}
+use Rattle.response_stated.specs.Parts.{limitOf, partLength, leftStatus, nextPartOf}
 use Rattle.u2f_up_stated.specs.Moments.{Told, fresh, settleOf, grantedOf, checkedOf, touchOf, checkOf}
 use Rattle.u2f_up_stated.specs.History.{TouchAccepted, TouchIgnored, TouchFound, NoTouchFound, lastMoment, latest, isPromptStanding, unspent, foretold}
 use Rattle.u2f_up_stated.specs.Runs.{after, history, doneBy}
 use Rattle.u2f_up_stated.specs.Terms.{Passes, HasTouch}
 use Rattle.u2f_up_stated.specs.declared.Presence.{Presence}
 use Rattle.u2f_up_stated.specs.declared.Window.the-variants.{Closed, Opened}
-use Rattle.ctap1_stated.specs.Words.{Order, Inputs, Given, Ordered, Result, Hardware}
-use Rattle.ctap1_stated.specs.Path.{registerOrdered, enrolmentOrder, authenticateOrdered, registerEnding, countedEnding, loginPath, registerPath, versionPath, commandPath, allowedPath, pathOf}
+use Rattle.ctap1_stated.specs.Words.{Order, Inputs, Given, Ordered, Part, Result, Hardware, Remainder, rest}
+use Rattle.ctap1_stated.specs.Path.{registerOrdered, enrolmentOrder, authenticateOrdered, registerEnding, countedEnding, loginPath, registerPath, versionPath, frameLimit, fetchPath, commandPath, allowedPath, pathOf}
 use Rattle.signing_stated.specs.Orders.{kindNo, certificateLength, isOfLayout, blankOrder, registerOrderOf, authenticateOrderOf, block}
 use Rattle.signing_stated.specs.Finishing.{finishOf, roomAsked}
 use Rattle.ctap1_stated.specs.Decision.{decisionOf, replyLeft}
@@ -48,7 +49,7 @@ abbrev works : Hardware
 works = record { allowed = Allowed′.Yes; stored = true; attestation = Attestation′.Present; good = true; counter = Counter′.Offered 7 }
 
 abbrev lent : List ℕ → Hardware → List ℕ → ℕ → Inputs
-lent frame hardware handle room = record { frame = frame; hardware = hardware; newHandle = handle; certificate = []; x = replicate 32 0; y = replicate 32 0; room = room }
+lent frame hardware handle room = record { frame = frame; hardware = hardware; newHandle = handle; certificate = []; x = replicate 32 0; y = replicate 32 0; room = room; remainder = rest 0 0; partRoom = 0 }
 
 -- a record with a live touch
 abbrev held : Presence
@@ -249,6 +250,106 @@ clearsRest d =
     (λ x. x .0 6 (rw version-read refl))
     (d (fresh 1000) 0 a (replicate 7 0) refl)
 
+-- ---- a body in parts: 00 C0 00 00, where two of three bytes remain
+abbrev fetchFrame : List ℕ
+fetchFrame = 0x00 ∷ 0xC0 ∷ 0x00 ∷ 0x00 ∷ []
+
+abbrev fetching : (remainder : Remainder) (partRoom : ℕ) → Inputs
+fetching r partRoom = record { frame = fetchFrame; hardware = works; newHandle = []; certificate = []; x = replicate 32 0; y = replicate 32 0; room = 3; remainder = r; partRoom = partRoom }
+
+fetch-read : commandOf fetchFrame ≡ Gives GetResponse
+unfolding commandOf onReading byInstruction getResponseOf readBy sayOf lengthsOf shortOf extendedOf afterData
+fetch-read = refl
+
+pub fetchPrompts : Claims.DecidesExactly Wrong.fetchPrompts → ⊥
+unfolding decisionOf pathOf allowedPath commandPath versionPath registerPath loginPath registerEnding countedEnding settleOf checkedOf fetchPath nextPartOf frameLimit limitOf partLength commandOf onReading byInstruction getResponseOf readBy sayOf lengthsOf shortOf extendedOf afterData
+fetchPrompts d =
+    let a = fetching (rest 0 0) 0 in
+    closed-open 0 (ap (λ (r : Result). r .presence .prompt) (sound (fresh 1000) 0 a (Wrong.fetchPrompts (fresh 1000) 0 a) (d (fresh 1000) 0 a)))
+
+pub roomBeforeNothing : Claims.DecidesExactly Wrong.roomBeforeNothing → ⊥
+unfolding decisionOf pathOf allowedPath commandPath versionPath registerPath loginPath registerEnding countedEnding settleOf checkedOf fetchPath nextPartOf frameLimit limitOf partLength commandOf onReading byInstruction getResponseOf readBy sayOf lengthsOf shortOf extendedOf afterData
+roomBeforeNothing d = r-word 2 (plainWord 0x6985) (sym (differ Wrong.roomBeforeNothing d (fresh 1000) 0 (fetching (rest 0 0) 0)))
+
+part-rest : (m n : ℕ) (q r : Remainder) → _≡_ {A = Outcome Given} (Gives (Part m q)) (Gives (Part n r)) → q ≡ r
+part-rest m n q r e = cc
+
+pub fetchSkips : Claims.DecidesExactly Wrong.fetchSkips → ⊥
+unfolding decisionOf pathOf allowedPath commandPath versionPath registerPath loginPath registerEnding countedEnding settleOf checkedOf fetchPath nextPartOf frameLimit limitOf partLength commandOf onReading byInstruction getResponseOf readBy sayOf lengthsOf shortOf extendedOf afterData
+fetchSkips d =
+    let z : _≡_ {A = ℕ} 3 4 = ap (λ (r : Remainder). r .place) (part-rest 4 4 (rest 3 0) (rest 4 0) (differ Wrong.fetchSkips d (fresh 1000) 0 (fetching (rest 1 2) 4))) in
+    omega arith
+
+-- shape 1; and shape 6 without data, its Le 1
+pub absentIsWhole : Claims.LimitsExactly Wrong.absentIsWhole → ⊥
+unfolding readBy sayOf lengthsOf shortOf extendedOf afterData
+absentIsWhole exact = omega (arith, exact .absent fetchFrame (saidOf 0xC0 0x00 1 0 4) refl (omega arith) refl)
+
+pub shape6Short : Claims.LimitsExactly Wrong.shape6Short → ⊥
+unfolding readBy sayOf lengthsOf shortOf extendedOf afterData limitOf
+shape6Short exact =
+    let said : Says = record { header = record { cla = 0x00; ins = 0xC0; p1 = 0x00; p2 = 0x00 }; shape = 6; lc = 0; le = 1; dataAt = 7 } in
+    omega (arith, exact .extended (0x00 ∷ 0xC0 ∷ 0x00 ∷ 0x00 ∷ 0x00 ∷ 0x00 ∷ 0x00 ∷ 0x01 ∷ []) said refl (omega arith))
+
+-- of a remainder of two bytes: what is left of it
+two-left : rest 1 2 ≡ rest 0 0 → ⊥
+two-left e = omega (arith, ap (λ (r : Remainder). r .count) e)
+
+-- C0 with P2 1 gets 6a86
+abbrev badFetch : Inputs
+badFetch = record { frame = 0x00 ∷ 0xC0 ∷ 0x00 ∷ 0x01 ∷ []; hardware = works; newHandle = []; certificate = []; x = replicate 32 0; y = replicate 32 0; room = 3; remainder = rest 1 2; partRoom = 4 }
+
+pub refusedFetchDrops : Claims.RemainderExactly decisionOf Wrong.refusedFetchDrops → ⊥
+unfolding decisionOf pathOf allowedPath commandPath versionPath registerPath loginPath registerEnding countedEnding settleOf checkedOf fetchPath nextPartOf frameLimit limitOf partLength commandOf onReading byInstruction getResponseOf readBy sayOf lengthsOf shortOf extendedOf afterData
+refusedFetchDrops exact =
+    let said : Says = record { header = record { cla = 0x00; ins = 0xC0; p1 = 0x00; p2 = 0x01 }; shape = 1; lc = 0; le = 0; dataAt = 4 } in
+    two-left (sym (exact .kept (fresh 1000) 0 badFetch (plainWord 0x6a86) (said, refl, refl) refl))
+
+-- a Version in between; and three bytes
+abbrev between : List ℕ → Inputs
+between frame = record { frame = frame; hardware = works; newHandle = []; certificate = []; x = replicate 32 0; y = replicate 32 0; room = 6; remainder = rest 1 2; partRoom = 4 }
+
+pub otherInsKeeps : Claims.RemainderExactly decisionOf Wrong.otherInsKeeps → ⊥
+unfolding decisionOf pathOf allowedPath commandPath versionPath registerPath loginPath registerEnding countedEnding settleOf checkedOf fetchPath nextPartOf frameLimit limitOf partLength commandOf onReading byInstruction getResponseOf readBy sayOf lengthsOf shortOf extendedOf afterData versionOf
+otherInsKeeps exact =
+    two-left (exact .dropped (fresh 1000) 0 (between versionFrame)
+    (λ asks. let z : _≡_ {A = ℕ} 0x03 0xC0 = ap (λ (s : Says). s .header .ins) (gives-same _ _ (asks .1)) ∙ asks .2 in omega arith) (λ n e. r-gives _ _ (sym e)))
+
+-- the same Version, where CTAP1 is not allowed: 6986
+pub otherStatusKeeps : Claims.RemainderExactly decisionOf Wrong.otherStatusKeeps → ⊥
+unfolding decisionOf pathOf allowedPath commandPath versionPath registerPath loginPath registerEnding countedEnding settleOf checkedOf fetchPath nextPartOf frameLimit limitOf partLength commandOf onReading byInstruction getResponseOf readBy sayOf lengthsOf shortOf extendedOf afterData versionOf
+otherStatusKeeps exact =
+    let a : Inputs = record { frame = versionFrame; hardware = forbids; newHandle = []; certificate = []; x = replicate 32 0; y = replicate 32 0; room = 6; remainder = rest 1 2; partRoom = 4 } in
+    two-left (exact .dropped (fresh 1000) 0 a
+    (λ asks. let z : _≡_ {A = ℕ} 0x03 0xC0 = ap (λ (s : Says). s .header .ins) (gives-same _ _ (asks .1)) ∙ asks .2 in omega arith) (λ n e. r-word _ _ (sym e)))
+
+pub damagedKeeps : Claims.RemainderExactly decisionOf Wrong.damagedKeeps → ⊥
+unfolding decisionOf pathOf allowedPath commandPath versionPath registerPath loginPath registerEnding countedEnding settleOf checkedOf fetchPath nextPartOf frameLimit limitOf partLength commandOf onReading byInstruction getResponseOf readBy sayOf lengthsOf shortOf extendedOf afterData
+damagedKeeps exact =
+    two-left (exact .dropped (fresh 1000) 0 (between (0x00 ∷ 0xC0 ∷ 0x00 ∷ []))
+    (λ asks. word-gives _ _ (asks .1)) (λ n e. r-word _ _ (sym e)))
+
+-- no room for part and status
+pub refusalDrops : Claims.RemainderExactly decisionOf Wrong.refusalDrops → ⊥
+unfolding decisionOf pathOf allowedPath commandPath versionPath registerPath loginPath registerEnding countedEnding settleOf checkedOf fetchPath nextPartOf frameLimit limitOf partLength commandOf onReading byInstruction getResponseOf readBy sayOf lengthsOf shortOf extendedOf afterData
+refusalDrops exact = two-left (sym (exact .refused (fresh 1000) 0 (fetching (rest 1 2) 3) 2 refl))
+
+pub r2AfterMove : Claims.RemainderExactly decisionOf Wrong.r2AfterMove → ⊥
+unfolding decisionOf pathOf allowedPath commandPath versionPath registerPath loginPath registerEnding countedEnding settleOf checkedOf fetchPath nextPartOf frameLimit limitOf partLength commandOf onReading byInstruction getResponseOf readBy sayOf lengthsOf shortOf extendedOf afterData
+r2AfterMove exact = omega (arith, ap (λ (r : Remainder). r .place) (exact .refused (fresh 1000) 0 (fetching (rest 1 2) 3) 2 refl))
+
+pub statusClears : Claims.PartsExactly decisionOf frameLimit Wrong.statusClears → ⊥
+unfolding decisionOf pathOf allowedPath commandPath versionPath registerPath loginPath registerEnding countedEnding settleOf checkedOf fetchPath nextPartOf frameLimit limitOf partLength commandOf onReading byInstruction getResponseOf readBy sayOf lengthsOf shortOf extendedOf afterData
+statusClears exact =
+    omega (arith, ap (length {A = ℕ}) (exact .other (fresh 1000) 0 (fetching (rest 0 0) 4) [] (replicate 4 0) (λ n after e. word-gives _ _ e)))
+
+-- of 7 8 9 the last two
+pub partAgain : Claims.PartsExactly decisionOf frameLimit Wrong.partAgain → ⊥
+unfolding decisionOf pathOf allowedPath commandPath versionPath registerPath loginPath registerEnding countedEnding settleOf checkedOf fetchPath nextPartOf frameLimit limitOf partLength commandOf onReading byInstruction getResponseOf readBy sayOf lengthsOf shortOf extendedOf afterData leftStatus
+partAgain exact =
+    let z : _≡_ {A = ℕ} 7 8 = ap (λ (l : List ℕ). byte l 0) (exact .part (fresh 1000) 0 (fetching (rest 1 2) 4) (7 ∷ 8 ∷ 9 ∷ []) (replicate 4 0) 4 (rest 3 0) refl) in
+    omega arith
+
 -- ---- orders
 -- a handle of 256 bytes makes the blank order
 pub handle256 : Claims.OrdersOfLayout Wrong.handle256 → ⊥
@@ -352,6 +453,12 @@ pub checkOnlyAsCheck : Claims.Demand3OfThePanel Wrong.checkOnlyAsCheck → ⊥
 unfolding decisionOf pathOf allowedPath commandPath versionPath registerPath loginPath registerEnding countedEnding settleOf checkedOf after history foretold isPromptStanding latest lastMoment touchOf grantedOf commandOf onReading byInstruction authenticateOf readBy sayOf lengthsOf shortOf extendedOf afterData dataOf partOf
 checkOnlyAsCheck d =
     accepted-not (sym (d 1000 (omega arith) (omega arith) (DecideAt 0 (lent (signFrame 0x07) works [] 0) ∷ []) .foretells (TouchAt 1)))
+
+-- a C0 where nothing is left, at 0, is said to prompt; the touch at 1 is not accepted
+pub fetchAsCheck : Claims.Demand3OfThePanel Wrong.fetchAsCheck → ⊥
+unfolding decisionOf pathOf allowedPath commandPath versionPath registerPath loginPath registerEnding countedEnding settleOf checkedOf after history foretold isPromptStanding latest lastMoment touchOf grantedOf commandOf onReading byInstruction authenticateOf readBy sayOf lengthsOf shortOf extendedOf afterData dataOf partOf fetchPath getResponseOf
+fetchAsCheck d =
+    accepted-not (sym (d 1000 (omega arith) (omega arith) (DecideAt 0 (fetching (rest 0 0) 0) ∷ []) .foretells (TouchAt 1)))
 
 -- P1 03 at 0 is said not to prompt; the touch at 1 is accepted
 pub touchAsOther : Claims.Demand3OfThePanel Wrong.touchAsOther → ⊥

@@ -6,15 +6,18 @@ use mathlib.Core.Logic.{_↔_, _⊎_, inl, inr}
 use mathlib.Core.List.{List, [], _∷_, _++_}
 use mathlib.Core.Option.{Option, some}
 use native.Mathlib.Omega.{arith}
-use borrow.Author.Tests.{eq-eqb, ne-eqb}
+use borrow.Author.Tests.{le-leb, lt-leb, eq-eqb, ne-eqb, eqb-true}
 use lib.ListN.{length, drop}
+use Rattle.outcome.specs.Notation.{if_then_else_}
 use Rattle.outcome.specs.Outcome.{StatusWord, Outcome, R, Word, Gives, plainWord, wrongLength}
 use Rattle.outcome.proofs.Laws.{gives-same, word-same, word-gives, r-gives, r-word, both-are}
 use Rattle.octets.specs.Bytes.{byte}
 use Rattle.octets.proofs.Laws.{laid-fits}
 use Rattle.apdu_stated.specs.Answers.{Says}
+use Rattle.apdu_stated.specs.Reading.{readOf}
+use Rattle.response_stated.specs.Parts.{limitOf}
 use Rattle.command_stated.specs.Command.{Command, Register, Authenticate, commandOf}
-use Rattle.command_stated.proofs.Laws.{CommandPairsExactly}
+use Rattle.command_stated.proofs.Laws.{RegisterExactly, AuthenticateExactly, VersionExactly, GetResponseExactly, CommandPairsExactly}
 use Rattle.u2f_up_stated.specs.Moments.{movedTo, touchClosed}
 use Rattle.u2f_up_stated.specs.History.{Role, Mark, Checking, TouchFound, isTouchFound, isNamed, heldAt, serverOf, servers}
 use Rattle.u2f_up_stated.specs.Runs.{after, comesTo, cameOf, history}
@@ -23,17 +26,18 @@ use Rattle.u2f_up_stated.specs.declared.Presence.{Presence}
 use Rattle.u2f_up_stated.proofs.Laws.{demand-3, servers-next, named-later, named-counts, count, length-those}
 use Rattle.signing_stated.specs.Orders.{kindNo, certificateLength, blankOrder, isOfLayout}
 use Rattle.signing_stated.specs.Finishing.{roomAsked}
-use Rattle.ctap1_stated.specs.Words.{Inputs, Given, Body, Ordered, Result, Allowed, WithBlock}
+use Rattle.ctap1_stated.specs.Words.{Remainder, rest, Inputs, Given, Body, Ordered, Part, Result, Allowed, WithBlock}
 use Rattle.ctap1_stated.specs.Numbers.{allowedOf, attestationOf, isYes, hardwareOf}
-use Rattle.ctap1_stated.specs.Path.{roleOf}
+use Rattle.ctap1_stated.specs.Path.{limitOn, frameLimit, roleOf}
 use Rattle.ctap1_stated.specs.Decision.{statusResult, versionBytes, decisionOf, replyLeft}
+use Rattle.ctap1_stated.specs.Session.{asksOn, remainderLeft, partAfter, partLeft}
 use Rattle.ctap1_stated.specs.Calls.{PanelCall, DecideAt, panelCalls, seen}
-use Rattle.ctap1_stated.specs.Terms.{AreBlocks, SaysPresent, OrdersPresent, checkOnlyAnswer}
+use Rattle.ctap1_stated.specs.Terms.{AreBlocks, AsksOn, Fetching, SaysPresent, OrdersPresent, checkOnlyAnswer}
 use Rattle.ctap1_stated.specs.Table
 use Rattle.ctap1_stated.specs.Claims
 use Rattle.ctap1_stated.specs.declared.Allowed.the-variants as Allowed′
 use Rattle.ctap1_stated.specs.declared.Counter.the-variants as Counter′
-use Rattle.ctap1_stated.proofs.Ways.{Stated, its-own, framed, Way, refused, stated, versioned, enrolled, signed-03, signed-08, way, row, sound, registering-checks, signing-checks}
+use Rattle.ctap1_stated.proofs.Ways.{Stated, its-own, framed, Way, refused, stated, versioned, fetched, enrolled, signed-03, signed-08, way, row, sound, registering-checks, signing-checks}
 use Rattle.ctap1_stated.proofs.Commands as Commands
 use Rattle.ctap1_stated.proofs.Kept.{panel-keeps}
 use Rattle.ctap1_stated.proofs.Numbers.{decided-apart, decision-apart}
@@ -41,6 +45,12 @@ use Rattle.ctap1_stated.proofs.Numbers.{decided-apart, decision-apart}
 -- a body and an order are apart
 body-order : (n : ℕ) → _≡_ {A = Outcome Given} (Gives (Body n)) (Gives Ordered) → ⊥
 body-order n e = let z : _≡_ {A = ℕ} 0 1 = cc in omega arith
+
+pub part-order : (n : ℕ) (r : Remainder) → _≡_ {A = Outcome Given} (Gives (Part n r)) (Gives Ordered) → ⊥
+part-order n r e = let z : _≡_ {A = ℕ} 0 1 = cc in omega arith
+
+pub part-body : (n : ℕ) (r : Remainder) (m : ℕ) → _≡_ {A = Outcome Given} (Gives (Part n r)) (Gives (Body m)) → ⊥
+part-body n r m e = let z : _≡_ {A = ℕ} 0 1 = cc in omega arith
 
 -- ---- the whole decision
 pub DecidesExactly : Claims.DecidesExactly decisionOf
@@ -58,6 +68,7 @@ RepliesExactly p t a old long = go (decisionOf p t a) (way p t a)
     go _ (refused n) = inr (λ n x. r-gives _ _ x, refl)
     go _ (stated n q w) = inr (λ n x. word-gives _ _ x, refl)
     go _ (versioned c room) = inl (refl, room, laid-fits versionBytes old (omega arith))
+    go _ (fetched c sent) = inr (λ n x. part-body _ _ _ x, refl)
     go _ (enrolled said x l h) = inr (λ n x. body-order _ (sym x), refl)
     go _ (signed-03 said n x l k) = inr (λ n x. body-order _ (sym x), refl)
     go _ (signed-08 said n x k) = inr (λ n x. body-order _ (sym x), refl)
@@ -70,6 +81,7 @@ RefusalChangesNothing p t a n old e = go (decisionOf p t a) (way p t a) e
     go _ (refused m) x = (refl, refl, refl, refl)
     go _ (stated m q w) x = absurd (r-word _ _ (sym x))
     go _ (versioned c room) x = absurd (r-gives _ _ (sym x))
+    go _ (fetched c sent) x = absurd (r-gives _ _ (sym x))
     go _ (enrolled said y l h) x = absurd (r-gives _ _ (sym x))
     go _ (signed-03 said m y l k) x = absurd (r-gives _ _ (sym x))
     go _ (signed-08 said m y k) x = absurd (r-gives _ _ (sym x))
@@ -81,6 +93,7 @@ CounterExactly p t a blocks = (λ e. forth (decisionOf p t a) (way p t a) e, λ 
     forth _ (refused m) x = absurd (true≢false (sym x))
     forth _ (stated m q w) x = absurd (true≢false (sym x))
     forth _ (versioned c room) x = absurd (true≢false (sym x))
+    forth _ (fetched c sent) x = absurd (true≢false (sym x))
     forth _ (enrolled said y l h) x = absurd (true≢false (sym x))
     forth _ (signed-03 said m y l k) x = (refl, Commands.kind-is a 0x03 said true m (y .1 .1))
     forth _ (signed-08 said m y k) x = (refl, Commands.kind-is a 0x08 said false m (y .1 .1))
@@ -89,6 +102,7 @@ CounterExactly p t a blocks = (λ e. forth (decisionOf p t a) (way p t a) e, λ 
     back _ (refused m) x k = absurd (r-gives _ _ x)
     back _ (stated m q w) x k = absurd (word-gives _ _ x)
     back _ (versioned c room) x k = absurd (body-order _ x)
+    back _ (fetched c sent) x k = absurd (part-order _ _ x)
     back _ (enrolled said y l h) x k = absurd (omega (arith, Commands.register-kind a blocks said (y .1 .1) h))
     back _ (signed-03 said m y l n) x k = refl
     back _ (signed-08 said m y n) x k = refl
@@ -101,6 +115,7 @@ OrdersOfLayout p t a blocks e = go (decisionOf p t a) (way p t a) e
     go _ (refused m) x = absurd (r-gives _ _ x)
     go _ (stated m q w) x = absurd (word-gives _ _ x)
     go _ (versioned c room) x = absurd (body-order _ x)
+    go _ (fetched c sent) x = absurd (part-order _ _ x)
     go _ (enrolled said y l h) x = Commands.register-of-layout a blocks said (y .1 .1) h
     go _ (signed-03 said m y l k) x = Commands.of-layout a 0x03 said true m (y .1 .1)
     go _ (signed-08 said m y k) x = Commands.of-layout a 0x08 said false m (y .1 .1)
@@ -112,6 +127,7 @@ NoOrderIsBlank p t a f none same = (blank, Commands.blank-refused .1 f (same ∙
     go _ (refused m) n = refl
     go _ (stated m q w) n = refl
     go _ (versioned c room) n = refl
+    go _ (fetched c sent) n = refl
     go _ (enrolled said y l h) n = absurd (n refl)
     go _ (signed-03 said m y l k) n = absurd (n refl)
     go _ (signed-08 said m y k) n = absurd (n refl)
@@ -123,6 +139,7 @@ room-was-asked : (p : Presence) (t : ℕ) (a : Inputs) → AreBlocks a → (r : 
 room-was-asked p t a blocks _ (refused m) x = absurd (r-gives _ _ x)
 room-was-asked p t a blocks _ (stated m q w) x = absurd (word-gives _ _ x)
 room-was-asked p t a blocks _ (versioned c room) x = absurd (body-order _ x)
+room-was-asked p t a blocks _ (fetched c sent) x = absurd (part-order _ _ x)
 room-was-asked p t a blocks _ (enrolled said y l h) x = rw (Commands.register-room a blocks said (y .1 .1) h) (y .2)
 room-was-asked p t a blocks _ (signed-03 said m y l k) x = rw (Commands.room-is a 0x03 said true m (y .1 .1)) (y .3)
 room-was-asked p t a blocks _ (signed-08 said m y k) x = rw (Commands.room-is a 0x08 said false m (y .1 .1)) (y .3)
@@ -140,6 +157,7 @@ CertificateOfOrder p t a blocks e = go (decisionOf p t a) (way p t a) e
     go _ (refused m) x = absurd (r-gives _ _ x)
     go _ (stated m q w) x = absurd (word-gives _ _ x)
     go _ (versioned c room) x = absurd (body-order _ x)
+    go _ (fetched c sent) x = absurd (part-order _ _ x)
     go _ (enrolled said y l h) x = inl (Commands.register-kind a blocks said (y .1 .1) h, Commands.register-certificate a blocks said (y .1 .1) h)
     go _ (signed-03 said m y l k) x = inr (Commands.kind-is a 0x03 said true m (y .1 .1), Commands.certificate-is a 0x03 said true m (y .1 .1))
     go _ (signed-08 said m y k) x = inr (Commands.kind-is a 0x08 said false m (y .1 .1), Commands.certificate-is a 0x08 said false m (y .1 .1))
@@ -155,6 +173,7 @@ module _ (p : Presence) (t : ℕ) (a : Inputs) where
   carried kind place _ (stated s q (its-own n other)) x = absurd (other (word-number _ _ x))
   carried kind place _ (stated s q (framed ok y e)) x = (ok, y, e ∙ ap Word (word-same s _ x))
   carried kind place _ (versioned c room) x = absurd (word-gives _ _ (sym x))
+  carried kind place _ (fetched c sent) x = absurd (word-gives _ _ (sym x))
   carried kind place _ (enrolled said y l h) x = absurd (word-gives _ _ (sym x))
   carried kind place _ (signed-03 said m y l k) x = absurd (word-gives _ _ (sym x))
   carried kind place _ (signed-08 said m y k) x = absurd (word-gives _ _ (sym x))
@@ -164,6 +183,7 @@ module _ (p : Presence) (t : ℕ) (a : Inputs) where
   said-word s _ (refused m) x = absurd (r-word _ _ x)
   said-word s _ (stated v q w) x = subst (Stated p t a) (word-same v s x) w
   said-word s _ (versioned c room) x = absurd (word-gives _ _ (sym x))
+  said-word s _ (fetched c sent) x = absurd (word-gives _ _ (sym x))
   said-word s _ (enrolled said y l h) x = absurd (word-gives _ _ (sym x))
   said-word s _ (signed-03 said m y l k) x = absurd (word-gives _ _ (sym x))
   said-word s _ (signed-08 said m y k) x = absurd (word-gives _ _ (sym x))
@@ -188,6 +208,117 @@ DecisionPairsExactly p t =
       paired = λ a s e. paired p t a s (said-word p t a s (decisionOf p t a) (way p t a) e);
       no-other = λ a s e. not-paired p t a s (said-word p t a s (decisionOf p t a) (way p t a) e);
     }
+
+-- ---- a body in parts
+pub LimitsExactly : Claims.LimitsExactly frameLimit
+unfolding frameLimit limitOf
+LimitsExactly =
+    record {
+      given = λ frame said r short n. rw (r, le-leb (said .shape) 4 short, ne-eqb (said .le) 0 n);
+      absent = λ frame said r short e. rw (r, le-leb (said .shape) 4 short, eq-eqb (said .le) 0 e);
+      extended = λ frame said r long. rw (r, lt-leb (said .shape) 4 long);
+      no-shape = λ frame none. by (readOf frame) none;
+    }
+  where
+    by : (o : Outcome Says) → ((said : Says) → o ≡ Gives said → ⊥) → limitOn o ≡ 0
+    by (R n) none = refl
+    by (Word s) none = refl
+    by (Gives said) none = absurd (none said refl)
+
+-- a shaped frame with INS C0, by its test
+asks : (a : Inputs) → asksOn (readOf (a .frame)) ≡ true → AsksOn a
+asks a e = by (readOf (a .frame)) refl e
+  where
+    by : (o : Outcome Says) → readOf (a .frame) ≡ o → asksOn o ≡ true → AsksOn a
+    by (R n) r x = absurd (true≢false (sym x))
+    by (Word s) r x = absurd (true≢false (sym x))
+    by (Gives said) r x = (said, r, eqb-true (said .header .ins) 0xC0 x)
+
+asked : (a : Inputs) → AsksOn a → asksOn (readOf (a .frame)) ≡ true
+asked a (said, r, i) = rw (r, i)
+
+no-asking : (a : Inputs) → (AsksOn a → ⊥) → asksOn (readOf (a .frame)) ≡ false
+no-asking a n = by (asksOn (readOf (a .frame))) refl
+  where
+    by : (b : Bool) → asksOn (readOf (a .frame)) ≡ b → b ≡ false
+    by true e = absurd (n (asks a e))
+    by false e = refl
+
+-- a part is sent to a frame that asks for it
+fetching-asks : (p : Presence) (t : ℕ) (a : Inputs) → Fetching p t a → AsksOn a
+fetching-asks p t a x = let f = GetResponseExactly (a .frame) .0 (x .1 .1) in (f .0, f .1, f .3)
+
+module _ (p : Presence) (t : ℕ) (a : Inputs) where
+  drops : (AsksOn a → ⊥) → (r : Result) → Way p t a r → ((n : ℕ) → r .answer ≡ R n → ⊥) → remainderLeft a r ≡ rest 0 0
+  drops n _ (refused m) x = absurd (x m refl)
+  drops n _ (stated m q w) x = rw (no-asking a n)
+  drops n _ (versioned c room) x = refl
+  drops n _ (fetched c sent) x = absurd (n (fetching-asks p t a c))
+  drops n _ (enrolled said y l h) x = refl
+  drops n _ (signed-03 said m y l k) x = refl
+  drops n _ (signed-08 said m y k) x = refl
+
+  -- where it was dropped, nobody asked and nothing was refused
+  abbrev Dropped : Result → Type 0
+  Dropped r = (AsksOn a → ⊥) × ((n : ℕ) → r .answer ≡ R n → ⊥)
+
+  counts : a .remainder ≡ rest 0 0 → a .remainder .count ≡ 0
+  counts e = ap (λ (r : Remainder). r .count) e
+
+  other-ins : (k : ℕ) (said : Says) → readOf (a .frame) ≡ Gives said → said .header .ins ≡ k → (k ≡ 0xC0 → ⊥) → AsksOn a → ⊥
+  other-ins k said r i n (told, q, j) = n (sym i ∙ ap (λ (s : Says). s .header .ins) (gives-same said told (sym r ∙ q)) ∙ j)
+
+  signing : (p1 : ℕ) (said : Says) → commandOf (a .frame) ≡ Gives (Authenticate p1 said) → AsksOn a → ⊥
+  signing p1 said c = let f = AuthenticateExactly (a .frame) p1 said .0 c in other-ins 0x02 said (f .0) (f .2) (λ e. omega arith)
+
+  was-dropped : 0 < a .remainder .count → (r : Result) → Way p t a r → ((n : ℕ) (after : Remainder) → r .answer ≡ Gives (Part n after) → ⊥) → remainderLeft a r ≡ rest 0 0 → Dropped r
+  was-dropped more _ (refused m) x e = absurd (omega (arith, counts e))
+  was-dropped more _ (stated m q w) x e = (λ y. omega (arith, counts (rw (asked a y) at e)), λ n z. r-word _ _ (sym z))
+  was-dropped more _ (versioned c room) x e = let f = VersionExactly (a .frame) .0 (c .1) in (other-ins 0x03 (f .0) (f .1) (f .3) (λ e. omega arith), λ n z. r-gives _ _ (sym z))
+  was-dropped more _ (fetched c sent) x e = absurd (x _ _ refl)
+  was-dropped more _ (enrolled said y l h) x e = let f = RegisterExactly (a .frame) said .0 (y .1 .1) in (other-ins 0x01 said (f .0) (f .2) (λ e. omega arith), λ n z. r-gives _ _ (sym z))
+  was-dropped more _ (signed-03 said m y l k) x e = (signing 0x03 said (y .1 .1), λ n z. r-gives _ _ (sym z))
+  was-dropped more _ (signed-08 said m y k) x e = (signing 0x08 said (y .1 .1), λ n z. r-gives _ _ (sym z))
+
+pub RemainderExactly : Claims.RemainderExactly decisionOf remainderLeft
+RemainderExactly =
+    record {
+      refused = λ p t a n e. rw e;
+      fetched = λ p t a n after e. rw e;
+      kept = λ p t a w y e. rw (e, asked a y);
+      dropped = λ p t a n x. drops p t a n (decisionOf p t a) (way p t a) x;
+      exactly = λ p t a more x. (was-dropped p t a more (decisionOf p t a) (way p t a) x, λ y. drops p t a (y .0) (decisionOf p t a) (way p t a) (y .1));
+    }
+
+-- and whatever meets the claim is that
+pub only-remainder : (left : Inputs → Result → Remainder) → Claims.RemainderExactly decisionOf left → (p : Presence) (t : ℕ) (a : Inputs) → remainderLeft a (decisionOf p t a) ≡ left a (decisionOf p t a)
+only-remainder left exact p t a = go (decisionOf p t a) (way p t a) refl
+  where
+    drop : (r : Result) → decisionOf p t a ≡ r → (AsksOn a → ⊥) → ((n : ℕ) → r .answer ≡ R n → ⊥) → rest 0 0 ≡ left a (decisionOf p t a)
+    drop r e n x = sym (exact .dropped p t a n (λ m z. x m (ap (λ (q : Result). q .answer) (sym e) ∙ z)))
+
+    status : (b : Bool) → asksOn (readOf (a .frame)) ≡ b → (r : Result) (s : StatusWord) → decisionOf p t a ≡ r → r .answer ≡ Word s → (if b then a .remainder else rest 0 0) ≡ left a (decisionOf p t a)
+    status true y r s e w = sym (exact .kept p t a s (asks a y) (ap (λ (q : Result). q .answer) e ∙ w))
+    status false y r s e w = drop r e (λ z. true≢false (sym (asked a z) ∙ y)) (λ n z. r-word _ _ (sym z ∙ w))
+
+    go : (r : Result) → Way p t a r → decisionOf p t a ≡ r → remainderLeft a r ≡ left a (decisionOf p t a)
+    go _ (refused m) e = sym (exact .refused p t a m (ap (λ (q : Result). q .answer) e))
+    go _ (stated m q w) e = status (asksOn (readOf (a .frame))) refl _ m e refl
+    go _ (versioned c room) e = let f = VersionExactly (a .frame) .0 (c .1) in drop _ e (other-ins p t a 0x03 (f .0) (f .1) (f .3) (λ e. omega arith)) (λ n z. r-gives _ _ (sym z))
+    go _ (fetched c sent) e = sym (exact .fetched p t a _ _ (ap (λ (q : Result). q .answer) e))
+    go _ (enrolled said y l h) e = let f = RegisterExactly (a .frame) said .0 (y .1 .1) in drop _ e (other-ins p t a 0x01 said (f .0) (f .2) (λ e. omega arith)) (λ n z. r-gives _ _ (sym z))
+    go _ (signed-03 said m y l k) e = drop _ e (signing p t a 0x03 said (y .1 .1)) (λ n z. r-gives _ _ (sym z))
+    go _ (signed-08 said m y k) e = drop _ e (signing p t a 0x08 said (y .1 .1)) (λ n z. r-gives _ _ (sym z))
+
+pub PartsExactly : Claims.PartsExactly decisionOf frameLimit partLeft
+PartsExactly = record { part = λ p t a body old n after e. rw e; other = λ p t a body old n. by (decisionOf p t a .answer) _ old n }
+  where
+    by : (o : Outcome Given) (response old : List ℕ) → ((n : ℕ) (after : Remainder) → o ≡ Gives (Part n after) → ⊥) → partAfter o response old ≡ old
+    by (R n) response old x = refl
+    by (Word s) response old x = refl
+    by (Gives (Body n)) response old x = refl
+    by (Gives Ordered) response old x = refl
+    by (Gives (Part n after)) response old x = absurd (x n after refl)
 
 -- ---- check-only
 pub CheckOnlyLooksAtNoTouch : Claims.CheckOnlyLooksAtNoTouch decisionOf
@@ -228,6 +359,7 @@ OrdersNeedATouch = record {
     touch p t a _ (refused m) x o = absurd (r-gives _ _ x)
     touch p t a _ (stated m q w) x o = absurd (word-gives _ _ x)
     touch p t a _ (versioned c room) x o = absurd (body-order _ x)
+    touch p t a _ (fetched c sent) x o = absurd (part-order _ _ x)
     touch p t a _ (enrolled said y l h) x o = (l, refl)
     touch p t a _ (signed-03 said m y l k) x o = (l, refl)
     touch p t a _ (signed-08 said m y k) x o = absurd (Commands.absent a 0x08 said m (y .1 .1) o)
@@ -237,6 +369,7 @@ OrdersNeedATouch = record {
     present p t a p1 said c _ (refused m) x = absurd (r-gives _ _ x)
     present p t a p1 said c _ (stated m q w) x = absurd (word-gives _ _ x)
     present p t a p1 said c _ (versioned d room) x = absurd (body-order _ x)
+    present p t a p1 said c _ (fetched d sent) x = absurd (part-order _ _ x)
     present p t a p1 said c _ (enrolled told y l h) x = absurd (not-register a p1 said told c (y .1 .1))
     present p t a p1 said c _ (signed-03 told m y l k) x =
         let is = Commands.presence-is a 0x03 told true m (y .1 .1) in
@@ -253,6 +386,7 @@ OrdersNeedATouch = record {
     counter p t a p1 said c _ (refused m) x = absurd (r-gives _ _ x)
     counter p t a p1 said c _ (stated m q w) x = absurd (word-gives _ _ x)
     counter p t a p1 said c _ (versioned d room) x = absurd (body-order _ x)
+    counter p t a p1 said c _ (fetched d sent) x = absurd (part-order _ _ x)
     counter p t a p1 said c _ (enrolled told y l h) x = absurd (not-register a p1 said told c (y .1 .1))
     counter p t a p1 said c _ (signed-03 told m y l k) x = (m, k, refl, Commands.counter-is a 0x03 told true m (y .1 .1))
     counter p t a p1 said c _ (signed-08 told m y k) x = (m, k, refl, Commands.counter-is a 0x08 told false m (y .1 .1))
@@ -262,6 +396,7 @@ seen-spending : (p : Presence) (t : ℕ) (a : Inputs) (r : Result) → Way p t a
 seen-spending p t a _ (refused m) x o = absurd (r-gives _ _ x)
 seen-spending p t a _ (stated m q w) x o = absurd (word-gives _ _ x)
 seen-spending p t a _ (versioned c room) x o = absurd (body-order _ x)
+seen-spending p t a _ (fetched c sent) x o = absurd (part-order _ _ x)
 seen-spending p t a _ (enrolled said y l h) x o = (registering-checks p t a said y, refl)
 seen-spending p t a _ (signed-03 said m y l k) x o = (signing-checks p t a said y, refl)
 seen-spending p t a _ (signed-08 said m y k) x o = absurd (Commands.absent a 0x08 said m (y .1 .1) o)
@@ -322,9 +457,11 @@ ResultsDetermined = record {
   decide =
       λ p t a old x y hx hy.
       let same = both-are _ _ (hx .0) (hy .0) in
-      let decisions : x .0 ≡ y .0 = decision-apart (x .0) (y .0) (ap (λ (w : WithBlock). w .said) same) in
+      let decisions : x .0 .decision ≡ y .0 .decision = decision-apart (x .0 .decision) (y .0 .decision) (ap (λ (w : WithBlock). w .said) same) in
       let replies : x .1 .reply ≡ y .1 .reply = both-are _ _ (hx .1) (hy .1) in
-      λ d. (decisions d, record { reply = replies d; block = same d .block });
+      let limits : x .0 .limit ≡ y .0 .limit = both-are _ _ (hx .2) (hy .2) in
+      let asking : x .0 .«asks_on» ≡ y .0 .«asks_on» = both-are _ _ (hx .3) (hy .3) in
+      λ d. (record { decision = decisions d; limit = limits d; «asks_on» = asking d }, record { reply = replies d; block = same d .block });
 }
 
 -- ---- the hardware's answers by their numbers

@@ -1,21 +1,25 @@
--- The decision's outer checks, in both its results: what is handed back with the lent block, and the reply buffer. It mentions no
--- function.
+-- The decision's outer checks, in both its results: what is handed back with the lent block, and the reply buffer; and what its frame says
+-- to the session. It mentions no function.
 use Prim.Native.Nat.{ℕ, _<_, _≤_}
 use mathlib.Core.Path.{_≡_, refl, ap, sym, _∙_}
 use mathlib.Core.Bool.{Bool, true, false, not}
 use mathlib.Core.List.{List}
 use native.Mathlib.Omega.{arith}
 use native.Mathlib.Decide.{ℕ-discrete}
-use borrow.Author.Tests.{ne-eqb}
+use borrow.Author.Tests.{eq-eqb, ne-eqb}
 use lib.Dec.{ltb, eqb}
 use lib.ListN.{length}
 use Rattle.outcome.specs.Notation.{if_then_else_}
-use Rattle.outcome.specs.Outcome.{Outcome, wordOf, refusalNo}
+use Rattle.outcome.specs.Outcome.{StatusWord, Outcome, R, Word, Gives, wordOf, refusalNo}
 use Rattle.outcome.specs.declared.ApduStatusCode.{ApduStatusCode}
 use Rattle.outcome.specs.declared.Refusal.{Refusal}
-use Rattle.apdu_stated.specs.Answers.{Says, saysOf}
+use Rattle.apdu_stated.specs.Answers.{Says, saysOf, readingOf}
+use Rattle.apdu_stated.specs.Reading.{readOf}
+use Rattle.apdu_stated.specs.declared.Reading.{Reading}
+use Rattle.apdu_stated.specs.declared.Reading.the-variants as Reading′
 use Rattle.apdu_stated.specs.declared.Apdu.{Apdu}
-use Rattle.command_stated.specs.Command.{Command, commandSaid, commandOf, flagsNo}
+use Rattle.command_stated.specs.Command.{Command, commandSaid, onReading, commandOf, flagsNo}
+use Rattle.command_stated.proofs.Laws.{of-reading}
 use Rattle.command_stated.specs.declared.Ctap1Flags.{Ctap1Flags}
 use Rattle.command_stated.specs.declared.U2fCommand.{U2fCommand}
 use Rattle.command_stated.specs.declared.U2fCommand.the-variants as U2fCommand′
@@ -26,48 +30,60 @@ use Rattle.u2f_up_stated.specs.declared.Finding.{Finding}
 use Rattle.u2f_up_stated.specs.declared.Ready.{Ready}
 use Rattle.u2f_up_stated.specs.declared.Ready.the-variants as Ready′
 use Rattle.signing_stated.specs.Finishing.{registerRoom, authenticateRoom}
-use Rattle.ctap1_stated.specs.Words.{Inputs, Hardware, Result, Allowed, Handed, WithBlock, handedOf}
+use Rattle.response_stated.specs.Parts.{limitOf}
+use Rattle.ctap1_stated.specs.Words.{Remainder, Given, Ordered, Decision, Ruling, decisionWith, Inputs, Hardware, Result, Allowed, Handed, WithBlock, handedOf}
 use Rattle.ctap1_stated.specs.Numbers.{allowedOf}
-use Rattle.ctap1_stated.specs.Decision.{refusalResult, wordResult, statusResult, ended, touchChecked, along, onMoment, decisionOf, replyLeft, leftOf}
-use Rattle.ctap1_stated.specs.Path.{Ending, Internal, WrongData, Orders, Path, NoRoom, Status, SixBytes, Signs, Touch, versionPath, registerPath, registerEnding, countedEnding, loginPath, commandPath, allowedPath, pathOf}
+use Rattle.ctap1_stated.specs.Decision.{refusalResult, wordResult, statusResult, ended, touchChecked, along, onMoment, decisionOf, replyAfter, replyLeft, leftOf}
+use Rattle.ctap1_stated.specs.Session.{asksOn}
+use Rattle.ctap1_stated.specs.Path.{Ending, Internal, WrongData, Orders, Path, NoRoom, Status, SixBytes, Signs, Touch, versionPath, registerPath, registerEnding, countedEnding, loginPath, limitOn, frameLimit, fetchPath, commandPath, allowedPath, pathOf}
 use Rattle.ctap1_stated.specs.declared.Allowed.the-variants as Allowed′
 use Rattle.ctap1_stated.proofs.Cases.{beside, with-block}
 
--- ---- only Version's path writes the reply
-ended-keeps : (e : Ending) (p : Presence) (old : List ℕ) → old ≡ replyLeft (ended e p) old
-ended-keeps Internal p old = refl
-ended-keeps WrongData p old = refl
-ended-keeps (Orders o taken) p old = refl
+-- ---- a refusal, a status word, an order: only Version's path writes the reply
+data Plain : Outcome Given → Type 0 where
+  refusal : (n : ℕ) → Plain (R n)
+  word : (s : StatusWord) → Plain (Word s)
+  order : Plain (Gives Ordered)
 
-checked-keeps : (f : Finding) (e : Ending) (old : List ℕ) → old ≡ replyLeft (touchChecked f e) old
-checked-keeps f e old = by (f .yes)
+plain-reply : (o : Outcome Given) (old : List ℕ) → Plain o → old ≡ replyAfter o old
+plain-reply _ old (refusal n) = refl
+plain-reply _ old (word s) = refl
+plain-reply _ old order = refl
+
+ended-plain : (e : Ending) (p : Presence) → Plain (ended e p .answer)
+ended-plain Internal p = word _
+ended-plain WrongData p = word _
+ended-plain (Orders o taken) p = order
+
+checked-plain : (f : Finding) (e : Ending) → Plain (touchChecked f e .answer)
+checked-plain f e = by (f .yes)
   where
-    by : (y : Bool) → old ≡ replyLeft (if not y then statusResult 0x6985 (f .presence) else ended e (f .presence)) old
-    by true = ended-keeps e (f .presence) old
-    by false = refl
+    by : (y : Bool) → Plain ((if not y then statusResult 0x6985 (f .presence) else ended e (f .presence)) .answer)
+    by true = ended-plain e (f .presence)
+    by false = word _
 
-module _ (kept settled : Presence) (t : ℕ) (old : List ℕ) where
-  Keeps : Path → Type 0
-  Keeps x = old ≡ replyLeft (along x kept settled t) old
+module _ (kept settled : Presence) (t : ℕ) where
+  IsPlain : Path → Type 0
+  IsPlain x = Plain (along x kept settled t .answer)
 
-  either : (b : Bool) (x y : Path) → Keeps x → Keeps y → Keeps (if b then x else y)
+  either : (b : Bool) (x y : Path) → IsPlain x → IsPlain y → IsPlain (if b then x else y)
   either true x y p q = p
   either false x y p q = q
 
-  pub register-keeps : (a : Inputs) (said : Says) → old ≡ replyLeft (along (registerPath a said) kept settled t) old
-  unfolding registerPath Keeps
-  register-keeps a said =
-      either (ltb (a .room) (registerRoom (length (a .newHandle)) (length (a .certificate)))) NoRoom (Touch (registerEnding a said)) refl (checked-keeps (checkedOf settled t) (registerEnding a said) old)
+  register-plain : (a : Inputs) (said : Says) → Plain (along (registerPath a said) kept settled t .answer)
+  unfolding registerPath IsPlain
+  register-plain a said =
+      either (ltb (a .room) (registerRoom (length (a .newHandle)) (length (a .certificate)))) NoRoom (Touch (registerEnding a said)) (refusal 2) (checked-plain (checkedOf settled t) (registerEnding a said))
 
-  pub authenticate-keeps : (frame : List ℕ) (h : Hardware) (room p1 : ℕ) (said : Says) → old ≡ replyLeft (along (loginPath frame h room p1 said) kept settled t) old
-  unfolding loginPath Keeps
-  authenticate-keeps frame h room p1 said =
-      either (not (h .good)) (Status 0x6a80) _ refl
-      (either (eqb p1 0x07) (Status 0x6985) _ refl
-      (either (ltb room authenticateRoom) NoRoom _ refl
+  authenticate-plain : (frame : List ℕ) (h : Hardware) (room p1 : ℕ) (said : Says) → Plain (along (loginPath frame h room p1 said) kept settled t .answer)
+  unfolding loginPath IsPlain
+  authenticate-plain frame h room p1 said =
+      either (not (h .good)) (Status 0x6a80) _ (word _)
+      (either (eqb p1 0x07) (Status 0x6985) _ (word _)
+      (either (ltb room authenticateRoom) NoRoom _ (refusal 2)
       (either (eqb p1 0x03) (Touch (countedEnding frame said true (h .counter))) (Signs (countedEnding frame said false (h .counter)))
-      (checked-keeps (checkedOf settled t) (countedEnding frame said true (h .counter)) old)
-      (ended-keeps (countedEnding frame said false (h .counter)) settled old))))
+      (checked-plain (checkedOf settled t) (countedEnding frame said true (h .counter)))
+      (ended-plain (countedEnding frame said false (h .counter)) settled))))
 
 -- Version looks at no moment
 version-any : (room : ℕ) (kept settled : Presence) (t : ℕ) → along (versionPath room) kept settled 0 ≡ along (versionPath room) kept settled t
@@ -89,6 +105,11 @@ version-lands room kept settled t old = by (ltb room 6)
         (leftOf (along (if b then NoRoom else SixBytes) kept settled t) old)
     by true = refl
     by false = refl
+
+-- a C0 where nothing remains
+nothing-lands : (room : ℕ) (r : Remainder) (limit partRoom : ℕ) (kept settled : Presence) (t : ℕ) → r .count ≡ 0 → statusResult 0x6985 settled ≡ along (fetchPath room r limit partRoom) kept settled t
+unfolding fetchPath
+nothing-lands room r limit partRoom kept settled t z = rw (eq-eqb (r .count) 0 z)
 
 -- ---- by the command
 module _ (i : Inputs) (kept : Presence) (t : ℕ) (settled : Presence) (c : U2fCommand) (is-c : commandSaid c ≡ commandOf (i .frame)) where
@@ -118,18 +139,28 @@ module _ (i : Inputs) (kept : Presence) (t : ℕ) (settled : Presence) (c : U2fC
     unfolding commandPath
     on-authenticate x f a e q = q ∙ lands (U2fCommand′.Authenticate f a) old e
 
+    pub on-fetch : (r : Handed) → c ≡ U2fCommand′.GetResponse → i .remainder .count ≡ 0 → r ≡ handedOf (statusResult 0x6985 settled) → beside r old ≡ leftOf (along (commandPath i (commandOf (i .frame))) kept settled t) old
+    unfolding commandPath
+    on-fetch r e z q =
+        with-block r _ old q ∙ ap (λ (x : Result). leftOf x old) (nothing-lands (i .room) (i .remainder) (frameLimit (i .frame)) (i .partRoom) kept settled t z)
+        ∙ lands U2fCommand′.GetResponse old e
+
   module _ (old : List ℕ) where
+    pub fetch-kept : c ≡ U2fCommand′.GetResponse → i .remainder .count ≡ 0 → old ≡ replyLeft (along (commandPath i (commandOf (i .frame))) kept settled t) old
+    unfolding commandPath
+    fetch-kept e z = kept-here U2fCommand′.GetResponse old e (ap (λ (x : Result). replyLeft x old) (nothing-lands (i .room) (i .remainder) (frameLimit (i .frame)) (i .partRoom) kept settled t z))
+
     pub status-kept : (s : ApduStatusCode) → c ≡ U2fCommand′.Status s → old ≡ replyLeft (along (commandPath i (commandOf (i .frame))) kept settled t) old
     unfolding commandPath
     status-kept s e = kept-here (U2fCommand′.Status s) old e refl
 
     pub register-kept : (a : Apdu) → c ≡ U2fCommand′.Register a → old ≡ replyLeft (along (commandPath i (commandOf (i .frame))) kept settled t) old
     unfolding commandPath
-    register-kept a e = kept-here (U2fCommand′.Register a) old e (register-keeps kept settled t old i (saysOf a))
+    register-kept a e = kept-here (U2fCommand′.Register a) old e (plain-reply _ old (register-plain kept settled t i (saysOf a)))
 
     pub authenticate-kept : (f : Ctap1Flags) (a : Apdu) → c ≡ U2fCommand′.Authenticate f a → old ≡ replyLeft (along (commandPath i (commandOf (i .frame))) kept settled t) old
     unfolding commandPath
-    authenticate-kept f a e = kept-here (U2fCommand′.Authenticate f a) old e (authenticate-keeps kept settled t old (i .frame) (i .hardware) (i .room) (flagsNo f) (saysOf a))
+    authenticate-kept f a e = kept-here (U2fCommand′.Authenticate f a) old e (plain-reply _ old (authenticate-plain kept settled t (i .frame) (i .hardware) (i .room) (flagsNo f) (saysOf a)))
 
     pub version-left : (new : List ℕ) → c ≡ U2fCommand′.Version → new ≡ replyLeft (along (versionPath (i .room)) kept settled 0) old → new ≡ replyLeft (along (commandPath i (commandOf (i .frame))) kept settled t) old
     unfolding commandPath
@@ -197,3 +228,33 @@ module _ (i : Inputs) (kept : Presence) (t : ℕ) (s : Ready) (is-s : readyOf s 
     pub yes-left : (old new : List ℕ) → k ≤ 1 → (k ≡ 0 → ⊥) → new ≡ replyLeft (along (commandPath i (commandOf (i .frame))) kept p t) old → new ≡ replyLeft (decisionOf kept t i) old
     unfolding allowedPath
     yes-left old new h n q = left-by Allowed′.Yes old new (is-k ∙ yes-is k h n) q
+
+-- ---- what the session goes on with
+pub limit-of-frame : (r : Reading) (a : Apdu) (n : ℕ) → r ≡ Reading′.Frame a → n ≡ limitOf (saysOf a) → n ≡ limitOn (readingOf r)
+limit-of-frame r a n e is = is ∙ ap (λ (x : Reading). limitOn (readingOf x)) (sym e)
+
+pub asks-of-frame : (r : Reading) (a : Apdu) → r ≡ Reading′.Frame a → eqb (a .header .ins) 0xC0 ≡ asksOn (readingOf r)
+asks-of-frame r a e = ap (λ (x : Reading). asksOn (readingOf x)) (sym e)
+
+module _ (frame : List ℕ) (r : Reading) (is-r : readingOf r ≡ readOf frame) where
+  pub limit-is : (n : ℕ) → n ≡ limitOn (readingOf r) → n ≡ frameLimit frame
+  unfolding frameLimit
+  limit-is n e = e ∙ ap limitOn is-r
+
+  pub command-is : (c : U2fCommand) → commandSaid c ≡ onReading frame (readingOf r) → commandSaid c ≡ commandOf frame
+  command-is c e = of-reading frame r (commandSaid c) is-r e
+
+  pub asks-is : (b : Bool) → b ≡ asksOn (readingOf r) → b ≡ asksOn (readOf frame)
+  asks-is b e = e ∙ ap asksOn is-r
+
+-- a ruling as it is put together
+module _ (r : Ruling) (d : Decision) (n : ℕ) (b : Bool) (is : r ≡ record { decision = d; limit = n; «asks_on» = b }) where
+  pub ruled : (block : List ℕ) (x : WithBlock) → decisionWith d block ≡ x → decisionWith (r .decision) block ≡ x
+  ruled block x e = ap (λ (q : Ruling). decisionWith (q .decision) block) is ∙ e
+
+  module _ (frame : List ℕ) (q : Reading) (is-q : readingOf q ≡ readOf frame) where
+    pub ruled-limit : n ≡ limitOn (readingOf q) → r .limit ≡ frameLimit frame
+    ruled-limit e = ap (λ (q : Ruling). q .limit) is ∙ limit-is frame q is-q n e
+
+    pub ruled-asks : b ≡ asksOn (readingOf q) → r .«asks_on» ≡ asksOn (readOf frame)
+    ruled-asks e = ap (λ (q : Ruling). q .«asks_on») is ∙ asks-is frame q is-q b e

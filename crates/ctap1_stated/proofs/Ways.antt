@@ -1,6 +1,6 @@
 -- Every row of the table is what the definition says, and what the definition says is a row; and the few ways that the claims on
 -- orders, counter and reply tell apart.
-use Prim.Native.Nat.{ℕ, _≤_}
+use Prim.Native.Nat.{ℕ, _+_, _-_, _<_, _≤_}
 use mathlib.Core.Path.{_≡_, refl, ap, _∙_}
 use mathlib.Core.Bool.{Bool, true, false, not}
 use native.Mathlib.Omega.{arith}
@@ -10,16 +10,18 @@ use lib.ListN.{length}
 use Rattle.outcome.specs.Notation.{if_then_else_}
 use Rattle.outcome.specs.Outcome.{StatusWord, Outcome, R, Word, Gives, plainWord}
 use Rattle.apdu_stated.specs.Answers.{Says}
-use Rattle.command_stated.specs.Command.{Command, Register, Authenticate, Version, commandOf}
+use Rattle.command_stated.specs.Command.{Command, Register, Authenticate, Version, GetResponse, commandOf}
 use Rattle.u2f_up_stated.specs.Moments.{movedTo, touchClosed, promptOpened}
 use Rattle.u2f_up_stated.specs.History.{Checking}
 use Rattle.u2f_up_stated.specs.Terms.{BadWindow, BadMoment, Passes, HasTouch}
 use Rattle.u2f_up_stated.specs.declared.Presence.{Presence}
 use Rattle.u2f_up_stated.proofs.Laws.{bad-window, bad-moment, has-touch, settle-r6, settle-r1, settle-moves, checked-live, checked-dead}
+use Rattle.response_stated.specs.Words.{Sent, rest}
+use Rattle.response_stated.specs.Parts.{partLength, nextPartOf}
 use Rattle.ctap1_stated.specs.Words.{Inputs, Result, Allowed, Attestation, Counter, isPresent}
-use Rattle.ctap1_stated.specs.Path.{Ending, Internal, Orders, Path, Touch, registerOrdered, authenticateOrdered, enrolmentOrder, registerEnding, countedEnding, loginPath, registerPath, versionPath, authenticatePath, commandPath, allowedPath, pathOf, roleOf}
-use Rattle.ctap1_stated.specs.Decision.{refusalResult, wordResult, statusResult, bodyResult, orderResult, ended, along, decisionOf}
-use Rattle.ctap1_stated.specs.Terms.{Comes, roomOfRegister, Registering, Signing}
+use Rattle.ctap1_stated.specs.Path.{Ending, Internal, Orders, Path, Touch, frameLimit, sentPath, fetchPath, registerOrdered, authenticateOrdered, enrolmentOrder, registerEnding, countedEnding, loginPath, registerPath, versionPath, authenticatePath, commandPath, allowedPath, pathOf, roleOf}
+use Rattle.ctap1_stated.specs.Decision.{refusalResult, wordResult, statusResult, bodyResult, partResult, orderResult, ended, along, decisionOf}
+use Rattle.ctap1_stated.specs.Terms.{Comes, Fetching, roomOfRegister, Registering, Signing}
 use Rattle.ctap1_stated.specs.Table
 use Rattle.ctap1_stated.specs.Table.{Answers}
 use Rattle.ctap1_stated.specs.declared.Allowed.the-variants as Allowed′
@@ -55,9 +57,16 @@ module _ (p : Presence) (t : ℕ) (a : Inputs) where
   unfolding decisionOf
   is-r1 g b = rw (settle-r1 p t g b)
 
+  -- ---- C0: something remains, and so many bytes go out
+  counts : 0 < a .remainder .count → eqb (a .remainder .count) 0 ≡ false
+  counts some = ne-eqb (a .remainder .count) 0 (λ e. omega arith)
+
+  abbrev taken : ℕ
+  taken = partLength (frameLimit (a .frame)) (a .remainder .count)
+
   -- ---- each row is what the definition says
   pub sound : (r : Result) → Answers p t a r → decisionOf p t a ≡ r
-  unfolding pathOf allowedPath commandPath versionPath registerPath loginPath registerEnding countedEnding enrolmentOrder
+  unfolding pathOf allowedPath commandPath versionPath registerPath loginPath registerEnding countedEnding enrolmentOrder fetchPath nextPartOf
   sound _ (Table.r6 b) = is-r6 b
   sound _ (Table.r1 g b) = is-r1 g b
   sound _ (Table.failed ok y) = settled ok ∙ rw y
@@ -80,6 +89,10 @@ module _ (p : Presence) (t : ℕ) (a : Inputs) where
   sound _ (Table.signs-03 said n (ok, c, g, h) l k) = came _ ok c ∙ rw (g, le-ltb (a .room) 77 h, checked-live p t l, k)
   sound _ (Table.no-counter-08 said (ok, c, g, h) k) = came _ ok c ∙ rw (g, le-ltb (a .room) 77 h, k)
   sound _ (Table.signs-08 said n (ok, c, g, h) k) = came _ ok c ∙ rw (g, le-ltb (a .room) 77 h, k)
+  sound _ (Table.fetch-nothing ok c e) = came _ ok c ∙ rw e
+  sound _ (Table.fetch-short-body (ok, c, some) h) = came _ ok c ∙ rw (counts some, lt-ltb (a .room) (a .remainder .place + a .remainder .count) h)
+  sound _ (Table.fetch-short-part (ok, c, some) g h) = came _ ok c ∙ rw (counts some, le-ltb (a .room) (a .remainder .place + a .remainder .count) g, lt-ltb (a .partRoom) (taken + 2) h)
+  sound _ (Table.fetch n e (ok, c, some) g h) = came _ ok c ∙ rw (counts some, le-ltb (a .room) (a .remainder .place + a .remainder .count) g, ← e, le-ltb (a .partRoom) (n + 2) h)
 
   -- ---- and what the definition says is a row
   module _ (ok : Passes p t) where
@@ -137,11 +150,23 @@ module _ (p : Presence) (t : ℕ) (a : Inputs) where
         touched (countedEnding (a .frame) said true (a .hardware .counter)) (λ u. Table.sign-6985 said x u) (λ l. counts-03 said x l (a .hardware .counter) refl))
         (λ n3. counts-08 said (ok, with-p1 a p1 0x08 said (p1-08 (a .frame) p1 said (c .1) n7 n3) c, g, ltb-false (a .room) 77 h) (a .hardware .counter) refl))))
 
+    fetch-at : Comes a GetResponse → At (fetchPath (a .room) (a .remainder) (frameLimit (a .frame)) (a .partRoom))
+    unfolding fetchPath nextPartOf
+    fetch-at c =
+        let all = a .remainder .place + a .remainder .count in
+        split a At (eqb (a .remainder .count) 0) _ _ (λ z. Table.fetch-nothing ok c (eqb-true (a .remainder .count) 0 z))
+        (λ z. let n = eqb-false (a .remainder .count) 0 z in
+        let x : Fetching p t a = (ok, c, omega arith) in
+        split a (λ (o : Outcome Sent). At (sentPath o)) (ltb (a .room) all) _ _ (λ h. Table.fetch-short-body x (ltb-true (a .room) all h))
+        (λ g. split a (λ (o : Outcome Sent). At (sentPath o)) (ltb (a .partRoom) (taken + 2)) _ _ (λ h. Table.fetch-short-part x (ltb-false (a .room) all g) (ltb-true (a .partRoom) (taken + 2) h))
+        (λ h. Table.fetch taken refl x (ltb-false (a .room) all g) (ltb-false (a .partRoom) (taken + 2) h))))
+
     command-at : (o : Outcome Command) → a .hardware .allowed ≡ Allowed′.Yes → commandOf (a .frame) ≡ o → At (commandPath a o)
     unfolding commandPath versionPath registerPath
     command-at (R n) y e = absurd (never-refused (a .frame) n e)
     command-at (Word s) y e = Table.frame ok y s e
     command-at (Gives Version) y e = split a At (ltb (a .room) 6) _ _ (λ h. Table.version-short ok (y, e) (ltb-true (a .room) 6 h)) (λ h. Table.version ok (y, e) (ltb-false (a .room) 6 h))
+    command-at (Gives GetResponse) y e = fetch-at (y, e)
     command-at (Gives (Register said)) y e = register-at said (y, e)
     command-at (Gives (Authenticate p1 said)) y e = authenticate-at p1 said (y, e)
 
@@ -170,6 +195,7 @@ module _ (p : Presence) (t : ℕ) (a : Inputs) where
     refused : (n : ℕ) → Way (refusalResult n p)
     stated : (s : StatusWord) (q : Presence) → Stated s → Way (wordResult s q)
     versioned : Comes a Version → 6 ≤ a .room → Way (bodyResult 6 (movedTo p t))
+    fetched : Fetching p t a → (sent : Sent) → Way (partResult sent (movedTo p t))
     enrolled : (said : Says) → Registering p t a said → HasTouch p t → length (a .newHandle) ≤ 255 → Way (orderResult (registerOrdered a said) (touchClosed (movedTo p t)) false)
     signed-03 : (said : Says) (n : ℕ) → Signing p t a 0x03 said → HasTouch p t → a .hardware .counter ≡ Counter′.Offered n
         → Way (orderResult (authenticateOrdered a said true n) (touchClosed (movedTo p t)) true)
@@ -203,6 +229,10 @@ module _ (p : Presence) (t : ℕ) (a : Inputs) where
       by _ (Table.signs-03 said n x l k) = signed-03 said n x l k
       by _ (Table.no-counter-08 said x k) = stated _ _ (its-own 0x6a80 (λ e. omega arith))
       by _ (Table.signs-08 said n x k) = signed-08 said n x k
+      by _ (Table.fetch-nothing ok c e) = stated _ _ (its-own 0x6985 (λ e. omega arith))
+      by _ (Table.fetch-short-body x h) = refused 2
+      by _ (Table.fetch-short-part x g h) = refused 2
+      by _ (Table.fetch n e x g h) = fetched x (record { length = n + 2; remainder = rest (a .remainder .place + n) (a .remainder .count - n) })
 
 -- ---- a decision that comes to the touch check has that role
 pub registering-checks : (p : Presence) (t : ℕ) (a : Inputs) (said : Says) → Registering p t a said → roleOf a ≡ Checking

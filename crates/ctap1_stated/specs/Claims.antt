@@ -3,18 +3,20 @@
 -- of a record, a moment and all that is lent.
 use mathlib.Core.Logic.{_↔_, _⊎_}
 use mathlib.Core.Option.{some}
-use Rattle.ctap1_stated.specs.Words.{AtMostOne, R, SW, Gives, wrongLength, [], _∷_, _++_, drop, ℕ, _+_, _*_, _<_, _≤_, _≡_, Bool, true, false, List, length, Presence, Decision, Decided, Inputs, Allowed, Attestation, Hardware, HardwareSaid, Body, Ordered, Result, decidedOf}
+use Rattle.ctap1_stated.specs.Words.{AtMostOne, StatusWord, R, Word, SW, Gives, wrongLength, [], _∷_, _++_, drop, ℕ, _+_, _*_, _<_, _≤_, _≡_, Bool, true, false, List, length, Presence, Ruling, Decided, Remainder, rest, Inputs, Allowed, Attestation, Hardware, HardwareSaid, Body, Ordered, Part, Result, decidedOf}
 use Rattle.ctap1_stated.specs.Numbers.{allowedOf, attestationOf}
 use Rattle.ctap1_stated.specs.Calls.{PanelCall, DecideAt, callsWith}
 use Rattle.ctap1_stated.specs.Contracts.{Buffers, Decide}
-use Rattle.ctap1_stated.specs.Terms.{Decider, AreBlocks, result, movedAt, spentAt, Comes, OrdersPresent, checkOnlyAnswer}
+use Rattle.ctap1_stated.specs.Terms.{Decider, AreBlocks, AsksOn, result, movedAt, spentAt, Comes, OrdersPresent, checkOnlyAnswer}
 use Rattle.ctap1_stated.specs.Table.{Answers}
 use Rattle.ctap1_stated.specs.declared.Allowed.the-variants as Allowed′
 use Rattle.ctap1_stated.specs.declared.Attestation.the-variants as Attestation′
 use Rattle.ctap1_stated.specs.declared.Counter.the-variants as Counter′
 use Rattle.outcome.specs.Terms.{PairsExactly}
-use Rattle.octets.specs.Bytes.{byte}
+use Rattle.octets.specs.Bytes.{byte, laid}
 use Rattle.apdu_stated.specs.Answers.{Says}
+use Rattle.apdu_stated.specs.Reading.{readOf}
+use Rattle.response_stated.specs.Parts.{partResponse}
 use Rattle.command_stated.specs.Command.{Authenticate, commandOf}
 use Rattle.u2f_up_stated.specs.History.{Mark, heldAt, serverOf}
 use Rattle.u2f_up_stated.specs.Runs.{Caller, Keeps, after, history}
@@ -49,10 +51,11 @@ pub record OrdersHaveTheirTouch (decide : Decider) : Type 0 where
 
 -- ---- the whole decision
 
--- Whatever is lent, the result is the one that document 01's table has for it: specs/Table.antt, row by row, each answer with its record,
+-- Whatever is lent, the result is the one that document 01's table, with E2's C0, has for it: specs/Table.antt, row by row, each answer with its record,
 -- order and counter. So each answer comes exactly under its row's conditions. A decision that looks at the frame before 'allowed'
 -- (`frameFirst`), at the touch before the room (`touchFirst`), at the store before the touch (`storeFirst`), at P1 07 before the
--- handle (`checkOnlyFirst`), or asks a check-only for room (`roomFirst`) fails it.
+-- handle (`checkOnlyFirst`), or asks a check-only for room (`roomFirst`) fails it; and so does a C0 whose 6985 opens a prompt
+-- (`fetchPrompts`), that finds R2 before 6985 (`roomBeforeNothing`), or whose part is moved one byte too far (`fetchSkips`).
 abbrev pub DecidesExactly : Decider → Type 0
 DecidesExactly decide = (p : Presence) (t : ℕ) (a : Inputs) → Answers p t a (decide p t a)
 
@@ -126,6 +129,38 @@ LengthsCarried decide =
 abbrev pub DecisionPairsExactly : Decider → Type 0
 DecisionPairsExactly decide = (p : Presence) (t : ℕ) → PairsExactly (λ (a : Inputs). decide p t a .answer)
 
+-- ---- a body in parts: 02, E2
+
+-- How much a frame takes at a time: "For shapes 1 to 4, a body longer than Le (256 where absent) is cut"; "Extended shapes get the whole body
+-- as now", which is said as 0, and so are bytes in no shape. One that knows no absent Le (`absentIsWhole`) fails it, and one that counts
+-- shape 6 as short (`shape6Short`).
+pub record LimitsExactly (limit : List ℕ → ℕ) : Type 0 where
+  pub given : (frame : List ℕ) (said : Says) → readOf frame ≡ Gives said → said .shape ≤ 4 → (said .le ≡ 0 → ⊥) → limit frame ≡ said .le
+  pub absent : (frame : List ℕ) (said : Says) → readOf frame ≡ Gives said → said .shape ≤ 4 → said .le ≡ 0 → limit frame ≡ 256
+  pub extended : (frame : List ℕ) (said : Says) → readOf frame ≡ Gives said → 4 < said .shape → limit frame ≡ 0
+  pub no-shape : (frame : List ℕ) → ((said : Says) → readOf frame ≡ Gives said → ⊥) → limit frame ≡ 0
+
+-- What is left to fetch: "A frame with another INS or in no shape drops the remainder; a refused C0 or any R refusal keeps it." Where something
+-- remains and no part was sent, it is dropped exactly then. A panel whose refused C0 drops it (`refusedFetchDrops`) fails it, one
+-- where another INS keeps it with a body or an order (`otherInsKeeps`) or with a status word (`otherStatusKeeps`), one where an R refusal drops it (`refusalDrops`) or finds R2 after it has moved
+-- (`r2AfterMove`), and one where bytes in no shape keep it (`damagedKeeps`).
+pub record RemainderExactly (decide : Decider) (left : Inputs → Result → Remainder) : Type 0 where
+  pub refused : (p : Presence) (t : ℕ) (a : Inputs) (n : ℕ) → decide p t a .answer ≡ R n → left a (decide p t a) ≡ a .remainder
+  pub fetched : (p : Presence) (t : ℕ) (a : Inputs) (n : ℕ) (after : Remainder) → decide p t a .answer ≡ Gives (Part n after) → left a (decide p t a) ≡ after
+  pub kept : (p : Presence) (t : ℕ) (a : Inputs) (w : StatusWord) → AsksOn a → decide p t a .answer ≡ Word w → left a (decide p t a) ≡ a .remainder
+  pub dropped : (p : Presence) (t : ℕ) (a : Inputs) → (AsksOn a → ⊥) → ((n : ℕ) → decide p t a .answer ≡ R n → ⊥) → left a (decide p t a) ≡ rest 0 0
+  pub exactly : (p : Presence) (t : ℕ) (a : Inputs) → 0 < a .remainder .count → ((n : ℕ) (after : Remainder) → decide p t a .answer ≡ Gives (Part n after) → ⊥)
+      → (left a (decide p t a) ≡ rest 0 0) ↔ ((AsksOn a → ⊥) × ((n : ℕ) → decide p t a .answer ≡ R n → ⊥))
+
+-- The buffer for part and status: E2's request: "61 XX goes out with its part", the next one of the body that is lent, and no other answer changes it.
+-- This amends 01's "a status word other than 9000 change[s] no reply buffer": the reply buffer, which holds the uncut body, stays
+-- (`RepliesExactly`). One that clears the buffer with a status (`statusClears`) fails it, and one that sends the part before (`partAgain`).
+pub record PartsExactly (decide : Decider) (limit : List ℕ → ℕ) (left : Inputs → Result → (body old : List ℕ) → List ℕ) : Type 0 where
+  pub part : (p : Presence) (t : ℕ) (a : Inputs) (body old : List ℕ) (n : ℕ) (after : Remainder) → decide p t a .answer ≡ Gives (Part n after)
+      → left a (decide p t a) body old ≡ laid (partResponse body (a .remainder) (limit (a .frame))) old
+  pub other : (p : Presence) (t : ℕ) (a : Inputs) (body old : List ℕ) → ((n : ℕ) (after : Remainder) → decide p t a .answer ≡ Gives (Part n after) → ⊥)
+      → left a (decide p t a) body old ≡ old
+
 -- ---- check-only
 
 -- "A check-only answer is the same whatever the touches and counter, once R6 and R1 are passed": it is said from whether
@@ -147,7 +182,7 @@ KeepsToItsRole decide = Keeps (callsWith decide)
 -- Demand 3 over touches, direct checks, asks and decisions. From a fresh record, each call taking the record the last one gave
 -- back, for any sequence of calls. The sentences stand in u2f_up's specs/Demand.antt; what a decision is to the record is
 -- `roleOf`, and what is seen of it `seen`.
--- A 6985 from P1 07 that counts as a prompting refusal (`checkOnlyAsCheck`) fails it, as does a touch seen to be spent by orders
+-- A 6985 from P1 07 that counts as a prompting refusal (`checkOnlyAsCheck`) fails it, as do one from a C0 that does (`fetchAsCheck`) and a touch seen to be spent by orders
 -- alone (`ordersAloneSpend`).
 abbrev pub Demand3OfThePanel : Caller PanelCall → Type 0
 Demand3OfThePanel 𝒞 = Up.Demand3 𝒞
@@ -192,6 +227,6 @@ pub record HardwareNumbers (lend : HardwareSaid → Hardware) : Type 0 where
 abbrev pub DecidedOneToOne : Type 0
 DecidedOneToOne = (a b : Decided) → decidedOf a ≡ decidedOf b → a ≡ b
 
--- the decision, and what the reply buffer holds afterwards
+-- the decision with what its frame says to the session, and what the two buffers hold afterwards
 pub record ResultsDetermined : Type 0 where
-  pub decide : (p : Presence) (t : ℕ) (a : Inputs) (old : Buffers) → AtMostOne (λ (o : Decision × Buffers). Decide p t a old (o .0) (o .1))
+  pub decide : (p : Presence) (t : ℕ) (a : Inputs) (old : Buffers) → AtMostOne (λ (o : Ruling × Buffers). Decide p t a old (o .0) (o .1))

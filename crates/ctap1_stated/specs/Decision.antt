@@ -1,12 +1,13 @@
 -- Document 01, 'The decision', with the record: R6 and R1, then along the path, with the touch check and its 6985 said once; and
 -- 'Refusal numbers' as far as they speak of the decision; then what the reply buffer and the lent block hold.
 use Rattle.ctap1_stated.specs.Words.{ℕ, Bool, false, not, List, [], _∷_, Presence, Order}
-use Rattle.ctap1_stated.specs.Words.{if_then_else_, StatusWord, Outcome, R, Word, Gives, plainWord, Inputs, Given, Body, Ordered, Result, WithBlock, handedOf}
-use Rattle.ctap1_stated.specs.Path.{Ending, Internal, WrongData, Orders, Path, NoRoom, Ends, SixBytes, Signs, Touch, pathOf}
+use Rattle.ctap1_stated.specs.Words.{if_then_else_, StatusWord, Outcome, R, Word, Gives, plainWord, Inputs, Given, Body, Ordered, Part, Result, WithBlock, handedOf}
+use Rattle.ctap1_stated.specs.Path.{Ending, Internal, WrongData, Orders, Path, NoRoom, Ends, SixBytes, Fetches, Signs, Touch, pathOf}
 use Rattle.octets.specs.Bytes.{laid}
 use Rattle.u2f_up_stated.specs.Moments.{settleOf, checkedOf}
 use Rattle.u2f_up_stated.specs.declared.Finding.{Finding}
 use Rattle.signing_stated.specs.Orders.{blankOrder}
+use Rattle.response_stated.specs.Words.{Sent}
 
 -- ---- results
 
@@ -23,6 +24,9 @@ statusResult n p = wordResult (plainWord n) p
 
 abbrev pub bodyResult : ℕ → Presence → Result
 bodyResult n p = record { answer = Gives (Body n); presence = p; order = blankOrder; taken = false }
+
+abbrev pub partResult : Sent → Presence → Result
+partResult sent p = record { answer = Gives (Part (sent .length) (sent .remainder)); presence = p; order = blankOrder; taken = false }
 
 abbrev pub orderResult : Order → Presence → Bool → Result
 orderResult o p taken = record { answer = Gives Ordered; presence = p; order = o; taken = taken }
@@ -44,6 +48,7 @@ abbrev pub along : Path → (kept settled : Presence) (t : ℕ) → Result
 along NoRoom kept settled t = refusalResult 2 kept
 along (Ends s) kept settled t = wordResult s settled
 along SixBytes kept settled t = bodyResult 6 settled
+along (Fetches sent) kept settled t = partResult sent settled
 along (Signs e) kept settled t = ended e settled
 along (Touch e) kept settled t = touchChecked (checkedOf settled t) e
 
@@ -64,12 +69,14 @@ abbrev pub versionBytes : List ℕ
 versionBytes = 0x55 ∷ 0x32 ∷ 0x46 ∷ 0x5F ∷ 0x56 ∷ 0x32 ∷ []
 
 -- "A 9000 body fills the front of the buffer; the rest stays." "An order and a status word other than 9000 change no reply
--- buffer." The only body that a decision gives is Version's
+-- buffer." The only body that a decision gives is Version's. E2's request: a part is written to a buffer of its own (specs/Session.antt), "never the
+-- uncut body"
 abbrev pub replyAfter : Outcome Given → List ℕ → List ℕ
 replyAfter (R n) old = old
 replyAfter (Word s) old = old
 replyAfter (Gives (Body n)) old = laid versionBytes old
 replyAfter (Gives Ordered) old = old
+replyAfter (Gives (Part n after)) old = old
 
 abbrev pub replyLeft : Result → List ℕ → List ℕ
 replyLeft r old = replyAfter (r .answer) old
@@ -82,6 +89,7 @@ blockAfter (R n) bytes old = old
 blockAfter (Word s) bytes old = old
 blockAfter (Gives (Body n)) bytes old = old
 blockAfter (Gives Ordered) bytes old = bytes
+blockAfter (Gives (Part n after)) bytes old = old
 
 abbrev pub blockLeft : Result → List ℕ → List ℕ
 blockLeft r old = blockAfter (r .answer) (r .order .bytes) old

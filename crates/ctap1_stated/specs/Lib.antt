@@ -2,6 +2,7 @@ pub mod Words
 pub mod Numbers
 pub mod Path
 pub mod Decision
+pub mod Session
 pub mod Calls
 pub mod Contracts
 pub mod Terms

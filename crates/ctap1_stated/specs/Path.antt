@@ -1,12 +1,15 @@
--- Document 01, 'The decision', checks 2 to 6, as one path: what is lent in, without the record and the moment, says how far a
+-- Document 01, 'The decision', checks 2 to 6, and document 02, E2, the checks of C0, as one path: what is lent in, without the record and the moment, says how far a
 -- decision comes and with what. What the record adds stands in specs/Decision.antt.
 use Rattle.ctap1_stated.specs.Words.{ℕ, Bool, true, false, not, List, ltb, eqb, length, Order, Allowed, Counter, Hardware}
-use Rattle.ctap1_stated.specs.Words.{if_then_else_, StatusWord, Outcome, R, Word, Gives, plainWord, isPresent, Inputs, Enrolment}
+use Rattle.ctap1_stated.specs.Words.{if_then_else_, StatusWord, Outcome, R, Word, Gives, plainWord, isPresent, Remainder, Inputs, Enrolment}
 use Rattle.ctap1_stated.specs.declared.Allowed.the-variants as Allowed′
 use Rattle.ctap1_stated.specs.declared.Counter.the-variants as Counter′
 use Rattle.octets.specs.Bytes.{bytes4}
 use Rattle.apdu_stated.specs.Answers.{Says}
-use Rattle.command_stated.specs.Command.{Command, Register, Authenticate, Version, commandOf, challengeOf, applicationOf}
+use Rattle.apdu_stated.specs.Reading.{readOf}
+use Rattle.response_stated.specs.Words.{Sent}
+use Rattle.response_stated.specs.Parts.{limitOf, nextPartOf}
+use Rattle.command_stated.specs.Command.{Command, Register, Authenticate, Version, GetResponse, commandOf, challengeOf, applicationOf}
 use Rattle.u2f_up_stated.specs.History.{Role, Checking, Settling, Short}
 use Rattle.signing_stated.specs.Layouts.{presenceByte}
 use Rattle.signing_stated.specs.Orders.{registerOrderOf, authenticateOrderOf}
@@ -23,6 +26,7 @@ pub data Path : Type 0 where
   NoRoom : Path  -- R2
   Ends : StatusWord → Path  -- a status word, without the touch check
   SixBytes : Path  -- Version's body
+  Fetches : Sent → Path  -- the next part of an earlier body
   Signs : Ending → Path  -- P1 08: the last step, without the touch check
   Touch : Ending → Path  -- the touch check, 6985; with a touch the last step
 
@@ -94,13 +98,36 @@ registerPath a said =
 unfoldable pub versionPath : ℕ → Path
 versionPath room = if ltb room 6 then NoRoom else SixBytes
 
+-- 02, E2: how many bytes of body a frame takes at a time, as its shape and Le say; bytes in no shape get no body, and 0 stands there
+abbrev pub limitOn : Outcome Says → ℕ
+limitOn (R n) = 0
+limitOn (Word s) = 0
+limitOn (Gives said) = limitOf said
+
+unfoldable pub frameLimit : List ℕ → ℕ
+frameLimit frame = limitOn (readOf frame)
+
+-- the next part: R2 or the part (it gives no status word)
+abbrev pub sentPath : Outcome Sent → Path
+sentPath (R n) = NoRoom
+sentPath (Word s) = Ends s
+sentPath (Gives sent) = Fetches sent
+
+-- 02, E2, of C0: "then 6985 when nothing remains; then .. R2 when the lent body is too short for its remainder or the buffer for part and
+-- status". The lent body is what the reply buffer holds
+unfoldable pub fetchPath : (room : ℕ) → Remainder → (limit partRoom : ℕ) → Path
+fetchPath room remainder limit partRoom =
+    if eqb (remainder .count) 0 then Status 0x6985
+    else sentPath (nextPartOf room remainder limit partRoom)
+
 -- 3. "the frame's status", with its pair (02, E1: "Command reading, strict reading and decision carry the pair upward"), 4. Version,
--- 5. Register. (Command reading gives no refusal: its words have one, and the first line is never met. A type of its own for it would be
+-- 5. Register, 6. Authenticate, and C0. (Command reading gives no refusal: its words have one, and the first line is never met. A type of its own for it would be
 -- one more word for the reader.)
 unfoldable pub commandPath : Inputs → Outcome Command → Path
 commandPath a (R n) = NoRoom
 commandPath a (Word s) = Ends s
 commandPath a (Gives Version) = versionPath (a .room)
+commandPath a (Gives GetResponse) = fetchPath (a .room) (a .remainder) (frameLimit (a .frame)) (a .partRoom)
 commandPath a (Gives (Register said)) = registerPath a said
 commandPath a (Gives (Authenticate p1 said)) = authenticatePath a p1 said
 
@@ -114,11 +141,12 @@ unfoldable pub pathOf : Inputs → Path
 pathOf a = allowedPath (a .hardware .allowed) a
 
 -- 01, Moments and touches, "In history terms": what a decision is to the presence record, read off its path. No line here looks
--- at the record. "never a 6985 from P1 07": that is a status without the touch check
+-- at the record. "never a 6985 from P1 07": that is a status without the touch check, and so is C0's (02, E2: "demand 3 is unchanged")
 abbrev pub roleOfPath : Path → Role
 roleOfPath NoRoom = Short
 roleOfPath (Ends s) = Settling
 roleOfPath SixBytes = Settling
+roleOfPath (Fetches sent) = Settling
 roleOfPath (Signs e) = Settling
 roleOfPath (Touch e) = Checking
 

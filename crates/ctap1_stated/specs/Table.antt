@@ -1,14 +1,17 @@
--- Document 01, 'The decision', as one table, with no word of ours for a path: each row with its conditions, in the document's
+-- Document 01, 'The decision', with document 02, E2's C0, as one table, without `Path`: each row with its conditions, in the document's
 -- order, and the whole result: answer, record, order, whether the counter was taken.
-use Rattle.ctap1_stated.specs.Words.{ℕ, _<_, _≤_, _≡_, true, false, StatusWord, R, Word, SW, Gives, Body, Ordered, length, Presence, Inputs, Result}
-use Rattle.ctap1_stated.specs.Terms.{result, movedAt, spentAt, promptedAt, orderOfRegister, orderOfAuthenticate, Comes, roomOfRegister, Registering, Signing}
+use Prim.Native.Nat.{_-_}
+use Rattle.ctap1_stated.specs.Words.{ℕ, _+_, _<_, _≤_, _≡_, true, false, StatusWord, R, Word, SW, Gives, Body, Ordered, Part, rest, length, Presence, Inputs, Result}
+use Rattle.ctap1_stated.specs.Path.{frameLimit}
+use Rattle.ctap1_stated.specs.Terms.{result, movedAt, spentAt, promptedAt, orderOfRegister, orderOfAuthenticate, Comes, Fetching, roomOfRegister, Registering, Signing}
 use Rattle.ctap1_stated.specs.declared.Allowed.the-variants as Allowed′
 use Rattle.ctap1_stated.specs.declared.Attestation.the-variants as Attestation′
 use Rattle.ctap1_stated.specs.declared.Counter.the-variants as Counter′
 use Rattle.apdu_stated.specs.Answers.{Says}
-use Rattle.command_stated.specs.Command.{Register, Authenticate, Version, commandOf}
+use Rattle.command_stated.specs.Command.{Register, Authenticate, Version, GetResponse, commandOf}
 use Rattle.u2f_up_stated.specs.Terms.{BadWindow, BadMoment, Passes, HasTouch}
 use Rattle.signing_stated.specs.Orders.{blankOrder}
+use Rattle.response_stated.specs.Parts.{partLength}
 
 pub data Answers (p : Presence) (t : ℕ) (a : Inputs) : Result → Type 0 where
   -- 1. "R6, R1."
@@ -49,3 +52,12 @@ pub data Answers (p : Presence) (t : ℕ) (a : Inputs) : Result → Type 0 where
   no-counter-08 : (said : Says) → Signing p t a 0x08 said → a .hardware .counter ≡ Counter′.Failed → Answers p t a (result (SW 0x6a80) (movedAt p t) blankOrder false)
   signs-08 : (said : Says) (n : ℕ) → Signing p t a 0x08 said → a .hardware .counter ≡ Counter′.Offered n
       → Answers p t a (result (Gives Ordered) (movedAt p t) (orderOfAuthenticate a said 0x00 n) true)
+  -- 02, E2: "C0 after the CLA check gives 6a86 .., then 6700 .." (the frame's status, as above), "then 6985 when nothing remains; then .. R2
+  -- when the lent body is too short for its remainder or the buffer for part and status"; else the next part, and what remains after it.
+  -- `frameLimit` and `partLength` say how many bytes go out
+  fetch-nothing : Passes p t → Comes a GetResponse → a .remainder .count ≡ 0 → Answers p t a (result (SW 0x6985) (movedAt p t) blankOrder false)
+  fetch-short-body : Fetching p t a → a .room < a .remainder .place + a .remainder .count → Answers p t a (result (R 2) p blankOrder false)
+  fetch-short-part : Fetching p t a → a .remainder .place + a .remainder .count ≤ a .room → a .partRoom < partLength (frameLimit (a .frame)) (a .remainder .count) + 2
+      → Answers p t a (result (R 2) p blankOrder false)
+  fetch : (n : ℕ) → n ≡ partLength (frameLimit (a .frame)) (a .remainder .count) → Fetching p t a → a .remainder .place + a .remainder .count ≤ a .room → n + 2 ≤ a .partRoom
+      → Answers p t a (result (Gives (Part (n + 2) (rest (a .remainder .place + n) (a .remainder .count - n)))) (movedAt p t) blankOrder false)

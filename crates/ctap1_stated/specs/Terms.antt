@@ -1,10 +1,11 @@
 -- Words that only the claims use: conditions, and records and orders spelled out.
 use mathlib.Core.Logic.{_⊎_}
-use Rattle.ctap1_stated.specs.Words.{if_then_else_, Outcome, Gives, ℕ, _+_, _≤_, _≡_, Bool, true, length, Presence, Order, Inputs, Given, Ordered, Result, Allowed}
+use Rattle.ctap1_stated.specs.Words.{if_then_else_, Outcome, Gives, ℕ, _+_, _<_, _≤_, _≡_, Bool, true, length, Presence, Order, Inputs, Given, Ordered, Result, Allowed}
 use Rattle.ctap1_stated.specs.declared.Allowed.the-variants as Allowed′
 use Rattle.octets.specs.Bytes.{byte, bytes4}
 use Rattle.apdu_stated.specs.Answers.{Says}
-use Rattle.command_stated.specs.Command.{Command, Register, Authenticate, commandOf, challengeOf, applicationOf}
+use Rattle.apdu_stated.specs.Reading.{readOf}
+use Rattle.command_stated.specs.Command.{Command, Register, Authenticate, GetResponse, commandOf, challengeOf, applicationOf}
 use Rattle.u2f_up_stated.specs.declared.Window.the-variants.{Closed, Opened}
 use Rattle.u2f_up_stated.specs.Terms.{Passes}
 use Rattle.signing_stated.specs.Orders.{kindNo, registerOrderOf, authenticateOrderOf}
@@ -59,6 +60,14 @@ orderOfAuthenticate a said presence counter =
 -- CTAP1 is allowed, and the frame is read as a command
 abbrev pub Comes : Inputs → Command → Type 0
 Comes a c = (a .hardware .allowed ≡ Allowed′.Yes) × (commandOf (a .frame) ≡ Gives c)
+
+-- a shaped frame with INS C0, whatever it is answered
+abbrev pub AsksOn : Inputs → Type 0
+AsksOn a = (said : Says) × (readOf (a .frame) ≡ Gives said) × (said .header .ins ≡ 0xC0)
+
+-- a C0 that passed its checks of P1, P2 and Lc, where something remains
+abbrev pub Fetching : Presence → ℕ → Inputs → Type 0
+Fetching p t a = Passes p t × Comes a GetResponse × (0 < a .remainder .count)
 
 -- 5. "139 + h + c"
 abbrev pub roomOfRegister : Inputs → ℕ

@@ -10,6 +10,8 @@ pub use Rattle.outcome.specs.Outcome.{StatusWord, Outcome, R, Word, SW, Gives, 
 pub use Rattle.u2f_up_stated.specs.declared.Presence.{Presence}
 pub use Rattle.signing_stated.specs.declared.Head.{Head}
 pub use Rattle.signing_stated.specs.Words.{Order, headOf}
+pub use Rattle.response_stated.specs.declared.Remainder.{Remainder}
+pub use Rattle.response_stated.specs.Words.{rest}
 pub use Rattle.ctap1_stated.specs.declared.Allowed.{Allowed}
 pub use Rattle.ctap1_stated.specs.declared.Attestation.{Attestation}
 use Rattle.ctap1_stated.specs.declared.Attestation.the-variants as Attestation′
@@ -19,6 +21,7 @@ pub use Rattle.ctap1_stated.specs.declared.HardwareSaid.{HardwareSaid}
 pub use Rattle.ctap1_stated.specs.declared.Decided.{Decided}
 use Rattle.ctap1_stated.specs.declared.Decided.the-variants as Decided′
 pub use Rattle.ctap1_stated.specs.declared.Decision.{Decision}
+pub use Rattle.ctap1_stated.specs.declared.Ruling.{Ruling}
 
 -- 01, The decision: "Lent in: frame, moment, whether CTAP1 is allowed .., reply buffer, and the hardware's answers": all of it but
 -- the moment, which stands apart with the record
@@ -30,6 +33,8 @@ pub record Inputs : Type 0 where
   pub x : List ℕ
   pub y : List ℕ
   pub room : ℕ  -- the reply buffer's length
+  pub remainder : Remainder  -- 02, E2: what of the body in that buffer is still to be fetched
+  pub partRoom : ℕ  -- the length of the buffer for part and status, lent apart
 
 -- what of this goes into the order of a Register
 pub record Enrolment : Type 0 where
@@ -44,10 +49,12 @@ isPresent Attestation′.Present = true
 isPresent Attestation′.Missing = false
 isPresent Attestation′.Failed = false
 
--- what a decision without a refusal or a status other than 9000 comes to: a body of n bytes, status 9000, or an order
+-- what a decision without a refusal or a status other than 9000 comes to: a body of n bytes, status 9000, an order, or (02, E2) the
+-- next part of an earlier body, which is a response already: its length, and what remains after it
 pub data Given : Type 0 where
   Body : ℕ → Given
   Ordered : Given
+  Part : ℕ → Remainder → Given
 
 -- 01: the answer's numbers, one line a case
 abbrev pub decidedOf : Decided → Outcome Given

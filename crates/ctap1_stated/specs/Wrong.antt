@@ -1,11 +1,12 @@
 -- Wrong programs, each with one fault. proofs/Refuted.antt shows of each that a claim is false of it.
-use Prim.Native.Nat.{_%_}
+use Prim.Native.Nat.{_-_, _%_}
 use lib.Dec.{leb}
 use Rattle.ctap1_stated.specs.Words.{ℕ, _+_, Bool, true, false, not, List, [], _∷_, ltb, eqb, length, if_then_else_, StatusWord, Outcome, R, Word, SW, Gives, plainWord}
-use Rattle.ctap1_stated.specs.Words.{Presence, Order, Inputs, Hardware, HardwareSaid, Allowed, Attestation, Counter, Given, Body, Ordered, Result, isPresent}
+use Rattle.ctap1_stated.specs.Words.{Presence, Order, Inputs, Hardware, HardwareSaid, Allowed, Attestation, Counter, Remainder, rest, Given, Body, Ordered, Part, Result, isPresent}
 use Rattle.ctap1_stated.specs.Numbers.{allowedOf, attestationOf, hardwareOf}
-use Rattle.ctap1_stated.specs.Path.{Ending, Internal, WrongData, Orders, Path, NoRoom, Ends, Status, SixBytes, Signs, Touch, registerOrdered, registerEnding, countedEnding, registerPath, authenticatePath, commandPath, pathOf}
+use Rattle.ctap1_stated.specs.Path.{Ending, Internal, WrongData, Orders, Path, NoRoom, Ends, Status, SixBytes, Fetches, Signs, Touch, registerOrdered, registerEnding, countedEnding, registerPath, authenticatePath, frameLimit, commandPath, pathOf}
 use Rattle.ctap1_stated.specs.Decision.{refusalResult, wordResult, statusResult, ended, along, onMoment, decisionOf}
+use Rattle.ctap1_stated.specs.Session.{asksOn}
 use Rattle.ctap1_stated.specs.Calls.{PanelCall, TouchAt, CheckAt, AskAt, DecideAt, callOf, panelDoes, toldBy}
 use Rattle.ctap1_stated.specs.Terms.{Decider}
 use Rattle.ctap1_stated.specs.declared.Allowed.the-variants as Allowed′
@@ -13,7 +14,9 @@ use Rattle.ctap1_stated.specs.declared.Attestation.the-variants as Attes
 use Rattle.ctap1_stated.specs.declared.Counter.the-variants as Counter′
 use Rattle.octets.specs.Bytes.{laid, bytes4}
 use Rattle.apdu_stated.specs.Answers.{Says}
-use Rattle.command_stated.specs.Command.{Command, Register, Authenticate, Version, commandOf, challengeOf, applicationOf}
+use Rattle.apdu_stated.specs.Reading.{readOf}
+use Rattle.response_stated.specs.Parts.{limitOf, restAfter, partResponse}
+use Rattle.command_stated.specs.Command.{Command, Register, Authenticate, Version, GetResponse, commandOf, challengeOf, applicationOf}
 use Rattle.u2f_up_stated.specs.Moments.{Told, settleOf, checkedOf, touchClosed, promptOpened}
 use Rattle.u2f_up_stated.specs.History.{Role, Checking, Settling, Short, Call}
 use Rattle.u2f_up_stated.specs.Runs.{Caller}
@@ -52,6 +55,7 @@ abbrev registerOr : (Inputs → Says → Path) → Inputs → Outcome Command �
 registerOr path a (R n) = commandPath a (R n)
 registerOr path a (Word s) = commandPath a (Word s)
 registerOr path a (Gives Version) = commandPath a (Gives Version)
+registerOr path a (Gives GetResponse) = commandPath a (Gives GetResponse)
 registerOr path a (Gives (Register said)) = path a said
 registerOr path a (Gives (Authenticate p1 said)) = commandPath a (Gives (Authenticate p1 said))
 
@@ -109,6 +113,7 @@ abbrev authenticateOr : (Inputs → ℕ → Says → Path) → Inputs → Outcom
 authenticateOr path a (R n) = commandPath a (R n)
 authenticateOr path a (Word s) = commandPath a (Word s)
 authenticateOr path a (Gives Version) = commandPath a (Gives Version)
+authenticateOr path a (Gives GetResponse) = commandPath a (Gives GetResponse)
 authenticateOr path a (Gives (Register said)) = commandPath a (Gives (Register said))
 authenticateOr path a (Gives (Authenticate p1 said)) = path a p1 said
 
@@ -159,6 +164,7 @@ abbrev straightened : Path → Path
 straightened NoRoom = NoRoom
 straightened (Ends s) = Ends s
 straightened SixBytes = SixBytes
+straightened (Fetches sent) = (Fetches sent)
 straightened (Signs e) = Signs e
 straightened (Touch Internal) = Touch Internal
 straightened (Touch WrongData) = Signs WrongData
@@ -173,6 +179,7 @@ abbrev untaken : Path → Path
 untaken NoRoom = NoRoom
 untaken (Ends s) = Ends s
 untaken SixBytes = SixBytes
+untaken (Fetches sent) = (Fetches sent)
 untaken (Signs Internal) = Signs Internal
 untaken (Signs WrongData) = Signs WrongData
 untaken (Signs (Orders o taken)) = Signs (Orders o false)
@@ -194,6 +201,7 @@ abbrev shortAs : (Presence → Presence → ℕ → Result) → Path → Presenc
 shortAs short NoRoom kept settled t = short kept settled t
 shortAs short (Ends s) kept settled t = along (Ends s) kept settled t
 shortAs short SixBytes kept settled t = along SixBytes kept settled t
+shortAs short (Fetches sent) kept settled t = along (Fetches sent) kept settled t
 shortAs short (Signs e) kept settled t = along (Signs e) kept settled t
 shortAs short (Touch e) kept settled t = along (Touch e) kept settled t
 
@@ -215,6 +223,7 @@ abbrev statusAs : (StatusWord → Presence → Presence → ℕ → Result) → 
 statusAs status NoRoom kept settled t = along NoRoom kept settled t
 statusAs status (Ends s) kept settled t = status s kept settled t
 statusAs status SixBytes kept settled t = along SixBytes kept settled t
+statusAs status (Fetches sent) kept settled t = along (Fetches sent) kept settled t
 statusAs status (Signs e) kept settled t = along (Signs e) kept settled t
 statusAs status (Touch e) kept settled t = along (Touch e) kept settled t
 
@@ -240,6 +249,7 @@ abbrev touchAs : (Finding → Presence → Ending → Result) → Path → Prese
 touchAs touch NoRoom kept settled t = along NoRoom kept settled t
 touchAs touch (Ends s) kept settled t = along (Ends s) kept settled t
 touchAs touch SixBytes kept settled t = along SixBytes kept settled t
+touchAs touch (Fetches sent) kept settled t = along (Fetches sent) kept settled t
 touchAs touch (Signs e) kept settled t = along (Signs e) kept settled t
 touchAs touch (Touch e) kept settled t = touch (checkedOf settled t) settled e
 
@@ -271,6 +281,7 @@ replyAs body (R n) old = old
 replyAs body (Word s) old = old
 replyAs body (Gives (Body n)) old = body old
 replyAs body (Gives Ordered) old = old
+replyAs body (Gives (Part n after)) old = old
 
 abbrev pub otherBytes : Result → List ℕ → List ℕ
 otherBytes r old = replyAs (laid (0x55 ∷ 0x32 ∷ 0x46 ∷ 0x5F ∷ 0x56 ∷ 0x31 ∷ [])) (r .answer) old
@@ -278,6 +289,96 @@ otherBytes r old = replyAs (laid (0x55 ∷ 0x32 ∷ 0x46 ∷ 0x5F ∷ 0x56 ∷ 0
 -- "the rest stays": it goes
 abbrev pub clearsRest : Result → List ℕ → List ℕ
 clearsRest r old = replyAs (λ (l : List ℕ). 0x55 ∷ 0x32 ∷ 0x46 ∷ 0x5F ∷ 0x56 ∷ 0x32 ∷ []) (r .answer) old
+
+-- ---- a body in parts: 02, E2
+abbrev fetchAs : (Inputs → Path) → Inputs → Outcome Command → Path
+fetchAs path a (R n) = commandPath a (R n)
+fetchAs path a (Word s) = commandPath a (Word s)
+fetchAs path a (Gives Version) = commandPath a (Gives Version)
+fetchAs path a (Gives GetResponse) = path a
+fetchAs path a (Gives (Register said)) = commandPath a (Gives (Register said))
+fetchAs path a (Gives (Authenticate p1 said)) = commandPath a (Gives (Authenticate p1 said))
+
+-- "6985 when nothing remains": it is a touch check, and opens a prompt
+abbrev pub fetchPrompts : Decider
+fetchPrompts = decideBy (λ a. ifAllowed (a .hardware .allowed) (fetchAs (λ b. if eqb (b .remainder .count) 0 then Touch WrongData else commandPath b (Gives GetResponse)) a (commandOf (a .frame))))
+
+-- "then 6985 when nothing remains; then .. R2": R2 first
+abbrev pub roomBeforeNothing : Decider
+roomBeforeNothing = decideBy (λ a. ifAllowed (a .hardware .allowed) (fetchAs (λ b. if ltb (b .partRoom) 2 then NoRoom else commandPath b (Gives GetResponse)) a (commandOf (a .frame))))
+
+-- what remains after a part: one byte more is left out
+abbrev skipping : Path → Path
+skipping NoRoom = NoRoom
+skipping (Ends s) = Ends s
+skipping SixBytes = SixBytes
+skipping (Fetches sent) = Fetches (record { length = sent .length; remainder = rest (sent .remainder .place + 1) (sent .remainder .count - 1) })
+skipping (Signs e) = Signs e
+skipping (Touch e) = Touch e
+
+abbrev pub fetchSkips : Decider
+fetchSkips = decideBy (λ a. skipping (pathOf a))
+
+-- "Le (256 where absent)": where absent, no limit
+abbrev limitBy : (Says → ℕ) → Outcome Says → ℕ
+limitBy limit (R n) = 0
+limitBy limit (Word s) = 0
+limitBy limit (Gives said) = limit said
+
+abbrev pub absentIsWhole : List ℕ → ℕ
+absentIsWhole frame = limitBy (λ said. if leb (said .shape) 4 then said .le else 0) (readOf frame)
+
+-- "shape 6 counts as extended": as short, by its Le of one byte
+abbrev pub shape6Short : List ℕ → ℕ
+shape6Short frame = limitBy (λ said. if eqb (said .shape) 6 then said .le else limitOf said) (readOf frame)
+
+-- "A frame with another INS or in no shape drops the remainder; a refused C0 or any R refusal keeps it": one word of it turned each
+abbrev leftBy : (refused : Remainder → Remainder) → (status : Bool → Remainder → Remainder) → (other : Remainder → Remainder) → Outcome Given → Bool → Remainder → Remainder
+leftBy refused status other (R n) asks r = refused r
+leftBy refused status other (Word s) asks r = status asks r
+leftBy refused status other (Gives (Body n)) asks r = other r
+leftBy refused status other (Gives Ordered) asks r = other r
+leftBy refused status other (Gives (Part n after)) asks r = after
+
+abbrev pub refusedFetchDrops : Inputs → Result → Remainder
+refusedFetchDrops a r = leftBy (λ k. k) (λ asks k. rest 0 0) (λ k. rest 0 0) (r .answer) (asksOn (readOf (a .frame))) (a .remainder)
+
+abbrev pub otherInsKeeps : Inputs → Result → Remainder
+otherInsKeeps a r = leftBy (λ k. k) (λ asks k. if asks then k else rest 0 0) (λ k. k) (r .answer) (asksOn (readOf (a .frame))) (a .remainder)
+
+-- of a frame that is read with another INS: 6986, 6f00, 6e00 and 6d00 keep it
+abbrev isShaped : Outcome Says → Bool
+isShaped (R n) = false
+isShaped (Word s) = false
+isShaped (Gives said) = true
+
+abbrev pub otherStatusKeeps : Inputs → Result → Remainder
+otherStatusKeeps a r = leftBy (λ k. k) (λ shaped k. if shaped then k else rest 0 0) (λ k. rest 0 0) (r .answer) (isShaped (readOf (a .frame))) (a .remainder)
+
+abbrev pub refusalDrops : Inputs → Result → Remainder
+refusalDrops a r = leftBy (λ k. rest 0 0) (λ asks k. if asks then k else rest 0 0) (λ k. rest 0 0) (r .answer) (asksOn (readOf (a .frame))) (a .remainder)
+
+-- "R2 found after the remainder moved"
+abbrev pub r2AfterMove : Inputs → Result → Remainder
+r2AfterMove a r = leftBy (λ k. restAfter k (frameLimit (a .frame))) (λ asks k. if asks then k else rest 0 0) (λ k. rest 0 0) (r .answer) (asksOn (readOf (a .frame))) (a .remainder)
+
+abbrev pub damagedKeeps : Inputs → Result → Remainder
+damagedKeeps a r = leftBy (λ k. k) (λ asks k. k) (λ k. rest 0 0) (r .answer) (asksOn (readOf (a .frame))) (a .remainder)
+
+-- "every other status .. ": a status word of its own clears the buffer for part and status
+abbrev partBy : (List ℕ → List ℕ) → (List ℕ → List ℕ) → Outcome Given → List ℕ → List ℕ
+partBy status part (R n) old = old
+partBy status part (Word s) old = status old
+partBy status part (Gives (Body n)) old = old
+partBy status part (Gives Ordered) old = old
+partBy status part (Gives (Part n after)) old = part old
+
+abbrev pub statusClears : Inputs → Result → (body old : List ℕ) → List ℕ
+statusClears a r body old = partBy (λ (l : List ℕ). []) (laid (partResponse body (a .remainder) (frameLimit (a .frame)))) (r .answer) old
+
+-- "the part taken from the body's start again"
+abbrev pub partAgain : Inputs → Result → (body old : List ℕ) → List ℕ
+partAgain a r body old = partBy (λ (l : List ℕ). l) (laid (partResponse body (rest 0 (a .remainder .count)) (frameLimit (a .frame)))) (r .answer) old
 
 -- ---- another role in the history
 abbrev rolesBy : (Path → Role) → PanelCall → Call
@@ -300,17 +401,23 @@ abbrev roleOf07 : Path → Role
 roleOf07 NoRoom = Short
 roleOf07 (Ends s) = if eqb (s .number) 0x6985 then Checking else Settling
 roleOf07 SixBytes = Settling
+roleOf07 (Fetches sent) = Settling
 roleOf07 (Signs e) = Settling
 roleOf07 (Touch e) = Checking
 
 abbrev pub checkOnlyAsCheck : Caller PanelCall
 checkOnlyAsCheck = callsBy roleOf07
 
+-- E2's request: "6985 when nothing remains (no prompting refusal)": the same program takes C0's for one
+abbrev pub fetchAsCheck : Caller PanelCall
+fetchAsCheck = callsBy roleOf07
+
 -- "a 6985 from Register or from P1 03": it is taken for an answer without the touch check
 abbrev roleOfTouch : Path → Role
 roleOfTouch NoRoom = Short
 roleOfTouch (Ends s) = Settling
 roleOfTouch SixBytes = Settling
+roleOfTouch (Fetches sent) = Settling
 roleOfTouch (Signs e) = Settling
 roleOfTouch (Touch e) = Settling
 

@@ -62,3 +62,11 @@ pub struct Decision {
     pub order: Head,
     pub taken: bool,
 }
+
+// A decision where nothing is left to fetch, how many bytes of body the frame takes at a time, 0 for all of them, and whether it asks for
+// the next part. What a frame that asks is answered where something is left, its caller finds: it writes the part where it wants it.
+pub struct Ruling {
+    pub decision: Decision,
+    pub limit: u32,
+    pub asks_on: bool,
+}

@@ -1,7 +1,9 @@
 // The call of the pipe panel that decides. `out` has the reply buffer, of which so much as the room says is lent on, and the block
-// of the order that is held (`answers` says where).
+// of the order that is held (`answers` says where); `part` is the buffer for part and status, with a room of its own.
 use answers::Answer;
+use answers::OUT_ROOM;
 use answers::ROOM;
+use answers::Source;
 use ctap1_stated::HardwareSaid;
 use panel_stated::DecisionSaid;
 use panel_stated::OrderNumbers;
@@ -24,17 +26,19 @@ fn ordered(order: OrderNumbers, taken: bool) -> Answer {
         kind: 0,
         count: 2,
         numbers: [order.kind as u64, taken as u64, 0, 0, 0],
-        has_bytes: true,
+        source: Source::Block,
         bytes: order.to_sign,
         after: order.certificate_length as u64,
     }
 }
 
-// A refused decision keeps the order held; any other puts its own, or none, in the place.
+// A refused decision keeps the order held, and the limit that its reply will be cut by; any other puts its own, or none, in the place.
 fn decided(desk: &mut Desk, decision: DecisionSaid) -> Answer {
     let presence = decision.presence;
     let order = decision.order;
+    let remainder = decision.remainder;
     held::keep(desk, presence);
+    held::keep_remainder(desk, remainder);
     if decision.answer <= 7 {
         return answers::status(decision.answer, decision.fault, decision.place);
     }
@@ -44,8 +48,12 @@ fn decided(desk: &mut Desk, decision: DecisionSaid) -> Answer {
         order.to_sign,
         order.certificate_length,
     );
+    held::keep_limit(desk, decision.limit);
     if decision.answer == 0x0100 {
         return ordered(order, decision.taken);
+    }
+    if decision.answer == 0x0200 {
+        return answers::with_bytes(answers::PART, Source::Part, decision.length);
     }
     if decision.answer == 0x9000 {
         return held::wrote(decision.answer, decision.length);
@@ -53,7 +61,13 @@ fn decided(desk: &mut Desk, decision: DecisionSaid) -> Answer {
     answers::status(decision.answer, decision.fault, decision.place)
 }
 
-fn asked(desk: &Desk, space: &[u8], reply: &mut [u8], block: &mut [u8; 385]) -> DecisionSaid {
+fn asked(
+    desk: &Desk,
+    space: &[u8],
+    reply: &mut [u8],
+    block: &mut [u8; 385],
+    part: &mut [u8],
+) -> DecisionSaid {
     let mut x = [0u8; 32];
     let mut y = [0u8; 32];
     octets::put(&mut x, calls::given(space, desk, 7));
@@ -67,8 +81,10 @@ fn asked(desk: &Desk, space: &[u8], reply: &mut [u8], block: &mut [u8; 385]) -> 
         calls::given(space, desk, 5),
         &x,
         &y,
+        held::remainder(desk),
         reply,
         block,
+        part,
     )
 }
 
@@ -79,13 +95,23 @@ fn keep_block(out: &mut [u8], answer: u16, block: &[u8; 385]) {
     }
 }
 
-pub fn decide(desk: &mut Desk, space: &[u8], out: &mut [u8]) -> Answer {
+pub fn decide(desk: &mut Desk, space: &[u8], out: &mut [u8], part: &mut [u8]) -> Answer {
     let room = desk[ROOM];
+    let part_room = desk[OUT_ROOM];
     if out.len() < room {
         return answers::bare(0);
     }
+    if part.len() < part_room {
+        return answers::bare(0);
+    }
     let mut block = [0u8; 385];
-    let decision = asked(desk, space, &mut out[0..room], &mut block);
+    let decision = asked(
+        desk,
+        space,
+        &mut out[0..room],
+        &mut block,
+        &mut part[0..part_room],
+    );
     keep_block(out, decision.answer, &block);
     decided(desk, decision)
 }

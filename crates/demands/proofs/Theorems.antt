@@ -1,6 +1,8 @@
 -- The three demands are met: each field is the theorem of its claim's name.
 use Rattle.apdu_stated.proofs.Theorems as Frames
 use Rattle.command_stated.proofs.Theorems as Commands
+use Rattle.response_stated.proofs.Theorems as Responses
+use Rattle.session_stated.proofs.Theorems as Sessions
 use Rattle.u2f_up_stated.proofs.Theorems as Presence
 use Rattle.signing_stated.proofs.Theorems as Signing
 use Rattle.ctap1_stated.proofs.Theorems as Decision
@@ -13,6 +15,7 @@ answered =
       frames-determined = Frames.ResultsDetermined;
       commands-determined = Commands.ResultsDetermined;
       presence-determined = Presence.ResultsDetermined;
+      responses-determined = Responses.ResultsDetermined;
       signing-determined = Signing.ResultsDetermined;
       decision-determined = Decision.ResultsDetermined;
       exports-determined = Panel.ResultsDetermined;
@@ -23,12 +26,20 @@ answered =
       asks = Presence.AsksExactly;
       writing = Frames.WriteExactly;
       commands = Commands.CommandExactly;
+      responses-written = Responses.WritesExactly;
+      responses-read = Responses.ReadsExactly;
+      next-parts = Responses.NextExactly;
       decision = Decision.DecidesExactly;
       finishing = Signing.FinishesExactly;
       refusals-change-nothing = Decision.RefusalChangesNothing;
       replies = Decision.RepliesExactly;
       block = Panel.BlockExactly;
+      exported-decisions = Panel.DecideExported;
+      exported-parts = Panel.NextPartExported;
+      exported-responses = Panel.ResponseExported;
       refusals-hand-back = Panel.RefusalHandsBack;
+      remainder = Decision.RemainderExactly;
+      part-buffer = Decision.PartsExactly;
       room-was-asked = Decision.RoomWasAsked;
     }
 
@@ -42,6 +53,14 @@ documents =
       frames-to-try = Frames.ExamplesRead;
       places = Frames.PlacesExactly;
       carried-by-decisions = Decision.LengthsCarried;
+      response-read-back = Responses.WrittenThenRead;
+      response-written-back = Responses.ReadThenWritten;
+      limits = Decision.LimitsExactly;
+      fetched-parts = Sessions.FetchesNext;
+      parts-joined = Sessions.SessionJoins;
+      parts-within = Sessions.SessionLimits;
+      parts-counted = Sessions.SessionParts;
+      parts-tell = Sessions.SessionTells;
       parts = Commands.CutAtPlaces;
       parts-in-c = Panel.PlacesCut;
       register-orders = Signing.MakesRegister;

@@ -8,17 +8,23 @@ use Rattle.apdu_stated.specs.Terms.{InTable}
 use Rattle.apdu_stated.specs.Writing.{writingOf}
 use Rattle.command_stated.specs.Claims as Commands
 use Rattle.command_stated.specs.Command.{commandOf, challengeOf, applicationOf, handleOf, challengePlaceOf, applicationPlaceOf, handlePlaceOf}
+use Rattle.response_stated.specs.Claims as Responses
+use Rattle.response_stated.specs.Responses.{readResponseOf, responseBodyOf}
+use Rattle.response_stated.specs.Terms.{writingOf as respondingOf, sendingOf}
 use Rattle.u2f_up_stated.specs.Claims as Presence
 use Rattle.u2f_up_stated.specs.Moments.{newOf, settleOf, touchOf, checkOf, askOf}
 use Rattle.signing_stated.specs.Claims as Signing
 use Rattle.signing_stated.specs.Orders.{registerOrderOf, authenticateOrderFor}
 use Rattle.signing_stated.specs.Finishing.{finishOf, endOf}
 use Rattle.ctap1_stated.specs.Claims as Decision
+use Rattle.ctap1_stated.specs.Path.{frameLimit}
 use Rattle.ctap1_stated.specs.Decision.{decisionOf, replyLeft, blockAfter}
+use Rattle.ctap1_stated.specs.Session.{remainderLeft, partLeft}
+use Rattle.session_stated.specs.Claims as Sessions
 use Rattle.ctap1_stated.specs.Calls.{panelCalls}
 use Rattle.panel_stated.specs.Claims as Panel
 use Rattle.panel_stated.specs.Numbers.{presenceOf, presenceNumbers}
-use Rattle.panel_stated.specs.Exports.{madeNumbers, stepNumbers, decisionNumbers, decidedBy, frameNumbers, commandNumbers}
+use Rattle.panel_stated.specs.Exports.{madeNumbers, stepNumbers, saidBy, frameNumbers, commandNumbers, decidesOf, nextsOf, respondsOf}
 
 -- 1. "Every frame, moment, answer and buffer length gets an answer. Nothing is asked of the caller beforehand." Every function ends and
 -- meets its contract on every input: the check of its crate. That none has a `requires`: the gate's look at the contracts.
@@ -27,6 +33,7 @@ pub record EveryInputIsAnswered : Type 0 where
   pub frames-determined : Frames.ResultsDetermined
   pub commands-determined : Commands.ResultsDetermined
   pub presence-determined : Presence.ResultsDetermined
+  pub responses-determined : Responses.ResultsDetermined
   pub signing-determined : Signing.ResultsDetermined
   pub decision-determined : Decision.ResultsDetermined
   pub exports-determined : Panel.ResultsDetermined
@@ -39,7 +46,11 @@ pub record EveryInputIsAnswered : Type 0 where
   -- R5 and R2 of the writer; every status of command reading
   pub writing : Frames.WriteExactly writingOf
   pub commands : Commands.CommandExactly commandOf
-  -- every answer of the decision, by document 01's table: R6, R1, R2, 6f00, 6986, 6985, 6a80, the frame's own, bodies, orders
+  -- R2 of responses, written and read, and of the next part of a body: 02, E2
+  pub responses-written : Responses.WritesExactly respondingOf
+  pub responses-read : Responses.ReadsExactly readResponseOf
+  pub next-parts : Responses.NextExactly sendingOf
+  -- every answer of the decision, by document 01's table and E2's rows: R6, R1, R2, 6f00, 6986, 6985, 6a80, the frame's own, bodies, orders, parts
   pub decision : Decision.DecidesExactly decisionOf
   -- R7, R4, R2, 6f00, R3 and the bodies of finishing
   pub finishing : Signing.FinishesExactly endOf
@@ -47,11 +58,18 @@ pub record EveryInputIsAnswered : Type 0 where
   pub refusals-change-nothing : Decision.RefusalChangesNothing decisionOf replyLeft
   pub replies : Decision.RepliesExactly decisionOf replyLeft
   pub block : Panel.BlockExactly blockAfter
-  pub refusals-hand-back : Panel.RefusalHandsBack (λ n t. stepNumbers (touchOf (presenceOf n) t)) (λ n t. stepNumbers (checkOf (presenceOf n) t)) (λ i. decisionNumbers (decidedBy i))
+  -- the same over plain numbers, as C calls it: each lent thing under its name, what it is answered, and what is left in every buffer
+  pub exported-decisions : Panel.DecideExported decidesOf
+  pub exported-parts : Panel.NextPartExported nextsOf
+  pub exported-responses : Panel.ResponseExported respondsOf
+  pub refusals-hand-back : Panel.RefusalHandsBack (λ n t. stepNumbers (touchOf (presenceOf n) t)) (λ n t. stepNumbers (checkOf (presenceOf n) t)) saidBy
+  -- 02, E2: the remainder is dropped exactly when the document says, and only a part changes the buffer for part and status
+  pub remainder : Decision.RemainderExactly decisionOf remainderLeft
+  pub part-buffer : Decision.PartsExactly decisionOf frameLimit partLeft
   -- the enrolment that was lost: an order has asked for its room before the touch was spent
   pub room-was-asked : Decision.RoomWasAsked decisionOf
 
--- 2. "Results equal the Rust's", statuses by their number alone: that is run, not proved (oracle/compare, and the Rust's own answers in
+-- 2. "Results equal the Rust's", statuses by their number alone, bodies uncut, and without INS C0 (02, E2): that is run, not proved (oracle/compare, and the Rust's own answers in
 -- crates/lines/data/rust).
 -- Proved is what stands below.
 pub record AsTheDocumentsSay : Type 0 where
@@ -65,6 +83,16 @@ pub record AsTheDocumentsSay : Type 0 where
   -- comes, is in `reading`, `strict` and the demand above); "Command reading, strict reading and decision carry the pair upward"
   pub places : Frames.PlacesExactly readOf strictOf
   pub carried-by-decisions : Decision.LengthsCarried decisionOf
+  -- 02, E2: "body then two status bytes, written and read"; how much a frame takes; "Joining the parts, at any Le values, gives the uncut body", by
+  -- decision after decision; how many there are; each 61 XX tells the truth
+  pub response-read-back : Responses.WrittenThenRead readResponseOf responseBodyOf respondingOf
+  pub response-written-back : Responses.ReadThenWritten readResponseOf responseBodyOf respondingOf
+  pub limits : Decision.LimitsExactly frameLimit
+  pub fetched-parts : Sessions.FetchesNext decisionOf frameLimit partLeft sendingOf
+  pub parts-joined : Sessions.SessionJoins decisionOf frameLimit remainderLeft partLeft sendingOf
+  pub parts-within : Sessions.SessionLimits decisionOf
+  pub parts-counted : Sessions.SessionParts decisionOf frameLimit remainderLeft partLeft sendingOf
+  pub parts-tell : Sessions.SessionTells decisionOf partLeft
   -- the parts of a frame that are handed back stand where they are said to
   pub parts : Commands.CutAtPlaces challengeOf applicationOf handleOf challengePlaceOf applicationPlaceOf handlePlaceOf
   pub parts-in-c : Panel.PlacesCut frameNumbers commandNumbers
@@ -79,6 +107,7 @@ pub record AsTheDocumentsSay : Type 0 where
 
 -- 3. "From a fresh presence record, each call taking the record the last one gave back, for any sequence of calls":
 pub record TouchesAreAsTheHistorySays : Type 1 where
+  -- (decisions on C0 among them: 02, E2, "demand 3 is unchanged")
   -- "a call that reaches the touch check finds a touch exactly when history holds an accepted one, unspent and younger than the
   -- touch window. No touch serves two calls. Touches accepted = calls that spent one + lapsed touches + at most one still live"
   pub over-every-run : Decision.Demand3OfThePanel panelCalls

@@ -23,6 +23,13 @@ pub fn out_space() -> [u8; 401408]
     [0; 401408]
 }
 
+// For the buffer for part and status.
+pub fn part_space() -> [u8; 131072]
+    ensures { λ r. ⌜ 131072 ≡ length r ⌝ }
+{
+    [0; 131072]
+}
+
 // Reads a file to the front of the space; how long it is, or 0 where that is nothing to run, which is printed.
 pub fn read(name: &[u8], space: &mut [u8]) -> usize {
     let file = os::open_read(name);

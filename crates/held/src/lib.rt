@@ -1,8 +1,11 @@
-// What the pipe panel holds: on the desk, behind the words of the line, the presence record and an order, and in the lent buffer that
-// order's block (`answers` says where); and the calls on the reply buffer itself.
+// What the pipe panel holds: on the desk, behind the words of the line, the presence record, an order and what of a body is still to be
+// fetched, and in the lent buffer that order's block (`answers` says where); and the calls on the reply buffer itself.
 use answers::Answer;
+use answers::OUT_ROOM;
 use answers::ROOM;
+use answers::Source;
 use panel_stated::PresenceRecord;
+use response_stated::Remainder;
 use text::Desk;
 
 // The presence record's four numbers.
@@ -21,10 +24,18 @@ pub const TO_SIGN: usize = 54;
 
 pub const CERTIFICATE: usize = 55;
 
+// What of a body is still to be fetched, and how many bytes of body the frame takes at a time that was decided last.
+const PLACE: usize = 59;
+
+const COUNT: usize = 60;
+
+const LIMIT: usize = 61;
+
 // Nothing is held, and no line was read. Before the first record W is 0, so every call on it is R6.
 pub fn fresh() -> Desk {
     let mut desk = [0usize; 640];
     desk[ROOM] = 1024;
+    desk[OUT_ROOM] = 1024;
     desk
 }
 
@@ -44,6 +55,26 @@ pub fn keep(desk: &mut Desk, p: PresenceRecord) {
     desk[LAST] = p.last as usize;
 }
 
+pub fn remainder(desk: &Desk) -> Remainder {
+    Remainder {
+        place: desk[PLACE],
+        count: desk[COUNT],
+    }
+}
+
+pub fn keep_remainder(desk: &mut Desk, r: Remainder) {
+    desk[PLACE] = r.place;
+    desk[COUNT] = r.count;
+}
+
+pub fn limit(desk: &Desk) -> u32 {
+    (desk[LIMIT] % 0x1_0000_0000) as u32
+}
+
+pub fn keep_limit(desk: &mut Desk, limit: u32) {
+    desk[LIMIT] = limit as usize;
+}
+
 // The order that is held, but for its block.
 pub fn keep_order(desk: &mut Desk, kind: usize, to_sign: usize, certificate: usize) {
     desk[KIND] = kind;
@@ -60,19 +91,11 @@ pub fn keep_block(out: &mut [u8], bytes: &[u8]) {
 
 // What was written at the front of the reply buffer.
 pub fn wrote(answer: u16, length: usize) -> Answer {
-    Answer {
-        word: answer,
-        kind: 0,
-        count: 0,
-        numbers: [0; 5],
-        has_bytes: answer == 0x9000,
-        bytes: length,
-        after: spell::NOTHING,
-    }
+    answers::wrote(answer, Source::Reply, length)
 }
 
-// Every byte of the reply buffer.
-fn fill(out: &mut [u8], b: usize) {
+// Every byte of the reply buffer, or of the one for part and status.
+pub fn fill(out: &mut [u8], b: usize) {
     let mut i = 0;
     while i < out.len() {
         if answers::BLOCK <= i {
@@ -80,18 +103,6 @@ fn fill(out: &mut [u8], b: usize) {
         }
         out[i] = (b % 256) as u8;
         i += 1;
-    }
-}
-
-fn holding(room: usize) -> Answer {
-    Answer {
-        word: answers::HOLDS,
-        kind: 0,
-        count: 0,
-        numbers: [0; 5],
-        has_bytes: true,
-        bytes: room,
-        after: spell::NOTHING,
     }
 }
 
@@ -105,5 +116,5 @@ pub fn on_buffer(desk: &mut Desk, call: usize, out: &mut [u8]) -> Answer {
         fill(out, desk[0]);
         return answers::bare(answers::OK);
     }
-    holding(desk[ROOM])
+    answers::with_bytes(answers::OK, Source::Reply, desk[ROOM])
 }

@@ -1,6 +1,9 @@
-// Runs case files on the panel of crate `pipe`. Its arguments name them: each line is a comment (#), a name for bytes (NAME = HEX,
+// Runs case files on the panel of pipe.rt. Its arguments name them: each line is a comment (#), a name for bytes (NAME = HEX,
 // or NAME = HEX * TIMES), a call (>) or the answer that it must get (<; one that ends in ` ..` may go on with more words). Prints each
 // answer that is another, each line that is none of these, and how many calls each file had.
+mod pipe;
+mod run;
+
 fn run_file(name: &[u8]) {
     let mut text = files::file_space();
     let n = files::read(name, &mut text);
@@ -9,7 +12,14 @@ fn run_file(name: &[u8]) {
     }
     let mut space = files::line_space();
     let mut out = files::out_space();
-    run::lines(name, octets::part(&text, 0, n), &mut space, &mut out);
+    let mut part = files::part_space();
+    run::lines(
+        name,
+        octets::part(&text, 0, n),
+        &mut space,
+        &mut out,
+        &mut part,
+    );
 }
 
 fn run_argument(i: usize) {

@@ -5,7 +5,7 @@ use lib.Dec.{eqb}
 use Rattle.outcome.specs.Notation.{if_then_else_}
 use Rattle.outcome.specs.Outcome.{StatusWord, wordOf, refusalNo}
 use Rattle.outcome.specs.declared.ApduStatusCode.{ApduStatusCode}
-use Rattle.outcome.specs.declared.ApduStatusCode.the-variants.{Success, WrongData, WrongLength, CondUseNotSatisfied, CommandNotAllowed, InsInvalid, ClaInvalid, InternalException}
+use Rattle.outcome.specs.declared.ApduStatusCode.the-variants.{Success, WrongData, WrongLength, CondUseNotSatisfied, CommandNotAllowed, IncorrectP1P2, InsInvalid, ClaInvalid, InternalException}
 use Rattle.outcome.specs.declared.LengthFault.{LengthFault}
 use Rattle.outcome.specs.declared.LengthFault.the-variants.{Missing, Surplus, LcAgainstIns}
 use Rattle.outcome.specs.declared.Refusal.{Refusal}
@@ -27,6 +27,7 @@ statusOf w =
     else if eqb (w .number) 0x6700 then WrongLength (faultBack (w .kind)) (w .place)
     else if eqb (w .number) 0x6985 then CondUseNotSatisfied
     else if eqb (w .number) 0x6986 then CommandNotAllowed
+    else if eqb (w .number) 0x6a86 then IncorrectP1P2
     else if eqb (w .number) 0x6d00 then InsInvalid
     else if eqb (w .number) 0x6e00 then ClaInvalid
     else InternalException
@@ -40,6 +41,7 @@ status-back (WrongLength Surplus place) = refl
 status-back (WrongLength LcAgainstIns place) = refl
 status-back CondUseNotSatisfied = refl
 status-back CommandNotAllowed = refl
+status-back IncorrectP1P2 = refl
 status-back InsInvalid = refl
 status-back ClaInvalid = refl
 status-back InternalException = refl

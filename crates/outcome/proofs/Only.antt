@@ -6,7 +6,7 @@ use Rattle.outcome.specs.Notation.{Determines}
 use Rattle.outcome.specs.Outcome.{StatusWord, FaultNumbers, Outcome}
 use Rattle.outcome.specs.Claims
 use Rattle.outcome.specs.declared.ApduStatusCode.{ApduStatusCode}
-use Rattle.outcome.specs.declared.ApduStatusCode.the-variants.{Success, WrongData, WrongLength, CondUseNotSatisfied, CommandNotAllowed, InsInvalid, ClaInvalid, InternalException}
+use Rattle.outcome.specs.declared.ApduStatusCode.the-variants.{Success, WrongData, WrongLength, CondUseNotSatisfied, CommandNotAllowed, IncorrectP1P2, InsInvalid, ClaInvalid, InternalException}
 use Rattle.outcome.specs.declared.LengthFault.{LengthFault}
 use Rattle.outcome.specs.declared.LengthFault.the-variants.{Missing, Surplus, LcAgainstIns}
 use Rattle.outcome.specs.declared.Refusal.the-variants.{R1, R2, R3, R4, R5, R6, R7}
@@ -17,6 +17,7 @@ StatusNumbers f g p q WrongData = p .wrong-data ∙ sym (q .wrong-data)
 StatusNumbers f g p q (WrongLength fault place) = p .wrong-length fault place ∙ sym (q .wrong-length fault place)
 StatusNumbers f g p q CondUseNotSatisfied = p .no-touch ∙ sym (q .no-touch)
 StatusNumbers f g p q CommandNotAllowed = p .not-allowed ∙ sym (q .not-allowed)
+StatusNumbers f g p q IncorrectP1P2 = p .wrong-p1-p2 ∙ sym (q .wrong-p1-p2)
 StatusNumbers f g p q InsInvalid = p .unknown-ins ∙ sym (q .unknown-ins)
 StatusNumbers f g p q ClaInvalid = p .unknown-cla ∙ sym (q .unknown-cla)
 StatusNumbers f g p q InternalException = p .internal ∙ sym (q .internal)
@@ -35,6 +36,7 @@ FaultExactly f g p q s = go s
     go WrongData = plain WrongData (λ f place e. let z : _≡_ {A = ℕ} 0 1 = cc in omega arith)
     go CondUseNotSatisfied = plain CondUseNotSatisfied (λ f place e. let z : _≡_ {A = ℕ} 0 1 = cc in omega arith)
     go CommandNotAllowed = plain CommandNotAllowed (λ f place e. let z : _≡_ {A = ℕ} 0 1 = cc in omega arith)
+    go IncorrectP1P2 = plain IncorrectP1P2 (λ f place e. let z : _≡_ {A = ℕ} 0 1 = cc in omega arith)
     go InsInvalid = plain InsInvalid (λ f place e. let z : _≡_ {A = ℕ} 0 1 = cc in omega arith)
     go ClaInvalid = plain ClaInvalid (λ f place e. let z : _≡_ {A = ℕ} 0 1 = cc in omega arith)
     go InternalException = plain InternalException (λ f place e. let z : _≡_ {A = ℕ} 0 1 = cc in omega arith)

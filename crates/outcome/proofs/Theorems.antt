@@ -4,7 +4,7 @@ use mathlib.Core.Path.{_≡_, refl}
 use native.Mathlib.Omega.{arith}
 use Rattle.outcome.specs.Outcome.{FaultNumbers, faultPair, noFault, SW, wrongLength, statusNo, faultOf, wordOf, refusalNo, lastRefusal}
 use Rattle.outcome.specs.declared.ApduStatusCode.{ApduStatusCode}
-use Rattle.outcome.specs.declared.ApduStatusCode.the-variants.{Success, WrongData, WrongLength, CondUseNotSatisfied, CommandNotAllowed, InsInvalid, ClaInvalid, InternalException}
+use Rattle.outcome.specs.declared.ApduStatusCode.the-variants.{Success, WrongData, WrongLength, CondUseNotSatisfied, CommandNotAllowed, IncorrectP1P2, InsInvalid, ClaInvalid, InternalException}
 use Rattle.outcome.specs.declared.LengthFault.{LengthFault}
 use Rattle.outcome.specs.declared.LengthFault.the-variants.{Missing, Surplus, LcAgainstIns}
 use Rattle.outcome.specs.Claims
@@ -21,6 +21,7 @@ StatusNumbers =
       wrong-length = λ fault place. refl;
       no-touch = refl;
       not-allowed = refl;
+      wrong-p1-p2 = refl;
       unknown-ins = refl;
       unknown-cla = refl;
       internal = refl;
@@ -35,6 +36,7 @@ FaultExactly = record { missing = λ place. refl; surplus = λ place. refl; agai
     other (WrongLength f place) n = absurd (n f place refl)
     other CondUseNotSatisfied n = refl
     other CommandNotAllowed n = refl
+    other IncorrectP1P2 n = refl
     other InsInvalid n = refl
     other ClaInvalid n = refl
     other InternalException n = refl

@@ -6,7 +6,7 @@ use Rattle.outcome.specs.Notation.{AtMostOne}
 use Rattle.outcome.specs.Outcome.{StatusWord, Outcome, Word, FaultNumbers, lastRefusal}
 use Rattle.outcome.specs.Contracts.{StatusNumber, Fault, NoFault, RefusalNumber}
 use Rattle.outcome.specs.declared.ApduStatusCode.{ApduStatusCode}
-use Rattle.outcome.specs.declared.ApduStatusCode.the-variants.{Success, WrongData, WrongLength, CondUseNotSatisfied, CommandNotAllowed, InsInvalid, ClaInvalid, InternalException}
+use Rattle.outcome.specs.declared.ApduStatusCode.the-variants.{Success, WrongData, WrongLength, CondUseNotSatisfied, CommandNotAllowed, IncorrectP1P2, InsInvalid, ClaInvalid, InternalException}
 use Rattle.outcome.specs.declared.LengthFault.{LengthFault}
 use Rattle.outcome.specs.declared.LengthFault.the-variants.{Missing, Surplus, LcAgainstIns}
 use Rattle.outcome.specs.declared.Refusal.{Refusal}
@@ -20,6 +20,7 @@ pub record StatusNumbers (number : ApduStatusCode → ℕ) : Type 0 where
   pub wrong-length : (fault : LengthFault) (place : ℕ) → number (WrongLength fault place) ≡ 0x6700
   pub no-touch : number CondUseNotSatisfied ≡ 0x6985
   pub not-allowed : number CommandNotAllowed ≡ 0x6986
+  pub wrong-p1-p2 : number IncorrectP1P2 ≡ 0x6a86
   pub unknown-ins : number InsInvalid ≡ 0x6d00
   pub unknown-cla : number ClaInvalid ≡ 0x6e00
   pub internal : number InternalException ≡ 0x6f00

@@ -3,7 +3,7 @@
 -- these words everywhere.
 use Prim.Native.Nat.{ℕ}
 use Rattle.outcome.specs.declared.ApduStatusCode.{ApduStatusCode}
-use Rattle.outcome.specs.declared.ApduStatusCode.the-variants.{Success, WrongData, WrongLength, CondUseNotSatisfied, CommandNotAllowed, InsInvalid, ClaInvalid, InternalException}
+use Rattle.outcome.specs.declared.ApduStatusCode.the-variants.{Success, WrongData, WrongLength, CondUseNotSatisfied, CommandNotAllowed, IncorrectP1P2, InsInvalid, ClaInvalid, InternalException}
 use Rattle.outcome.specs.declared.LengthFault.{LengthFault}
 use Rattle.outcome.specs.declared.LengthFault.the-variants.{Missing, Surplus, LcAgainstIns}
 pub use Rattle.outcome.specs.declared.FaultNumbers.{FaultNumbers}
@@ -52,6 +52,7 @@ statusNo WrongData = 0x6a80  -- wrong data
 statusNo (WrongLength fault place) = 0x6700  -- wrong length
 statusNo CondUseNotSatisfied = 0x6985  -- conditions of use not satisfied: no touch
 statusNo CommandNotAllowed = 0x6986  -- command not allowed
+statusNo IncorrectP1P2 = 0x6a86  -- P1 or P2 not as they must be
 statusNo InsInvalid = 0x6d00  -- unknown INS
 statusNo ClaInvalid = 0x6e00  -- unknown CLA
 statusNo InternalException = 0x6f00  -- no precise diagnosis
@@ -75,6 +76,7 @@ faultOf WrongData = noFault
 faultOf (WrongLength fault place) = faultPair (faultKind fault) place
 faultOf CondUseNotSatisfied = noFault
 faultOf CommandNotAllowed = noFault
+faultOf IncorrectP1P2 = noFault
 faultOf InsInvalid = noFault
 faultOf ClaInvalid = noFault
 faultOf InternalException = noFault

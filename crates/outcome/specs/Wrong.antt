@@ -5,7 +5,7 @@ use lib.Dec.{eqb}
 use Rattle.outcome.specs.Notation.{if_then_else_}
 use Rattle.outcome.specs.Outcome.{StatusWord, Outcome, Word, FaultNumbers, faultPair, plainWord, statusNo, faultKind, faultOf, refusalNo}
 use Rattle.outcome.specs.declared.ApduStatusCode.{ApduStatusCode}
-use Rattle.outcome.specs.declared.ApduStatusCode.the-variants.{Success, WrongData, WrongLength, CondUseNotSatisfied, CommandNotAllowed, InsInvalid, ClaInvalid, InternalException}
+use Rattle.outcome.specs.declared.ApduStatusCode.the-variants.{Success, WrongData, WrongLength, CondUseNotSatisfied, CommandNotAllowed, IncorrectP1P2, InsInvalid, ClaInvalid, InternalException}
 use Rattle.outcome.specs.declared.LengthFault.{LengthFault}
 use Rattle.outcome.specs.declared.LengthFault.the-variants.{Missing, Surplus, LcAgainstIns}
 use Rattle.outcome.specs.declared.Refusal.{Refusal}
@@ -18,6 +18,7 @@ wrongDataAsWrongLength WrongData = 0x6700
 wrongDataAsWrongLength (WrongLength fault place) = statusNo (WrongLength fault place)
 wrongDataAsWrongLength CondUseNotSatisfied = statusNo CondUseNotSatisfied
 wrongDataAsWrongLength CommandNotAllowed = statusNo CommandNotAllowed
+wrongDataAsWrongLength IncorrectP1P2 = statusNo IncorrectP1P2
 wrongDataAsWrongLength InsInvalid = statusNo InsInvalid
 wrongDataAsWrongLength ClaInvalid = statusNo ClaInvalid
 wrongDataAsWrongLength InternalException = statusNo InternalException
@@ -29,6 +30,7 @@ faultBy table WrongData = faultOf WrongData
 faultBy table (WrongLength fault place) = table fault place
 faultBy table CondUseNotSatisfied = faultOf CondUseNotSatisfied
 faultBy table CommandNotAllowed = faultOf CommandNotAllowed
+faultBy table IncorrectP1P2 = faultOf IncorrectP1P2
 faultBy table InsInvalid = faultOf InsInvalid
 faultBy table ClaInvalid = faultOf ClaInvalid
 faultBy table InternalException = faultOf InternalException
@@ -53,6 +55,7 @@ wrongDataWithPair WrongData = faultPair 1 3
 wrongDataWithPair (WrongLength fault place) = faultOf (WrongLength fault place)
 wrongDataWithPair CondUseNotSatisfied = faultOf CondUseNotSatisfied
 wrongDataWithPair CommandNotAllowed = faultOf CommandNotAllowed
+wrongDataWithPair IncorrectP1P2 = faultOf IncorrectP1P2
 wrongDataWithPair InsInvalid = faultOf InsInvalid
 wrongDataWithPair ClaInvalid = faultOf ClaInvalid
 wrongDataWithPair InternalException = faultOf InternalException

@@ -1,6 +1,6 @@
 // What the panel's C firmware links: every call of the core over plain numbers and byte slices. include/brinecandle.h says
 // the same in C, and .ci/header compares the two. The structs stand in panel_stated, the conversions in plain_frames,
-// plain_presence and plain_orders.
+// plain_presence, plain_orders and plain_responses.
 use apdu::Reading;
 use ctap1::Decided;
 use ctap1::HardwareSaid;
@@ -11,11 +11,14 @@ use panel_stated::FrameSaid;
 use panel_stated::Kinded;
 use panel_stated::Made;
 use panel_stated::OrderNumbers;
+use panel_stated::PartSaid;
 use panel_stated::PresenceRecord;
+use panel_stated::ResponseSaid;
 use panel_stated::Stepped;
 use panel_stated::Wrote;
+use response::Remainder;
 use signing::Head;
-ghost use Rattle.panel_stated.specs.Contracts.{BrinecandleRead, BrinecandleReadStrict, BrinecandleWrite, BrinecandleReadCommand, BrinecandleNew, BrinecandleGrantUp, BrinecandleConsumeUp, BrinecandleIsUpNeeded, BrinecandleDecide, BrinecandleFinish};
+ghost use Rattle.panel_stated.specs.Contracts.{BrinecandleRead, BrinecandleReadStrict, BrinecandleWrite, BrinecandleReadCommand, BrinecandleNew, BrinecandleGrantUp, BrinecandleConsumeUp, BrinecandleIsUpNeeded, BrinecandleDecide, BrinecandleFinish, BrinecandleWriteResponse, BrinecandleReadResponse, BrinecandleNextPart};
 
 // Reads any bytes as a frame; its data comes back as a place in the caller's frame. By cases, and each is a return of its own:
 // so each is written to the caller at once.
@@ -112,13 +115,15 @@ pub extern "C" fn brinecandle_decide(
     certificate: &[u8],
     x: &[u8; 32],
     y: &[u8; 32],
+    remainder: Remainder,
     reply: &mut [u8],
     block: &mut [u8; 385],
+    part: &mut [u8],
 ) -> DecisionSaid
-    ensures { λ r. ⌜ BrinecandleDecide (record { frame = now (frame .entry); moment = t; presence = presence; hardware = hardware; newHandle = now (handle .entry); certificate = now (certificate .entry); x = now (x .entry); y = now (y .entry); reply = now (reply .entry); block = now (block .entry) }) r (now (reply .exit)) (now (block .exit)) ⌝ }
+    ensures { λ r. ⌜ BrinecandleDecide (record { frame = now (frame .entry); moment = t; presence = presence; hardware = hardware; newHandle = now (handle .entry); certificate = now (certificate .entry); x = now (x .entry); y = now (y .entry); reply = now (reply .entry); block = now (block .entry); remainder = remainder; part = now (part .entry) }) r (now (reply .exit)) (now (block .exit)) (now (part .exit)) ⌝ }
 {
     let kept = plain_presence::record_lent(presence);
-    let decision = ctap1::decide(
+    let ruling = ctap1::decide(
         frame,
         t,
         kept,
@@ -130,15 +135,45 @@ pub extern "C" fn brinecandle_decide(
         reply,
         block,
     );
+    let limit = ruling.limit;
+    let decision = ruling.decision;
     let answer = decision.answer;
     let order = decision.order;
     let taken = decision.taken;
     let after = decision.presence;
     match answer {
-        Decided::Refused(why) => return plain_orders::refused_numbers(why, taken, after),
-        Decided::Status(status) => return plain_orders::status_numbers(status, taken, after),
-        Decided::Body(length) => return plain_orders::body_numbers(length, taken, after),
-        Decided::Order => return plain_orders::order_numbers(order, taken, after),
+        Decided::Refused(why) => return plain_orders::refused_numbers(
+            why,
+            taken,
+            after,
+            remainder,
+            limit,
+        ),
+        Decided::Status(status) => return plain_responses::stated_numbers(
+            status,
+            ruling.asks_on,
+            taken,
+            kept,
+            after,
+            remainder,
+            limit,
+            reply,
+            part,
+        ),
+        Decided::Body(length) => return plain_orders::body_numbers(
+            length,
+            taken,
+            after,
+            response::nothing(),
+            limit,
+        ),
+        Decided::Order => return plain_orders::order_numbers(
+            order,
+            taken,
+            after,
+            response::nothing(),
+            limit,
+        ),
     }
 }
 
@@ -176,4 +211,33 @@ pub extern "C" fn brinecandle_finish(
             length: 0,
         },
     }
+}
+
+// Writes a response, body and status, at the front of out.
+#[no_mangle]
+pub extern "C" fn brinecandle_write_response(body: &[u8], status: u16, out: &mut [u8]) -> Wrote
+    ensures { λ r. ⌜ BrinecandleWriteResponse (now (body .entry)) status (now (out .entry)) r (now (out .exit)) ⌝ }
+{
+    plain_responses::wrote_response_plain(response::write_response(body, status, out))
+}
+
+// Reads any bytes as a response; its body is the front of the caller's bytes.
+#[no_mangle]
+pub extern "C" fn brinecandle_read_response(response: &[u8]) -> ResponseSaid
+    ensures { λ r. ⌜ BrinecandleReadResponse (now (response .entry)) r ⌝ }
+{
+    plain_responses::response_plain(response::read_response(response))
+}
+
+// Writes the next part of what remains of a body, and its status, at the front of part. A first part is the next one of (0, n).
+#[no_mangle]
+pub extern "C" fn brinecandle_next_part(
+    body: &[u8],
+    remainder: Remainder,
+    limit: u32,
+    part: &mut [u8],
+) -> PartSaid
+    ensures { λ r. ⌜ BrinecandleNextPart (now (body .entry)) remainder limit (now (part .entry)) r (now (part .exit)) ⌝ }
+{
+    plain_responses::next_plain(response::next_part(body, remainder, limit, part), remainder)
 }

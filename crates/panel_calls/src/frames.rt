@@ -32,6 +32,7 @@ fn command(c: CommandSaid) -> Answer {
             let five = [c.p1 as u64, challenge, application, start, end];
             answers::with_numbers(answers::AUTHENTICATE, 5, five)
         }
+        0xc0 => answers::bare(answers::GET_RESPONSE),
         _ => answers::bare(answers::VERSION),
     }
 }

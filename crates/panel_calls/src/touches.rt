@@ -27,7 +27,7 @@ fn record(p: PresenceRecord) -> Answer {
         return answers::bare(answers::NO_RECORD);
     }
     let four = [p.w, moment(p.prompt), moment(p.touch), p.last, 0];
-    answers::with_numbers(0, 4, four)
+    answers::with_numbers(answers::RECORD, 4, four)
 }
 
 // A refused making keeps the old record.

@@ -1,11 +1,14 @@
 -- A law for each `return`, in the form of its need, with the facts as the code has them. It mentions no function.
 use Prim.Native.Nat.{ℕ, zero, suc, _+_, _-_}
-use mathlib.Core.Path.{_≡_, refl, ap, _∙_}
+use mathlib.Core.Path.{_≡_, refl, ap, sym, _∙_}
 use mathlib.Core.List.{List}
 use native.Mathlib.Omega.{arith}
-use borrow.Author.Tests.{ne-eqb}
+use borrow.Author.Tests.{eq-eqb, ne-eqb, not-true, not-false}
+use lib.Dec.{ltb, eqb}
 use lib.ListN.{length}
-use Rattle.outcome.specs.Outcome.{R, Word, Gives, statusNo, faultOf, wordOf, refusalNo, noFault, plainWord}
+use Rattle.outcome.specs.Notation.{if_then_else_}
+use Rattle.outcome.proofs.Laws.{r-gives}
+use Rattle.outcome.specs.Outcome.{Outcome, R, Word, SW, Gives, statusNo, faultOf, wordOf, refusalNo, noFault, plainWord}
 use Rattle.outcome.specs.declared.FaultNumbers.{FaultNumbers}
 use Rattle.outcome.specs.declared.ApduStatusCode.{ApduStatusCode}
 use Rattle.outcome.specs.declared.Refusal.{Refusal}
@@ -26,11 +29,11 @@ use Rattle.command_stated.specs.Command.{Register, Authenticate, flagsNo, comma
 use Rattle.command_stated.specs.declared.Ctap1Flags.{Ctap1Flags}
 use Rattle.command_stated.specs.declared.U2fCommand.{U2fCommand}
 use Rattle.command_stated.specs.declared.U2fCommand.the-variants as U2fCommand′
-use Rattle.panel_stated.specs.Words.{FrameSaid, CommandSaid, Wrote, Shaped, PresenceRecord, Made, Stepped, Asked, OrderNumbers, DecisionSaid, Kinded}
+use Rattle.panel_stated.specs.Words.{FrameSaid, CommandSaid, Wrote, Shaped, PresenceRecord, Made, Stepped, Asked, OrderNumbers, DecisionSaid, ResponseSaid, PartSaid, Kinded}
 use Rattle.panel_stated.specs.Numbers.{shapeOf, greatestNo, windowOf, windowNo, presenceOf, presenceNumbers, isYes, kindOf, noOrder}
-use Rattle.panel_stated.specs.Exports.{frameNumbers, lengthNumbers, ToWrite, writeNumbered, bufferAs, bareCommand, commandNumbers, noRecord, madeNumbers, askedNumbers, stepNumbers, headAfter, decidedNumbers, handedNumbers, decisionNumbers, ToFinish, orderFrom, finishNumbered}
+use Rattle.panel_stated.specs.Exports.{frameNumbers, lengthNumbers, ToWrite, writeNumbered, bufferAs, bareCommand, commandNumbers, noRecord, madeNumbers, askedNumbers, stepNumbers, headAfter, decidedNumbers, handedNumbers, decisionNumbers, responseNumbers, partNumbers, statedOf, ToFinish, orderFrom, finishNumbered}
 use Rattle.panel_stated.specs.declared.Shaped.the-variants as Shaped′
-use mathlib.Core.Bool.{true, false, Bool}
+use mathlib.Core.Bool.{true, false, not, Bool}
 use Rattle.u2f_up_stated.specs.Moments.{touchOf, checkOf, askOf}
 use Rattle.u2f_up_stated.specs.Answers.{readyOf, outcomeOf, toldOf}
 use Rattle.u2f_up_stated.specs.declared.Answer.{Answer}
@@ -48,9 +51,21 @@ use Rattle.signing_stated.specs.declared.Finished.the-variants as Finished′
 use Rattle.signing_stated.specs.declared.Kind.{Kind}
 use Rattle.signing_stated.specs.declared.Kind.the-variants as Kind′
 use Rattle.signing_stated.specs.declared.Head.{Head}
-use Rattle.ctap1_stated.specs.Words.{Body, Ordered, Result, WithBlock, decisionSaid, decisionWith}
-use Rattle.ctap1_stated.specs.Decision.{replyLeft, blockLeft, leftOf}
-use Rattle.ctap1_stated.specs.Decision.{decisionOf}
+use Rattle.ctap1_stated.specs.Words.{Body, Ordered, Part, Result, WithBlock, decidedOf, decisionSaid, decisionWith}
+use Rattle.ctap1_stated.specs.Path.{Status, frameLimit, sentPath, fetchPath}
+use Rattle.ctap1_stated.specs.Decision.{refusalResult, statusResult, partResult, along, decisionOf, replyLeft, blockLeft, leftOf}
+use Rattle.ctap1_stated.specs.Session.{asksOn, remainderAfter, remainderLeft, partAfter, partLeft}
+use Rattle.ctap1_stated.proofs.Laws.{same-refused, same-given, same-word, same-unasked, fetched-decision}
+use Rattle.apdu_stated.specs.Reading.{readOf}
+use Rattle.response_stated.specs.Words.{Sent, rest, responseRead, responseWritten, partSent}
+use Rattle.response_stated.specs.Parts.{partLength, restAfter, nextPartOf, partResponse, partLaid}
+use Rattle.response_stated.specs.declared.Remainder.{Remainder}
+use Rattle.response_stated.specs.declared.ReadResponse.{ReadResponse}
+use Rattle.response_stated.specs.declared.ReadResponse.the-variants as ReadResponse′
+use Rattle.response_stated.specs.declared.WroteResponse.{WroteResponse}
+use Rattle.response_stated.specs.declared.WroteResponse.the-variants as WroteResponse′
+use Rattle.response_stated.specs.declared.NextPart.{NextPart}
+use Rattle.response_stated.specs.declared.NextPart.the-variants as NextPart′
 use Rattle.ctap1_stated.specs.declared.Decided.{Decided}
 use Rattle.ctap1_stated.specs.declared.Decided.the-variants as Decided′
 use Rattle.ctap1_stated.specs.declared.Decision.{Decision}
@@ -58,10 +73,18 @@ use Rattle.ctap1_stated.specs.declared.Hardware.{Hardware}
 use Rattle.panel_stated.specs.declared.Kinded.the-variants as Kinded′
 use Rattle.ctap1_stated.specs.Words.{Inputs}
 use Rattle.signing_stated.specs.Contracts.{Finish}
+use Rattle.panel_stated.specs.Contracts.{StatedPlain}
+use native.Mathlib.Decide.{ℕ-discrete}
 
 -- ---- a definition over an outcome, at the outcome that the call's contract names
 pub through : {A B : Type 0} (f : A → B) (x y : A) (r : B) → x ≡ y → r ≡ f x → r ≡ f y
 through f x y r e is = is ∙ ap f e
+
+pub through-part : (next : NextPart) (o : Outcome Sent) (kept : Remainder) (r : PartSaid) → partSent next ≡ o → r ≡ partNumbers (partSent next) kept → r ≡ partNumbers o kept
+through-part next o kept r e is = is ∙ ap (λ (x : Outcome Sent). partNumbers x kept) e
+
+pub through-written : (written : WroteResponse) (o : Outcome ℕ) (r : Wrote) → responseWritten written ≡ o → r ≡ lengthNumbers (responseWritten written) → r ≡ lengthNumbers o
+through-written written o r e is = is ∙ ap lengthNumbers e
 
 -- ---- reading
 module _ (says : Apdu) (at : Place) (is-at : at ≡ placeOf (saysOf says)) where
@@ -100,6 +123,9 @@ module _ (read : U2fCommand) (r : CommandSaid) where
 
   pub command-version : (fault : FaultNumbers) → read ≡ U2fCommand′.Version → fault ≡ noFault → r ≡ bareCommand (record { number = 0x9000; kind = fault .kind; place = fault .place }) 0x03 → r ≡ commandNumbers (commandSaid read)
   command-version fault z is-fault is = is ∙ rw (is-fault, z)
+
+  pub command-get-response : (fault : FaultNumbers) → read ≡ U2fCommand′.GetResponse → fault ≡ noFault → r ≡ bareCommand (record { number = 0x9000; kind = fault .kind; place = fault .place }) 0xC0 → r ≡ commandNumbers (commandSaid read)
+  command-get-response fault z is-fault is = is ∙ rw (is-fault, z)
 
   pub command-status : (s : ApduStatusCode) (n : ℕ) (fault : FaultNumbers) → read ≡ U2fCommand′.Status s → n ≡ statusNo s → fault ≡ faultOf s → r ≡ bareCommand (record { number = n; kind = fault .kind; place = fault .place }) 0 → r ≡ commandNumbers (commandSaid read)
   command-status s n fault z is-n is-fault is = is ∙ rw (is-n, is-fault, z)
@@ -220,72 +246,361 @@ unfolding kindOf
 no-kind number a b = rw (ne-eqb number 1 a, ne-eqb number 2 b)
 
 -- ---- the decision
-pub put-together : (answer : ℕ) (fault : FaultNumbers) (taken : Bool) (long : ℕ) (order : OrderNumbers) (p : Presence) (n : PresenceRecord) → n ≡ presenceNumbers p
+pub put-together : (answer : ℕ) (fault : FaultNumbers) (taken : Bool) (long : ℕ) (order : OrderNumbers) (p : Presence) (left : Remainder) (limit : ℕ) (n : PresenceRecord) → n ≡ presenceNumbers p
     → _≡_ {A = DecisionSaid}
-    (record { answer = answer; fault = fault .kind; taken = taken; length = long; order = order; presence = n; place = fault .place })
-    (record { answer = answer; fault = fault .kind; taken = taken; length = long; order = order; presence = presenceNumbers p; place = fault .place })
-put-together answer fault taken long order p n is = rw is
+    (record { answer = answer; fault = fault .kind; taken = taken; length = long; order = order; presence = n; place = fault .place; remainder = left; limit = limit })
+    (record { answer = answer; fault = fault .kind; taken = taken; length = long; order = order; presence = presenceNumbers p; place = fault .place; remainder = left; limit = limit })
+put-together answer fault taken long order p left limit n is = rw is
 
 -- its numbers, by its answer
-module _ (taken : Bool) (p : Presence) (r : DecisionSaid) (fault : FaultNumbers) (order : OrderNumbers) where
+module _ (taken : Bool) (p : Presence) (left : Remainder) (limit : ℕ) (r : DecisionSaid) (fault : FaultNumbers) (order : OrderNumbers) where
   -- as the code puts them together
   abbrev Put : ℕ → ℕ → Type 0
-  Put answer long = r ≡ record { answer = answer; fault = fault .kind; taken = taken; length = long; order = order; presence = presenceNumbers p; place = fault .place }
+  Put answer long =
+      r
+      ≡ record { answer = answer; fault = fault .kind; taken = taken; length = long; order = order; presence = presenceNumbers p; place = fault .place; remainder = left; limit = limit }
 
   module _ (is-fault : fault ≡ noFault) where
-    pub refused-put : (why : Refusal) (n : ℕ) → n ≡ refusalNo why → order ≡ noOrder → Put n 0 → r ≡ decidedNumbers (R (refusalNo why)) noOrder taken p
+    pub refused-put : (why : Refusal) (n : ℕ) → n ≡ refusalNo why → order ≡ noOrder → Put n 0 → r ≡ decidedNumbers (R (refusalNo why)) noOrder taken p left limit
     refused-put why n is none put = put ∙ rw (is, none, is-fault)
 
-    pub body-put : (long : ℕ) → order ≡ noOrder → Put 0x9000 long → r ≡ decidedNumbers (Gives (Body long)) noOrder taken p
+    pub body-put : (long : ℕ) → order ≡ noOrder → Put 0x9000 long → r ≡ decidedNumbers (Gives (Body long)) noOrder taken p left limit
     body-put long none put = put ∙ rw (none, is-fault)
 
-    pub order-put : (head : Head) → order ≡ headAfter (Gives Ordered) head → Put 0x0100 0 → r ≡ decidedNumbers (Gives Ordered) (headAfter (Gives Ordered) head) taken p
+    pub part-put : (long : ℕ) → order ≡ noOrder → Put 0x0200 long → r ≡ decidedNumbers (Gives (Part long left)) noOrder taken p left limit
+    part-put long none put = put ∙ rw (none, is-fault)
+
+    pub order-put : (head : Head) → order ≡ headAfter (Gives Ordered) head → Put 0x0100 0 → r ≡ decidedNumbers (Gives Ordered) (headAfter (Gives Ordered) head) taken p left limit
     order-put head is put = put ∙ rw (is, is-fault)
 
-  pub status-put : (s : ApduStatusCode) (n : ℕ) → n ≡ statusNo s → fault ≡ faultOf s → order ≡ noOrder → Put n 0 → r ≡ decidedNumbers (Word (wordOf s)) noOrder taken p
+  pub status-put : (s : ApduStatusCode) (n : ℕ) → n ≡ statusNo s → fault ≡ faultOf s → order ≡ noOrder → Put n 0 → r ≡ decidedNumbers (Word (wordOf s)) noOrder taken p left limit
   status-put s n is is-fault none put = put ∙ rw (is, none, is-fault)
 
 pub head-put : (head : Head) (kind : ℕ) → kind ≡ kindNo (head .kind)
     → _≡_ {A = OrderNumbers} (record { kind = kind; «to_sign» = head .«to_sign»; «certificate_length» = head .«certificate_length» }) (headAfter (Gives Ordered) head)
 head-put head kind is = rw is
 
-abbrev asked : (frame : List ℕ) (k : Hardware) (handle certificate x y : List ℕ) (room : ℕ) → Inputs
-asked frame k handle certificate x y room =
-    record { frame = frame; hardware = k; newHandle = handle; certificate = certificate; x = x; y = y; room = room }
+-- ---- responses and parts
+module _ (read : ReadResponse) where
+  pub response-refused : (why : Refusal) (n : ℕ) → read ≡ ReadResponse′.Refused why → n ≡ refusalNo why → _≡_ {A = ResponseSaid} (record { answer = n; status = 0; length = 0 }) (responseNumbers (responseRead read))
+  response-refused why n z is = rw (is, z)
 
--- a decision on lent numbers is the decision on the record that they stand for
-module _ (frame : List ℕ) (t : ℕ) (handle certificate x y : List ℕ) (n : PresenceRecord) (k : Hardware) (p : Presence) (is-p : p ≡ presenceOf n) where
-  same : (room : ℕ)
-      → decisionOf p t (asked frame k handle certificate x y room) ≡ decisionOf (presenceOf n) t (asked frame k handle certificate x y room)
-  same room = rw is-p
+  pub response-read : (long status : ℕ) → read ≡ ReadResponse′.Response long status → _≡_ {A = ResponseSaid} (record { answer = 0x9000; status = status; length = long }) (responseNumbers (responseRead read))
+  response-read long status z = rw z
 
-  module _ (room : ℕ) (d : Decision) (old new : List ℕ) (is-d : decisionWith d new ≡ leftOf (decisionOf p t (asked frame k handle certificate x y room)) old) where
-    handed-answer : (r : DecisionSaid) → r ≡ handedNumbers (decisionSaid d) → r ≡ decisionNumbers (decisionOf (presenceOf n) t (asked frame k handle certificate x y room))
-    handed-answer r is = is ∙ ap (λ (w : WithBlock). handedNumbers (w .said)) is-d ∙ ap decisionNumbers (same room)
+module _ (written : WroteResponse) where
+  pub response-unwritten : (why : Refusal) (n : ℕ) → written ≡ WroteResponse′.Refused why → n ≡ refusalNo why → _≡_ {A = Wrote} (record { answer = n; length = 0 }) (lengthNumbers (responseWritten written))
+  response-unwritten why n z is = rw (is, z)
 
-    -- by the decision's answer
-    module _ (r : DecisionSaid) where
-      abbrev Decides : Type 0
-      Decides = r ≡ decisionNumbers (decisionOf (presenceOf n) t (asked frame k handle certificate x y room))
+  pub response-wrote : (long : ℕ) → written ≡ WroteResponse′.Response long → _≡_ {A = Wrote} (record { answer = 0x9000; length = long }) (lengthNumbers (responseWritten written))
+  response-wrote long z = rw z
 
-      pub decide-refused : (why : Refusal) → d .answer ≡ Decided′.Refused why → r ≡ decidedNumbers (R (refusalNo why)) noOrder (d .taken) (d .presence) → Decides
-      decide-refused why z is = handed-answer r (is ∙ rw z)
+module _ (next : NextPart) (kept : Remainder) where
+  pub part-refused : (why : Refusal) (n : ℕ) → next ≡ NextPart′.Refused why → n ≡ refusalNo why → _≡_ {A = PartSaid} (record { answer = n; length = 0; remainder = kept }) (partNumbers (partSent next) kept)
+  part-refused why n z is = rw (is, z)
 
-      pub decide-status : (s : ApduStatusCode) → d .answer ≡ Decided′.Status s → r ≡ decidedNumbers (Word (wordOf s)) noOrder (d .taken) (d .presence) → Decides
-      decide-status s z is = handed-answer r (is ∙ rw z)
+  pub part-sent : (long : ℕ) (left : Remainder) → next ≡ NextPart′.Part long left → _≡_ {A = PartSaid} (record { answer = 0x9000; length = long; remainder = left }) (partNumbers (partSent next) kept)
+  part-sent long left z = rw z
 
-      pub decide-body : (long : ℕ) → d .answer ≡ Decided′.Body long → r ≡ decidedNumbers (Gives (Body long)) noOrder (d .taken) (d .presence) → Decides
-      decide-body long z is = handed-answer r (is ∙ rw z)
+-- ---- C0's part
+never-other : (bodyRoom : ℕ) (k : Remainder) (limit room n : ℕ) → R n ≡ nextPartOf bodyRoom k limit room → n ≡ 2
+unfolding nextPartOf
+never-other bodyRoom k limit room n e = by (ltb bodyRoom (k .place + k .count)) (ltb room (partLength limit (k .count) + 2)) e
+  where
+    by : (b c : Bool) → _≡_ {A = Outcome Sent} (R n) (if b then R 2 else if c then R 2 else Gives (record { length = partLength limit (k .count) + 2; remainder = restAfter k limit })) → n ≡ 2
+    by true c x = cc
+    by false true x = cc
+    by false false x = absurd (r-gives _ _ x)
 
-      pub decide-order : d .answer ≡ Decided′.Order → r ≡ decidedNumbers (Gives Ordered) (headAfter (Gives Ordered) (d .order)) (d .taken) (d .presence) → Decides
-      decide-order z is = handed-answer r (is ∙ rw z)
+module _ (kept settled : Presence) (k : Remainder) (limit : ℕ) (body old : List ℕ) where
+  abbrev fetched : Result
+  fetched = along (fetchPath (length body) k limit (length old)) kept settled 0
 
-    pub decide-block : new ≡ blockLeft (decisionOf (presenceOf n) t (asked frame k handle certificate x y room)) old
-    decide-block = ap (λ (w : WithBlock). w .block) is-d ∙ ap (λ (s : Result). blockLeft s old) (same room)
+  abbrev Fetched : DecisionSaid → Type 0
+  Fetched r = r ≡ decisionNumbers fetched (remainderAfter (fetched .answer) true k) limit
 
-  pub decide-reply : (old new : List ℕ) → new ≡ replyLeft (decisionOf p t (asked frame k handle certificate x y (length old))) old
-      → new ≡ replyLeft (decisionOf (presenceOf n) t (asked frame k handle certificate x y (length old))) old
-  decide-reply old new is = is ∙ ap (λ (s : Result). replyLeft s old) (same (length old))
+  -- a result whose numbers are these
+  at : (x : Result) (r : DecisionSaid) → x ≡ fetched → r ≡ decisionNumbers x (remainderAfter (x .answer) true k) limit → Fetched r
+  at x r e is = is ∙ ap (λ (y : Result). decisionNumbers y (remainderAfter (y .answer) true k) limit) e
+
+  module _ (none : k .count ≡ 0) where
+    nothing-is : statusResult 0x6985 settled ≡ fetched
+    unfolding fetchPath
+    nothing-is = rw (eq-eqb (k .count) 0 none)
+
+    pub fetched-nothing : (r : DecisionSaid) → r ≡ decidedNumbers (SW 0x6985) noOrder false settled k limit → Fetched r
+    fetched-nothing r is = at (statusResult 0x6985 settled) r nothing-is is
+
+    pub fetched-kept : old ≡ partAfter (fetched .answer) (partResponse body k limit) old
+    fetched-kept = ap (λ (x : Result). partAfter (x .answer) (partResponse body k limit) old) nothing-is
+
+  module _ (more : k .count ≡ 0 → ⊥) (next : NextPart) (is-next : partSent next ≡ nextPartOf (length body) k limit (length old)) where
+    sent-is : (n : NextPart) → next ≡ n → along (sentPath (partSent n)) kept settled 0 ≡ fetched
+    unfolding fetchPath
+    sent-is n z = ap (λ (x : NextPart). along (sentPath (partSent x)) kept settled 0) (sym z) ∙ rw (ne-eqb (k .count) 0 more, ← is-next)
+
+    pub fetched-refused : (why : Refusal) (r : DecisionSaid) → next ≡ NextPart′.Refused why → r ≡ decidedNumbers (R (refusalNo why)) noOrder false kept k limit → Fetched r
+    fetched-refused why r z is =
+        let two : refusalNo why ≡ 2 = never-other (length body) k limit (length old) (refusalNo why) (ap partSent (sym z) ∙ is-next) in
+        at (refusalResult 2 kept) r (sent-is (NextPart′.Refused why) z) (is ∙ ap (λ (n : ℕ). decidedNumbers (R n) noOrder false kept k limit) two)
+
+    pub fetched-part : (long : ℕ) (left : Remainder) (r : DecisionSaid) → next ≡ NextPart′.Part long left → r ≡ decidedNumbers (Gives (Part long left)) noOrder false settled left limit → Fetched r
+    fetched-part long left r z is = at (partResult (record { length = long; remainder = left }) settled) r (sent-is (NextPart′.Part long left) z) is
+
+    pub fetched-wrote : (new : List ℕ) → new ≡ partLaid (nextPartOf (length body) k limit (length old)) (partResponse body k limit) old → new ≡ partAfter (fetched .answer) (partResponse body k limit) old
+    unfolding fetchPath
+    fetched-wrote new is = is ∙ by (nextPartOf (length body) k limit (length old)) ∙ rw (ne-eqb (k .count) 0 more)
+      where
+        by : (o : Outcome Sent) → partLaid o (partResponse body k limit) old ≡ partAfter (along (sentPath o) kept settled 0 .answer) (partResponse body k limit) old
+        by (R n) = refl
+        by (Word s) = refl
+        by (Gives sent) = refl
+
+-- ---- a ruling's status word
+module _ (s : ApduStatusCode) (b taken : Bool) (kept settled : Presence) (k : Remainder) (limit : ℕ) (body old : List ℕ) where
+  abbrev stated : Result
+  stated = statedOf (wordOf s) b taken kept settled (length body) k limit (length old)
+
+  abbrev Stated : DecisionSaid → Type 0
+  Stated r = r ≡ decisionNumbers stated (remainderAfter (stated .answer) b k) limit
+
+  abbrev Laid : List ℕ → Type 0
+  Laid new = new ≡ partAfter (stated .answer) (partResponse body k limit) old
+
+  module _ (m : not b ≡ true) where
+    pub stated-unasked : (r : DecisionSaid) (none : Remainder) → none ≡ rest 0 0 → r ≡ decidedNumbers (Word (wordOf s)) noOrder taken settled none limit → Stated r
+    unfolding statedOf
+    stated-unasked r none is e = e ∙ rw (is, not-true b m)
+
+    pub unasked-kept : Laid old
+    unfolding statedOf
+    unasked-kept = rw (not-true b m)
+
+  module _ (m : not b ≡ false) (number : ℕ) (is-number : number ≡ statusNo s) where
+    module _ (other : number ≡ 0x6985 → ⊥) where
+      pub stated-other : (r : DecisionSaid) → r ≡ decidedNumbers (Word (wordOf s)) noOrder taken settled k limit → Stated r
+      unfolding statedOf
+      stated-other r e = e ∙ rw (not-false b m, ne-eqb (statusNo s) 0x6985 (λ z. other (is-number ∙ z)))
+
+      pub other-kept : Laid old
+      unfolding statedOf
+      other-kept = rw (not-false b m, ne-eqb (statusNo s) 0x6985 (λ z. other (is-number ∙ z)))
+
+    module _ (so-far : number ≡ 0x6985) where
+      pub stated-fetched : (r : DecisionSaid) → Fetched kept settled k limit body old r → Stated r
+      unfolding statedOf
+      stated-fetched r e = e ∙ rw (not-false b m, eq-eqb (statusNo s) 0x6985 (sym is-number ∙ so-far))
+
+      pub fetched-laid : (new : List ℕ) → new ≡ partAfter (fetched kept settled k limit body old .answer) (partResponse body k limit) old → Laid new
+      unfolding statedOf
+      fetched-laid new e = e ∙ rw (not-false b m, eq-eqb (statusNo s) 0x6985 (sym is-number ∙ so-far))
+
+-- neither the reply nor the block is written
+sent-leaves : (kept settled : Presence) (old : List ℕ) (o : Outcome Sent) → (old ≡ replyLeft (along (sentPath o) kept settled 0) old) × (old ≡ blockLeft (along (sentPath o) kept settled 0) old)
+sent-leaves kept settled old (R n) = (refl, refl)
+sent-leaves kept settled old (Word w) = (refl, refl)
+sent-leaves kept settled old (Gives sent) = (refl, refl)
+
+fetched-leaves : (kept settled : Presence) (k : Remainder) (limit : ℕ) (body part old : List ℕ) → (old ≡ replyLeft (fetched kept settled k limit body part) old) × (old ≡ blockLeft (fetched kept settled k limit body part) old)
+unfolding fetchPath
+fetched-leaves kept settled k limit body part old = by (eqb (k .count) 0)
+  where
+    by : (b : Bool)
+        → (old ≡ replyLeft (along (if b then Status 0x6985 else sentPath (nextPartOf (length body) k limit (length part))) kept settled 0) old)
+        × (old ≡ blockLeft (along (if b then Status 0x6985 else sentPath (nextPartOf (length body) k limit (length part))) kept settled 0) old)
+    by true = (refl, refl)
+    by false = sent-leaves kept settled old (nextPartOf (length body) k limit (length part))
+
+-- ---- a decision on lent numbers is the decision on the record that they stand for; and a ruling, where nothing is left, is the decision, but
+-- for a C0 that comes so far
+abbrev asked : (frame : List ℕ) (k : Hardware) (handle certificate x y : List ℕ) (room : ℕ) (left : Remainder) (partRoom : ℕ) → Inputs
+asked frame k handle certificate x y room left partRoom =
+    record { frame = frame; hardware = k; newHandle = handle; certificate = certificate; x = x; y = y; room = room; remainder = left; partRoom = partRoom }
+
+module _ (frame : List ℕ) (t : ℕ) (handle certificate x y : List ℕ) (n : PresenceRecord) (k : Hardware) (p : Presence) (is-p : p ≡ presenceOf n) (reply : List ℕ) (left : Remainder) (part : List ℕ) where
+  abbrev lent : Inputs
+  lent = asked frame k handle certificate x y (length reply) left (length part)
+
+  abbrev bare : Result
+  bare = decisionOf p t (asked frame k handle certificate x y (length reply) (rest 0 0) 0)
+
+  abbrev whole : Result
+  whole = decisionOf (presenceOf n) t lent
+
+  same-p : decisionOf p t lent ≡ whole
+  same-p = rw is-p
+
+  module _ (d : Decision) (old new : List ℕ) (is-d : decisionWith d new ≡ leftOf bare old) where
+    answer-is : decidedOf (d .answer) ≡ bare .answer
+    answer-is = ap (λ (w : WithBlock). w .said .answer) is-d
+
+    -- what the ruling is, the decision is
+    module _ (is : bare ≡ whole) where
+      numbers : (r : DecisionSaid) (z : Remainder) (limit : ℕ) → r ≡ handedNumbers (decisionSaid d) z limit → z ≡ remainderLeft lent bare → limit ≡ frameLimit frame
+          → r ≡ decisionNumbers whole (remainderLeft lent whole) (frameLimit frame)
+      numbers r z limit e is-z is-limit =
+          e ∙ ap (λ (w : WithBlock). handedNumbers (w .said) z limit) is-d ∙ ap (λ (q : Remainder). decisionNumbers bare q limit) is-z
+          ∙ ap (λ (l : ℕ). decisionNumbers bare (remainderLeft lent bare) l) is-limit ∙ ap (λ (b : Result). decisionNumbers b (remainderLeft lent b) (frameLimit frame)) is
+
+      block-left : new ≡ blockLeft whole old
+      block-left = ap (λ (w : WithBlock). w .block) is-d ∙ ap (λ (b : Result). blockLeft b old) is
+
+      reply-left : (after : List ℕ) → after ≡ replyLeft bare reply → after ≡ replyLeft whole reply
+      reply-left after e = e ∙ ap (λ (b : Result). replyLeft b reply) is
+
+      part-left : part ≡ partLeft lent bare reply part → part ≡ partLeft lent whole reply part
+      part-left e = e ∙ ap (λ (b : Result). partLeft lent b reply part) is
+
+    abbrev Numbers : DecisionSaid → Type 0
+    Numbers r = r ≡ decisionNumbers whole (remainderLeft lent whole) (frameLimit frame)
+
+    -- by the answer: a refusal
+    module _ (why : Refusal) (z : d .answer ≡ Decided′.Refused why) where
+      refusal-is : bare .answer ≡ R (refusalNo why)
+      refusal-is = sym answer-is ∙ ap decidedOf z
+
+      refusal-same : bare ≡ whole
+      refusal-same = sym (same-refused p t lent (refusalNo why) refusal-is) ∙ same-p
+
+      pub decide-refused : (r : DecisionSaid) (limit : ℕ) → limit ≡ frameLimit frame → r ≡ decidedNumbers (R (refusalNo why)) noOrder (d .taken) (d .presence) left limit → Numbers r
+      decide-refused r limit is-limit e = numbers refusal-same r left limit (e ∙ rw z) (rw refusal-is) is-limit
+
+      pub refused-reply : (after : List ℕ) → after ≡ replyLeft bare reply → after ≡ replyLeft whole reply
+      refused-reply = reply-left refusal-same
+
+      pub refused-block : new ≡ blockLeft whole old
+      refused-block = block-left refusal-same
+
+      pub refused-part : part ≡ partLeft lent whole reply part
+      refused-part = part-left refusal-same (rw refusal-is)
+
+    -- a body; an order
+    module _ (long : ℕ) (z : d .answer ≡ Decided′.Body long) where
+      body-is : bare .answer ≡ Gives (Body long)
+      body-is = sym answer-is ∙ ap decidedOf z
+
+      body-same : bare ≡ whole
+      body-same = sym (same-given p t lent (Body long) body-is) ∙ same-p
+
+      pub decide-body : (r : DecisionSaid) (limit : ℕ) (none : Remainder) → limit ≡ frameLimit frame → none ≡ rest 0 0 → r ≡ decidedNumbers (Gives (Body long)) noOrder (d .taken) (d .presence) none limit → Numbers r
+      decide-body r limit none is-limit is-none e = numbers body-same r none limit (e ∙ rw z) (is-none ∙ rw body-is) is-limit
+
+      pub body-reply : (after : List ℕ) → after ≡ replyLeft bare reply → after ≡ replyLeft whole reply
+      body-reply = reply-left body-same
+
+      pub body-block : new ≡ blockLeft whole old
+      body-block = block-left body-same
+
+      pub body-part : part ≡ partLeft lent whole reply part
+      body-part = part-left body-same (rw body-is)
+
+    module _ (z : d .answer ≡ Decided′.Order) where
+      order-is : bare .answer ≡ Gives Ordered
+      order-is = sym answer-is ∙ ap decidedOf z
+
+      order-same : bare ≡ whole
+      order-same = sym (same-given p t lent Ordered order-is) ∙ same-p
+
+      pub decide-order : (r : DecisionSaid) (limit : ℕ) (none : Remainder) → limit ≡ frameLimit frame → none ≡ rest 0 0
+          → r ≡ decidedNumbers (Gives Ordered) (headAfter (Gives Ordered) (d .order)) (d .taken) (d .presence) none limit → Numbers r
+      decide-order r limit none is-limit is-none e = numbers order-same r none limit (e ∙ rw z) (is-none ∙ rw order-is) is-limit
+
+      pub order-reply : (after : List ℕ) → after ≡ replyLeft bare reply → after ≡ replyLeft whole reply
+      order-reply = reply-left order-same
+
+      pub order-block : new ≡ blockLeft whole old
+      order-block = block-left order-same
+
+      pub order-part : part ≡ partLeft lent whole reply part
+      order-part = part-left order-same (rw order-is)
+
+    -- a status word: of a frame that does not ask, of one that does and did not come so far, and of one that did
+    module _ (s : ApduStatusCode) (z : d .answer ≡ Decided′.Status s) (b : Bool) (is-b : b ≡ asksOn (readOf frame)) where
+      word-is : bare .answer ≡ Word (wordOf s)
+      word-is = sym answer-is ∙ ap decidedOf z
+
+      module _ (body : List ℕ) (is-body : body ≡ replyLeft bare reply) (limit : ℕ) (is-limit : limit ≡ frameLimit frame) where
+        body-kept : body ≡ reply
+        body-kept = is-body ∙ rw word-is
+
+        block-kept : new ≡ old
+        block-kept = ap (λ (w : WithBlock). w .block) is-d ∙ rw word-is
+
+        -- where the decision is the ruling, its word
+        module _ (is : bare ≡ whole) where
+          word-whole : whole .answer ≡ Word (wordOf s)
+          word-whole = ap (λ (r : Result). r .answer) (sym is) ∙ word-is
+
+          word-numbers : (r : DecisionSaid) → r ≡ decidedNumbers (Word (wordOf s)) noOrder (d .taken) (d .presence) (if b then left else rest 0 0) limit → Numbers r
+          word-numbers r e = numbers is r (if b then left else rest 0 0) limit (e ∙ rw z) (ap (λ (c : Bool). if c then left else rest 0 0) is-b ∙ rw word-is) is-limit
+
+          word-left : (body ≡ replyLeft whole reply) × (new ≡ blockLeft whole old)
+          word-left = (body-kept ∙ rw word-whole, block-kept ∙ rw word-whole)
+
+          word-part : (after : List ℕ) → after ≡ part → after ≡ partLeft lent whole reply part
+          word-part after e = e ∙ rw word-whole
+
+        -- where it is the next part
+        module _ (asks : asksOn (readOf frame) ≡ true) (so-far : statusNo s ≡ 0x6985) where
+          fetched-is : fetched p (d .presence) left limit body part ≡ whole
+          fetched-is =
+              ap (λ (l : List ℕ). fetched p (d .presence) left limit l part) body-kept ∙ ap (λ (q : Presence). fetched p q left limit reply part) (ap (λ (w : WithBlock). w .said .presence) is-d)
+              ∙ ap (λ (l : ℕ). fetched p (bare .presence) left l reply part) is-limit ∙ sym (fetched-decision p t lent asks (wordOf s) word-is so-far) ∙ same-p
+
+          fetched-numbers : (r : DecisionSaid) → Fetched p (d .presence) left limit body part r → Numbers r
+          fetched-numbers r e =
+              e ∙ ap (λ (x : Result). decisionNumbers x (remainderAfter (x .answer) true left) limit) fetched-is
+              ∙ ap (λ (l : ℕ). decisionNumbers whole (remainderAfter (whole .answer) true left) l) is-limit
+              ∙ ap (λ (c : Bool). decisionNumbers whole (remainderAfter (whole .answer) c left) (frameLimit frame)) (sym asks)
+
+          fetched-left : (body ≡ replyLeft whole reply) × (new ≡ blockLeft whole old)
+          fetched-left = (
+            body-kept ∙ fetched-leaves p (d .presence) left limit body part reply .0 ∙ ap (λ (x : Result). replyLeft x reply) fetched-is,
+            block-kept ∙ fetched-leaves p (d .presence) left limit body part old .1 ∙ ap (λ (x : Result). blockLeft x old) fetched-is,
+          )
+
+          fetched-part-left : (after : List ℕ) → after ≡ partAfter (fetched p (d .presence) left limit body part .answer) (partResponse body left limit) part → after ≡ partLeft lent whole reply part
+          fetched-part-left after e =
+              e ∙ ap (λ (x : Result). partAfter (x .answer) (partResponse body left limit) part) fetched-is ∙ ap (λ (l : List ℕ). partAfter (whole .answer) (partResponse l left limit) part) body-kept
+              ∙ ap (λ (l : ℕ). partAfter (whole .answer) (partResponse reply left l) part) is-limit
+
+        -- both, by whether the frame asks and by the word
+        abbrev Comes : Bool → Type 0
+        Comes c =
+            (r : DecisionSaid) (after : List ℕ)
+            → r ≡ decisionNumbers (statedOf (wordOf s) c (d .taken) p (d .presence) (length body) left limit (length part)) (remainderAfter (statedOf (wordOf s) c (d .taken) p (d .presence) (length body) left limit (length part) .answer) c left) limit
+            → after ≡ partAfter (statedOf (wordOf s) c (d .taken) p (d .presence) (length body) left limit (length part) .answer) (partResponse body left limit) part
+            → Numbers r × (body ≡ replyLeft whole reply) × (new ≡ blockLeft whole old) × (after ≡ partLeft lent whole reply part)
+
+        comes : (c : Bool) → c ≡ b → Comes c
+        unfolding statedOf
+        comes false e r after f g =
+            let is : bare ≡ whole = sym (same-unasked p t lent (sym is-b ∙ sym e)) ∙ same-p in
+            (word-numbers is r (f ∙ ap (λ (c : Bool). decidedNumbers (Word (wordOf s)) noOrder (d .taken) (d .presence) (if c then left else rest 0 0) limit) e), word-left is .0, word-left is .1, word-part is after g)
+        comes true e r after f g = by (ℕ-discrete (statusNo s) 0x6985)
+          where
+            by : Dec (statusNo s ≡ 0x6985) → Numbers r × (body ≡ replyLeft whole reply) × (new ≡ blockLeft whole old) × (after ≡ partLeft lent whole reply part)
+            by (yes n) =
+                let asks : asksOn (readOf frame) ≡ true = sym is-b ∙ sym e in
+                let hit : eqb (statusNo s) 0x6985 ≡ true = eq-eqb (statusNo s) 0x6985 n in
+                (fetched-numbers asks n r (rw hit at f), fetched-left asks n .0, fetched-left asks n .1, fetched-part-left asks n after (rw hit at g))
+            by (no n) =
+                let is : bare ≡ whole = sym (same-word p t lent (wordOf s) word-is n) ∙ same-p in
+                let hit : eqb (statusNo s) 0x6985 ≡ false = ne-eqb (statusNo s) 0x6985 n in
+                (word-numbers is r ((rw hit at f) ∙ ap (λ (c : Bool). decidedNumbers (Word (wordOf s)) noOrder (d .taken) (d .presence) (if c then left else rest 0 0) limit) e), word-left is .0, word-left is .1, word-part is after (rw hit at g))
+
+        module _ (r : DecisionSaid) (after : List ℕ) (says : StatedPlain s b (d .taken) p (d .presence) left limit body part r after) where
+          pub decide-status : Numbers r
+          decide-status = comes b refl r after (says .0) (says .1) .0
+
+          pub status-reply : body ≡ replyLeft whole reply
+          status-reply = comes b refl r after (says .0) (says .1) .1
+
+          pub status-block : new ≡ blockLeft whole old
+          status-block = comes b refl r after (says .0) (says .1) .2
+
+          pub status-part : after ≡ partLeft lent whole reply part
+          status-part = comes b refl r after (says .0) (says .1) .3
 
 -- ---- finishing
 module _ (finished : Finished) where

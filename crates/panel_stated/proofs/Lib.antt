@@ -1,6 +1,7 @@
 pub mod Cases
 pub mod Outcomes
 pub mod Runs
+pub mod Exported
 pub mod Theorems
 pub mod Only
 pub mod Refuted

@@ -1,19 +1,37 @@
 -- Only the definitions meet the claims: two functions that meet one agree on every input.
-use Prim.Native.Nat.{ℕ, zero, suc}
-use mathlib.Core.Bool.{Bool}
-use mathlib.Core.Path.{_≡_, refl, sym, _∙_}
+use Prim.Native.Nat.{ℕ, zero, suc, _+_, _<_}
+use mathlib.Core.Bool.{Bool, true, false}
+use native.Mathlib.Decide.{ℕ-discrete, decLt}
+use mathlib.Core.Path.{_≡_, refl, ap, sym, subst, _∙_}
 use mathlib.Core.Logic.{inl, inr}
+use mathlib.Core.List.{List}
 use native.Mathlib.Omega.{arith}
+use lib.ListN.{length}
 use Rattle.outcome.specs.Notation.{Determines, Determines2, Determines3}
-use Rattle.outcome.specs.Outcome.{StatusWord, Outcome, R, Word, Gives}
+use Rattle.outcome.specs.Outcome.{StatusWord, Outcome, R, Word, Gives, lastRefusal}
 use Rattle.outcome.specs.Terms.{HasStatus}
-use Rattle.command_stated.specs.Command.{Register, Authenticate, Version}
+use Rattle.outcome.proofs.Laws.{gives-same, r-gives, word-gives}
+use Rattle.apdu_stated.specs.Answers.{Says}
+use Rattle.apdu_stated.specs.Reading.{readOf}
+use Rattle.command_stated.specs.Command.{Register, Authenticate, Version, GetResponse}
 use Rattle.u2f_up_stated.specs.declared.Presence.{Presence}
-use Rattle.ctap1_stated.specs.Words.{Given, Body, Ordered}
+use Rattle.ctap1_stated.specs.Words.{Given, Body, Ordered, Part, Result}
+use Rattle.ctap1_stated.specs.Path.{frameLimit}
+use Rattle.ctap1_stated.specs.Terms.{AsksOn}
+use Rattle.ctap1_stated.proofs.Laws.{sound, limits-exactly, Asked, is-refused, is-word, is-part, asked}
+use Rattle.response_stated.specs.Words.{Sent, rest}
+use Rattle.response_stated.specs.Terms.{sending, sendingOf, writingOf}
+use Rattle.response_stated.specs.Parts.{nextPartOf}
+use Rattle.response_stated.specs.Responses.{writeResponseOf}
+use Rattle.response_stated.proofs.Laws.{next-exactly, writes-exactly, write-short, write-room, NextWay, short-body, short-buffer, given, next-way}
+use Rattle.response_stated.specs.declared.Remainder.{Remainder}
 use Rattle.signing_stated.specs.declared.Kind.{Kind}
 use Rattle.signing_stated.specs.declared.Kind.the-variants as Kind′
 use Rattle.panel_stated.specs.Words.{DecisionSaid, PresenceRecord}
-use Rattle.panel_stated.specs.Terms.{IsNumbered, AreOf64Bits}
+use Rattle.panel_stated.specs.Terms.{IsNumbered, AreOf64Bits, AfterWriting, AfterPart, AfterDeciding, Reports}
+use Rattle.panel_stated.specs.Numbers.{decidedNo, presenceOf}
+use Rattle.panel_stated.specs.Exports.{ToDecide, inputsOf, decidedBy}
+use Rattle.panel_stated.proofs.Outcomes
 use Rattle.panel_stated.specs.Claims
 
 -- ---- numbers that stand for cases
@@ -66,6 +84,7 @@ pub CommandNumbers : Determines Claims.CommandNumbers
 CommandNumbers f g p q (R n) = p .refused n ∙ sym (q .refused n)
 CommandNumbers f g p q (Word s) = p .status s ∙ sym (q .status s)
 CommandNumbers f g p q (Gives Version) = p .version ∙ sym (q .version)
+CommandNumbers f g p q (Gives GetResponse) = p .get-response ∙ sym (q .get-response)
 CommandNumbers f g p q (Gives (Register s)) = p .register s ∙ sym (q .register s)
 CommandNumbers f g p q (Gives (Authenticate p1 s)) = p .authenticate p1 s ∙ sym (q .authenticate p1 s)
 
@@ -73,6 +92,16 @@ pub LengthNumbers : Determines Claims.LengthNumbers
 LengthNumbers f g p q (R n) = p .refused n ∙ sym (q .refused n)
 LengthNumbers f g p q (Word s) = p .status s ∙ sym (q .status s)
 LengthNumbers f g p q (Gives n) = p .given n ∙ sym (q .given n)
+
+pub ResponseNumbers : Determines Claims.ResponseNumbers
+ResponseNumbers f g p q (R n) = p .refused n ∙ sym (q .refused n)
+ResponseNumbers f g p q (Word s) = p .status s ∙ sym (q .status s)
+ResponseNumbers f g p q (Gives r) = p .given r ∙ sym (q .given r)
+
+pub PartNumbers : Determines2 Claims.PartNumbers
+PartNumbers f g p q (R n) k = p .refused n k ∙ sym (q .refused n k)
+PartNumbers f g p q (Word s) k = p .status s k ∙ sym (q .status s k)
+PartNumbers f g p q (Gives sent) k = p .given sent k ∙ sym (q .given sent k)
 
 pub AskedNumbers : Determines Claims.AskedNumbers
 AskedNumbers f g p q (R n) = p .refused n ∙ sym (q .refused n)
@@ -96,6 +125,7 @@ pub OrderNumbersExactly : Determines2 Claims.OrderNumbersExactly
 OrderNumbersExactly f g p q (R n) o = p .refused n o ∙ sym (q .refused n o)
 OrderNumbersExactly f g p q (Word s) o = p .status s o ∙ sym (q .status s o)
 OrderNumbersExactly f g p q (Gives (Body n)) o = p .body n o ∙ sym (q .body n o)
+OrderNumbersExactly f g p q (Gives (Part n after)) o = p .part n after o ∙ sym (q .part n after o)
 OrderNumbersExactly f g p q (Gives Ordered) o = by-kind (o .kind) refl
   where
     by-kind : (k : Kind) → o .kind ≡ k → f (Gives Ordered) o ≡ g (Gives Ordered) o
@@ -106,29 +136,41 @@ pub BlockExactly : Determines3 Claims.BlockExactly
 BlockExactly f g p q (R n) bytes old = p .refused n bytes old ∙ sym (q .refused n bytes old)
 BlockExactly f g p q (Word s) bytes old = p .status s bytes old ∙ sym (q .status s bytes old)
 BlockExactly f g p q (Gives (Body n)) bytes old = p .body n bytes old ∙ sym (q .body n bytes old)
+BlockExactly f g p q (Gives (Part n after)) bytes old = p .part n after bytes old ∙ sym (q .part n after bytes old)
 BlockExactly f g p q (Gives Ordered) bytes old = p .ordered bytes old ∙ sym (q .ordered bytes old)
 
 decision-equal : (a b : DecisionSaid) → a .answer ≡ b .answer → a .fault ≡ b .fault → a .place ≡ b .place → a .length ≡ b .length → a .taken ≡ b .taken → a .order ≡ b .order
-    → a .presence ≡ b .presence → a ≡ b
-decision-equal a b e f n l t o p = λ d. record { answer = e d; fault = f d; taken = t d; length = l d; order = o d; presence = p d; place = n d }
+    → a .presence ≡ b .presence → a .remainder ≡ b .remainder → a .limit ≡ b .limit → a ≡ b
+decision-equal a b e f n l t o p k m = λ d. record { answer = e d; fault = f d; taken = t d; length = l d; order = o d; presence = p d; place = n d; remainder = k d; limit = m d }
 
-pub DecisionNumbers : Determines Claims.DecisionNumbers
-DecisionNumbers f g p q r =
+pub DecisionNumbers : Determines3 Claims.DecisionNumbers
+DecisionNumbers f g p q r k l =
     let all = by-answer (r .answer) refl in
-    decision-equal (f r) (g r) (all .0) (all .1) (all .2) (all .3) (p .taken r ∙ sym (q .taken r)) (p .order r ∙ sym (q .order r)) (p .presence r ∙ sym (q .presence r))
+    decision-equal (f r k l) (g r k l) (all .0) (all .1) (all .2) (all .3) (p .taken r k l ∙ sym (q .taken r k l)) (p .order r k l ∙ sym (q .order r k l)) (p .presence r k l ∙ sym (q .presence r k l))
+    (p .remainder r k l ∙ sym (q .remainder r k l)) (p .limit r k l ∙ sym (q .limit r k l))
   where
     Alike : Type 0
-    Alike = (f r .answer ≡ g r .answer) × (f r .fault ≡ g r .fault) × (f r .place ≡ g r .place) × (f r .length ≡ g r .length)
+    Alike = (f r k l .answer ≡ g r k l .answer) × (f r k l .fault ≡ g r k l .fault) × (f r k l .place ≡ g r k l .place) × (f r k l .length ≡ g r k l .length)
 
-    alike : (n k at long : ℕ) → (f r .answer ≡ n) × (f r .fault ≡ k) × (f r .place ≡ at) × (f r .length ≡ long)
-        → (g r .answer ≡ n) × (g r .fault ≡ k) × (g r .place ≡ at) × (g r .length ≡ long) → Alike
-    alike n k at long a b = (a .0 ∙ sym (b .0), a .1 ∙ sym (b .1), a .2 ∙ sym (b .2), a .3 ∙ sym (b .3))
+    alike : (n m at long : ℕ) → (f r k l .answer ≡ n) × (f r k l .fault ≡ m) × (f r k l .place ≡ at) × (f r k l .length ≡ long)
+        → (g r k l .answer ≡ n) × (g r k l .fault ≡ m) × (g r k l .place ≡ at) × (g r k l .length ≡ long) → Alike
+    alike n m at long a b = (a .0 ∙ sym (b .0), a .1 ∙ sym (b .1), a .2 ∙ sym (b .2), a .3 ∙ sym (b .3))
 
     by-answer : (o : Outcome Given) → r .answer ≡ o → Alike
-    by-answer (R n) e = alike _ _ _ _ (p .refused r n e) (q .refused r n e)
-    by-answer (Word s) e = alike _ _ _ _ (p .status r s e) (q .status r s e)
-    by-answer (Gives (Body n)) e = alike _ _ _ _ (p .body r n e) (q .body r n e)
-    by-answer (Gives Ordered) e = alike _ _ _ _ (p .ordered r e) (q .ordered r e)
+    by-answer (R n) e = alike _ _ _ _ (p .refused r k l n e) (q .refused r k l n e)
+    by-answer (Word s) e = alike _ _ _ _ (p .status r k l s e) (q .status r k l s e)
+    by-answer (Gives (Body n)) e = alike _ _ _ _ (p .body r k l n e) (q .body r k l n e)
+    by-answer (Gives (Part n after)) e = alike _ _ _ _ (p .part r k l n after e) (q .part r k l n after e)
+    by-answer (Gives Ordered) e = alike _ _ _ _ (p .ordered r k l e) (q .ordered r k l e)
+
+pub StatedExactly : (f g : StatusWord → (asks taken : Bool) → (kept settled : Presence) → (room : ℕ) → Remainder → (limit partRoom : ℕ) → Result) → Claims.StatedExactly f → Claims.StatedExactly g
+    → (w : StatusWord) (asks taken : Bool) (kept settled : Presence) (room : ℕ) (k : Remainder) (limit partRoom : ℕ) → f w asks taken kept settled room k limit partRoom ≡ g w asks taken kept settled room k limit partRoom
+StatedExactly f g p q w false taken kept settled room k limit partRoom = p .unasked w taken kept settled room k limit partRoom ∙ sym (q .unasked w taken kept settled room k limit partRoom)
+StatedExactly f g p q w true taken kept settled room k limit partRoom = by (ℕ-discrete (w .number) 0x6985)
+  where
+    by : Dec (w .number ≡ 0x6985) → f w true taken kept settled room k limit partRoom ≡ g w true taken kept settled room k limit partRoom
+    by (yes e) = p .fetched w taken kept settled room k limit partRoom e ∙ sym (q .fetched w taken kept settled room k limit partRoom e)
+    by (no n) = p .other w true taken kept settled room k limit partRoom n ∙ sym (q .other w true taken kept settled room k limit partRoom n)
 
 itself : {A : Type 0} (s : StatusWord) → HasStatus {A = A} (s .number) (Word s)
 itself s = record { word = s; is = refl; numbered = refl }
@@ -143,4 +185,147 @@ pub DecisionTells : (f g : Outcome Given → ℕ) → Claims.DecisionTells f →
 DecisionTells f g p q (R n) h = p .refused (R n) h n (h .0) (h .1) .1 refl ∙ sym (q .refused (R n) h n (h .0) (h .1) .1 refl)
 DecisionTells f g p q (Word s) h = p .status (Word s) h (s .number) (h .0) (h .1) .1 (itself s) ∙ sym (q .status (Word s) h (s .number) (h .0) (h .1) .1 (itself s))
 DecisionTells f g p q (Gives (Body n)) h = p .body (Gives (Body n)) h .1 (n, refl) ∙ sym (q .body (Gives (Body n)) h .1 (n, refl))
+DecisionTells f g p q (Gives (Part n after)) h = p .part (Gives (Part n after)) h .1 (n, after, refl) ∙ sym (q .part (Gives (Part n after)) h .1 (n, after, refl))
 DecisionTells f g p q (Gives Ordered) h = p .ordered (Gives Ordered) h .1 refl ∙ sym (q .ordered (Gives Ordered) h .1 refl)
+
+-- ---- the exported decision
+part-body : (m n : ℕ) (k : Remainder) → _≡_ {A = Outcome Given} (Gives (Part m k)) (Gives (Body n)) → ⊥
+part-body m n k e = let z : _≡_ {A = ℕ} 0 1 = cc in omega arith
+
+part-order : (m : ℕ) (k : Remainder) → _≡_ {A = Outcome Given} (Gives (Part m k)) (Gives Ordered) → ⊥
+part-order m k e = let z : _≡_ {A = ℕ} 0 1 = cc in omega arith
+
+-- what a sender hands back
+abbrev leftBy : Outcome Sent → Remainder
+leftBy (R n) = rest 0 0
+leftBy (Word s) = rest 0 0
+leftBy (Gives sent) = sent .remainder
+
+does-ask : (i : ToDecide) → Dec (AsksOn (inputsOf i))
+does-ask i = by (readOf (i .frame)) refl
+  where
+    at : (said : Says) → readOf (i .frame) ≡ Gives said → Dec (said .header .ins ≡ 0xC0) → Dec (AsksOn (inputsOf i))
+    at said e (yes k) = yes (said, e, k)
+    at said e (no k) = no (λ x. k (ap (λ (s : Says). s .header .ins) (gives-same said (x .0) (sym e ∙ x .1)) ∙ x .2))
+
+    by : (o : Outcome Says) → readOf (i .frame) ≡ o → Dec (AsksOn (inputsOf i))
+    by (R n) e = no (λ x. r-gives n (x .0) (sym e ∙ x .1))
+    by (Word s) e = no (λ x. word-gives s (x .0) (sym e ∙ x .1))
+    by (Gives said) e = at said e (ℕ-discrete (said .header .ins) 0xC0)
+
+module _ (i : ToDecide) where
+  -- a C0 is given no body and no order
+  asked-body : (n : ℕ) (r : Result) → Asked (presenceOf (i .presence)) (i .moment) (inputsOf i) r → r .answer ≡ Gives (Body n) → ⊥
+  asked-body n _ (is-refused m) e = r-gives _ _ e
+  asked-body n _ (is-word w q) e = word-gives _ _ e
+  asked-body n _ (is-part a b c) e = part-body _ _ _ e
+
+  asked-order : (r : Result) → Asked (presenceOf (i .presence)) (i .moment) (inputsOf i) r → r .answer ≡ Gives Ordered → ⊥
+  asked-order _ (is-refused m) e = r-gives _ _ e
+  asked-order _ (is-word w q) e = word-gives _ _ e
+  asked-order _ (is-part a b c) e = part-order _ _ e
+
+  numbered : IsNumbered (decidedBy i .answer)
+  numbered = Outcomes.decision-said (presenceOf (i .presence)) (i .moment) (inputsOf i)
+
+  module _ (f : ToDecide → AfterDeciding) (p : Claims.DecideExported f) where
+    -- its row is the definition's
+    the-row : p .row i .0 ≡ decidedBy i
+    the-row = sym (sound (presenceOf (i .presence)) (i .moment) (inputsOf i) (p .row i .0) (p .row i .1))
+
+    reported : Reports (f i .said) (decidedBy i)
+    reported = subst (λ (r : Result). Reports (f i .said) r) the-row (p .row i .2)
+
+    limited : f i .said .limit ≡ frameLimit (i .frame)
+    limited = p .limit i frameLimit limits-exactly
+
+    sent : f i .said .answer ≡ 0x0200
+        → sendingOf (i .reply) (i .remainder) (frameLimit (i .frame)) (i .part) ≡ (Gives (sending (f i .said .length) (f i .said .remainder)), f i .part)
+    sent is = subst (λ (l : ℕ). sendingOf (i .reply) (i .remainder) l (i .part) ≡ (Gives (sending (f i .said .length) (f i .said .remainder)), f i .part)) limited (p .part i sendingOf next-exactly is)
+
+    ordered : f i .said .answer ≡ 0x0100 → f i .block ≡ decidedBy i .order .bytes
+    ordered is = p .row i .3 is ∙ ap (λ (r : Result). r .order .bytes) the-row
+
+    dropped : (AsksOn (inputsOf i) → ⊥) → lastRefusal < f i .said .answer → f i .said .remainder ≡ rest 0 0
+    dropped n high = p .drops i (λ said r c. n (said, r, c)) high
+
+  module _ (f g : ToDecide → AfterDeciding) (p : Claims.DecideExported f) (q : Claims.DecideExported g) where
+    same-answer : f i .said .answer ≡ g i .said .answer
+    same-answer = reported f p .answer ∙ sym (reported g q .answer)
+
+    by-remainder : (o : Outcome Given) → decidedBy i .answer ≡ o → IsNumbered o → f i .said .answer ≡ decidedNo o → g i .said .answer ≡ decidedNo o
+        → Dec (AsksOn (inputsOf i)) → f i .said .remainder ≡ g i .said .remainder
+    by-remainder (R n) e h a b d = p .refused i (omega (arith, h .0, a)) (omega (arith, h .1, a)) ∙ sym (q .refused i (omega (arith, h .0, b)) (omega (arith, h .1, b)))
+    by-remainder (Word s) e h a b (yes x) =
+        p .keeps i (x .0) (x .1) (x .2) (omega (arith, h .0, a)) (omega (arith, h .1, a)) ∙ sym (q .keeps i (x .0) (x .1) (x .2) (omega (arith, h .0, b)) (omega (arith, h .1, b)))
+    by-remainder (Word s) e h a b (no x) = dropped f p x (omega (arith, h .0, a)) ∙ sym (dropped g q x (omega (arith, h .0, b)))
+    by-remainder (Gives (Body n)) e h a b (yes x) = absurd (asked-body n (decidedBy i) (asked (presenceOf (i .presence)) (i .moment) (inputsOf i) x) e)
+    by-remainder (Gives (Body n)) e h a b (no x) = dropped f p x (omega (arith, a)) ∙ sym (dropped g q x (omega (arith, b)))
+    by-remainder (Gives Ordered) e h a b (yes x) = absurd (asked-order (decidedBy i) (asked (presenceOf (i .presence)) (i .moment) (inputsOf i) x) e)
+    by-remainder (Gives Ordered) e h a b (no x) = dropped f p x (omega (arith, a)) ∙ sym (dropped g q x (omega (arith, b)))
+    by-remainder (Gives (Part n k)) e h a b d = ap (λ (o : Outcome Sent × List ℕ). leftBy (o .0)) (sym (sent f p a) ∙ sent g q b)
+
+    by-reply : Dec (f i .said .answer ≡ 0x9000) → f i .reply ≡ g i .reply
+    by-reply (yes is) = p .version i is ∙ sym (q .version i (sym same-answer ∙ is))
+    by-reply (no n) = p .reply i n ∙ sym (q .reply i (λ is. n (same-answer ∙ is)))
+
+    by-block : Dec (f i .said .answer ≡ 0x0100) → f i .block ≡ g i .block
+    by-block (yes is) = ordered f p is ∙ sym (ordered g q (sym same-answer ∙ is))
+    by-block (no n) = p .block i n ∙ sym (q .block i (λ is. n (same-answer ∙ is)))
+
+    by-part : Dec (f i .said .answer ≡ 0x0200) → f i .part ≡ g i .part
+    by-part (yes is) = ap (λ (o : Outcome Sent × List ℕ). o .1) (sym (sent f p is) ∙ sent g q (sym same-answer ∙ is))
+    by-part (no n) = p .no-part i n ∙ sym (q .no-part i (λ is. n (same-answer ∙ is)))
+
+deciding-equal : (a b : AfterDeciding) → a .said ≡ b .said → a .reply ≡ b .reply → a .block ≡ b .block → a .part ≡ b .part → a ≡ b
+deciding-equal a b s r k t = λ d. record { said = s d; reply = r d; block = k d; part = t d }
+
+pub DecideExported : Determines Claims.DecideExported
+DecideExported f g p q i =
+    let a = reported i f p in
+    let b = reported i g q in
+    let left = by-remainder i f g p q (decidedBy i .answer) refl (numbered i) (a .answer) (b .answer) (does-ask i) in
+    let said =
+    decision-equal (f i .said) (g i .said) (a .answer ∙ sym (b .answer)) (a .fault ∙ sym (b .fault)) (a .place ∙ sym (b .place)) (a .long ∙ sym (b .long)) (a .taken ∙ sym (b .taken))
+    (a .order ∙ sym (b .order)) (a .presence ∙ sym (b .presence)) left (limited i f p ∙ sym (limited i g q)) in
+    deciding-equal (f i) (g i) said (by-reply i f g p q (ℕ-discrete (f i .said .answer) 0x9000)) (by-block i f g p q (ℕ-discrete (f i .said .answer) 0x0100)) (by-part i f g p q (ℕ-discrete (f i .said .answer) 0x0200))
+
+-- ---- the exported next part and response
+after-part : (a b : AfterPart) → a .said ≡ b .said → a .buffer ≡ b .buffer → a ≡ b
+after-part a b s t = λ d. record { said = s d; buffer = t d }
+
+after-writing : (a b : AfterWriting) → a .said ≡ b .said → a .buffer ≡ b .buffer → a ≡ b
+after-writing a b s t = λ d. record { said = s d; buffer = t d }
+
+pub NextPartExported : (f g : (body : List ℕ) → Remainder → (limit : ℕ) (old : List ℕ) → AfterPart) → Claims.NextPartExported f → Claims.NextPartExported g
+    → (body : List ℕ) (r : Remainder) (limit : ℕ) (old : List ℕ) → f body r limit old ≡ g body r limit old
+NextPartExported f g p q body r limit old = by (nextPartOf (length body) r limit (length old)) (next-way (length body) r limit (length old)) refl
+  where
+    refused : (m : ℕ) → sendingOf body r limit old .0 ≡ R m → f body r limit old ≡ g body r limit old
+    refused m e =
+        let x = p .refused sendingOf next-exactly body r limit old m e in
+        let y = q .refused sendingOf next-exactly body r limit old m e in
+        after-part _ _ (x .0 ∙ sym (y .0)) (x .1 ∙ sym (y .1))
+
+    by : (o : Outcome Sent) → NextWay (length body) r limit (length old) o → sendingOf body r limit old .0 ≡ o → f body r limit old ≡ g body r limit old
+    by _ (short-body h) e = refused 2 e
+    by _ (short-buffer h k) e = refused 2 e
+    by _ (given h k) e =
+        let x = p .given sendingOf next-exactly body r limit old _ _ e in
+        let y = q .given sendingOf next-exactly body r limit old _ _ e in
+        after-part _ _ (x .0 ∙ sym (y .0)) (x .1 ∙ sym (y .1))
+
+pub ResponseExported : Determines3 Claims.ResponseExported
+ResponseExported f g p q body status old = by (decLt (length old) (length body + 2))
+  where
+    by : Dec (length old < length body + 2) → f body status old ≡ g body status old
+    by (yes h) =
+        let e : writingOf body status old .0 ≡ R 2 = sym (write-short body (length old) h) in
+        let x = p .refused writingOf writes-exactly body status old 2 e in
+        let y = q .refused writingOf writes-exactly body status old 2 e in
+        after-writing _ _ (x .0 ∙ sym (y .0)) (x .1 ∙ sym (y .1))
+    by (no h) =
+        let e : writingOf body status old .0 ≡ Gives (length body + 2) = sym (write-room body (length old) (omega arith) (omega arith)) in
+        let x = p .given writingOf writes-exactly body status old (length body + 2) e in
+        let y = q .given writingOf writes-exactly body status old (length body + 2) e in
+        after-writing _ _ (x .0 ∙ sym (y .0)) (x .1 ∙ sym (y .1))

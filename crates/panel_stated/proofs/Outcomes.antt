@@ -1,6 +1,6 @@
 -- The numbers that outcomes have: a refusal's is one of the refusals', a status word's from 6000 up to 9000. By the checks of each
 -- definition.
-use Prim.Native.Nat.{ℕ, _≤_, _<_}
+use Prim.Native.Nat.{ℕ, _+_, _≤_, _<_}
 use mathlib.Core.Bool.{Bool, true, false, not}
 use mathlib.Core.List.{List}
 use native.Mathlib.Omega.{arith}
@@ -16,19 +16,23 @@ use Rattle.apdu_stated.specs.Table.{canCarry}
 use Rattle.apdu_stated.specs.Writing.{Parts, frameOf, writeOf}
 use Rattle.apdu_stated.specs.declared.Lengths.{Lengths}
 use Rattle.apdu_stated.specs.declared.Lengths.the-variants as Lengths′
-use Rattle.command_stated.specs.Command.{Command, Register, Authenticate, Version, isControl, registerOf, authenticateOf, versionOf, byInstruction, onReading, commandOf}
+use Rattle.command_stated.specs.Command.{Command, Register, Authenticate, Version, GetResponse, isControl, registerOf, authenticateOf, versionOf, getResponseOf, byInstruction, onReading, commandOf}
 use Rattle.u2f_up_stated.specs.Moments.{isR6, isR1, onSettled, Told, newOf, settleOf, checkedOf, touchOf, checkOf, askOf}
 use Rattle.u2f_up_stated.specs.declared.Presence.{Presence}
 use Rattle.signing_stated.specs.Orders.{isOfLayout, certificateLength}
 use Rattle.signing_stated.specs.Finishing.{Finishing, finishOf, roomAsked, registerRoom, authenticateRoom}
 use Rattle.ctap1_stated.specs.declared.Allowed.{Allowed}
 use Rattle.ctap1_stated.specs.declared.Allowed.the-variants as Allowed′
+use Rattle.response_stated.specs.Words.{Sent}
+use Rattle.response_stated.specs.declared.Remainder.{Remainder}
+use Rattle.response_stated.specs.Responses.{writeResponseOf, readResponseOf}
+use Rattle.response_stated.specs.Parts.{partLength, nextPartOf}
 use Rattle.panel_stated.specs.Terms.{IsNumbered}
 use mathlib.Core.Path.{_≡_, refl, sym}
 use Rattle.outcome.proofs.Laws.{r-word, r-gives}
 use Rattle.ctap1_stated.specs.Decision as Decision′
 use Rattle.ctap1_stated.specs.Words.{Inputs}
-use Rattle.ctap1_stated.specs.Path.{Ending, Internal, WrongData, Orders, Path, NoRoom, Ends, SixBytes, Signs, Touch, loginPath, versionPath, registerPath, commandPath, allowedPath, pathOf}
+use Rattle.ctap1_stated.specs.Path.{Ending, Internal, WrongData, Orders, Path, NoRoom, Ends, SixBytes, Fetches, Signs, Touch, sentPath, fetchPath, loginPath, versionPath, registerPath, commandPath, allowedPath, pathOf}
 use Rattle.ctap1_stated.specs.Decision.{ended, along, onMoment, decisionOf}
 
 -- both branches of a test
@@ -65,7 +69,7 @@ write-said w room =
 
 -- ---- commands
 instruction-said : (frame : List ℕ) (said : Says) → IsNumbered (byInstruction frame said)
-unfolding byInstruction registerOf authenticateOf versionOf
+unfolding byInstruction registerOf authenticateOf versionOf getResponseOf
 instruction-said frame said =
     test (not (eqb (said .header .cla) 0x00)) _ _ (omega arith, omega arith)
     (test (eqb (said .header .ins) 0x01) _ _ (test (not (eqb (said .lc) 64)) _ _ (omega arith, omega arith) tt)
@@ -74,7 +78,11 @@ instruction-said frame said =
     (test (not (eqb (said .lc) _)) _ _ (omega arith, omega arith)
     (test (not (isControl (said .header .p1))) _ _ (omega arith, omega arith) tt)))
     (test (eqb (said .header .ins) 0x03) _ _ (test (not (eqb (said .lc) 0)) _ _ (omega arith, omega arith) tt)
-    (omega arith, omega arith))))
+    (test (eqb (said .header .ins) 0xC0) _ _
+    (test (not (eqb (said .header .p1) 0x00)) _ _ (omega arith, omega arith)
+    (test (not (eqb (said .header .p2) 0x00)) _ _ (omega arith, omega arith)
+    (test (not (eqb (said .lc) 0)) _ _ (omega arith, omega arith) tt)))
+    (omega arith, omega arith)))))
 
 reading-said : (frame : List ℕ) (o : Outcome Says) → IsNumbered o → IsNumbered (onReading frame o)
 unfolding onReading
@@ -113,13 +121,38 @@ module _ (p : Presence) (t : ℕ) where
   unfolding askOf
   ask-said = on-settled p (settleOf p t) _ (settle-said p t) (λ q. tt)
 
+-- ---- responses and parts
+pub write-response-said : (body : List ℕ) (room : ℕ) → IsNumbered (writeResponseOf body room)
+unfolding writeResponseOf
+write-response-said body room = test (ltb room (length body + 2)) _ _ (omega arith, omega arith) tt
+
+pub read-response-said : (response : List ℕ) → IsNumbered (readResponseOf response)
+unfolding readResponseOf
+read-response-said response = test (ltb (length response) 2) _ _ (omega arith, omega arith) tt
+
+pub next-said : (bodyRoom : ℕ) (r : Remainder) (limit room : ℕ) → IsNumbered (nextPartOf bodyRoom r limit room)
+unfolding nextPartOf
+next-said bodyRoom r limit room =
+    test (ltb bodyRoom (r .place + r .count)) _ _ (omega arith, omega arith) (test (ltb room (partLength limit (r .count) + 2)) _ _ (omega arith, omega arith) tt)
+
 -- ---- the decision
 abbrev OfPath : Path → Type 0
 OfPath NoRoom = Unit {0}
 OfPath (Ends s) = (0x6000 ≤ s .number) × (s .number < 0x9000)
 OfPath SixBytes = Unit {0}
+OfPath (Fetches sent) = Unit {0}
 OfPath (Signs e) = Unit {0}
 OfPath (Touch e) = Unit {0}
+
+sent-path : (o : Outcome Sent) → IsNumbered o → OfPath (sentPath o)
+sent-path (R n) h = tt
+sent-path (Word s) h = h
+sent-path (Gives sent) h = tt
+
+fetch-path : (room : ℕ) (r : Remainder) (limit partRoom : ℕ) → OfPath (fetchPath room r limit partRoom)
+unfolding fetchPath
+fetch-path room r limit partRoom =
+    either OfPath (eqb (r .count) 0) _ _ (omega arith, omega arith) (sent-path (nextPartOf room r limit partRoom) (next-said room r limit partRoom))
 
 module _ (a : Inputs) where
   login-path : (p1 : ℕ) (said : Says) → OfPath (loginPath (a .frame) (a .hardware) (a .room) p1 said)
@@ -134,6 +167,7 @@ module _ (a : Inputs) where
   command-path (R n) h = tt
   command-path (Word s) h = h
   command-path (Gives Version) h = either OfPath (ltb (a .room) 6) _ _ tt tt
+  command-path (Gives GetResponse) h = fetch-path (a .room) (a .remainder) _ (a .partRoom)
   command-path (Gives (Register said)) h =
       either OfPath (ltb (a .room) (registerRoom (length (a .newHandle)) (length (a .certificate)))) _ _ tt tt
   command-path (Gives (Authenticate p1 said)) h = login-path p1 said
@@ -161,6 +195,7 @@ along-numbered : (path : Path) → OfPath path → (kept settled : Presence) (t 
 along-numbered NoRoom h kept settled t = (omega arith, omega arith)
 along-numbered (Ends s) h kept settled t = h
 along-numbered SixBytes h kept settled t = tt
+along-numbered (Fetches sent) h kept settled t = tt
 along-numbered (Signs e) h kept settled t = ended-numbered e settled
 along-numbered (Touch e) h kept settled t = touch-numbered (checkedOf settled t .yes) e (checkedOf settled t .presence)
 
@@ -187,6 +222,7 @@ along-refused : (path : Path) (kept settled : Presence) (t k : ℕ) → along pa
 along-refused NoRoom kept settled t k e = refl
 along-refused (Ends s) kept settled t k e = absurd (r-word _ _ (sym e))
 along-refused SixBytes kept settled t k e = absurd (r-gives _ _ (sym e))
+along-refused (Fetches sent) kept settled t k e = absurd (r-gives _ _ (sym e))
 along-refused (Signs x) kept settled t k e = absurd (ended-refused x settled k e)
 along-refused (Touch x) kept settled t k e = absurd (touch-refused (checkedOf settled t .yes) x (checkedOf settled t .presence) k e)
 

@@ -1,27 +1,39 @@
 -- The claims are false of the wrong programs of specs/Wrong.antt, each at an input where it bites.
 use Prim.Native.Nat.{ℕ, _≤_}
 use mathlib.Core.Bool.{Bool, true, false}
-use mathlib.Core.Path.{_≡_, refl, ap}
+use mathlib.Core.Path.{_≡_, refl, ap, sym, _∙_}
 use mathlib.Core.Logic.{inl, inr}
 use mathlib.Core.List.{List, [], _∷_}
 use native.Mathlib.Omega.{arith}
 use lib.ListN.{length, replicate}
 use Rattle.outcome.specs.Outcome.{StatusWord, Outcome, R, Word, SW, Gives, plainWord}
 use Rattle.apdu_stated.specs.Answers.{Says}
-use Rattle.apdu_stated.specs.Reading.{readBy, lengthsOf, sayOf}
+use Rattle.apdu_stated.specs.Reading.{readBy, lengthsOf, sayOf, shortOf, extendedOf, afterData, dataOf}
 use Rattle.u2f_up_stated.specs.History.{Call, Checking}
 use Rattle.u2f_up_stated.specs.Runs.{own, after, doneBy}
 use Rattle.panel_stated.specs.Terms.{numbersAfter}
 use Rattle.u2f_up_stated.specs.Moments.{checkOf, settleOf, checkedOf, fresh, movedTo}
 use Rattle.u2f_up_stated.specs.declared.Window.the-variants.{Closed, Opened}
 use Rattle.u2f_up_stated.specs.declared.Presence.{Presence}
-use Rattle.ctap1_stated.specs.Words.{Ordered}
-use Rattle.signing_stated.specs.Orders.{isAuthenticateLayout}
+use Rattle.ctap1_stated.specs.Words.{Ordered, Part, Result}
+use Rattle.ctap1_stated.specs.Path.{fetchPath, frameLimit, registerPath, registerEnding, enrolmentOrder, versionPath, commandPath, allowedPath, pathOf}
+use Rattle.ctap1_stated.specs.Decision.{decisionOf}
+use Rattle.ctap1_stated.specs.Numbers.{allowedOf, attestationOf}
+use Rattle.ctap1_stated.proofs.Laws.{sound, limits-exactly}
+use Rattle.command_stated.specs.Command.{commandOf, onReading, byInstruction, registerOf, versionOf, getResponseOf, applicationOf, challengeOf}
+use Rattle.response_stated.specs.Words.{rest, Sent}
+use Rattle.response_stated.specs.Terms.{sendingOf, writingOf}
+use Rattle.response_stated.specs.Parts.{partLength, nextPartOf, limitOf, leftStatus}
+use Rattle.response_stated.specs.Responses.{writeResponseOf}
+use Rattle.response_stated.proofs.Laws.{next-exactly, writes-exactly}
+use Rattle.outcome.proofs.Laws.{r-word}
+use Rattle.octets.specs.Bytes.{partOf, byte}
+use Rattle.signing_stated.specs.Orders.{isAuthenticateLayout, registerOrderOf, block}
 use Rattle.signing_stated.specs.Finishing.{finishOf}
 use Rattle.signing_stated.specs.declared.Kind.the-variants as Kind′
-use Rattle.panel_stated.specs.Words.{Window, Made, PresenceRecord, OrderNumbers, FrameSaid, CommandSaid, Wrote, Stepped, Asked, Order}
-use Rattle.panel_stated.specs.Numbers.{answerNo, presenceNumbers, kindOf}
-use Rattle.panel_stated.specs.Exports.{writeNumbered, decisionNumbers, decidedBy, commandNumbers}
+use Rattle.panel_stated.specs.Words.{Window, Made, PresenceRecord, OrderNumbers, FrameSaid, CommandSaid, Wrote, Stepped, Asked, Order, ResponseSaid, PartSaid, HardwareSaid, Remainder}
+use Rattle.panel_stated.specs.Numbers.{answerNo, decidedNo, presenceNumbers, kindOf}
+use Rattle.panel_stated.specs.Exports.{ToDecide, writeNumbered, saidBy, statedOf, commandNumbers}
 use Rattle.panel_stated.specs.Claims
 use Rattle.panel_stated.specs.Wrong
 use Rattle.panel_stated.specs.declared.Kinded.the-variants as Kinded′
@@ -33,6 +45,9 @@ statusAs9000 p =
 
 pub orderNumbered2 : Claims.DecisionTells Wrong.orderNumbered2 → ⊥
 orderNumbered2 p = let e : _≡_ {A = ℕ} 2 0x0100 = p .ordered (Gives Ordered) tt .1 refl in omega arith
+
+pub partAsBody : Claims.DecisionTells Wrong.partAsBody → ⊥
+partAsBody p = let e : _≡_ {A = ℕ} 0x9000 0x0200 = p .part (Gives (Part 2 (rest 0 0))) tt .1 (2, rest 0 0, refl) in omega arith
 
 pub orderIs0 : Claims.NoAnswerIs0 answerNo Wrong.orderIs0 → ⊥
 orderIs0 p = p .decision (Gives Ordered) tt refl
@@ -75,7 +90,7 @@ pub openedAtItsNumber : Claims.RecordsBack Wrong.openedAtItsNumber asItsMoment �
 openedAtItsNumber p =
     let e : Closed ≡ Opened 0 = ap (λ (q : Presence). q .prompt) (p promptedAt0 (omega arith) tt) in let z : _≡_ {A = ℕ} 0 1 = cc in omega arith
 
-pub refusedMoves : Claims.RefusalHandsBack Wrong.refusedMoves Wrong.refusedMoves (λ i. decisionNumbers (decidedBy i)) → ⊥
+pub refusedMoves : Claims.RefusalHandsBack Wrong.refusedMoves Wrong.refusedMoves saidBy → ⊥
 refusedMoves p = let e : _≡_ {A = ℕ} 8 9 = ap (λ (n : PresenceRecord). n .last) (p .grant-up oneOpened 8 (omega arith, omega arith) (omega arith)) in omega arith
 
 -- ---- numbers that stand for cases
@@ -123,7 +138,7 @@ commandFaultUnsaid p = let e : _≡_ {A = ℕ} 0 6 = ap (λ (c : CommandSaid). c
 
 pub decisionFaultUnsaid : Claims.DecisionNumbers Wrong.decisionFaultUnsaid → ⊥
 decisionFaultUnsaid p =
-    let e : _≡_ {A = ℕ} 0 6 = (p .status (record { answer = Word missing6; presence = fresh 5000; order = login; taken = false }) missing6 refl .2) in omega arith
+    let e : _≡_ {A = ℕ} 0 6 = (p .status (record { answer = Word missing6; presence = fresh 5000; order = login; taken = false }) (rest 0 0) 0 missing6 refl .2) in omega arith
 
 abbrev registering : Says
 registering = record { header = record { cla = 0; ins = 1; p1 = 3; p2 = 0 }; shape = 3; dataAt = 5; lc = 64; le = 0 }
@@ -176,9 +191,35 @@ placesOneOn p =
 -- ---- decisions and runs
 pub takenUnsaid : Claims.DecisionNumbers Wrong.takenUnsaid → ⊥
 takenUnsaid p =
-    let e : _≡_ {A = Bool} false true = p .taken (record { answer = Gives Ordered; presence = fresh 5000; order = login; taken = true }) in
+    let e : _≡_ {A = Bool} false true = p .taken (record { answer = Gives Ordered; presence = fresh 5000; order = login; taken = true }) (rest 0 0) 0 in
     let z : _≡_ {A = ℕ} 0 1 = cc in
     omega arith
+
+pub limitUnsaid : Claims.DecisionNumbers Wrong.limitUnsaid → ⊥
+limitUnsaid p = let e : _≡_ {A = ℕ} 0 256 = p .limit (record { answer = Gives Ordered; presence = fresh 5000; order = login; taken = true }) (rest 0 0) 256 in omega arith
+
+-- ---- a status word where something is left
+-- where nothing remains but a byte, and there is no room: R2
+pub neverFetched : Claims.StatedExactly Wrong.neverFetched → ⊥
+unfolding fetchPath nextPartOf partLength
+neverFetched p = r-word 2 (plainWord 0x6985) (sym (ap (λ (r : Result). r .answer) (p .fetched (plainWord 0x6985) false (fresh 5000) (fresh 5000) 1 (rest 0 1) 0 0 refl)))
+
+pub fetchedUnasked : Claims.StatedExactly Wrong.fetchedUnasked → ⊥
+unfolding statedOf fetchPath nextPartOf partLength
+fetchedUnasked p = r-word 2 (plainWord 0x6985) (ap (λ (r : Result). r .answer) (p .unasked (plainWord 0x6985) false (fresh 5000) (fresh 5000) 1 (rest 0 1) 0 0))
+
+-- ---- responses and parts
+pub responseStatusUnsaid : Claims.ResponseNumbers Wrong.responseStatusUnsaid → ⊥
+responseStatusUnsaid p = let e : _≡_ {A = ℕ} 0 0x9000 = ap (λ (r : ResponseSaid). r .status) (p .given (record { length = 6; status = 0x9000 })) in omega arith
+
+pub responseWithStatus : Claims.ResponseNumbers Wrong.responseWithStatus → ⊥
+responseWithStatus p = let e : _≡_ {A = ℕ} 8 6 = ap (λ (r : ResponseSaid). r .length) (p .given (record { length = 6; status = 0x9000 })) in omega arith
+
+pub refusalForgets : Claims.PartNumbers Wrong.refusalForgets → ⊥
+refusalForgets p = let e : _≡_ {A = ℕ} 0 5 = ap (λ (r : PartSaid). r .remainder .count) (p .refused 2 (rest 1 5)) in omega arith
+
+pub partForgets : Claims.PartNumbers Wrong.partForgets → ⊥
+partForgets p = let e : _≡_ {A = ℕ} 5 1 = ap (λ (r : PartSaid). r .remainder .count) (p .given (record { length = 6; remainder = rest 5 1 }) (rest 1 5)) in omega arith
 
 -- a check at moment 0 on a fresh record
 abbrev checkedAt0 : List Call
@@ -197,4 +238,85 @@ pub noKindIsR2 : Claims.OthersRefused writeNumbered Wrong.noKindIsR2 → ⊥
 noKindIsR2 p =
     let e : _≡_ {A = ℕ} 2 7 =
     ap said (p .kind (record { order = record { kind = 3; «to_sign» = 69; «certificate_length» = 0 }; block = []; certificate = []; signed = 1; signature = []; reply = [] }) (inr (omega arith))) in
+    omega arith
+
+-- ---- the exported decision
+abbrev hardware : (allowed : ℕ) → HardwareSaid
+hardware n = record { allowed = n; stored = 1; attestation = 1; good = 1; counted = 1; counter = 7 }
+
+-- with a live touch
+abbrev touched : PresenceRecord
+touched = record { w = 5000; prompt = 0; touch = 1; last = 0 }
+
+abbrev lending : (frame : List ℕ) (allowed : ℕ) (reply : List ℕ) → Remainder → (part : List ℕ) → ToDecide
+lending frame n reply r part =
+    record { frame = frame; moment = 1; presence = touched; hardware = hardware n; newHandle = []; certificate = []; x = replicate 32 1; y = replicate 32 2; reply = reply; block = []; remainder = r; part = part }
+
+abbrev fetchFrame : List ℕ
+fetchFrame = 0x00 ∷ 0xC0 ∷ 0x00 ∷ 0x00 ∷ []
+
+-- C0 where nothing is left: 6985, and its limit of 256
+pub limitOfBodiesAlone : Claims.DecideExported Wrong.limitOfBodiesAlone → ⊥
+unfolding decisionOf pathOf allowedPath commandPath versionPath registerPath registerEnding settleOf checkedOf fetchPath nextPartOf frameLimit limitOf partLength commandOf onReading byInstruction getResponseOf versionOf readBy sayOf lengthsOf shortOf extendedOf afterData allowedOf attestationOf leftStatus
+limitOfBodiesAlone p = let e : _≡_ {A = ℕ} 0 256 = p .limit (lending fetchFrame 1 [] (rest 0 0) []) frameLimit limits-exactly in omega arith
+
+-- Version, six bytes lent for its body and none for a part
+pub roomsSwapped : Claims.DecideExported Wrong.roomsSwapped → ⊥
+unfolding decisionOf pathOf allowedPath commandPath versionPath registerPath registerEnding settleOf checkedOf fetchPath nextPartOf frameLimit limitOf partLength commandOf onReading byInstruction getResponseOf versionOf readBy sayOf lengthsOf shortOf extendedOf afterData allowedOf attestationOf leftStatus
+roomsSwapped p =
+    let i = lending (0x00 ∷ 0x03 ∷ 0x00 ∷ 0x00 ∷ []) 1 (replicate 6 0) (rest 0 0) [] in
+    let x = p .row i in
+    let e : _≡_ {A = ℕ} 2 0x9000 = x .2 .answer ∙ ap (λ (r : Result). decidedNo (r .answer)) (sym (sound _ _ _ (x .0) (x .1))) in
+    omega arith
+
+-- C0 forbidden: 6986
+pub dropsAtC0 : Claims.DecideExported Wrong.dropsAtC0 → ⊥
+unfolding decisionOf pathOf allowedPath commandPath versionPath registerPath registerEnding settleOf checkedOf fetchPath nextPartOf frameLimit limitOf partLength commandOf onReading byInstruction getResponseOf versionOf readBy sayOf lengthsOf shortOf extendedOf afterData allowedOf attestationOf leftStatus
+dropsAtC0 p =
+    let said : Says = record { header = record { cla = 0x00; ins = 0xC0; p1 = 0x00; p2 = 0x00 }; shape = 1; lc = 0; le = 0; dataAt = 4 } in
+    let e : _≡_ {A = ℕ} 0 2 = ap (λ (r : Remainder). r .count) (p .keeps (lending fetchFrame 0 (7 ∷ 8 ∷ 9 ∷ []) (rest 1 2) (replicate 4 0)) said refl refl (omega arith) (omega arith)) in
+    omega arith
+
+-- of 7 8 9 the last two, into four zeros
+pub partOfItself : Claims.DecideExported Wrong.partOfItself → ⊥
+unfolding decisionOf pathOf allowedPath commandPath versionPath registerPath registerEnding settleOf checkedOf fetchPath nextPartOf frameLimit limitOf partLength commandOf onReading byInstruction getResponseOf versionOf readBy sayOf lengthsOf shortOf extendedOf afterData allowedOf attestationOf leftStatus
+partOfItself p =
+    let e : _≡_ {A = ℕ} 8 0 = ap (λ (o : Outcome Sent × List ℕ). byte (o .1) 0) (p .part (lending fetchFrame 1 (7 ∷ 8 ∷ 9 ∷ []) (rest 1 2) (replicate 4 0)) sendingOf next-exactly refl) in
+    omega arith
+
+pub partOverTheBody : Claims.DecideExported Wrong.partOverTheBody → ⊥
+unfolding decisionOf pathOf allowedPath commandPath versionPath registerPath registerEnding settleOf checkedOf fetchPath nextPartOf frameLimit limitOf partLength commandOf onReading byInstruction getResponseOf versionOf readBy sayOf lengthsOf shortOf extendedOf afterData allowedOf attestationOf leftStatus
+partOverTheBody p =
+    let e : _≡_ {A = ℕ} 8 7 = ap (λ (l : List ℕ). byte l 0) (p .reply (lending fetchFrame 1 (7 ∷ 8 ∷ 9 ∷ []) (rest 1 2) (replicate 4 0)) (λ z. omega arith)) in
+    omega arith
+
+-- a Register, with a touch: the byte behind the 04
+pub pointSwapped : Claims.DecideExported Wrong.pointSwapped → ⊥
+unfolding decisionOf pathOf allowedPath commandPath versionPath registerPath registerEnding settleOf checkedOf fetchPath nextPartOf frameLimit limitOf partLength commandOf onReading byInstruction getResponseOf versionOf readBy sayOf lengthsOf shortOf extendedOf afterData allowedOf attestationOf leftStatus registerOf enrolmentOrder registerOrderOf block applicationOf challengeOf dataOf partOf
+pointSwapped p =
+    let i = lending (0x00 ∷ 0x01 ∷ 0x00 ∷ 0x00 ∷ 0x40 ∷ replicate 64 0x00) 1 (replicate 139 0) (rest 0 0) [] in
+    let x = p .row i in
+    let e : _≡_ {A = ℕ} 2 1 = ap (λ (l : List ℕ). byte l 66) (x .3 refl ∙ ap (λ (r : Result). r .order .bytes) (sym (sound _ _ _ (x .0) (x .1)))) in
+    omega arith
+
+-- ---- the exported next part and response
+-- no room for the status
+pub nextForgets : Claims.NextPartExported Wrong.nextForgets → ⊥
+unfolding nextPartOf partLength
+nextForgets p =
+    let e : _≡_ {A = ℕ} 0 1 = ap (λ (s : PartSaid). s .remainder .count) (p .refused sendingOf next-exactly (7 ∷ []) (rest 0 1) 1 [] 2 refl .0) in
+    omega arith
+
+-- two bytes by one
+pub nextWhole : Claims.NextPartExported Wrong.nextWhole → ⊥
+unfolding nextPartOf partLength
+nextWhole p =
+    let e : _≡_ {A = ℕ} 4 3 = ap (λ (s : PartSaid). s .length) (p .given sendingOf next-exactly (7 ∷ 8 ∷ []) (rest 0 2) 1 (replicate 4 0) 3 (rest 1 1) refl .0) in
+    omega arith
+
+-- 6985
+pub responds9000 : Claims.ResponseExported Wrong.responds9000 → ⊥
+unfolding writeResponseOf
+responds9000 p =
+    let e : _≡_ {A = ℕ} 0x90 0x69 = ap (λ (l : List ℕ). byte l 0) (p .given writingOf writes-exactly [] 0x6985 (replicate 2 0) 2 refl .1) in
     omega arith

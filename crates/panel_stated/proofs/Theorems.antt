@@ -11,21 +11,22 @@ use Rattle.outcome.proofs.Laws.{word-same, word-gives, r-gives, r-word, both-ar
 use Rattle.apdu_stated.specs.Writing.{partsOf}
 use Rattle.u2f_up_stated.specs.declared.Window.{Window}
 use Rattle.u2f_up_stated.specs.declared.Window.the-variants.{Closed, Opened}
-use Rattle.signing_stated.specs.Orders.{kindNo}
-use Rattle.ctap1_stated.specs.Words.{Given, Body, Ordered}
+use Rattle.signing_stated.specs.Orders.{kindNo, blankOrder}
+use Rattle.ctap1_stated.specs.Words.{Given, Body, Ordered, Part}
 use Rattle.panel_stated.specs.Numbers.{answerNo, decidedNo, faultNo, placeNo, greatestNo, windowOf, windowNo, presenceOf, presenceNumbers, shapeOf, kindOf}
 use Rattle.ctap1_stated.specs.Decision.{blockAfter}
-use Rattle.panel_stated.specs.Exports.{ToWrite, ToFinish, inputsOf, writeAs, finishAs, writeNumbered, finishNumbered, orderAfter, frameNumbers, commandNumbers, lengthNumbers, askedNumbers, stepNumbers, madeNumbers, decisionNumbers, decidedBy, bodyLength}
+use Rattle.panel_stated.specs.Exports.{ToWrite, ToFinish, inputsOf, writeAs, finishAs, writeNumbered, finishNumbered, orderAfter, frameNumbers, commandNumbers, lengthNumbers, askedNumbers, stepNumbers, madeNumbers, decisionNumbers, decidedBy, saidBy, responseNumbers, partNumbers, statedOf, respondsOf, nextsOf, decidesOf, bodyLength}
 use Rattle.panel_stated.specs.Claims
-use Rattle.panel_stated.specs.Terms.{IsNumbered, IsOfMoment, AfterWriting, AfterDeciding, Carries, register, authenticate}
+use Rattle.panel_stated.specs.Terms.{IsNumbered, IsOfMoment, AfterWriting, AfterDeciding, AfterPart, AfterFetching, Carries, register, authenticate}
 use Rattle.panel_stated.specs.declared.Shaped.{Shaped}
 use Rattle.panel_stated.specs.declared.Shaped.the-variants as Shaped′
 use Rattle.panel_stated.specs.declared.Kinded.{Kinded}
 use Rattle.panel_stated.specs.declared.Kinded.the-variants as Kinded′
 use Rattle.panel_stated.proofs.Cases
 use Rattle.panel_stated.proofs.Outcomes
+use Rattle.panel_stated.proofs.Exported.{decide-exported, next-part-exported, response-exported}
 use Rattle.panel_stated.proofs.Runs.{runs-over}
-use mathlib.Core.Bool.{Bool}
+use mathlib.Core.Bool.{Bool, true, false}
 use mathlib.Core.List.{List}
 use Rattle.octets.specs.Bytes.{partOf}
 use Rattle.apdu_stated.specs.Answers.{Says}
@@ -35,7 +36,9 @@ use Rattle.command_stated.specs.Command.{Command, commandOf, challengeOf, appli
 use Rattle.command_stated.proofs.Laws.{RegisterExactly, AuthenticateExactly}
 use Rattle.u2f_up_stated.specs.Moments.{newOf, fresh, Told, settleOf, onSettled, touchOf, checkOf}
 use Rattle.u2f_up_stated.specs.declared.Presence.{Presence}
-use Rattle.ctap1_stated.specs.Words.{Inputs}
+use Rattle.ctap1_stated.specs.Words.{Inputs, Result}
+use Rattle.ctap1_stated.specs.Session.{remainderLeft}
+use Rattle.response_stated.specs.declared.Remainder.{Remainder}
 use Rattle.ctap1_stated.specs.Decision.{decisionOf}
 use Rattle.panel_stated.specs.Words.{Kind, Order, OrderNumbers}
 
@@ -53,6 +56,9 @@ EveryOutcomeNumbered =
       is-up-needed = Outcomes.ask-said;
       decide = λ i. Outcomes.decision-said (presenceOf (i .presence)) (i .moment) (inputsOf i);
       finish = λ i. finish (kindOf (i .order .kind)) i;
+      write-response = Outcomes.write-response-said;
+      read-response = Outcomes.read-response-said;
+      next-part = Outcomes.next-said;
     }
   where
     write : (s : Shaped) (w : ToWrite) → IsNumbered (writeAs s w)
@@ -85,33 +91,50 @@ AnswerTells = record { given = given; refused = refused; status = status }
     status (Gives a) h n low high = (λ e. absurd (omega (arith, e, high)), λ x. absurd (word-gives _ _ (sym (x .is))))
 
 pub DecisionTells : Claims.DecisionTells decidedNo
-DecisionTells = record { ordered = ordered; body = body; refused = refusal; status = status }
+DecisionTells = record { ordered = ordered; body = body; part = part; refused = refusal; status = status }
   where
     body-order : (n : ℕ) → _≡_ {A = Outcome Given} (Gives (Body n)) (Gives Ordered) → ⊥
     body-order n e = let z : _≡_ {A = ℕ} 0 1 = cc in omega arith
+
+    part-order : (n : ℕ) (r : Remainder) → _≡_ {A = Outcome Given} (Gives (Part n r)) (Gives Ordered) → ⊥
+    part-order n r e = let z : _≡_ {A = ℕ} 0 1 = cc in omega arith
+
+    part-body : (n : ℕ) (r : Remainder) (m : ℕ) → _≡_ {A = Outcome Given} (Gives (Part n r)) (Gives (Body m)) → ⊥
+    part-body n r m e = let z : _≡_ {A = ℕ} 0 1 = cc in omega arith
 
     ordered : (o : Outcome Given) → IsNumbered o → (decidedNo o ≡ 0x0100) ↔ (o ≡ Gives Ordered)
     ordered (R n) h = (λ e. absurd (omega (arith, e, h .1)), λ e. absurd (r-gives _ _ e))
     ordered (Word s) h = (λ e. absurd (omega (arith, e, h .0)), λ e. absurd (word-gives _ _ e))
     ordered (Gives (Body n)) h = (λ e. absurd (omega (arith, e)), λ e. absurd (body-order n e))
     ordered (Gives Ordered) h = (λ e. refl, λ e. refl)
+    ordered (Gives (Part n r)) h = (λ e. absurd (omega (arith, e)), λ e. absurd (part-order n r e))
 
     body : (o : Outcome Given) → IsNumbered o → (decidedNo o ≡ 0x9000) ↔ ((n : ℕ) × (o ≡ Gives (Body n)))
     body (R n) h = (λ e. absurd (omega (arith, e, h .1)), λ x. absurd (r-gives _ _ (x .1)))
     body (Word s) h = (λ e. absurd (omega (arith, e, h .1)), λ x. absurd (word-gives _ _ (x .1)))
     body (Gives (Body n)) h = (λ e. (n, refl), λ x. refl)
     body (Gives Ordered) h = (λ e. absurd (omega (arith, e)), λ x. absurd (body-order (x .0) (sym (x .1))))
+    body (Gives (Part n r)) h = (λ e. absurd (omega (arith, e)), λ x. absurd (part-body n r (x .0) (x .1)))
+
+    part : (o : Outcome Given) → IsNumbered o → (decidedNo o ≡ 0x0200) ↔ ((n : ℕ) × (r : Remainder) × (o ≡ Gives (Part n r)))
+    part (R n) h = (λ e. absurd (omega (arith, e, h .1)), λ x. absurd (r-gives _ _ (x .2)))
+    part (Word s) h = (λ e. absurd (omega (arith, e, h .0)), λ x. absurd (word-gives _ _ (x .2)))
+    part (Gives (Body n)) h = (λ e. absurd (omega (arith, e)), λ x. absurd (part-body (x .0) (x .1) n (sym (x .2))))
+    part (Gives Ordered) h = (λ e. absurd (omega (arith, e)), λ x. absurd (part-order (x .0) (x .1) (sym (x .2))))
+    part (Gives (Part n r)) h = (λ e. (n, r, refl), λ x. refl)
 
     refusal : (o : Outcome Given) → IsNumbered o → (n : ℕ) → 1 ≤ n → n ≤ lastRefusal → (decidedNo o ≡ n) ↔ (o ≡ R n)
     refusal (R m) h n low high = (λ e. ap R e, λ e. cc)
     refusal (Word s) h n low high = (λ e. absurd (omega (arith, e, h .0, high)), λ e. absurd (r-word _ _ (sym e)))
     refusal (Gives (Body m)) h n low high = (λ e. absurd (omega (arith, e, high)), λ e. absurd (r-gives _ _ (sym e)))
+    refusal (Gives (Part m r)) h n low high = (λ e. absurd (omega (arith, e, high)), λ e. absurd (r-gives _ _ (sym e)))
     refusal (Gives Ordered) h n low high = (λ e. absurd (omega (arith, e, high)), λ e. absurd (r-gives _ _ (sym e)))
 
     status : (o : Outcome Given) → IsNumbered o → (n : ℕ) → 0x6000 ≤ n → n < 0x9000 → (decidedNo o ≡ n) ↔ HasStatus n o
     status (R m) h n low high = (λ e. absurd (omega (arith, e, h .1, low)), λ x. absurd (r-word _ _ (x .is)))
     status (Word s) h n low high = (λ e. record { word = s; is = refl; numbered = e }, λ x. same-number s (x .word) (x .is) ∙ x .numbered)
     status (Gives (Body m)) h n low high = (λ e. absurd (omega (arith, e, high)), λ x. absurd (word-gives _ _ (sym (x .is))))
+    status (Gives (Part m r)) h n low high = (λ e. absurd (omega (arith, e, low)), λ x. absurd (word-gives _ _ (sym (x .is))))
     status (Gives Ordered) h n low high = (λ e. absurd (omega (arith, e, low)), λ x. absurd (word-gives _ _ (sym (x .is))))
 
 pub NoAnswerIs0 : Claims.NoAnswerIs0 answerNo decidedNo
@@ -127,6 +150,7 @@ NoAnswerIs0 = record { answered = answered; decision = decision }
     decision (Word s) h e = omega (arith, e, h .0)
     decision (Gives (Body n)) h e = omega (arith, e)
     decision (Gives Ordered) h e = omega (arith, e)
+    decision (Gives (Part n r)) h e = omega (arith, e)
 
 -- ---- records
 number-back : (n : ℕ) → n < 2 ^ 64 → windowNo (windowOf n) ≡ n
@@ -215,12 +239,19 @@ CommandNumbers =
       refused = λ n. refl;
       status = λ n. refl;
       version = refl;
+      get-response = refl;
       register = λ s. refl;
       authenticate = λ p1 s. refl;
     }
 
 pub LengthNumbers : Claims.LengthNumbers lengthNumbers
 LengthNumbers = record { refused = λ n. refl; status = λ n. refl; given = λ n. refl }
+
+pub ResponseNumbers : Claims.ResponseNumbers responseNumbers
+ResponseNumbers = record { refused = λ n. refl; status = λ n. refl; given = λ r. refl }
+
+pub PartNumbers : Claims.PartNumbers partNumbers
+PartNumbers = record { refused = λ n k. refl; status = λ n k. refl; given = λ sent k. refl }
 
 pub AskedNumbers : Claims.AskedNumbers askedNumbers
 AskedNumbers = record { refused = λ n. refl; status = λ n. refl; given = λ b. refl }
@@ -237,6 +268,7 @@ OrderNumbersExactly =
       refused = λ n o. refl;
       status = λ n o. refl;
       body = λ n o. refl;
+      part = λ n after o. refl;
       register = λ o k. ap (numbered o) k;
       authenticate = λ o k. ap (numbered o) k;
     }
@@ -244,9 +276,23 @@ OrderNumbersExactly =
     numbered : Order → Kind → OrderNumbers
     numbered o k = record { kind = kindNo k; «to_sign» = o .«to_sign»; «certificate_length» = o .«certificate_length» }
 
+pub StatedExactly : Claims.StatedExactly statedOf
+unfolding statedOf
+StatedExactly =
+    record {
+      unasked = λ w taken kept settled room k limit partRoom. refl;
+      other = λ w asks taken kept settled room k limit partRoom n. by w asks taken kept settled room k limit partRoom n;
+      fetched = λ w taken kept settled room k limit partRoom e. rw e;
+    }
+  where
+    by : (w : StatusWord) (asks taken : Bool) (kept settled : Presence) (room : ℕ) (k : Remainder) (limit partRoom : ℕ) → (w .number ≡ 0x6985 → ⊥)
+        → statedOf w asks taken kept settled room k limit partRoom ≡ record { answer = Word w; presence = settled; order = blankOrder; taken = taken }
+    by w true taken kept settled room k limit partRoom n = rw (ne-eqb (w .number) 0x6985 n)
+    by w false taken kept settled room k limit partRoom n = refl
+
 pub BlockExactly : Claims.BlockExactly blockAfter
 BlockExactly =
-    record { refused = λ n bytes old. refl; status = λ n bytes old. refl; body = λ n bytes old. refl; ordered = λ bytes old. refl }
+    record { refused = λ n bytes old. refl; status = λ n bytes old. refl; body = λ n bytes old. refl; part = λ n rest bytes old. refl; ordered = λ bytes old. refl }
 
 -- ---- places
 pub PlacesCut : Claims.PlacesCut frameNumbers commandNumbers
@@ -291,30 +337,52 @@ decision-kept p t a (R n) e h low high = Outcomes.decision-refused p t a n e
 decision-kept p t a (Word s) e h low high = absurd (omega (arith, h .0))
 decision-kept p t a (Gives (Body n)) e h low high = absurd (omega arith)
 decision-kept p t a (Gives Ordered) e h low high = absurd (omega arith)
+decision-kept p t a (Gives (Part n r)) e h low high = absurd (omega arith)
 
-pub RefusalHandsBack : Claims.RefusalHandsBack (λ n t. stepNumbers (touchOf (presenceOf n) t)) (λ n t. stepNumbers (checkOf (presenceOf n) t)) (λ i. decisionNumbers (decidedBy i))
+remainder-kept : (a : Inputs) (r : Result) (o : Outcome Given) → r .answer ≡ o → IsNumbered o → 1 ≤ decidedNo o → decidedNo o ≤ lastRefusal → remainderLeft a r ≡ a .remainder
+remainder-kept a r (R n) e h low high = rw e
+remainder-kept a r (Word s) e h low high = absurd (omega (arith, h .0))
+remainder-kept a r (Gives (Body n)) e h low high = absurd (omega arith)
+remainder-kept a r (Gives Ordered) e h low high = absurd (omega arith)
+remainder-kept a r (Gives (Part n k)) e h low high = absurd (omega arith)
+
+pub RefusalHandsBack : Claims.RefusalHandsBack (λ n t. stepNumbers (touchOf (presenceOf n) t)) (λ n t. stepNumbers (checkOf (presenceOf n) t)) saidBy
 unfolding touchOf checkOf
 RefusalHandsBack =
     record {
       grant-up = λ n t h low. ap presenceNumbers (refused-record (presenceOf n) (settleOf (presenceOf n) t) _ (Outcomes.settle-said (presenceOf n) t) (λ q. (_, refl)) low) ∙ NumbersBack n h;
       consume-up = λ n t h low. ap presenceNumbers (refused-record (presenceOf n) (settleOf (presenceOf n) t) _ (Outcomes.settle-said (presenceOf n) t) (λ q. (_, refl)) low) ∙ NumbersBack n h;
       decided =
-          λ i h low high.
-          ap presenceNumbers (decision-kept (presenceOf (i .presence)) (i .moment) (inputsOf i) (decidedBy i .answer) refl (EveryOutcomeNumbered .decide i) low high)
-          ∙ NumbersBack (i .presence) h;
+          λ i h low high. (
+            ap presenceNumbers (decision-kept (presenceOf (i .presence)) (i .moment) (inputsOf i) (decidedBy i .answer) refl (EveryOutcomeNumbered .decide i) low high) ∙ NumbersBack (i .presence) h,
+            remainder-kept (inputsOf i) (decidedBy i) (decidedBy i .answer) refl (EveryOutcomeNumbered .decide i) low high,
+          );
     }
 
 pub DecisionNumbers : Claims.DecisionNumbers decisionNumbers
 DecisionNumbers =
     record {
-      refused = λ r n e. (ap decidedNo e, ap faultNo e, ap placeNo e, ap bodyLength e);
-      status = λ r s e. (ap decidedNo e, ap faultNo e, ap placeNo e, ap bodyLength e);
-      body = λ r n e. (ap decidedNo e, ap faultNo e, ap placeNo e, ap bodyLength e);
-      ordered = λ r e. (ap decidedNo e, ap faultNo e, ap placeNo e, ap bodyLength e);
-      taken = λ r. refl;
-      order = λ r. refl;
-      presence = λ r. refl;
+      refused = λ r k l n e. (ap decidedNo e, ap faultNo e, ap placeNo e, ap bodyLength e);
+      status = λ r k l s e. (ap decidedNo e, ap faultNo e, ap placeNo e, ap bodyLength e);
+      body = λ r k l n e. (ap decidedNo e, ap faultNo e, ap placeNo e, ap bodyLength e);
+      part = λ r k l n after e. (ap decidedNo e, ap faultNo e, ap placeNo e, ap bodyLength e);
+      ordered = λ r k l e. (ap decidedNo e, ap faultNo e, ap placeNo e, ap bodyLength e);
+      taken = λ r k l. refl;
+      order = λ r k l. refl;
+      presence = λ r k l. refl;
+      remainder = λ r k l. refl;
+      limit = λ r k l. refl;
     }
+
+-- ---- as they are exported
+pub DecideExported : Claims.DecideExported decidesOf
+DecideExported = decide-exported
+
+pub NextPartExported : Claims.NextPartExported nextsOf
+NextPartExported = next-part-exported
+
+pub ResponseExported : Claims.ResponseExported respondsOf
+ResponseExported = response-exported
 
 -- ---- runs
 new-record : (w : ℕ) → 0 < w → w ≤ 60000 → madeNumbers (newOf w) .presence ≡ presenceNumbers (fresh w)
@@ -343,10 +411,11 @@ ResultsDetermined =
       asked-plain = λ answer a b. both-are a b;
       step-plain = λ step a b. both-are a b;
       kind-numbered = λ n a b. both-are a b;
-      refused-numbers = λ why taken p a b. both-are a b;
-      status-numbers = λ s taken p a b. both-are a b;
-      body-numbers = λ n taken p a b. both-are a b;
-      order-numbers = λ head taken p a b. both-are a b;
+      refused-numbers = λ why taken p k l a b. both-are a b;
+      status-numbers = λ s taken p k l a b. both-are a b;
+      body-numbers = λ n taken p k l a b. both-are a b;
+      part-numbers = λ n taken p k l a b. both-are a b;
+      order-numbers = λ head taken p k l a b. both-are a b;
       finished-plain = λ finished a b. both-are a b;
       brinecandle-read = λ frame a b. both-are a b;
       brinecandle-read-strict = λ frame a b. both-are a b;
@@ -356,12 +425,25 @@ ResultsDetermined =
       brinecandle-grant-up = λ n t a b. both-are a b;
       brinecandle-consume-up = λ n t a b. both-are a b;
       brinecandle-is-up-needed = λ n t a b. both-are a b;
-      brinecandle-decide = λ i a b p q. decided a b (both-are _ _ (p .0) (q .0)) (both-are _ _ (p .1) (q .1)) (both-are _ _ (p .2) (q .2));
+      brinecandle-decide = λ i a b p q. decided a b (both-are _ _ (p .0) (q .0)) (both-are _ _ (p .1) (q .1)) (both-are _ _ (p .2) (q .2)) (both-are _ _ (p .3) (q .3));
       brinecandle-finish = λ i a b p q. written a b (both-are _ _ (p .0) (q .0)) (both-are _ _ (p .1) (q .1));
+      response-plain = λ read a b. both-are a b;
+      wrote-response-plain = λ written a b. both-are a b;
+      next-plain = λ next kept a b. both-are a b;
+      stated-numbers = λ s asks taken kept settled k l body old a b p q. fetched a b (both-are _ _ (p .0) (q .0)) (both-are _ _ (p .1) (q .1));
+      brinecandle-write-response = λ body status old a b p q. written a b (both-are _ _ (p .0) (q .0)) (both-are _ _ (p .1) (q .1));
+      brinecandle-read-response = λ response a b. both-are a b;
+      brinecandle-next-part = λ body k l old a b p q. parted a b (both-are _ _ (p .0) (q .0)) (both-are _ _ (p .1) (q .1));
     }
   where
     written : (a b : AfterWriting) → a .said ≡ b .said → a .buffer ≡ b .buffer → a ≡ b
     written a b e f = λ d. record { said = e d; buffer = f d }
 
-    decided : (a b : AfterDeciding) → a .said ≡ b .said → a .reply ≡ b .reply → a .block ≡ b .block → a ≡ b
-    decided a b e f g = λ d. record { said = e d; reply = f d; block = g d }
+    decided : (a b : AfterDeciding) → a .said ≡ b .said → a .reply ≡ b .reply → a .block ≡ b .block → a .part ≡ b .part → a ≡ b
+    decided a b e f g h = λ d. record { said = e d; reply = f d; block = g d; part = h d }
+
+    parted : (a b : AfterPart) → a .said ≡ b .said → a .buffer ≡ b .buffer → a ≡ b
+    parted a b e f = λ d. record { said = e d; buffer = f d }
+
+    fetched : (a b : AfterFetching) → a .said ≡ b .said → a .buffer ≡ b .buffer → a ≡ b
+    fetched a b e f = λ d. record { said = e d; buffer = f d }

@@ -2,20 +2,27 @@
 -- proofs/Only.antt that no others meet the claims named '..Numbers', proofs/Refuted.antt that the wrong programs of
 -- specs/Wrong.antt do not.
 use mathlib.Core.Logic.{_↔_, _⊎_}
+use mathlib.Core.List.{_∷_}
+use lib.ListN.{drop}
 use Rattle.panel_stated.specs.Words.{ℕ, _≡_, _≤_, _<_, Bool, List, AtMostOne, StatusWord, Outcome, R, Word, Gives, HasStatus, lastRefusal, Closed, Opened, Presence, Order, Head}
 use Rattle.panel_stated.specs.Words.{Instruction, Le1, Lc1Data, Lc1DataLe1, Lc3Data, Lc3DataLe1, Lc3DataLe2, Le3}
 use Rattle.panel_stated.specs.Words.{PresenceRecord, OrderNumbers, Shaped, Kinded}
-use Rattle.panel_stated.specs.Words.{FrameSaid, CommandSaid, Wrote, Made, Stepped, Asked, DecisionSaid}
-use Rattle.panel_stated.specs.Words.{Says, Command, Register, Authenticate, Version, Told, length, _+_, false, readOf, strictOf, commandOf, newOf, touchOf, checkOf, askOf, finishOf, Given, Body, Ordered, Result}
+use Rattle.panel_stated.specs.Words.{FrameSaid, CommandSaid, Wrote, Made, Stepped, Asked, DecisionSaid, ResponseSaid, PartSaid}
+use Rattle.panel_stated.specs.Words.{Says, Command, Register, Authenticate, Version, GetResponse, Told, length, Remainder, Response, Sent, along, fetchPath, true, writeResponseOf, readResponseOf, nextPartOf, _+_, false, readOf, strictOf, commandOf, newOf, touchOf, checkOf, askOf, finishOf, Given, Body, Ordered, Part, Result}
 use Rattle.panel_stated.specs.Exports.{orderAfter, ToWrite, ToDecide, ToFinish, decidedBy, writeNumbered, finishNumbered}
-use Rattle.panel_stated.specs.Contracts.{ShapeNumbered, FramePlain, WritePlain, CommandPlain, RecordLent, RecordPlain, MadePlain, AskedPlain, StepPlain, KindNumbered, RefusedPlain, StatusPlain, BodyPlain, OrderPlain, FinishedPlain}
-use Rattle.panel_stated.specs.Contracts.{BrinecandleRead, BrinecandleReadStrict, BrinecandleWrite, BrinecandleReadCommand, BrinecandleNew, BrinecandleGrantUp, BrinecandleConsumeUp, BrinecandleIsUpNeeded, BrinecandleDecide, BrinecandleFinish}
+use Rattle.panel_stated.specs.Contracts.{ShapeNumbered, FramePlain, WritePlain, CommandPlain, RecordLent, RecordPlain, MadePlain, AskedPlain, StepPlain, KindNumbered, RefusedPlain, StatusPlain, BodyPlain, PartPlain, OrderPlain, FinishedPlain, ResponsePlain, WroteResponsePlain, NextPlain, StatedPlain}
+use Rattle.panel_stated.specs.Contracts.{BrinecandleRead, BrinecandleReadStrict, BrinecandleWrite, BrinecandleReadCommand, BrinecandleNew, BrinecandleGrantUp, BrinecandleConsumeUp, BrinecandleIsUpNeeded, BrinecandleDecide, BrinecandleFinish, BrinecandleWriteResponse, BrinecandleReadResponse, BrinecandleNextPart}
 use Rattle.octets.specs.Bytes.{partOf}
 use Rattle.apdu_stated.specs.Reading.{dataOf}
 use Rattle.command_stated.specs.Command.{challengeOf, applicationOf, handleOf}
-use Rattle.panel_stated.specs.Numbers.{presenceNumbers, isYes}
+use Rattle.panel_stated.specs.Numbers.{presenceNumbers, presenceOf, hardwareOf, isYes}
+use Rattle.ctap1_stated.specs.Claims as Decision
+use Rattle.ctap1_stated.specs.Table.{Answers}
+use Rattle.response_stated.specs.Claims as Responses
+use Rattle.response_stated.specs.Terms.{Sender, Writer, sending}
+use Rattle.signing_stated.specs.Orders.{blankOrder}
 use Rattle.u2f_up_stated.specs.Runs.{Caller, Keeps, after, next}
-use Rattle.panel_stated.specs.Terms.{numbersAfter, IsNumbered, IsOfMoment, AreOf64Bits, Carries, AfterWriting, AfterDeciding}
+use Rattle.panel_stated.specs.Terms.{numbersAfter, IsNumbered, IsOfMoment, AreOf64Bits, Carries, AfterWriting, AfterDeciding, AfterPart, AfterFetching, Reports}
 use Rattle.outcome.specs.declared.ApduStatusCode.{ApduStatusCode}
 use Rattle.outcome.specs.declared.Refusal.{Refusal}
 use Rattle.apdu_stated.specs.declared.Apdu.{Apdu}
@@ -25,6 +32,9 @@ use Rattle.u2f_up_stated.specs.declared.Ready.{Ready}
 use Rattle.u2f_up_stated.specs.declared.Answer.{Answer}
 use Rattle.u2f_up_stated.specs.declared.Step.{Step}
 use Rattle.signing_stated.specs.declared.Finished.{Finished}
+use Rattle.response_stated.specs.declared.ReadResponse.{ReadResponse}
+use Rattle.response_stated.specs.declared.WroteResponse.{WroteResponse}
+use Rattle.response_stated.specs.declared.NextPart.{NextPart}
 use Rattle.signing_stated.specs.declared.Kind.the-variants as Kind′
 use Rattle.panel_stated.specs.declared.Shaped.the-variants as Shaped′
 use Rattle.panel_stated.specs.declared.Kinded.the-variants as Kinded′
@@ -44,6 +54,9 @@ pub record EveryOutcomeNumbered : Type 0 where
   pub is-up-needed : (p : Presence) (t : ℕ) → IsNumbered (askOf p t .outcome)
   pub decide : (i : ToDecide) → IsNumbered (decidedBy i .answer)
   pub finish : (i : ToFinish) → IsNumbered (finishNumbered i)
+  pub write-response : (body : List ℕ) (room : ℕ) → IsNumbered (writeResponseOf body room)
+  pub read-response : (response : List ℕ) → IsNumbered (readResponseOf response)
+  pub next-part : (bodyRoom : ℕ) (r : Remainder) (limit room : ℕ) → IsNumbered (nextPartOf bodyRoom r limit room)
 
 -- So the number 9000 is exactly what was asked for, a refusal's number exactly that refusal, and a status word's exactly that
 -- status word, whatever its pair. 01: "a definition gives this paper's number and values for each of its cases". A table that gives 9000 for a
@@ -53,11 +66,13 @@ pub record AnswerTells (number : Outcome Bool → ℕ) : Type 0 where
   pub refused : (o : Outcome Bool) → IsNumbered o → (n : ℕ) → n ≤ lastRefusal → (number o ≡ n) ↔ (o ≡ R n)
   pub status : (o : Outcome Bool) → IsNumbered o → (n : ℕ) → 0x6000 ≤ n → n < 0x9000 → (number o ≡ n) ↔ HasStatus n o
 
--- Of a decision, 0100 is exactly an order, 9000 exactly a body, a refusal's number exactly that refusal, a status word's exactly
--- that. A table that numbers an order as R2 (`orderNumbered2`) fails it: the firmware would take the order for a refusal.
+-- Of a decision, 0100 is exactly an order, 9000 exactly a body, 0200 exactly a part, a refusal's number exactly that refusal, a status word's
+-- exactly that. A table that numbers an order as R2 (`orderNumbered2`) fails it: the firmware would take the order for a refusal; and
+-- one that numbers a part as a body (`partAsBody`): it would be cut again, its status with it.
 pub record DecisionTells (number : Outcome Given → ℕ) : Type 0 where
   pub ordered : (o : Outcome Given) → IsNumbered o → (number o ≡ 0x0100) ↔ (o ≡ Gives Ordered)
   pub body : (o : Outcome Given) → IsNumbered o → (number o ≡ 0x9000) ↔ ((n : ℕ) × (o ≡ Gives (Body n)))
+  pub part : (o : Outcome Given) → IsNumbered o → (number o ≡ 0x0200) ↔ ((n : ℕ) × (after : Remainder) × (o ≡ Gives (Part n after)))
   pub refused : (o : Outcome Given) → IsNumbered o → (n : ℕ) → 1 ≤ n → n ≤ lastRefusal → (number o ≡ n) ↔ (o ≡ R n)
   pub status : (o : Outcome Given) → IsNumbered o → (n : ℕ) → 0x6000 ≤ n → n < 0x9000 → (number o ≡ n) ↔ HasStatus n o
 
@@ -103,11 +118,12 @@ pub record RunsOverNumbers (made : ℕ → Made) (lend : PresenceRecord → Pres
       → (ds : List D) (d : D) → 𝒞 .does (lend (numbersAfter made lend plain 𝒞 w ds)) d .outcome ≡ next 𝒞 w ds d
 
 -- "An R refusal changes no buffer and no record", said of the numbers: beside a refusal's number stands the record that was lent,
--- number by number. A check that moves the last moment all the same (`refusedMoves`) fails it, before the last moment.
+-- number by number, and after a decision the remainder too (02, E2: "any R refusal keeps it"). A check that moves the last moment all
+-- the same (`refusedMoves`) fails it, before the last moment.
 pub record RefusalHandsBack (touch check : PresenceRecord → ℕ → Stepped) (decide : ToDecide → DecisionSaid) : Type 0 where
   pub grant-up : (n : PresenceRecord) (t : ℕ) → AreOf64Bits n → touch n t .answer ≤ lastRefusal → touch n t .presence ≡ n
   pub consume-up : (n : PresenceRecord) (t : ℕ) → AreOf64Bits n → check n t .answer ≤ lastRefusal → check n t .presence ≡ n
-  pub decided : (i : ToDecide) → AreOf64Bits (i .presence) → 1 ≤ decide i .answer → decide i .answer ≤ lastRefusal → decide i .presence ≡ i .presence
+  pub decided : (i : ToDecide) → AreOf64Bits (i .presence) → 1 ≤ decide i .answer → decide i .answer ≤ lastRefusal → (decide i .presence ≡ i .presence) × (decide i .remainder ≡ i .remainder)
 
 -- ---- numbers that stand for cases
 
@@ -189,6 +205,7 @@ pub record CommandNumbers (plain : Outcome Command → CommandSaid) : Type 0 whe
         place = s .place;
       }
   pub version : plain (Gives Version) ≡ record { answer = 0x9000; fault = 0; command = 3; p1 = 0; challenge = 0; application = 0; handle = 0; «handle_end» = 0; place = 0 }
+  pub get-response : plain (Gives GetResponse) ≡ record { answer = 0x9000; fault = 0; command = 0xC0; p1 = 0; challenge = 0; application = 0; handle = 0; «handle_end» = 0; place = 0 }
   pub register : (s : Says) → plain (Gives (Register s))
       ≡ record { answer = 0x9000; fault = 0; command = 1; p1 = 0; challenge = s .dataAt; application = s .dataAt + 32; handle = 0; «handle_end» = 0; place = 0 }
   pub authenticate : (p1 : ℕ) (s : Says) → plain (Gives (Authenticate p1 s))
@@ -210,6 +227,21 @@ pub record LengthNumbers (plain : Outcome ℕ → Wrote) : Type 0 where
   pub refused : (n : ℕ) → plain (R n) ≡ record { answer = n; length = 0 }
   pub status : (s : StatusWord) → plain (Word s) ≡ record { answer = s .number; length = 0 }
   pub given : (n : ℕ) → plain (Gives n) ≡ record { answer = 0x9000; length = n }
+
+-- A response's status and its body's length, or zeros beside a refusal. A table that never says the status (`responseStatusUnsaid`) fails it, and
+-- one that counts the status in (`responseWithStatus`).
+pub record ResponseNumbers (plain : Outcome Response → ResponseSaid) : Type 0 where
+  pub refused : (n : ℕ) → plain (R n) ≡ record { answer = n; status = 0; length = 0 }
+  pub status : (s : StatusWord) → plain (Word s) ≡ record { answer = s .number; status = 0; length = 0 }
+  pub given : (r : Response) → plain (Gives r) ≡ record { answer = 0x9000; status = r .status; length = r .length }
+
+-- A part's response and what remains after it; beside a refusal what remained before: E2's request: "an R refusal keeps remainder and buffer". A table
+-- that hands back nothing with R2 (`refusalForgets`) fails it: what was left could not be fetched any more; and one that
+-- hands back what remained before a part (`partForgets`).
+pub record PartNumbers (plain : Outcome Sent → Remainder → PartSaid) : Type 0 where
+  pub refused : (n : ℕ) (kept : Remainder) → plain (R n) kept ≡ record { answer = n; length = 0; remainder = kept }
+  pub status : (s : StatusWord) (kept : Remainder) → plain (Word s) kept ≡ record { answer = s .number; length = 0; remainder = kept }
+  pub given : (sent : Sent) (kept : Remainder) → plain (Gives sent) kept ≡ record { answer = 0x9000; length = sent .length; remainder = sent .remainder }
 
 -- What a touch, a check or an ask says: `yes` beside 9000 alone. A table that says yes beside a refusal (`yesBesideRefusal`) fails it:
 -- the firmware would take a refused touch for an accepted one. So does one that never says yes (`alwaysNo`).
@@ -237,22 +269,82 @@ pub record OrderNumbersExactly (plain : Outcome Given → Order → OrderNumbers
   pub refused : (n : ℕ) (o : Order) → plain (R n) o ≡ record { kind = 0; «to_sign» = 0; «certificate_length» = 0 }
   pub status : (s : StatusWord) (o : Order) → plain (Word s) o ≡ record { kind = 0; «to_sign» = 0; «certificate_length» = 0 }
   pub body : (n : ℕ) (o : Order) → plain (Gives (Body n)) o ≡ record { kind = 0; «to_sign» = 0; «certificate_length» = 0 }
+  pub part : (n : ℕ) (after : Remainder) (o : Order) → plain (Gives (Part n after)) o ≡ record { kind = 0; «to_sign» = 0; «certificate_length» = 0 }
   pub register : (o : Order) → o .kind ≡ Kind′.Register
       → plain (Gives Ordered) o ≡ record { kind = 1; «to_sign» = o .«to_sign»; «certificate_length» = o .«certificate_length» }
   pub authenticate : (o : Order) → o .kind ≡ Kind′.Authenticate
       → plain (Gives Ordered) o ≡ record { kind = 2; «to_sign» = o .«to_sign»; «certificate_length» = o .«certificate_length» }
 
 -- A decision's numbers. A decision whose counter was taken and goes out as not taken (`takenUnsaid`) fails it: the counter would not
--- grow; and one that keeps the pair of a 6700 to itself (`decisionFaultUnsaid`).
-pub record DecisionNumbers (plain : Result → DecisionSaid) : Type 0 where
-  pub refused : (r : Result) (n : ℕ) → r .answer ≡ R n → (plain r .answer ≡ n) × (plain r .fault ≡ 0) × (plain r .place ≡ 0) × (plain r .length ≡ 0)
-  pub status : (r : Result) (s : StatusWord) → r .answer ≡ Word s
-      → (plain r .answer ≡ s .number) × (plain r .fault ≡ s .kind) × (plain r .place ≡ s .place) × (plain r .length ≡ 0)
-  pub body : (r : Result) (n : ℕ) → r .answer ≡ Gives (Body n) → (plain r .answer ≡ 0x9000) × (plain r .fault ≡ 0) × (plain r .place ≡ 0) × (plain r .length ≡ n)
-  pub ordered : (r : Result) → r .answer ≡ Gives Ordered → (plain r .answer ≡ 0x0100) × (plain r .fault ≡ 0) × (plain r .place ≡ 0) × (plain r .length ≡ 0)
-  pub taken : (r : Result) → plain r .taken ≡ r .taken
-  pub order : (r : Result) → plain r .order ≡ orderAfter (r .answer) (r .order)  -- by `OrderNumbersExactly`
-  pub presence : (r : Result) → plain r .presence ≡ presenceNumbers (r .presence)  -- by `RecordNumbers` and `NumbersBack`
+-- grow; one that keeps the pair of a 6700 to itself (`decisionFaultUnsaid`), and one that never says a limit (`limitUnsaid`): every body
+-- would go out whole.
+pub record DecisionNumbers (plain : Result → Remainder → (limit : ℕ) → DecisionSaid) : Type 0 where
+  pub refused : (r : Result) (k : Remainder) (l n : ℕ) → r .answer ≡ R n → (plain r k l .answer ≡ n) × (plain r k l .fault ≡ 0) × (plain r k l .place ≡ 0) × (plain r k l .length ≡ 0)
+  pub status : (r : Result) (k : Remainder) (l : ℕ) (s : StatusWord) → r .answer ≡ Word s
+      → (plain r k l .answer ≡ s .number) × (plain r k l .fault ≡ s .kind) × (plain r k l .place ≡ s .place) × (plain r k l .length ≡ 0)
+  pub body : (r : Result) (k : Remainder) (l n : ℕ) → r .answer ≡ Gives (Body n) → (plain r k l .answer ≡ 0x9000) × (plain r k l .fault ≡ 0) × (plain r k l .place ≡ 0) × (plain r k l .length ≡ n)
+  pub part : (r : Result) (k : Remainder) (l n : ℕ) (after : Remainder) → r .answer ≡ Gives (Part n after)
+      → (plain r k l .answer ≡ 0x0200) × (plain r k l .fault ≡ 0) × (plain r k l .place ≡ 0) × (plain r k l .length ≡ n)
+  pub ordered : (r : Result) (k : Remainder) (l : ℕ) → r .answer ≡ Gives Ordered → (plain r k l .answer ≡ 0x0100) × (plain r k l .fault ≡ 0) × (plain r k l .place ≡ 0) × (plain r k l .length ≡ 0)
+  pub taken : (r : Result) (k : Remainder) (l : ℕ) → plain r k l .taken ≡ r .taken
+  pub order : (r : Result) (k : Remainder) (l : ℕ) → plain r k l .order ≡ orderAfter (r .answer) (r .order)  -- by `OrderNumbersExactly`
+  pub presence : (r : Result) (k : Remainder) (l : ℕ) → plain r k l .presence ≡ presenceNumbers (r .presence)  -- by `RecordNumbers` and `NumbersBack`
+  pub remainder : (r : Result) (k : Remainder) (l : ℕ) → plain r k l .remainder ≡ k
+  pub limit : (r : Result) (k : Remainder) (l : ℕ) → plain r k l .limit ≡ l
+
+-- What a decision's status word, found as if nothing were left, comes to where something may be: the word itself, but for the 6985 of a frame that asks
+-- for the next part, which gets it. 02, E2: "then 6985 when nothing remains; then .." the part. One that never fetches (`neverFetched`)
+-- fails it, and one that fetches at any 6985 (`fetchedUnasked`): a Register without a touch would get a part of an earlier body.
+pub record StatedExactly (stated : StatusWord → (asks taken : Bool) → (kept settled : Presence) → (room : ℕ) → Remainder → (limit partRoom : ℕ) → Result) : Type 0 where
+  pub unasked : (w : StatusWord) (taken : Bool) (kept settled : Presence) (room : ℕ) (k : Remainder) (limit partRoom : ℕ)
+      → stated w false taken kept settled room k limit partRoom ≡ record { answer = Word w; presence = settled; order = blankOrder; taken = taken }
+  pub other : (w : StatusWord) (asks taken : Bool) (kept settled : Presence) (room : ℕ) (k : Remainder) (limit partRoom : ℕ) → (w .number ≡ 0x6985 → ⊥)
+      → stated w asks taken kept settled room k limit partRoom ≡ record { answer = Word w; presence = settled; order = blankOrder; taken = taken }
+  pub fetched : (w : StatusWord) (taken : Bool) (kept settled : Presence) (room : ℕ) (k : Remainder) (limit partRoom : ℕ) → w .number ≡ 0x6985
+      → stated w true taken kept settled room k limit partRoom ≡ along (fetchPath room k limit partRoom) kept settled 0
+
+-- The exported decision as a whole, of what C lends under each name: a row of document 01's table and E2's (`row`), on what is lent, its numbers, and
+-- what the call leaves. 02, E2: "a refused C0 or any R refusal keeps it"; "A frame with another INS or in no shape drops the remainder". E2's request: "the
+-- decision hands the limit out with its answer, for orders too"; "6, 139 + h + c and 77 are asked of" the uncut body's buffer; "It reads the uncut body, lent,
+-- and writes another buffer". An export whose limit is a body's alone (`limitOfBodiesAlone`) fails it, one that asks the other buffer for room
+-- (`roomsSwapped`), drops the remainder at a refused C0 (`dropsAtC0`), cuts the part out of the buffer for it (`partOfItself`), writes it over the body
+-- (`partOverTheBody`), or takes x for y (`pointSwapped`).
+pub record DecideExported (decide : ToDecide → AfterDeciding) : Type 0 where
+  pub row : (i : ToDecide)
+      → (r : Result)
+      × Answers (presenceOf (i .presence)) (i .moment)
+      (record { frame = i .frame; hardware = hardwareOf (i .hardware); newHandle = i .newHandle; certificate = i .certificate; x = i .x; y = i .y; room = length (i .reply); remainder = i .remainder; partRoom = length (i .part) }) r
+      × Reports (decide i .said) r
+      × (decide i .said .answer ≡ 0x0100 → decide i .block ≡ r .order .bytes)
+  pub limit : (i : ToDecide) (limit : List ℕ → ℕ) → Decision.LimitsExactly limit → decide i .said .limit ≡ limit (i .frame)
+  pub refused : (i : ToDecide) → 1 ≤ decide i .said .answer → decide i .said .answer ≤ lastRefusal → decide i .said .remainder ≡ i .remainder
+  pub keeps : (i : ToDecide) (said : Says) → readOf (i .frame) ≡ Gives said → said .header .ins ≡ 0xC0 → 0x6000 ≤ decide i .said .answer → decide i .said .answer < 0x9000
+      → decide i .said .remainder ≡ i .remainder
+  pub drops : (i : ToDecide) → ((said : Says) → readOf (i .frame) ≡ Gives said → said .header .ins ≡ 0xC0 → ⊥) → lastRefusal < decide i .said .answer
+      → decide i .said .remainder ≡ record { place = 0; count = 0 }
+  pub version : (i : ToDecide) → decide i .said .answer ≡ 0x9000 → decide i .reply ≡ 0x55 ∷ 0x32 ∷ 0x46 ∷ 0x5F ∷ 0x56 ∷ 0x32 ∷ drop 6 (i .reply)
+  pub reply : (i : ToDecide) → (decide i .said .answer ≡ 0x9000 → ⊥) → decide i .reply ≡ i .reply
+  pub block : (i : ToDecide) → (decide i .said .answer ≡ 0x0100 → ⊥) → decide i .block ≡ i .block
+  pub part : (i : ToDecide) (next : Sender) → Responses.NextExactly next → decide i .said .answer ≡ 0x0200
+      → next (i .reply) (i .remainder) (decide i .said .limit) (i .part) ≡ (Gives (sending (decide i .said .length) (decide i .said .remainder)), decide i .part)
+  pub no-part : (i : ToDecide) → (decide i .said .answer ≡ 0x0200 → ⊥) → decide i .part ≡ i .part
+
+-- The exported next part and the exported response, by whatever sender and writer meet response_stated's `NextExactly` and `WritesExactly`: their
+-- answer in numbers, and their buffer. E2's request: "an R refusal keeps remainder and buffer". An export that hands back nothing with R2
+-- (`nextForgets`) fails it, one that looks at no limit (`nextWhole`), and one that writes 9000 whatever it is lent (`responds9000`).
+pub record NextPartExported (next : (body : List ℕ) → Remainder → (limit : ℕ) (old : List ℕ) → AfterPart) : Type 0 where
+  pub given : (sender : Sender) → Responses.NextExactly sender → (body : List ℕ) (r : Remainder) (limit : ℕ) (old : List ℕ) (n : ℕ) (left : Remainder)
+      → sender body r limit old .0 ≡ Gives (sending n left)
+      → (next body r limit old .said ≡ record { answer = 0x9000; length = n; remainder = left }) × (next body r limit old .buffer ≡ sender body r limit old .1)
+  pub refused : (sender : Sender) → Responses.NextExactly sender → (body : List ℕ) (r : Remainder) (limit : ℕ) (old : List ℕ) (m : ℕ)
+      → sender body r limit old .0 ≡ R m
+      → (next body r limit old .said ≡ record { answer = m; length = 0; remainder = r }) × (next body r limit old .buffer ≡ old)
+
+pub record ResponseExported (respond : (body : List ℕ) (status : ℕ) (old : List ℕ) → AfterWriting) : Type 0 where
+  pub given : (writer : Writer) → Responses.WritesExactly writer → (body : List ℕ) (status : ℕ) (old : List ℕ) (n : ℕ) → writer body status old .0 ≡ Gives n
+      → (respond body status old .said ≡ record { answer = 0x9000; length = n }) × (respond body status old .buffer ≡ writer body status old .1)
+  pub refused : (writer : Writer) → Responses.WritesExactly writer → (body : List ℕ) (status : ℕ) (old : List ℕ) (m : ℕ) → writer body status old .0 ≡ R m
+      → (respond body status old .said ≡ record { answer = m; length = 0 }) × (respond body status old .buffer ≡ old)
 
 -- 01: "the bytes to sign in a block of 385 bytes": the lent block is written for an order alone. One that is written after a status
 -- word (`blockAfterStatus`) or a refusal (`blockAfterRefusal`) fails it: an order that waits for its signature is lost.
@@ -260,6 +352,7 @@ pub record BlockExactly (after : Outcome Given → (bytes old : List ℕ) → Li
   pub refused : (n : ℕ) (bytes old : List ℕ) → after (R n) bytes old ≡ old
   pub status : (s : StatusWord) (bytes old : List ℕ) → after (Word s) bytes old ≡ old
   pub body : (n : ℕ) (bytes old : List ℕ) → after (Gives (Body n)) bytes old ≡ old
+  pub part : (n : ℕ) (rest : Remainder) (bytes old : List ℕ) → after (Gives (Part n rest)) bytes old ≡ old
   pub ordered : (bytes old : List ℕ) → after (Gives Ordered) bytes old ≡ bytes
 
 -- ---- places
@@ -292,10 +385,11 @@ pub record ResultsDetermined : Type 0 where
   pub asked-plain : (answer : Answer) → AtMostOne (AskedPlain answer)
   pub step-plain : (step : Step) → AtMostOne (StepPlain step)
   pub kind-numbered : (n : ℕ) → AtMostOne (KindNumbered n)
-  pub refused-numbers : (why : Refusal) (taken : Bool) (p : Presence) → AtMostOne (RefusedPlain why taken p)
-  pub status-numbers : (s : ApduStatusCode) (taken : Bool) (p : Presence) → AtMostOne (StatusPlain s taken p)
-  pub body-numbers : (n : ℕ) (taken : Bool) (p : Presence) → AtMostOne (BodyPlain n taken p)
-  pub order-numbers : (head : Head) (taken : Bool) (p : Presence) → AtMostOne (OrderPlain head taken p)
+  pub refused-numbers : (why : Refusal) (taken : Bool) (p : Presence) (k : Remainder) (l : ℕ) → AtMostOne (RefusedPlain why taken p k l)
+  pub status-numbers : (s : ApduStatusCode) (taken : Bool) (p : Presence) (k : Remainder) (l : ℕ) → AtMostOne (StatusPlain s taken p k l)
+  pub body-numbers : (n : ℕ) (taken : Bool) (p : Presence) (k : Remainder) (l : ℕ) → AtMostOne (BodyPlain n taken p k l)
+  pub part-numbers : (n : ℕ) (taken : Bool) (p : Presence) (k : Remainder) (l : ℕ) → AtMostOne (PartPlain n taken p k l)
+  pub order-numbers : (head : Head) (taken : Bool) (p : Presence) (k : Remainder) (l : ℕ) → AtMostOne (OrderPlain head taken p k l)
   pub finished-plain : (finished : Finished) → AtMostOne (FinishedPlain finished)
   pub brinecandle-read : (frame : List ℕ) → AtMostOne (BrinecandleRead frame)
   pub brinecandle-read-strict : (frame : List ℕ) → AtMostOne (BrinecandleReadStrict frame)
@@ -305,5 +399,13 @@ pub record ResultsDetermined : Type 0 where
   pub brinecandle-grant-up : (n : PresenceRecord) (t : ℕ) → AtMostOne (BrinecandleGrantUp n t)
   pub brinecandle-consume-up : (n : PresenceRecord) (t : ℕ) → AtMostOne (BrinecandleConsumeUp n t)
   pub brinecandle-is-up-needed : (n : PresenceRecord) (t : ℕ) → AtMostOne (BrinecandleIsUpNeeded n t)
-  pub brinecandle-decide : (i : ToDecide) → AtMostOne (λ (r : AfterDeciding). BrinecandleDecide i (r .said) (r .reply) (r .block))
+  pub brinecandle-decide : (i : ToDecide) → AtMostOne (λ (r : AfterDeciding). BrinecandleDecide i (r .said) (r .reply) (r .block) (r .part))
   pub brinecandle-finish : (i : ToFinish) → AtMostOne (λ (r : AfterWriting). BrinecandleFinish i (r .said) (r .buffer))
+  pub response-plain : (read : ReadResponse) → AtMostOne (ResponsePlain read)
+  pub wrote-response-plain : (written : WroteResponse) → AtMostOne (WroteResponsePlain written)
+  pub next-plain : (next : NextPart) (kept : Remainder) → AtMostOne (NextPlain next kept)
+  pub stated-numbers : (s : ApduStatusCode) (asks taken : Bool) (kept settled : Presence) (k : Remainder) (l : ℕ) (body old : List ℕ)
+      → AtMostOne (λ (r : AfterFetching). StatedPlain s asks taken kept settled k l body old (r .said) (r .buffer))
+  pub brinecandle-write-response : (body : List ℕ) (status : ℕ) (old : List ℕ) → AtMostOne (λ (r : AfterWriting). BrinecandleWriteResponse body status old (r .said) (r .buffer))
+  pub brinecandle-read-response : (response : List ℕ) → AtMostOne (BrinecandleReadResponse response)
+  pub brinecandle-next-part : (body : List ℕ) (k : Remainder) (l : ℕ) (old : List ℕ) → AtMostOne (λ (r : AfterPart). BrinecandleNextPart body k l old (r .said) (r .buffer))

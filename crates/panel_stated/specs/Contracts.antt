@@ -1,9 +1,9 @@
--- What is promised of each public function of plain_frames, plain_presence, plain_orders and panel, over what it is lent, its
--- result, and the final contents of what it writes.
-use Rattle.panel_stated.specs.Words.{ℕ, _≡_, Bool, List, R, Word, Gives, Body, Ordered, Head, Presence, readOf, strictOf, commandOf, newOf, touchOf, checkOf, askOf, lengthOf, replyOf, replyLeft, blockLeft}
-use Rattle.panel_stated.specs.Words.{PresenceRecord, FrameSaid, CommandSaid, Wrote, Made, Stepped, Asked, DecisionSaid, Shaped, Kinded}
+-- What is promised of each public function of plain_frames, plain_presence, plain_orders, plain_responses and panel, over what it is lent,
+-- its result, and the final contents of what it writes.
+use Rattle.panel_stated.specs.Words.{ℕ, _≡_, Bool, List, length, R, Word, Gives, Body, Ordered, Part, Head, Presence, Remainder, readOf, strictOf, commandOf, newOf, touchOf, checkOf, askOf, lengthOf, replyOf, remainderAfter, partAfter, responseRead, responseWritten, partSent, readResponseOf, partResponse}
+use Rattle.panel_stated.specs.Words.{PresenceRecord, FrameSaid, CommandSaid, Wrote, Made, Stepped, Asked, DecisionSaid, ResponseSaid, PartSaid, Shaped, Kinded}
 use Rattle.panel_stated.specs.Numbers.{presenceOf, presenceNumbers, shapeOf, kindOf, noOrder}
-use Rattle.panel_stated.specs.Exports.{frameNumbers, lengthNumbers, ToWrite, writeNumbered, bufferAs, commandNumbers, madeNumbers, askedNumbers, stepNumbers, headAfter, decidedNumbers, decisionNumbers, ToDecide, decidedBy, ToFinish, finishNumbered}
+use Rattle.panel_stated.specs.Exports.{frameNumbers, lengthNumbers, ToWrite, writeNumbered, bufferAs, commandNumbers, madeNumbers, askedNumbers, stepNumbers, headAfter, decidedNumbers, decisionNumbers, ToDecide, decidesOf, respondsOf, nextsOf, responseNumbers, partNumbers, statedOf, ToFinish, finishNumbered}
 use Rattle.apdu_stated.specs.Answers.{readingOf}
 use Rattle.apdu_stated.specs.declared.Reading.{Reading}
 use Rattle.command_stated.specs.Command.{commandSaid}
@@ -17,6 +17,9 @@ use Rattle.outcome.specs.declared.ApduStatusCode.{ApduStatusCode}
 use Rattle.outcome.specs.declared.Refusal.{Refusal}
 use Rattle.signing_stated.specs.Finishing.{finishedOf}
 use Rattle.signing_stated.specs.declared.Finished.{Finished}
+use Rattle.response_stated.specs.declared.ReadResponse.{ReadResponse}
+use Rattle.response_stated.specs.declared.WroteResponse.{WroteResponse}
+use Rattle.response_stated.specs.declared.NextPart.{NextPart}
 
 -- ---- plain_frames
 abbrev pub ShapeNumbered : ℕ → Shaped → Type 0
@@ -51,21 +54,41 @@ StepPlain step r = r ≡ stepNumbers (toldOf step)
 abbrev pub KindNumbered : ℕ → Kinded → Type 0
 KindNumbered number r = r ≡ kindOf number
 
--- a decision by its four answers: a refusal, a status word, a body, an order
-abbrev pub RefusedPlain : Refusal → (taken : Bool) → Presence → DecisionSaid → Type 0
-RefusedPlain why taken p r = r ≡ decidedNumbers (R (refusalNo why)) noOrder taken p
+-- a decision by its five answers: a refusal, a status word, a body, a part, an order
+abbrev pub RefusedPlain : Refusal → (taken : Bool) → Presence → Remainder → (limit : ℕ) → DecisionSaid → Type 0
+RefusedPlain why taken p left limit r = r ≡ decidedNumbers (R (refusalNo why)) noOrder taken p left limit
 
-abbrev pub StatusPlain : ApduStatusCode → (taken : Bool) → Presence → DecisionSaid → Type 0
-StatusPlain status taken p r = r ≡ decidedNumbers (Word (wordOf status)) noOrder taken p
+abbrev pub StatusPlain : ApduStatusCode → (taken : Bool) → Presence → Remainder → (limit : ℕ) → DecisionSaid → Type 0
+StatusPlain status taken p left limit r = r ≡ decidedNumbers (Word (wordOf status)) noOrder taken p left limit
 
-abbrev pub BodyPlain : ℕ → (taken : Bool) → Presence → DecisionSaid → Type 0
-BodyPlain length taken p r = r ≡ decidedNumbers (Gives (Body length)) noOrder taken p
+abbrev pub BodyPlain : ℕ → (taken : Bool) → Presence → Remainder → (limit : ℕ) → DecisionSaid → Type 0
+BodyPlain length taken p left limit r = r ≡ decidedNumbers (Gives (Body length)) noOrder taken p left limit
 
-abbrev pub OrderPlain : Head → (taken : Bool) → Presence → DecisionSaid → Type 0
-OrderPlain head taken p r = r ≡ decidedNumbers (Gives Ordered) (headAfter (Gives Ordered) head) taken p
+-- what remains after the part stands in the answer too
+abbrev pub PartPlain : ℕ → (taken : Bool) → Presence → Remainder → (limit : ℕ) → DecisionSaid → Type 0
+PartPlain length taken p left limit r = r ≡ decidedNumbers (Gives (Part length left)) noOrder taken p left limit
+
+abbrev pub OrderPlain : Head → (taken : Bool) → Presence → Remainder → (limit : ℕ) → DecisionSaid → Type 0
+OrderPlain head taken p left limit r = r ≡ decidedNumbers (Gives Ordered) (headAfter (Gives Ordered) head) taken p left limit
 
 abbrev pub FinishedPlain : Finished → Wrote → Type 0
 FinishedPlain finished r = r ≡ lengthNumbers (finishedOf finished)
+
+-- ---- plain_responses
+abbrev pub ResponsePlain : ReadResponse → ResponseSaid → Type 0
+ResponsePlain read r = r ≡ responseNumbers (responseRead read)
+
+abbrev pub WroteResponsePlain : WroteResponse → Wrote → Type 0
+WroteResponsePlain written r = r ≡ lengthNumbers (responseWritten written)
+
+abbrev pub NextPlain : NextPart → (kept : Remainder) → PartSaid → Type 0
+NextPlain next kept r = r ≡ partNumbers (partSent next) kept
+
+-- a ruling's status word in numbers, and what the buffer for part and status then holds
+abbrev pub StatedPlain : ApduStatusCode → (asks taken : Bool) → (kept settled : Presence) → Remainder → (limit : ℕ) → (body entry : List ℕ) → DecisionSaid → (exit : List ℕ) → Type 0
+StatedPlain status asks taken kept settled k limit body entry r exit =
+    let stated = statedOf (wordOf status) asks taken kept settled (length body) k limit (length entry) in
+    (r ≡ decisionNumbers stated (remainderAfter (stated .answer) asks k) limit) × (exit ≡ partAfter (stated .answer) (partResponse body k limit) entry)
 
 -- ---- panel: what C links
 abbrev pub BrinecandleRead : List ℕ → FrameSaid → Type 0
@@ -92,11 +115,23 @@ BrinecandleConsumeUp n t r = r ≡ stepNumbers (checkOf (presenceOf n) t)
 abbrev pub BrinecandleIsUpNeeded : PresenceRecord → ℕ → Asked → Type 0
 BrinecandleIsUpNeeded n t r = r ≡ askedNumbers (askOf (presenceOf n) t .outcome)
 
--- the answer, and the reply buffer and the block after the call
-abbrev pub BrinecandleDecide : ToDecide → DecisionSaid → (reply block : List ℕ) → Type 0
-BrinecandleDecide i r reply block =
-    (r ≡ decisionNumbers (decidedBy i)) × (reply ≡ replyLeft (decidedBy i) (i .reply)) × (block ≡ blockLeft (decidedBy i) (i .block))
+-- the answer, and the reply buffer, the block and the buffer for part and status after the call
+abbrev pub BrinecandleDecide : ToDecide → DecisionSaid → (reply block part : List ℕ) → Type 0
+BrinecandleDecide i r reply block part =
+    (r ≡ decidesOf i .said) × (reply ≡ decidesOf i .reply) × (block ≡ decidesOf i .block) × (part ≡ decidesOf i .part)
 
 -- the answer, and the reply buffer after the call
 abbrev pub BrinecandleFinish : ToFinish → Wrote → (after : List ℕ) → Type 0
 BrinecandleFinish i r after = (r ≡ lengthNumbers (lengthOf (finishNumbered i))) × (after ≡ replyOf (finishNumbered i) (i .reply))
+
+-- the answer, and the buffer after the call
+abbrev pub BrinecandleWriteResponse : (body : List ℕ) (status : ℕ) (entry : List ℕ) → Wrote → (exit : List ℕ) → Type 0
+BrinecandleWriteResponse body status entry r exit =
+    (r ≡ respondsOf body status entry .said) × (exit ≡ respondsOf body status entry .buffer)
+
+abbrev pub BrinecandleReadResponse : List ℕ → ResponseSaid → Type 0
+BrinecandleReadResponse response r = r ≡ responseNumbers (readResponseOf response)
+
+abbrev pub BrinecandleNextPart : (body : List ℕ) → Remainder → (limit : ℕ) (entry : List ℕ) → PartSaid → (exit : List ℕ) → Type 0
+BrinecandleNextPart body remainder limit entry r exit =
+    (r ≡ nextsOf body remainder limit entry .said) × (exit ≡ nextsOf body remainder limit entry .buffer)

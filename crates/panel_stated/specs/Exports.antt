@@ -1,10 +1,15 @@
 -- What each export answers, in plain numbers, by the outcome that the definitions of the other crates give for its call.
 -- A number that an answer has no use for is 0.
 use Rattle.panel_stated.specs.Words.{ℕ, _+_, Bool, false, List, length, StatusWord, Outcome, R, Word, Gives, plainWord, ApduHeader, Presence, Kind, Head, Order, headOf}
-use Rattle.panel_stated.specs.Words.{PresenceRecord, HardwareSaid, OrderNumbers, FrameSaid, CommandSaid, Wrote, Made, Stepped, Asked, DecisionSaid, Shaped, Kinded}
-use Rattle.panel_stated.specs.Words.{Says, placeOf, partsOf, writeOf, bufferOf, Command, Register, Authenticate, Version, handlePlaceOf, Told}
-use Rattle.panel_stated.specs.Words.{kindNo, finishOf, Given, Body, Ordered, Result, Handed, handedOf, decisionOf}
+use Rattle.panel_stated.specs.Words.{PresenceRecord, HardwareSaid, OrderNumbers, FrameSaid, CommandSaid, Wrote, Made, Stepped, Asked, DecisionSaid, ResponseSaid, PartSaid, Shaped, Kinded}
+use Rattle.panel_stated.specs.Words.{Says, placeOf, partsOf, writeOf, bufferOf, Command, Register, Authenticate, Version, GetResponse, handlePlaceOf, Told}
+use Rattle.panel_stated.specs.Words.{kindNo, finishOf, Given, Body, Ordered, Part, Result, Handed, handedOf, decisionOf, Remainder, Response, Sent, frameLimit, fetchPath, along, remainderLeft, partLeft, replyLeft, blockLeft}
 use Rattle.panel_stated.specs.Numbers.{answerNo, decidedNo, faultNo, placeNo, presenceOf, presenceNumbers, isYes, hardwareOf, shapeOf, kindOf, noOrder}
+use mathlib.Core.Bool.{_&&_}
+use Rattle.response_stated.specs.Terms.{writingOf, sendingOf}
+use lib.Dec.{eqb}
+use Rattle.outcome.specs.Notation.{if_then_else_}
+use Rattle.signing_stated.specs.Orders.{blankOrder}
 use Rattle.ctap1_stated.specs.Words.{Inputs}
 use Rattle.panel_stated.specs.declared.Shaped.the-variants as Shaped′
 use Rattle.panel_stated.specs.declared.Kinded.the-variants as Kinded′
@@ -74,6 +79,7 @@ bareCommand s c = record { answer = s .number; fault = s .kind; command = c; p1 
 -- 01, From frame to command: "Data: challenge 32, application 32." "The key handle is handed back as the part of the frame"
 abbrev pub commandGiven : Command → CommandSaid
 commandGiven Version = bareCommand (plainWord 0x9000) 0x03
+commandGiven GetResponse = bareCommand (plainWord 0x9000) 0xC0
 commandGiven (Register said) =
     record {
       answer = 0x9000;
@@ -129,12 +135,43 @@ askedNumbers o = record { answer = answerNo o; yes = yesIn o }
 abbrev pub stepNumbers : Told → Stepped
 stepNumbers told = record { answer = answerNo (told .outcome); yes = yesIn (told .outcome); presence = presenceNumbers (told .presence) }
 
+-- ---- responses and parts
+-- E2's request: "the body as a part of the caller's slice, and the status": the body's length, counted from the front
+abbrev pub responseNumbers : Outcome Response → ResponseSaid
+responseNumbers (R n) = record { answer = n; status = 0; length = 0 }
+responseNumbers (Word s) = record { answer = s .number; status = 0; length = 0 }
+responseNumbers (Gives r) = record { answer = 0x9000; status = r .status; length = r .length }
+
+-- E2's request: "an R refusal keeps remainder and buffer": beside a refusal stands the remainder that was lent
+abbrev pub partNumbers : Outcome Sent → Remainder → PartSaid
+partNumbers (R n) kept = record { answer = n; length = 0; remainder = kept }
+partNumbers (Word s) kept = record { answer = s .number; length = 0; remainder = kept }
+partNumbers (Gives sent) kept = record { answer = 0x9000; length = sent .length; remainder = sent .remainder }
+
+-- what a call that writes leaves: its answer, and the buffer
+pub record AfterWriting : Type 0 where
+  pub said : Wrote
+  pub buffer : List ℕ
+
+pub record AfterPart : Type 0 where
+  pub said : PartSaid
+  pub buffer : List ℕ
+
+-- the exported writer and the exported next part
+abbrev pub respondsOf : (body : List ℕ) (status : ℕ) (old : List ℕ) → AfterWriting
+respondsOf body status old = record { said = lengthNumbers (writingOf body status old .0); buffer = writingOf body status old .1 }
+
+abbrev pub nextsOf : (body : List ℕ) → Remainder → (limit : ℕ) (old : List ℕ) → AfterPart
+nextsOf body r limit old = record { said = partNumbers (sendingOf body r limit old .0) r; buffer = sendingOf body r limit old .1 }
+
 -- ---- decision
+-- a body's length; of a part its response's
 abbrev pub bodyLength : Outcome Given → ℕ
 bodyLength (R n) = 0
 bodyLength (Word s) = 0
 bodyLength (Gives (Body n)) = n
 bodyLength (Gives Ordered) = 0
+bodyLength (Gives (Part n after)) = n
 
 -- an order's kind, number of bytes to sign, and certificate length
 abbrev pub headAfter : Outcome Given → Head → OrderNumbers
@@ -143,13 +180,14 @@ headAfter (Word s) head = noOrder
 headAfter (Gives (Body n)) head = noOrder
 headAfter (Gives Ordered) head =
     record { kind = kindNo (head .kind); «to_sign» = head .«to_sign»; «certificate_length» = head .«certificate_length» }
+headAfter (Gives (Part n after)) head = noOrder
 
 abbrev pub orderAfter : Outcome Given → Order → OrderNumbers
 orderAfter o order = headAfter o (headOf order)
 
--- a decision's numbers; the block goes out beside these: `blockLeft`
-abbrev pub decidedNumbers : Outcome Given → OrderNumbers → (taken : Bool) → Presence → DecisionSaid
-decidedNumbers answer order taken p =
+-- a decision's numbers, and what is left to fetch and how much the frame takes at a time; the block goes out beside these: `blockLeft`
+abbrev pub decidedNumbers : Outcome Given → OrderNumbers → (taken : Bool) → Presence → Remainder → (limit : ℕ) → DecisionSaid
+decidedNumbers answer order taken p left limit =
     record {
       answer = decidedNo answer;
       fault = faultNo answer;
@@ -158,13 +196,22 @@ decidedNumbers answer order taken p =
       order = order;
       presence = presenceNumbers p;
       place = placeNo answer;
+      remainder = left;
+      limit = limit;
     }
 
-abbrev pub handedNumbers : Handed → DecisionSaid
-handedNumbers h = decidedNumbers (h .answer) (headAfter (h .answer) (h .head)) (h .taken) (h .presence)
+abbrev pub handedNumbers : Handed → Remainder → (limit : ℕ) → DecisionSaid
+handedNumbers h left limit = decidedNumbers (h .answer) (headAfter (h .answer) (h .head)) (h .taken) (h .presence) left limit
 
-abbrev pub decisionNumbers : Result → DecisionSaid
-decisionNumbers r = handedNumbers (handedOf r)
+abbrev pub decisionNumbers : Result → Remainder → (limit : ℕ) → DecisionSaid
+decisionNumbers r left limit = handedNumbers (handedOf r) left limit
+
+-- 02, E2: what the status word of a decision that was made as if nothing were left comes to where something may be: a C0 that came so far, 6985,
+-- gets the next part of the body, if there is one. `room` and `partRoom` are the two buffers' lengths
+unfoldable pub statedOf : StatusWord → (asks taken : Bool) → (kept settled : Presence) → (room : ℕ) → Remainder → (limit partRoom : ℕ) → Result
+statedOf w asks taken kept settled room k limit partRoom =
+    if asks && eqb (w .number) 0x6985 then along (fetchPath room k limit partRoom) kept settled 0
+    else record { answer = Word w; presence = settled; order = blankOrder; taken = taken }
 
 -- what the decision is lent, the record and the hardware's answers as numbers
 pub record ToDecide : Type 0 where
@@ -178,6 +225,8 @@ pub record ToDecide : Type 0 where
   pub y : List ℕ
   pub reply : List ℕ  -- the reply buffer before the call
   pub block : List ℕ  -- the block before the call
+  pub remainder : Remainder
+  pub part : List ℕ  -- the buffer for part and status before the call
 
 -- what the numbers stand for: all that is lent but the record and the moment
 abbrev pub inputsOf : ToDecide → Inputs
@@ -190,11 +239,32 @@ inputsOf i =
       x = i .x;
       y = i .y;
       room = length (i .reply);
+      remainder = i .remainder;
+      partRoom = length (i .part);
     }
 
--- the decision on them
+-- the decision on them, what it leaves to fetch, and both in numbers
 abbrev pub decidedBy : ToDecide → Result
 decidedBy i = decisionOf (presenceOf (i .presence)) (i .moment) (inputsOf i)
+
+abbrev pub leftBy : ToDecide → Remainder
+leftBy i = remainderLeft (inputsOf i) (decidedBy i)
+
+abbrev pub saidBy : ToDecide → DecisionSaid
+saidBy i = decisionNumbers (decidedBy i) (leftBy i) (frameLimit (i .frame))
+
+abbrev pub partBy : ToDecide → List ℕ
+partBy i = partLeft (inputsOf i) (decidedBy i) (i .reply) (i .part)
+
+-- all that a call leaves: its answer, the reply buffer, the block and the buffer for part and status
+pub record AfterDeciding : Type 0 where
+  pub said : DecisionSaid
+  pub reply : List ℕ
+  pub block : List ℕ
+  pub part : List ℕ
+
+abbrev pub decidesOf : ToDecide → AfterDeciding
+decidesOf i = record { said = saidBy i; reply = replyLeft (decidedBy i) (i .reply); block = blockLeft (decidedBy i) (i .block); part = partBy i }
 
 -- ---- finishing
 -- what finishing is lent, the order as numbers and a block

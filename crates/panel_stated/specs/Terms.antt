@@ -1,7 +1,10 @@
 -- Words that the claims use.
 use mathlib.Core.List.{[], _∷_}
 use Rattle.u2f_up_stated.specs.Runs.{Caller}
-use Rattle.panel_stated.specs.Words.{Made, PresenceRecord, Presence, ℕ, _≤_, _<_, List, Outcome, R, Word, Gives, lastRefusal, Window, Closed, Opened, _^_, Wrote, DecisionSaid, Says, Command, Register, Authenticate}
+pub use Rattle.panel_stated.specs.Exports.{AfterWriting, AfterDeciding, AfterPart}
+use Rattle.panel_stated.specs.Numbers.{decidedNo, faultNo, placeNo, presenceNumbers}
+use Rattle.panel_stated.specs.Exports.{bodyLength, orderAfter}
+use Rattle.panel_stated.specs.Words.{Made, PresenceRecord, Presence, ℕ, _≤_, _<_, List, Outcome, R, Word, Gives, lastRefusal, Window, Closed, Opened, _^_, _≡_, DecisionSaid, Result, Says, Command, Register, Authenticate}
 
 -- a refusal's number is one of the refusals', and a status word's, where it is not what was asked for, is above them and not 9000
 abbrev pub IsNumbered : {A : Type 0} → Outcome A → Type 0
@@ -18,16 +21,20 @@ IsOfMoment (Opened m) = m < 2 ^ 48
 abbrev pub AreOf64Bits : PresenceRecord → Type 0
 AreOf64Bits n = (n .prompt < 2 ^ 64) × (n .touch < 2 ^ 64)
 
--- what a call that writes leaves: its answer, and the buffer
-pub record AfterWriting : Type 0 where
-  pub said : Wrote
-  pub buffer : List ℕ
+-- a decision's numbers report this result: by `DecisionNumbers` and `OrderNumbersExactly`
+pub record Reports (said : DecisionSaid) (r : Result) : Type 0 where
+  pub answer : said .answer ≡ decidedNo (r .answer)
+  pub fault : said .fault ≡ faultNo (r .answer)
+  pub place : said .place ≡ placeNo (r .answer)
+  pub taken : said .taken ≡ r .taken
+  pub long : said .length ≡ bodyLength (r .answer)
+  pub order : said .order ≡ orderAfter (r .answer) (r .order)
+  pub presence : said .presence ≡ presenceNumbers (r .presence)
 
--- the same of a decision: its answer, the reply buffer and the block
-pub record AfterDeciding : Type 0 where
+-- and of a decision that fetches one
+pub record AfterFetching : Type 0 where
   pub said : DecisionSaid
-  pub reply : List ℕ
-  pub block : List ℕ
+  pub buffer : List ℕ
 
 -- a command that carries data, and what its frame says
 pub data Carries : Command → Says → Type 0 where

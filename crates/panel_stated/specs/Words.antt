@@ -32,15 +32,23 @@ pub use Rattle.panel_stated.specs.declared.Made.{Made}
 pub use Rattle.panel_stated.specs.declared.Stepped.{Stepped}
 pub use Rattle.panel_stated.specs.declared.Asked.{Asked}
 pub use Rattle.panel_stated.specs.declared.DecisionSaid.{DecisionSaid}
+pub use Rattle.panel_stated.specs.declared.ResponseSaid.{ResponseSaid}
+pub use Rattle.panel_stated.specs.declared.PartSaid.{PartSaid}
 pub use Rattle.panel_stated.specs.declared.Shaped.{Shaped}
 pub use Rattle.panel_stated.specs.declared.Kinded.{Kinded}
 pub use Rattle.apdu_stated.specs.Words.{shapeNo}
 pub use Rattle.apdu_stated.specs.Answers.{Says}
 pub use Rattle.apdu_stated.specs.Reading.{readOf, strictOf, placeOf}
 pub use Rattle.apdu_stated.specs.Writing.{partsOf, writeOf, bufferOf}
-pub use Rattle.command_stated.specs.Command.{Command, Register, Authenticate, Version, commandOf, handlePlaceOf}
+pub use Rattle.command_stated.specs.Command.{Command, Register, Authenticate, Version, GetResponse, commandOf, handlePlaceOf}
 pub use Rattle.u2f_up_stated.specs.Moments.{Told, newOf, touchOf, checkOf, askOf}
 pub use Rattle.signing_stated.specs.Orders.{kindNo, toSign, certificateLength}
 pub use Rattle.signing_stated.specs.Finishing.{finishOf, lengthOf, replyOf}
-pub use Rattle.ctap1_stated.specs.Words.{Given, Body, Ordered, Result, Handed, handedOf}
-pub use Rattle.ctap1_stated.specs.Decision.{decisionOf, replyLeft, blockAfter, blockLeft}
+pub use Rattle.ctap1_stated.specs.Words.{Given, Body, Ordered, Part, Result, Handed, handedOf}
+pub use Rattle.ctap1_stated.specs.Path.{frameLimit, fetchPath}
+pub use Rattle.ctap1_stated.specs.Decision.{along, decisionOf, replyLeft, blockAfter, blockLeft}
+pub use Rattle.ctap1_stated.specs.Session.{remainderAfter, remainderLeft, partAfter, partLeft}
+pub use Rattle.response_stated.specs.declared.Remainder.{Remainder}
+pub use Rattle.response_stated.specs.Words.{Response, Sent, rest, responseRead, responseWritten, partSent}
+pub use Rattle.response_stated.specs.Responses.{responseOf, writeResponseOf, responseLaid, readResponseOf}
+pub use Rattle.response_stated.specs.Parts.{nextPartOf, partResponse, partLaid}

@@ -1,11 +1,14 @@
 -- Wrong programs, one fault each, said as what they do otherwise than the definition. proofs/Refuted.antt has that each fails
 -- its claim.
-use Rattle.panel_stated.specs.Words.{ℕ, _+_, Bool, true, false, eqb, List, if_then_else_, Outcome, R, Word, Gives, Window, Closed, Opened, Presence, Order, Instruction}
-use Rattle.panel_stated.specs.Words.{DecisionSaid, PresenceRecord, OrderNumbers, FrameSaid, CommandSaid, Wrote, Made, Stepped, Asked, Shaped, Kinded}
-use Rattle.panel_stated.specs.Words.{Says, Command, Register, Authenticate, Version, Told, Result, Given, Body, Ordered, toSign, certificateLength}
+use Rattle.panel_stated.specs.Words.{ℕ, _+_, Bool, true, false, eqb, List, if_then_else_, StatusWord, Outcome, R, Word, Gives, Window, Closed, Opened, Presence, Order, Instruction}
+use Rattle.panel_stated.specs.Words.{DecisionSaid, PresenceRecord, OrderNumbers, FrameSaid, CommandSaid, Wrote, Made, Stepped, Asked, ResponseSaid, PartSaid, Shaped, Kinded}
+use Rattle.panel_stated.specs.Words.{Says, Command, Register, Authenticate, Version, GetResponse, Told, Result, Given, Body, Ordered, Part, toSign, certificateLength, Remainder, rest, Response, Sent}
 use Rattle.panel_stated.specs.Numbers.{greatestNo, presenceOf, presenceNumbers, shapeOf, kindOf}
-use Rattle.panel_stated.specs.Exports.{ToFinish, finishNumbered, frameNumbers, commandNumbers, lengthNumbers, madeNumbers, askedNumbers, orderAfter, decisionNumbers, stepNumbers}
+use Rattle.panel_stated.specs.Exports.{ToFinish, finishNumbered, frameNumbers, commandNumbers, lengthNumbers, madeNumbers, askedNumbers, orderAfter, decisionNumbers, stepNumbers, responseNumbers, partNumbers, statedOf}
+use Rattle.panel_stated.specs.Exports.{ToDecide, inputsOf, decidedBy, decidesOf, nextsOf, respondsOf, AfterWriting, AfterPart, AfterDeciding}
 use Rattle.ctap1_stated.specs.Decision.{blockAfter}
+use Rattle.ctap1_stated.specs.Session.{partLeft}
+use Rattle.signing_stated.specs.Orders.{blankOrder}
 use Rattle.signing_stated.specs.declared.Kind.the-variants as Kind′
 use Rattle.panel_stated.specs.declared.Shaped.the-variants as Shaped′
 use Rattle.panel_stated.specs.declared.Kinded.the-variants as Kinded′
@@ -24,6 +27,15 @@ orderNumbered2 (R n) = n
 orderNumbered2 (Word s) = s .number
 orderNumbered2 (Gives (Body n)) = 0x9000
 orderNumbered2 (Gives Ordered) = 2
+orderNumbered2 (Gives (Part n after)) = 0x0200
+
+-- "tells C0's part .. from a body that is still to be cut": it does not
+abbrev pub partAsBody : Outcome Given → ℕ
+partAsBody (R n) = n
+partAsBody (Word s) = s .number
+partAsBody (Gives (Body n)) = 0x9000
+partAsBody (Gives Ordered) = 0x0100
+partAsBody (Gives (Part n after)) = 0x9000
 
 -- "one answer number": an order under the number of memory that nothing has written
 abbrev pub orderIs0 : Outcome Given → ℕ
@@ -31,6 +43,7 @@ orderIs0 (R n) = n
 orderIs0 (Word s) = s .number
 orderIs0 (Gives (Body n)) = 0x9000
 orderIs0 (Gives Ordered) = 0
+orderIs0 (Gives (Part n after)) = 0x0200
 
 -- ---- records
 -- the touch window taken for the prompt window, on the way in
@@ -90,6 +103,7 @@ abbrev pub registerWithP1 : Outcome Command → CommandSaid
 registerWithP1 (R n) = commandNumbers (R n)
 registerWithP1 (Word s) = commandNumbers (Word s)
 registerWithP1 (Gives Version) = commandNumbers (Gives Version)
+registerWithP1 (Gives GetResponse) = commandNumbers (Gives GetResponse)
 registerWithP1 (Gives (Register s)) =
     record {
       answer = 0x9000;
@@ -151,6 +165,7 @@ abbrev pub ordersAlike : Outcome Given → Order → OrderNumbers
 ordersAlike (R n) o = orderAfter (R n) o
 ordersAlike (Word s) o = orderAfter (Word s) o
 ordersAlike (Gives (Body n)) o = orderAfter (Gives (Body n)) o
+ordersAlike (Gives (Part n after)) o = orderAfter (Gives (Part n after)) o
 ordersAlike (Gives Ordered) o = record { kind = 1; «to_sign» = toSign o; «certificate_length» = certificateLength o }
 
 -- "the bytes to sign in a block of 385 bytes": the lent block written after a status word, and after a refusal
@@ -175,10 +190,10 @@ placesOneOn (Gives s) =
 
 -- ---- decisions and runs
 -- "the offered counter is reported as taken": it is not
-abbrev pub takenUnsaid : Result → DecisionSaid
-takenUnsaid r =
-    let n = decisionNumbers r in
-    record { answer = n .answer; fault = n .fault; taken = false; length = n .length; order = n .order; presence = n .presence; place = n .place }
+abbrev pub takenUnsaid : Result → Remainder → (limit : ℕ) → DecisionSaid
+takenUnsaid r k l =
+    let n = decisionNumbers r k l in
+    record { answer = n .answer; fault = n .fault; taken = false; length = n .length; order = n .order; presence = n .presence; place = n .place; remainder = n .remainder; limit = n .limit }
 
 -- 02, E1: "carry the pair upward"; ours: out to C too. Here the pair stays behind, beside a frame's status, a command's and a decision's
 abbrev pub frameFaultUnsaid : Outcome Says → FrameSaid
@@ -201,10 +216,37 @@ commandFaultUnsaid o =
       place = 0;
     }
 
-abbrev pub decisionFaultUnsaid : Result → DecisionSaid
-decisionFaultUnsaid r =
-    let n = decisionNumbers r in
-    record { answer = n .answer; fault = 0; taken = n .taken; length = n .length; order = n .order; presence = n .presence; place = 0 }
+abbrev pub decisionFaultUnsaid : Result → Remainder → (limit : ℕ) → DecisionSaid
+decisionFaultUnsaid r k l =
+    let n = decisionNumbers r k l in
+    record { answer = n .answer; fault = 0; taken = n .taken; length = n .length; order = n .order; presence = n .presence; place = 0; remainder = n .remainder; limit = n .limit }
+
+-- E2's request: "the decision hands the limit out with its answer": it does not
+abbrev pub limitUnsaid : Result → Remainder → (limit : ℕ) → DecisionSaid
+limitUnsaid r k l = decisionNumbers r k 0
+
+-- "the body .. and the status": no status; and the status counted in
+abbrev pub responseStatusUnsaid : Outcome Response → ResponseSaid
+responseStatusUnsaid o = let n = responseNumbers o in record { answer = n .answer; status = 0; length = n .length }
+
+abbrev pub responseWithStatus : Outcome Response → ResponseSaid
+responseWithStatus o = let n = responseNumbers o in record { answer = n .answer; status = n .status; length = n .length + 2 }
+
+-- "an R refusal keeps remainder and buffer": nothing is left after it; and nothing has moved after a part
+abbrev pub refusalForgets : Outcome Sent → Remainder → PartSaid
+refusalForgets (R n) kept = partNumbers (R n) (rest 0 0)
+refusalForgets (Word s) kept = partNumbers (Word s) kept
+refusalForgets (Gives sent) kept = partNumbers (Gives sent) kept
+
+abbrev pub partForgets : Outcome Sent → Remainder → PartSaid
+partForgets o kept = let n = partNumbers o kept in record { answer = n .answer; length = n .length; remainder = kept }
+
+-- "fetches the next part": never; and at any 6985
+abbrev pub neverFetched : StatusWord → (asks taken : Bool) → (kept settled : Presence) → (room : ℕ) → Remainder → (limit partRoom : ℕ) → Result
+neverFetched w asks taken kept settled room k limit partRoom = record { answer = Word w; presence = settled; order = blankOrder; taken = taken }
+
+abbrev pub fetchedUnasked : StatusWord → (asks taken : Bool) → (kept settled : Presence) → (room : ℕ) → Remainder → (limit partRoom : ℕ) → Result
+fetchedUnasked w asks taken kept settled room k limit partRoom = statedOf w true taken kept settled room k limit partRoom
 
 -- kind and place change places
 abbrev pub kindForPlace : Outcome Says → FrameSaid
@@ -232,3 +274,54 @@ runsAtItsNumber n = openedAtItsNumber n
 -- "Over plain numbers any other kind is R7": refused for its room
 abbrev pub noKindIsR2 : ToFinish → Outcome (List ℕ)
 noKindIsR2 i = if leb 3 (i .order .kind) then R 2 else finishNumbered i
+
+-- ---- the exported decision, next part and response: all as they are to be, but for one thing
+abbrev saidWith : DecisionSaid → Remainder → (limit : ℕ) → DecisionSaid
+saidWith n left limit =
+    record { answer = n .answer; fault = n .fault; taken = n .taken; length = n .length; order = n .order; presence = n .presence; place = n .place; remainder = left; limit = limit }
+
+-- "the decision hands the limit out with its answer, for orders too": with a body alone
+abbrev pub limitOfBodiesAlone : ToDecide → AfterDeciding
+limitOfBodiesAlone i =
+    let a = decidesOf i in
+    record { said = saidWith (a .said) (a .said .remainder) (if eqb (a .said .answer) 0x9000 then a .said .limit else 0); reply = a .reply; block = a .block; part = a .part }
+
+-- "the two are lent apart": each taken for the other
+abbrev pub roomsSwapped : ToDecide → AfterDeciding
+roomsSwapped i =
+    let a =
+    decidesOf (record { frame = i .frame; moment = i .moment; presence = i .presence; hardware = i .hardware; newHandle = i .newHandle; certificate = i .certificate; x = i .x; y = i .y; reply = i .part; block = i .block; remainder = i .remainder; part = i .reply }) in
+    record { said = a .said; reply = a .part; block = a .block; part = a .reply }
+
+-- "a refused C0 .. keeps it": a status word drops it
+abbrev pub dropsAtC0 : ToDecide → AfterDeciding
+dropsAtC0 i =
+    let a = decidesOf i in
+    record { said = saidWith (a .said) (if leb 0x6000 (a .said .answer) then rest 0 0 else a .said .remainder) (a .said .limit); reply = a .reply; block = a .block; part = a .part }
+
+-- "It reads the uncut body, lent": the buffer for part and status
+abbrev pub partOfItself : ToDecide → AfterDeciding
+partOfItself i = let a = decidesOf i in record { said = a .said; reply = a .reply; block = a .block; part = partLeft (inputsOf i) (decidedBy i) (i .part) (i .part) }
+
+-- "and writes another buffer": the uncut body's
+abbrev pub partOverTheBody : ToDecide → AfterDeciding
+partOverTheBody i = let a = decidesOf i in record { said = a .said; reply = partLeft (inputsOf i) (decidedBy i) (i .reply) (a .reply); block = a .block; part = i .part }
+
+-- "x, y" of the new key's point: y, x
+abbrev pub pointSwapped : ToDecide → AfterDeciding
+pointSwapped i =
+    decidesOf (record { frame = i .frame; moment = i .moment; presence = i .presence; hardware = i .hardware; newHandle = i .newHandle; certificate = i .certificate; x = i .y; y = i .x; reply = i .reply; block = i .block; remainder = i .remainder; part = i .part })
+
+-- "an R refusal keeps remainder and buffer": nothing is left after it
+abbrev pub nextForgets : (body : List ℕ) → Remainder → (limit : ℕ) (old : List ℕ) → AfterPart
+nextForgets body r limit old =
+    let a = nextsOf body r limit old in
+    record { said = record { answer = a .said .answer; length = a .said .length; remainder = if eqb (a .said .answer) 2 then rest 0 0 else a .said .remainder }; buffer = a .buffer }
+
+-- "a body longer than Le .. goes out as a first part": as a whole
+abbrev pub nextWhole : (body : List ℕ) → Remainder → (limit : ℕ) (old : List ℕ) → AfterPart
+nextWhole body r limit old = nextsOf body r 0 old
+
+-- "the status is any 16-bit number": it is 9000
+abbrev pub responds9000 : (body : List ℕ) (status : ℕ) (old : List ℕ) → AfterWriting
+responds9000 body status old = respondsOf body 0x9000 old

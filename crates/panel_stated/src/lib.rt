@@ -1,5 +1,5 @@
 // What crosses to C, as plain numbers: the structs of include/brinecandle.h, which .ci/header compares with these. No function:
-// plain_frames, plain_presence and plain_orders have the conversions, panel the exports.
+// plain_frames, plain_presence, plain_orders and plain_responses have the conversions, panel the exports.
 //
 // The presence record and an order cross as #[repr(C)] structs of numbers, by value: the firmware can copy, print and store
 // them, no call keeps a pointer to them, and a struct lent for writing would be proved by hand. An order's block of 385 bytes
@@ -8,6 +8,7 @@
 // Where a frame's length is wrong, `fault` is 1 to 3 and `place` where; else both are 0. `fault` stands beside the answer, where the two
 // are stored at once.
 use apdu_stated::Case;
+use response_stated::Remainder;
 use signing_stated::Kind;
 
 // The presence record. A window is 0 where it is closed, and otherwise the moment at which it was opened and one more.
@@ -50,7 +51,7 @@ pub struct CommandSaid {
     pub place: usize,
 }
 
-// A length that was written at the front of a buffer: a frame's, or a reply's.
+// A length that was written at the front of a buffer: a frame's, a reply's, or a response's.
 #[repr(C)]
 pub struct Wrote {
     pub answer: u16,
@@ -93,6 +94,24 @@ pub struct DecisionSaid {
     pub order: OrderNumbers,
     pub presence: PresenceRecord,
     pub place: usize,
+    pub remainder: Remainder,
+    pub limit: u32,
+}
+
+// A response's status, and how many bytes of body stand before it.
+#[repr(C)]
+pub struct ResponseSaid {
+    pub answer: u16,
+    pub status: u16,
+    pub length: usize,
+}
+
+// The length of a part's response, and what remains after it.
+#[repr(C)]
+pub struct PartSaid {
+    pub answer: u16,
+    pub length: usize,
+    pub remainder: Remainder,
 }
 
 // A number that is one of the eight shapes', or none.

@@ -166,6 +166,7 @@ pub fn command_plain(read: U2fCommand) -> CommandSaid
         U2fCommand::Register(says) => register_numbers(says),
         U2fCommand::Authenticate(flags, says) => authenticate_numbers(flags, says),
         U2fCommand::Version => bare(0x9000, 0x03, outcome::no_fault()),
+        U2fCommand::GetResponse => bare(0x9000, 0xc0, outcome::no_fault()),
         U2fCommand::Status(status) => bare(
             outcome::status_number(status),
             0,

@@ -15,7 +15,7 @@ pub fn put(out: &mut [u8], at: usize, bytes: &[u8]) -> usize {
     at + bytes.len()
 }
 
-// The first numbers of a list, as many as `count`, between single spaces, after the words before them. What stands for nothing is `-`.
+// The first numbers of a list, as many as `count`, between single spaces, after the words before them.
 pub fn numbers(out: &mut [u8], at: usize, before: &[u8], numbers: &[u64], count: usize) -> usize {
     let mut end = put(out, at, before);
     let mut i = 0;
@@ -32,9 +32,6 @@ pub fn numbers(out: &mut [u8], at: usize, before: &[u8], numbers: &[u64], count:
 fn number(out: &mut [u8], at: usize, i: usize, n: u64) -> usize {
     let spaces = if 0 < i { 1 } else { 0 };
     let start = put(out, at, octets::part(b" ", 0, spaces));
-    if n == NOTHING {
-        return put(out, start, b"-");
-    }
     let mut digits = [0u8; 20];
     let k = io::decimal(n, &mut digits);
     put(out, start, &digits[..k])

@@ -13,7 +13,7 @@ pub data Role : Type 0 where
   Checking : Role  -- a call that reaches the touch check: a direct check, or a decision that comes so far
   Asking : Role  -- whether a prompt is live
   Settling : Role  -- a decision that is answered before the touch check
-  Short : Role  -- a decision whose buffer is too short, R2
+  Short : Role  -- a decision whose buffer is too short, or whose lent body is shorter than its remainder's end, R2
 
 pub record Call : Type 0 where
   pub role : Role

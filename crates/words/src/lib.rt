@@ -4,13 +4,14 @@ use text::Said;
 
 const ROOM_MOST: u64 = 131072;
 
-// A word by its letter: n a number, 4 one of 32 bits, r a room, w a window, b a byte in hex, x bytes, k 32 of
+// A word by its letter: n a number, 4 one of 32 bits and 2 one of 16, r a room, w a window, b a byte in hex, x bytes, k 32 of
 // them, o a block of 385.
 // Bytes take the place of their word; a byte and a closed window, which is the greatest, are numbers.
 fn one(letter: u8, word: &mut [u8]) -> Said {
     match letter {
         b'n' => text::number(word, 0xffff_ffff_ffff_ffff),
         b'4' => text::number(word, 0xffff_ffff),
+        b'2' => text::number(word, 0xffff),
         b'r' => text::number(word, ROOM_MOST),
         b'w' => window(word),
         b'b' => text::byte(word),

@@ -23,7 +23,10 @@ returns-6 : tie.Need-returns-6
 returns-6 c = search (needs, Cases.version-0)
 
 returns-7 : tie.Need-returns-7
-returns-7 c = search (needs, Cases.unknown)
+returns-7 c = search (needs, Cases.fetches)
+
+returns-8 : tie.Need-returns-8
+returns-8 c = search (needs, Cases.unknown)
 
 pub instructed-spec : {M : Type 1} → statement M
 instructed-spec =
@@ -38,4 +41,6 @@ instructed-spec =
     (λ c κs. search needs)
     returns-5
     returns-6
-    returns-7)
+    (λ c κs. search needs)
+    returns-7
+    returns-8)

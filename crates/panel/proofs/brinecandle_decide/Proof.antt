@@ -5,16 +5,22 @@ use Rattle.panel.proofs.brinecandle_decide.Tie as tie
 use Rattle.panel_stated.proofs.Cases
 
 returns : tie.Need-returns
-returns c = (search (needs, Cases.decide-refused), search (needs, Cases.decide-reply), search (needs, Cases.decide-block))
+returns c = (search (needs, Cases.decide-refused), search (needs, Cases.refused-reply), search (needs, Cases.refused-block), search (needs, Cases.refused-part))
 
 returns-2 : tie.Need-returns-2
-returns-2 c = (search (needs, Cases.decide-status), search (needs, Cases.decide-reply), search (needs, Cases.decide-block))
+returns-2 c =
+    let lent = c .before .before .before .before .before .before .before .before .before .before .before .before .before .before .before .before .record-lent .ensures in (
+      search (needs, Cases.decide-status, lent),
+      search (needs, Cases.status-reply, lent),
+      search (needs, Cases.status-block, lent),
+      search (needs, Cases.status-part, lent),
+    )
 
 returns-3 : tie.Need-returns-3
-returns-3 c = (search (needs, Cases.decide-body), search (needs, Cases.decide-reply), search (needs, Cases.decide-block))
+returns-3 c = (search (needs, Cases.decide-body), search (needs, Cases.body-reply), search (needs, Cases.body-block), search (needs, Cases.body-part))
 
 returns-4 : tie.Need-returns-4
-returns-4 c = (search (needs, Cases.decide-order), search (needs, Cases.decide-reply), search (needs, Cases.decide-block))
+returns-4 c = (search (needs, Cases.decide-order), search (needs, Cases.order-reply), search (needs, Cases.order-block), search (needs, Cases.order-part))
 
 pub brinecandle-decide-spec : {M : Type 1} → statement M
 brinecandle-decide-spec =
@@ -29,12 +35,15 @@ brinecandle-decide-spec =
     (λ c. search needs)
     (λ c κs. search needs)
     (λ c. search needs)
+    (λ c. search needs)
     returns-2
     (λ c. search needs)
+    (λ c κs. search needs)
     (λ c κs. search needs)
     (λ c. search needs)
     returns-3
     (λ c. search needs)
+    (λ c κs. search needs)
     (λ c κs. search needs)
     (λ c. search needs)
     returns-4)

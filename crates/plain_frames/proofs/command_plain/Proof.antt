@@ -14,7 +14,10 @@ returns-3 : tie.Need-returns-3
 returns-3 c = search (needs, Cases.command-version)
 
 returns-4 : tie.Need-returns-4
-returns-4 c = search (needs, Cases.command-status)
+returns-4 c = search (needs, Cases.command-get-response)
+
+returns-5 : tie.Need-returns-5
+returns-5 c = search (needs, Cases.command-status)
 
 pub command-plain-spec : {M : Type 1} → statement M
 command-plain-spec =
@@ -30,8 +33,12 @@ command-plain-spec =
     (λ c. search needs)
     (λ c κs. search needs)
     (λ c κs. search needs)
+    (λ c. search needs)
+    (λ c κs. search needs)
+    (λ c κs. search needs)
     (λ c κs. search needs)
     returns
     returns-2
     returns-3
-    returns-4)
+    returns-4
+    returns-5)

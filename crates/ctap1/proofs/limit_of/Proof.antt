@@ -1,0 +1,18 @@
+-- `limit_of` meets its contract.
+use borrow.Author.Needs.{needs}
+use Rattle.ctap1.proofs.limit_of.Statement.{statement}
+use Rattle.ctap1.proofs.limit_of.Tie as tie
+use Rattle.ctap1_stated.proofs.Tops as Tops
+
+returns : tie.Need-returns
+returns c = search (needs, Tops.limit-of-frame)
+
+pub limit-of-spec : {M : Type 1} → statement M
+limit-of-spec =
+    tie.close
+    (tie.spec
+    (λ c. search needs)
+    (λ c κs. search needs)
+    (λ c. search needs)
+    returns
+    (λ c. search needs))

@@ -1,0 +1,135 @@
+-- The exported decision, next part and response: what their claims say, of the definitions.
+use Prim.Native.Nat.{ℕ, _≤_, _<_}
+use mathlib.Core.Path.{_≡_, refl, ap, ap₂, sym, _∙_}
+use mathlib.Core.List.{List, _∷_}
+use mathlib.Core.Logic.{⊎-elim}
+use native.Mathlib.Omega.{arith}
+use lib.ListN.{length, drop}
+use Rattle.outcome.specs.Outcome.{Outcome, R, Word, Gives, lastRefusal}
+use Rattle.outcome.proofs.Laws.{r-gives, r-word}
+use Rattle.apdu_stated.specs.Answers.{Says}
+use Rattle.apdu_stated.specs.Reading.{readOf}
+use Rattle.response_stated.specs.declared.Remainder.{Remainder}
+use Rattle.response_stated.specs.Words.{Sent}
+use Rattle.response_stated.specs.Terms.{Sender, Writer, sending, writingOf, sendingOf}
+use Rattle.response_stated.specs.Claims as Responses
+use Rattle.response_stated.proofs.Laws.{next-given, next-exactly, next-only, writes-exactly, writes-only}
+use Rattle.ctap1_stated.specs.Words.{Given, Body, Ordered, Part, Inputs}
+use Rattle.ctap1_stated.specs.Path.{frameLimit}
+use Rattle.ctap1_stated.proofs.Laws.{row, limits-exactly, limits-only, remainder-exactly, replies-exactly, IsPart, is-a-part}
+use Rattle.panel_stated.specs.Numbers.{decidedNo, presenceOf}
+use Rattle.panel_stated.specs.Exports.{ToDecide, partNumbers, lengthNumbers, respondsOf, nextsOf, inputsOf, decidedBy, decidesOf}
+use Rattle.panel_stated.specs.Terms.{IsNumbered}
+use Rattle.panel_stated.specs.Claims
+use Rattle.panel_stated.proofs.Outcomes
+
+module _ (i : ToDecide) where
+  numbered : IsNumbered (decidedBy i .answer)
+  numbered = Outcomes.decision-said (presenceOf (i .presence)) (i .moment) (inputsOf i)
+
+  refused-at : (o : Outcome Given) → decidedBy i .answer ≡ o → IsNumbered o → 1 ≤ decidedNo o → decidedNo o ≤ lastRefusal → decidesOf i .said .remainder ≡ i .remainder
+  refused-at (R n) e h low high = rw e
+  refused-at (Word s) e h low high = absurd (omega (arith, h .0))
+  refused-at (Gives (Body n)) e h low high = absurd (omega arith)
+  refused-at (Gives Ordered) e h low high = absurd (omega arith)
+  refused-at (Gives (Part n r)) e h low high = absurd (omega arith)
+
+  keeps-at : (said : Says) → readOf (i .frame) ≡ Gives said → said .header .ins ≡ 0xC0 → (o : Outcome Given) → decidedBy i .answer ≡ o → IsNumbered o → 0x6000 ≤ decidedNo o → decidedNo o < 0x9000
+      → decidesOf i .said .remainder ≡ i .remainder
+  keeps-at said r c (R n) e h low high = absurd (omega (arith, h .1))
+  keeps-at said r c (Word s) e h low high = remainder-exactly .kept (presenceOf (i .presence)) (i .moment) (inputsOf i) s (said, r, c) e
+  keeps-at said r c (Gives (Body n)) e h low high = absurd (omega arith)
+  keeps-at said r c (Gives Ordered) e h low high = absurd (omega arith)
+  keeps-at said r c (Gives (Part n k)) e h low high = absurd (omega arith)
+
+  not-refused : (o : Outcome Given) → IsNumbered o → lastRefusal < decidedNo o → (n : ℕ) → o ≡ R n → ⊥
+  not-refused (R m) h high n e = omega (arith, h .1)
+  not-refused (Word s) h high n e = r-word _ _ (sym e)
+  not-refused (Gives g) h high n e = r-gives _ _ (sym e)
+
+  version-at : (o : Outcome Given) → decidedBy i .answer ≡ o → IsNumbered o → decidedNo o ≡ 0x9000 → decidesOf i .reply ≡ 0x55 ∷ 0x32 ∷ 0x46 ∷ 0x5F ∷ 0x56 ∷ 0x32 ∷ drop 6 (i .reply)
+  version-at (R n) e h is = absurd (omega (arith, is, h .1))
+  version-at (Word s) e h is = absurd (omega (arith, is, h .1))
+  version-at (Gives (Body n)) e h is =
+      ⊎-elim (λ x. x .2) (λ x. absurd (x .0 n e)) (replies-exactly (presenceOf (i .presence)) (i .moment) (inputsOf i) (i .reply) refl)
+  version-at (Gives Ordered) e h is = absurd (omega arith)
+  version-at (Gives (Part n k)) e h is = absurd (omega arith)
+
+  reply-at : (o : Outcome Given) → decidedBy i .answer ≡ o → (decidedNo o ≡ 0x9000 → ⊥) → decidesOf i .reply ≡ i .reply
+  reply-at (R n) e nay = rw e
+  reply-at (Word s) e nay = rw e
+  reply-at (Gives (Body n)) e nay = absurd (nay refl)
+  reply-at (Gives Ordered) e nay = rw e
+  reply-at (Gives (Part n k)) e nay = rw e
+
+  ordered-at : (o : Outcome Given) → decidedBy i .answer ≡ o → IsNumbered o → decidedNo o ≡ 0x0100 → decidesOf i .block ≡ decidedBy i .order .bytes
+  ordered-at (R n) e h is = absurd (omega (arith, is, h .1))
+  ordered-at (Word s) e h is = absurd (omega (arith, is, h .0))
+  ordered-at (Gives (Body n)) e h is = absurd (omega arith)
+  ordered-at (Gives Ordered) e h is = rw e
+  ordered-at (Gives (Part n k)) e h is = absurd (omega arith)
+
+  block-at : (o : Outcome Given) → decidedBy i .answer ≡ o → (decidedNo o ≡ 0x0100 → ⊥) → decidesOf i .block ≡ i .block
+  block-at (R n) e nay = rw e
+  block-at (Word s) e nay = rw e
+  block-at (Gives (Body n)) e nay = rw e
+  block-at (Gives Ordered) e nay = absurd (nay refl)
+  block-at (Gives (Part n k)) e nay = rw e
+
+  no-part-at : (o : Outcome Given) → decidedBy i .answer ≡ o → (decidedNo o ≡ 0x0200 → ⊥) → decidesOf i .part ≡ i .part
+  no-part-at (R n) e nay = rw e
+  no-part-at (Word s) e nay = rw e
+  no-part-at (Gives (Body n)) e nay = rw e
+  no-part-at (Gives Ordered) e nay = rw e
+  no-part-at (Gives (Part n k)) e nay = absurd (nay refl)
+
+  -- a part is the one that `next` sends
+  part-at : (next : Sender) → Responses.NextExactly next → (o : Outcome Given) → decidedBy i .answer ≡ o → IsNumbered o → decidedNo o ≡ 0x0200
+      → next (i .reply) (i .remainder) (decidesOf i .said .limit) (i .part) ≡ (Gives (sending (decidesOf i .said .length) (decidesOf i .said .remainder)), decidesOf i .part)
+  part-at next x (R n) e h is = absurd (omega (arith, is, h .1))
+  part-at next x (Word s) e h is = absurd (omega (arith, is, h .0))
+  part-at next x (Gives (Body n)) e h is = absurd (omega arith)
+  part-at next x (Gives Ordered) e h is = absurd (omega arith)
+  part-at next x (Gives (Part n k)) e h is =
+      let f = is-a-part (presenceOf (i .presence)) (i .moment) (inputsOf i) n k e in
+      let g = next-given (length (i .reply)) (i .remainder) (frameLimit (i .frame)) (length (i .part)) (f .within) (f .room) in
+      let given = sym g ∙ ap₂ (λ (m : ℕ) (r : Remainder). Gives (sending m r)) (sym (f .long)) (sym (f .left)) in
+      next-only next sendingOf x next-exactly (i .reply) (i .remainder) (frameLimit (i .frame)) (i .part) ∙ rw (given, e)
+
+pub decide-exported : Claims.DecideExported decidesOf
+decide-exported =
+    record {
+      row = λ i. (
+        decidedBy i,
+        row (presenceOf (i .presence)) (i .moment) (inputsOf i),
+        record { answer = refl; fault = refl; place = refl; taken = refl; long = refl; order = refl; presence = refl },
+        λ is. ordered-at i (decidedBy i .answer) refl (numbered i) is,
+      );
+      limit = λ i l x. limits-only frameLimit l limits-exactly x (i .frame);
+      refused = λ i low high. refused-at i (decidedBy i .answer) refl (numbered i) low high;
+      keeps = λ i said r c low high. keeps-at i said r c (decidedBy i .answer) refl (numbered i) low high;
+      drops = λ i nay high. remainder-exactly .dropped (presenceOf (i .presence)) (i .moment) (inputsOf i) (λ x. nay (x .0) (x .1) (x .2)) (not-refused i (decidedBy i .answer) (numbered i) high);
+      version = λ i is. version-at i (decidedBy i .answer) refl (numbered i) is;
+      reply = λ i nay. reply-at i (decidedBy i .answer) refl nay;
+      block = λ i nay. block-at i (decidedBy i .answer) refl nay;
+      part = λ i next x is. part-at i next x (decidedBy i .answer) refl (numbered i) is;
+      no-part = λ i nay. no-part-at i (decidedBy i .answer) refl nay;
+    }
+
+pub next-part-exported : Claims.NextPartExported nextsOf
+next-part-exported =
+    record {
+      given = λ sender x body r limit old n left e. let same = next-only sendingOf sender next-exactly x body r limit old in
+          (ap (λ (o : Outcome Sent × List ℕ). partNumbers (o .0) r) same ∙ ap (λ (o : Outcome Sent). partNumbers o r) e, ap (λ (o : Outcome Sent × List ℕ). o .1) same);
+      refused = λ sender x body r limit old m e. let same = next-only sendingOf sender next-exactly x body r limit old in
+          (ap (λ (o : Outcome Sent × List ℕ). partNumbers (o .0) r) same ∙ ap (λ (o : Outcome Sent). partNumbers o r) e, ap (λ (o : Outcome Sent × List ℕ). o .1) same ∙ x .refused body r limit old m e);
+    }
+
+pub response-exported : Claims.ResponseExported respondsOf
+response-exported =
+    record {
+      given = λ writer x body status old n e. let same = writes-only writingOf writer writes-exactly x body status old in
+          (ap (λ (o : Outcome ℕ × List ℕ). lengthNumbers (o .0)) same ∙ ap lengthNumbers e, ap (λ (o : Outcome ℕ × List ℕ). o .1) same);
+      refused = λ writer x body status old m e. let same = writes-only writingOf writer writes-exactly x body status old in
+          (ap (λ (o : Outcome ℕ × List ℕ). lengthNumbers (o .0)) same ∙ ap lengthNumbers e, ap (λ (o : Outcome ℕ × List ℕ). o .1) same ∙ x .refused body status old m e);
+    }

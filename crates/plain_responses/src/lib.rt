@@ -1,0 +1,126 @@
+// Responses and parts as plain numbers; and what a frame that asks for the next part is answered.
+use outcome::ApduStatusCode;
+use panel_stated::DecisionSaid;
+use panel_stated::PartSaid;
+use panel_stated::ResponseSaid;
+use panel_stated::Wrote;
+use response_stated::NextPart;
+use response_stated::ReadResponse;
+use response_stated::Remainder;
+use response_stated::WroteResponse;
+use u2f_up_stated::Presence;
+ghost use mathlib.Core.Path.{_≡_};
+ghost use mathlib.Core.Bool.{true};
+ghost use lib.ListN.{length};
+ghost use Rattle.ctap1_stated.specs.Path.{fetchPath};
+ghost use Rattle.ctap1_stated.specs.Decision.{along};
+ghost use Rattle.ctap1_stated.specs.Session.{remainderAfter, partAfter};
+ghost use Rattle.response_stated.specs.Parts.{partResponse};
+ghost use Rattle.panel_stated.specs.Exports.{decisionNumbers};
+ghost use Rattle.panel_stated.specs.Contracts.{ResponsePlain, WroteResponsePlain, NextPlain, StatedPlain};
+
+pub fn response_plain(read: ReadResponse) -> ResponseSaid
+    ensures { λ r. ⌜ ResponsePlain read r ⌝ }
+{
+    match read {
+        ReadResponse::Refused(why) => ResponseSaid {
+            answer: outcome::refusal_number(why) as u16,
+            status: 0,
+            length: 0,
+        },
+        ReadResponse::Response(length, status) => ResponseSaid {
+            answer: 0x9000,
+            status,
+            length,
+        },
+    }
+}
+
+pub fn wrote_response_plain(written: WroteResponse) -> Wrote
+    ensures { λ r. ⌜ WroteResponsePlain written r ⌝ }
+{
+    match written {
+        WroteResponse::Refused(why) => Wrote {
+            answer: outcome::refusal_number(why) as u16,
+            length: 0,
+        },
+        WroteResponse::Response(length) => Wrote {
+            answer: 0x9000,
+            length,
+        },
+    }
+}
+
+// After a refusal what remains is what remained.
+pub fn next_plain(next: NextPart, kept: Remainder) -> PartSaid
+    ensures { λ r. ⌜ NextPlain next kept r ⌝ }
+{
+    match next {
+        NextPart::Refused(why) => PartSaid {
+            answer: outcome::refusal_number(why) as u16,
+            length: 0,
+            remainder: kept,
+        },
+        NextPart::Part(length, remainder) => PartSaid {
+            answer: 0x9000,
+            length,
+            remainder,
+        },
+    }
+}
+
+// What GET RESPONSE is answered where nothing is left and every check before that is passed: the ruling says it as if nothing were.
+const NOTHING_LEFT: u16 = 0x6985;
+
+// A frame that asks for the next part and comes so far: 6985 where nothing is left, else the next part of the body in `reply`.
+fn fetched_numbers(
+    kept: Presence,
+    settled: Presence,
+    remainder: Remainder,
+    limit: u32,
+    reply: &[u8],
+    part: &mut [u8],
+) -> DecisionSaid
+    ensures { λ r. ⌜ r ≡ decisionNumbers (along (fetchPath (length (now (reply .entry))) remainder limit (length (now (part .entry)))) kept settled 0) (remainderAfter (along (fetchPath (length (now (reply .entry))) remainder limit (length (now (part .entry)))) kept settled 0 .answer) true remainder) limit ⌝ }
+    ensures { λ _. ⌜ now (part .exit) ≡ partAfter (along (fetchPath (length (now (reply .entry))) remainder limit (length (now (part .entry)))) kept settled 0 .answer) (partResponse (now (reply .entry)) remainder limit) (now (part .entry)) ⌝ }
+{
+    if remainder.count == 0 {
+        let nothing = ApduStatusCode::CondUseNotSatisfied;
+        return plain_orders::status_numbers(nothing, false, settled, remainder, limit);
+    }
+    let next = response::next_part(reply, remainder, limit, part);
+    match next {
+        NextPart::Refused(why) => plain_orders::refused_numbers(why, false, kept, remainder, limit),
+        NextPart::Part(length, left) => plain_orders::part_numbers(
+            length,
+            false,
+            settled,
+            left,
+            limit,
+        ),
+    }
+}
+
+// The status word of a ruling, where something may be left: a frame that asks for the next part keeps it, or gets it where only that was
+// missing; any other drops it.
+pub fn stated_numbers(
+    status: ApduStatusCode,
+    asks_on: bool,
+    taken: bool,
+    kept: Presence,
+    settled: Presence,
+    remainder: Remainder,
+    limit: u32,
+    reply: &[u8],
+    part: &mut [u8],
+) -> DecisionSaid
+    ensures { λ r. ⌜ StatedPlain status «asks_on» taken kept settled remainder limit (now (reply .entry)) (now (part .entry)) r (now (part .exit)) ⌝ }
+{
+    if !asks_on {
+        return plain_orders::status_numbers(status, taken, settled, response::nothing(), limit);
+    }
+    if outcome::status_number(status) != NOTHING_LEFT {
+        return plain_orders::status_numbers(status, taken, settled, remainder, limit);
+    }
+    fetched_numbers(kept, settled, remainder, limit, reply, part)
+}

@@ -1,0 +1,10 @@
+pub mod Theorems
+pub mod Only
+pub mod Refuted
+pub mod Cases
+pub mod Numbers
+pub mod Ways
+pub mod Told
+pub mod Walks
+pub mod Laws
+pub mod Follows

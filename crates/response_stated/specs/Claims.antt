@@ -1,0 +1,161 @@
+-- What is promised of responses and of a body in parts: open this file first. Each claim takes the program as its argument; the definitions
+-- of Responses.antt and Parts.antt meet it by proofs/Theorems.antt, and the programs of Wrong.antt do not by proofs/Refuted.antt. By
+-- proofs/Only.antt nothing else meets a claim named `..Exactly`, and by proofs/Follows.antt the truth, the joining and the number of parts follow
+-- of whatever meets `NextExactly`. The words `Writer`, `Sender`, `IsResponse`, `Goes`, `Tells`, `Sends`: Terms.antt. Of a sequence of calls: Fetching.antt.
+use mathlib.Core.Logic.{_↔_, _⊎_}
+use lib.ListN.{replicate}
+use Rattle.response_stated.specs.Words.{ℕ, _+_, _<_, _≤_, _≡_, List, [], _∷_, _++_, length, take, drop, AtMostOne, Outcome, R, Gives, AreBytes, Apdu, Says, Remainder, rest, ReadResponse, WroteResponse, NextPart, Response, responseRead, responseWritten, partSent}
+use Rattle.response_stated.specs.Contracts.{Limit, Nothing, WriteResponse, ReadsResponse, ResponseBody, PartNext}
+use Rattle.response_stated.specs.Terms.{Writer, Sender, reading, sending, spelled, IsResponse, Goes, Tells, Sends}
+use Rattle.response_stated.specs.Fetching.{Ask, called, remaining, joined, after, callsUntilDone, Each, HasRoom, Takes, RoundsUp}
+
+-- ---- a response, written and read
+
+-- 02, E2: "the ISO 7816-4 response form, body then two status bytes, written"; E2's request: "R2 when the buffer is short, else the response at
+-- the front, the rest left". The answer is the response's length. A refusal leaves the buffer.
+-- Rejects the status before the body (`statusFirst`), its low byte first (`lowByteFirst`), a response that begins one byte on (`oneByteOn`), a
+-- rest that is cleared (`clearsTheRest`), and room for the body alone (`noRoomForStatus`). Bites at a body of none.
+pub record WritesExactly (write : Writer) : Type 0 where
+  pub r2 : (body : List ℕ) (status : ℕ) (old : List ℕ) → (write body status old .0 ≡ R 2) ↔ (length old < length body + 2)
+  pub writes : (body : List ℕ) (status : ℕ) (old : List ℕ) → length body + 2 ≤ length old
+      → write body status old ≡ (Gives (length body + 2), spelled body status ++ drop (length body + 2) old)
+  pub refused : (body : List ℕ) (status : ℕ) (old : List ℕ) (n : ℕ) → write body status old .0 ≡ R n → write body status old .1 ≡ old
+
+-- 02, E2: "Reading a response under two bytes gives R2", and nothing else does; any other bytes are a body and a status, and are read as them.
+-- Rejects the low byte first (`readLowFirst`), a body that counts the status (`bodyWithStatus`), R2 for two bytes (`wantsABody`). Bites at 90 00.
+pub record ReadsExactly (read : List ℕ → Outcome Response) : Type 0 where
+  pub r2 : (bytes : List ℕ) → (read bytes ≡ R 2) ↔ (length bytes < 2)
+  pub reads : (bytes : List ℕ) (n status : ℕ)
+      → (read bytes ≡ Gives (reading n status)) ↔ ((body : List ℕ) × (length body ≡ n) × IsResponse bytes body status)
+
+-- E2's request: "the body as a part of the caller's slice": what stands before the last two bytes; ours: none where there are not two.
+-- Rejects a body with the status behind it (`cutWithStatus`), and without its last byte (`cutOneShort`). Bites at 90 00, and at 01 90 00.
+pub record BodyExactly (cut : List ℕ → List ℕ) : Type 0 where
+  pub before : (body : List ℕ) (sw1 sw2 : ℕ) → cut (body ++ (sw1 ∷ sw2 ∷ [])) ≡ body
+  pub under : (bytes : List ℕ) → length bytes < 2 → cut bytes ≡ []
+
+-- E2's request: "Written then read, and back, are the identity". Rejects a writer with the low byte first (`lowByteFirst`) beside a right reader.
+-- Bites at 9000.
+abbrev pub WrittenThenRead : (List ℕ → Outcome Response) → (List ℕ → List ℕ) → Writer → Type 0
+WrittenThenRead read cut write =
+    (body : List ℕ) (status : ℕ) (old : List ℕ) (n : ℕ) → status < 65536 → write body status old .0 ≡ Gives n
+    → (read (take n (write body status old .1)) ≡ Gives (reading (length body) status)) × (cut (take n (write body status old .1)) ≡ body)
+
+-- Rejects a body that comes back with its status (`cutWithStatus`). Bites at 90 00.
+abbrev pub ReadThenWritten : (List ℕ → Outcome Response) → (List ℕ → List ℕ) → Writer → Type 0
+ReadThenWritten read cut write =
+    (bytes old : List ℕ) (n status : ℕ) → AreBytes bytes → read bytes ≡ Gives (reading n status) → length bytes ≤ length old
+    → write (cut bytes) status old ≡ (Gives (length bytes), bytes ++ drop (length bytes) old)
+
+-- ---- how much a frame takes
+
+-- 02, E2: "For shapes 1 to 4, a body longer than Le (256 where absent) is cut"; "Extended shapes get the whole body": no limit, said as 0 (ours).
+-- An absent Le is read as 0. Rejects a limit of 256 for extended shapes (`extendedCut`), shape 6 taken for a short one (`sixIsShort`), and an absent
+-- Le taken for no limit (`absentIsNone`). Bites at shapes 1, 6 and 8.
+pub record LimitExactly (limit : Says → ℕ) : Type 0 where
+  pub said : (says : Says) → says .shape ≤ 4 → 1 ≤ says .le → limit says ≡ says .le
+  pub absent : (says : Says) → says .shape ≤ 4 → says .le ≡ 0 → limit says ≡ 256
+  pub extended : (says : Says) → 5 ≤ says .shape → limit says ≡ 0
+
+-- E2's request: "the limit is 1 to 256, or 0 for none": of every frame that is read, and none exactly in shapes 5 to 8.
+-- Rejects `absentIsNone` at a frame of four bytes, `extendedCut` at shape 8 and `sixIsShort` at shape 6.
+pub record LimitOfFrames (read : List ℕ → Outcome Says) (limit : Says → ℕ) : Type 0 where
+  pub most : (frame : List ℕ) (says : Says) → AreBytes frame → read frame ≡ Gives says → limit says ≤ 256
+  pub none : (frame : List ℕ) (says : Says) → AreBytes frame → read frame ≡ Gives says → (limit says ≡ 0) ↔ (5 ≤ says .shape)
+
+-- Ours: what nothing left is. Rejects `oneByteLeft` and `nothingAt1`.
+abbrev pub NothingExactly : Remainder → Type 0
+NothingExactly r = (r .place ≡ 0) × (r .count ≡ 0)
+
+-- ---- one part
+
+-- E2's request: "R2 when the lent body is shorter than the remainder's end, then R2 when the buffer is shorter than part and status; an R refusal keeps
+-- remainder and buffer"; "place + count is a sum of whole numbers, never wrapped". Otherwise: of what remains, `part` and then `left`, part goes out,
+-- with the status for what is left after it, at the buffer's front, and left remains.
+-- Rejects XX counted before the part (`countsBefore`), 256 left as 61 FF (`saysFF`), the part from the body's start again (`fromTheStart`), a part one
+-- byte short or long (`oneByteShort`, `oneByteLong`), a sum that wraps (`wrapsTheSum`), a remainder that did not move (`doesNotMove`), a refusal that
+-- writes (`refusalWrites`), and a status before the part (`sendsStatusFirst`). A refusal has no remainder, so that none can hand back a moved one:
+-- that the record keeps its remainder is the decision's claim.
+pub record NextExactly (next : Sender) : Type 0 where
+  pub r2 : (body : List ℕ) (r : Remainder) (limit : ℕ) (old : List ℕ)
+      → (next body r limit old .0 ≡ R 2)
+      ↔ ((length body < r .place + r .count) ⊎ ((n : ℕ) × Goes limit (r .count) n × (length old < n + 2)))
+  pub sends : (before part left behind : List ℕ) (limit status : ℕ) (old : List ℕ)
+      → Goes limit (length part + length left) (length part) → Tells (length left) status → length part + 2 ≤ length old
+      → next (before ++ (part ++ (left ++ behind))) (rest (length before) (length part + length left)) limit old
+      ≡ (Gives (sending (length part + 2) (rest (length before + length part) (length left))), spelled part status ++ drop (length part + 2) old)
+  pub refused : (body : List ℕ) (r : Remainder) (limit : ℕ) (old : List ℕ) (n : ℕ) → next body r limit old .0 ≡ R n → next body r limit old .1 ≡ old
+
+-- E2's request: "Each 61 XX tells the truth about what is left", and 9000 too: both ways, and what is left is what was there without the part.
+-- Rejects `countsBefore` and 9000 with every part (`always9000`) at 2 bytes of which one goes out, `saysFF` at 257, `doesNotMove` at one byte.
+pub record TellsTheTruth (next : Sender) : Type 0 where
+  pub done : (body : List ℕ) (r : Remainder) (limit : ℕ) (old part : List ℕ) (status : ℕ) (left : Remainder)
+      → Sends (next body r limit old) part status left → (status ≡ 0x9000) ↔ (left .count ≡ 0)
+  pub some : (body : List ℕ) (r : Remainder) (limit : ℕ) (old part : List ℕ) (status : ℕ) (left : Remainder)
+      → Sends (next body r limit old) part status left → (n : ℕ) → 1 ≤ n → n ≤ 255 → (status ≡ 0x6100 + n) ↔ (left .count ≡ n)
+  pub many : (body : List ℕ) (r : Remainder) (limit : ℕ) (old part : List ℕ) (status : ℕ) (left : Remainder)
+      → Sends (next body r limit old) part status left → (status ≡ 0x6100) ↔ (256 ≤ left .count)
+  pub without-part : (body : List ℕ) (r : Remainder) (limit : ℕ) (old part : List ℕ) (status : ℕ) (left : Remainder)
+      → Sends (next body r limit old) part status left
+      → (length part + left .count ≡ r .count) × (left .place + left .count ≡ r .place + r .count)
+
+-- E2's request: "A part asked for in shape 1 to 4 is at most Le bytes (256 where absent); an extended one is all that remains, whatever its Le". The
+-- answer counts two status bytes more. Rejects `oneByteLong` at Le 1, `absentIsNone` at shape 1, `extendedCut` at shape 8, each at 257 bytes.
+pub record PartWithinLe (limit : Says → ℕ) (next : Sender) : Type 0 where
+  pub said : (says : Says) (body : List ℕ) (r : Remainder) (old : List ℕ) (n : ℕ) (left : Remainder) → says .shape ≤ 4 → 1 ≤ says .le
+      → next body r (limit says) old .0 ≡ Gives (sending n left) → n ≤ says .le + 2
+  pub absent : (says : Says) (body : List ℕ) (r : Remainder) (old : List ℕ) (n : ℕ) (left : Remainder) → says .shape ≤ 4 → says .le ≡ 0
+      → next body r (limit says) old .0 ≡ Gives (sending n left) → n ≤ 256 + 2
+  pub extended : (says : Says) (body : List ℕ) (r : Remainder) (old : List ℕ) (n : ℕ) (left : Remainder) → 5 ≤ says .shape
+      → next body r (limit says) old .0 ≡ Gives (sending n left) → (n ≡ r .count + 2) × (left .count ≡ 0)
+
+-- E2's request: "The longest response to a frame in shape 1 to 4 is 258 bytes, and it is reached". Rejects `oneByteLong`, and a sender that keeps to 255
+-- (`atMost255`). Bites at 257 bytes and a frame of four.
+pub record LongestIs258 (read : List ℕ → Outcome Says) (limit : Says → ℕ) (next : Sender) : Type 0 where
+  pub within : (frame : List ℕ) (says : Says) (body : List ℕ) (r : Remainder) (old : List ℕ) (n : ℕ) (left : Remainder)
+      → AreBytes frame → read frame ≡ Gives says → says .shape ≤ 4 → next body r (limit says) old .0 ≡ Gives (sending n left) → n ≤ 258
+  pub reached : (says : Says)
+      × (read (0x00 ∷ 0x03 ∷ 0x00 ∷ 0x00 ∷ []) ≡ Gives says)
+      × (next (replicate 257 0) (rest 0 257) (limit says) (replicate 258 0) .0 ≡ Gives (sending 258 (rest 256 1)))
+
+-- ---- all parts
+
+-- 02, E2: "Joining the parts, at any Le values, gives the uncut body". Of every body, every n bytes at its front, and every sequence of calls with any
+-- limits and buffers: the parts sent so far, joined, and then what remains, are those n bytes; and once a call carries 9000 the parts alone are.
+-- Rejects `fromTheStart` and `doesNotMove` at two bytes fetched one by one.
+pub record PartsJoin (next : Sender) : Type 0 where
+  pub so-far : (body : List ℕ) (n : ℕ) (asks : List Ask) → n ≤ length body
+      → joined next body (rest 0 n) asks ++ remaining body (after next body (rest 0 n) asks) ≡ take n body
+  pub done : (body : List ℕ) (n : ℕ) (asks : List Ask) (a : Ask) (part : List ℕ) (left : Remainder) → n ≤ length body
+      → Sends (called next body (after next body (rest 0 n) asks) a) part 0x9000 left
+      → joined next body (rest 0 n) asks ++ part ≡ take n body
+
+-- E2's request: "A body of n bytes takes at most n parts (one where n is 0), and exactly n / L rounded up (one where n is 0) where every limit is L": counted up to
+-- the part that carries 9000, of calls that each have room. Rejects a sender that keeps to one byte a call (`oneAtATime`) and `doesNotMove`. Bites at 2 bytes.
+pub record NumberOfParts (next : Sender) : Type 0 where
+  pub at-most : (body : List ℕ) (n : ℕ) (asks : List Ask) → n ≤ length body → 1 ≤ n → Each (HasRoom n) asks
+      → callsUntilDone next body (rest 0 n) asks ≤ n
+  pub of-none : (body : List ℕ) (asks : List Ask) → Each (HasRoom 0) asks → callsUntilDone next body (rest 0 0) asks ≤ 1
+  pub nothing-left : (body : List ℕ) (n : ℕ) (asks : List Ask) → n ≤ length body → Each (HasRoom n) asks → n ≤ length asks
+      → after next body (rest 0 n) asks .count ≡ 0
+  pub exactly : (body : List ℕ) (n L k : ℕ) (asks : List Ask) → n ≤ length body → 1 ≤ L → RoundsUp n L k → Each (Takes L) asks → k ≤ length asks
+      → callsUntilDone next body (rest 0 n) asks ≡ k
+
+-- ---- the contracts
+
+-- the answers' words tell the cases apart
+pub record AnswersOneToOne : Type 0 where
+  pub read : (a b : ReadResponse) → responseRead a ≡ responseRead b → a ≡ b
+  pub wrote : (a b : WroteResponse) → responseWritten a ≡ responseWritten b → a ≡ b
+  pub next : (a b : NextPart) → partSent a ≡ partSent b → a ≡ b
+
+-- 01: "Show that two results satisfying it are equal". Of a writer and a sender, the answer and the buffer.
+pub record ResultsDetermined : Type 0 where
+  pub limit : (says : Apdu) → AtMostOne (Limit says)
+  pub nothing : AtMostOne Nothing
+  pub write-response : (body : List ℕ) (status : ℕ) (old : List ℕ)
+      → AtMostOne (λ (o : WroteResponse × List ℕ). WriteResponse body status old (o .0) (o .1))
+  pub read-response : (bytes : List ℕ) → AtMostOne (ReadsResponse bytes)
+  pub response-body : (bytes : List ℕ) → AtMostOne (ResponseBody bytes)
+  pub next-part : (body : List ℕ) (r : Remainder) (limit : ℕ) (old : List ℕ)
+      → AtMostOne (λ (o : NextPart × List ℕ). PartNext body r limit old (o .0) (o .1))

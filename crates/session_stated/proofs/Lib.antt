@@ -1,0 +1,4 @@
+pub mod Steps
+pub mod Counts
+pub mod Theorems
+pub mod Refuted

@@ -1,0 +1,113 @@
+-- Each wrong program of specs/Wrong.antt, and the claim that is false of it: a body of the bytes 7 8 9, fetched one byte at a time.
+use Prim.Native.Nat.{ℕ, _+_, _≤_}
+use mathlib.Core.Path.{_≡_, refl, ap, sym, _∙_}
+use mathlib.Core.Bool.{true}
+use mathlib.Core.Logic.{⊎-elim}
+use mathlib.Core.List.{List, [], _∷_, _++_}
+use native.Mathlib.Omega.{arith}
+use lib.ListN.{length, replicate}
+use Rattle.outcome.specs.Outcome.{Outcome, Gives}
+use Rattle.outcome.proofs.Laws.{gives-same}
+use Rattle.octets.specs.Bytes.{byte}
+use Rattle.apdu_stated.specs.Answers.{Says}
+use Rattle.apdu_stated.specs.Reading.{readBy, sayOf, lengthsOf, shortOf, extendedOf, afterData}
+use Rattle.command_stated.specs.Command.{commandOf, onReading, byInstruction, getResponseOf}
+use Rattle.response_stated.specs.declared.Remainder.{Remainder}
+use Rattle.response_stated.specs.Words.{rest, Sent}
+use Rattle.response_stated.specs.Parts.{limitOf, partLength, leftStatus, nextPartOf}
+use Rattle.response_stated.specs.Terms.{sendingOf, sending, Tells, nothing-left, some-left, more-left}
+use Rattle.response_stated.specs.Fetching.{up}
+use Rattle.u2f_up_stated.specs.Moments.{fresh, settleOf}
+use Rattle.u2f_up_stated.specs.Terms.{Passes}
+use Rattle.ctap1_stated.specs.Words.{Inputs, Part}
+use Rattle.ctap1_stated.specs.Path.{frameLimit, fetchPath, commandPath, allowedPath, pathOf}
+use Rattle.ctap1_stated.specs.Decision.{decisionOf}
+use Rattle.ctap1_stated.specs.Session.{remainderLeft, partLeft}
+use Rattle.ctap1_stated.specs.declared.Allowed.the-variants as Allowed′
+use Rattle.ctap1_stated.specs.declared.Attestation.the-variants as Attestation′
+use Rattle.ctap1_stated.specs.declared.Counter.the-variants as Counter′
+use Rattle.session_stated.specs.Sessions.{Visit, none, also}
+use Rattle.session_stated.specs.Claims
+use Rattle.session_stated.specs.Wrong
+
+-- C0 with Le 1
+abbrev oneByte : List ℕ
+oneByte = 0x00 ∷ 0xC0 ∷ 0x00 ∷ 0x00 ∷ 0x01 ∷ []
+
+abbrev said : Says
+said = record { header = record { cla = 0x00; ins = 0xC0; p1 = 0x00; p2 = 0x00 }; shape = 2; lc = 0; le = 1; dataAt = 4 }
+
+abbrev body : List ℕ
+body = 7 ∷ 8 ∷ 9 ∷ []
+
+abbrev lent : Remainder → Inputs
+lent r =
+    record {
+      frame = oneByte;
+      hardware = record { allowed = Allowed′.Yes; stored = true; attestation = Attestation′.Present; good = true; counter = Counter′.Failed };
+      newHandle = [];
+      certificate = [];
+      x = [];
+      y = [];
+      room = 3;
+      remainder = r;
+      partRoom = 4;
+    }
+
+abbrev visit : Visit
+visit = record { presence = fresh 1000; moment = 0; lent = lent (rest 0 0); buffer = replicate 4 0 }
+
+sent-rest : (m n : ℕ) (q r : Remainder) → _≡_ {A = Outcome Sent} (Gives (sending m q)) (Gives (sending n r)) → q .place ≡ r .place
+sent-rest m n q r e = ap (λ (s : Sent). s .remainder .place) (gives-same _ _ e)
+
+-- two of three bytes remain
+pub skips : Claims.FetchesNext Wrong.skips frameLimit partLeft sendingOf → ⊥
+unfolding decisionOf pathOf allowedPath commandPath fetchPath settleOf nextPartOf frameLimit limitOf partLength commandOf onReading byInstruction getResponseOf readBy sayOf lengthsOf shortOf extendedOf afterData
+skips c =
+    let z : _≡_ {A = ℕ} 2 3 = sent-rest 3 3 (rest 2 1) (rest 3 0) (λ d. c (fresh 1000) 0 (lent (rest 1 2)) body (replicate 4 0) 3 (rest 3 0) refl refl refl d .0) in
+    omega arith
+
+pub again : Claims.FetchesNext decisionOf frameLimit Wrong.again sendingOf → ⊥
+unfolding decisionOf pathOf allowedPath commandPath fetchPath settleOf nextPartOf frameLimit limitOf partLength leftStatus commandOf onReading byInstruction getResponseOf readBy sayOf lengthsOf shortOf extendedOf afterData
+again c =
+    let z : _≡_ {A = ℕ} 8 7 = λ d. byte (c (fresh 1000) 0 (lent (rest 1 2)) body (replicate 4 0) 3 (rest 2 1) refl refl refl d .1) 0 in
+    omega arith
+
+-- the first byte goes out by itself, then a C0
+pub skipsInSession : Claims.SessionJoins Wrong.skips frameLimit remainderLeft partLeft sendingOf → ⊥
+unfolding decisionOf pathOf allowedPath commandPath fetchPath settleOf nextPartOf frameLimit limitOf partLength leftStatus commandOf onReading byInstruction getResponseOf readBy sayOf lengthsOf shortOf extendedOf afterData
+skipsInSession c =
+    let z : _≡_ {A = ℕ} 2 3 = ap (length {A = ℕ}) (c .so-far body 3 oneByte (replicate 4 0) (visit ∷ []) (omega arith) (also (said, refl, refl) none)) in
+    omega arith
+
+pub againInSession : Claims.SessionJoins decisionOf frameLimit remainderLeft Wrong.again sendingOf → ⊥
+unfolding decisionOf pathOf allowedPath commandPath fetchPath settleOf nextPartOf frameLimit limitOf partLength leftStatus commandOf onReading byInstruction getResponseOf readBy sayOf lengthsOf shortOf extendedOf afterData
+againInSession c =
+    let z : _≡_ {A = ℕ} 7 8 = ap (λ (l : List ℕ). byte l 1) (c .so-far body 3 oneByte (replicate 4 0) (visit ∷ []) (omega arith) (also (said, refl, refl) none)) in
+    omega arith
+
+pub takes256 : Claims.SessionLimits Wrong.takes256 → ⊥
+unfolding decisionOf pathOf allowedPath commandPath fetchPath settleOf nextPartOf frameLimit limitOf partLength commandOf onReading byInstruction getResponseOf readBy sayOf lengthsOf shortOf extendedOf afterData
+takes256 c = omega (arith, c .given (fresh 1000) 0 (lent (rest 1 2)) 4 (rest 3 0) said refl refl (omega arith) (omega arith))
+
+-- 61 01 is told of one byte, and two are said to remain
+not-two : {status : ℕ} → Tells 2 status → status ≡ 0x6101 → ⊥
+not-two (some-left a b) e = omega arith
+not-two (more-left a) e = omega arith
+
+pub forgets : Claims.SessionTells Wrong.forgets partLeft → ⊥
+unfolding decisionOf pathOf allowedPath commandPath fetchPath settleOf nextPartOf frameLimit limitOf partLength leftStatus commandOf onReading byInstruction getResponseOf readBy sayOf lengthsOf shortOf extendedOf afterData
+forgets c =
+    not-two (c (fresh 1000) 0 (lent (rest 1 2)) body (replicate 4 0) 3 (rest 1 2) (8 ∷ []) 0x6101 refl refl refl (record { sw1 = 0x61; sw2 = 0x01; are = refl; is = refl })) refl
+
+-- three bytes, one at a time: three parts, and here two
+ok : Passes (fresh 1000) 0
+ok = (λ b. ⊎-elim (λ e. omega (arith, e)) (λ h. omega (arith, h)) b, λ b. ⊎-elim (λ h. omega (arith, h)) (λ h. omega (arith, h)) b)
+
+pub takes256InSession : Claims.SessionParts Wrong.takes256 frameLimit remainderLeft partLeft sendingOf → ⊥
+unfolding decisionOf pathOf allowedPath commandPath fetchPath settleOf nextPartOf frameLimit limitOf partLength leftStatus commandOf onReading byInstruction getResponseOf readBy sayOf lengthsOf shortOf extendedOf afterData
+takes256InSession c =
+    let z : _≡_ {A = ℕ} 2 3 =
+    c .exactly body 3 1 3 oneByte (replicate 4 0) (sending 3 (rest 1 2)) (visit ∷ visit ∷ []) (omega arith) (omega arith) (up 2 (omega arith) (omega arith)) refl refl
+    (also (ok, (refl, refl), refl, omega arith) (also (ok, (refl, refl), refl, omega arith) none)) (omega arith) in
+    omega arith

@@ -1,0 +1,86 @@
+-- One visit with a frame that asks: nothing goes out and all remains, or the next part goes out as `next` sends it. And what follows for all of them.
+use Prim.Native.Nat.{ℕ, zero, suc, _+_, _-_, _*_, _<_, _≤_}
+use mathlib.Core.Path.{_≡_, refl, ap, sym, subst, _∙_}
+use mathlib.Core.Bool.{Bool, true, false}
+use mathlib.Core.List.{List, [], _∷_, _++_, append-assoc, append-nil}
+use native.Mathlib.Omega.{arith}
+use lib.ListN.{length, take, drop}
+use Rattle.outcome.specs.Outcome.{Outcome, R, Word, Gives}
+use Rattle.apdu_stated.specs.Reading.{readOf}
+use Rattle.response_stated.specs.declared.Remainder.{Remainder}
+use Rattle.response_stated.specs.Words.{rest, Sent}
+use Rattle.response_stated.specs.Responses.{responseBodyOf}
+use Rattle.response_stated.specs.Parts.{partLength, restAfter, partResponse, partLaid, nextPartOf}
+use Rattle.response_stated.specs.Terms.{sendingOf}
+use Rattle.response_stated.specs.Fetching.{Ask, got, left, remaining, called}
+use Rattle.response_stated.proofs.Laws.{next-given, step-within, step-joins, part-some, part-most}
+use Rattle.ctap1_stated.specs.Words.{Inputs, Result}
+use Rattle.ctap1_stated.specs.Path.{frameLimit}
+use Rattle.ctap1_stated.specs.Decision.{decisionOf}
+use Rattle.ctap1_stated.specs.Session.{asksOn, remainderLeft, partLeft}
+use Rattle.ctap1_stated.specs.Terms.{AsksOn}
+use Rattle.ctap1_stated.proofs.Laws.{Asked, is-refused, is-word, is-part, asked}
+use Rattle.session_stated.specs.Sessions.{Visit, lentIn, sentWith, isPart, decidedIn, sentIn, leftIn, joinedOver, leftOver, partsOver, Each, none, also, Asks}
+
+-- the call of `next` that a visit comes to
+abbrev pub ask : Visit → Ask
+ask v = record { limit = frameLimit (v .lent .frame); buffer = v .buffer }
+
+asks-so : (a : Inputs) → AsksOn a → asksOn (readOf (a .frame)) ≡ true
+asks-so a x = rw (x .1, x .2)
+
+module _ (body : List ℕ) where
+  module _ (r : Remainder) (v : Visit) where
+    -- what goes out, what is left, how many parts
+    pub data Step : List ℕ → Remainder → ℕ → Type 0 where
+      keeps : Step [] r 0
+      sends : 0 < r .count → r .place + r .count ≤ length body → partLength (frameLimit (v .lent .frame)) (r .count) + 2 ≤ length (v .buffer)
+          → Step (got (called sendingOf body r (ask v))) (left r (called sendingOf body r (ask v) .0)) 1
+
+    abbrev Came : Result → Type 0
+    Came x = Step (sentWith (x .answer) (partLeft (lentIn body r v) x body (v .buffer))) (remainderLeft (lentIn body r v) x) (isPart (x .answer))
+
+    pub step : Asks v → Step (sentIn decisionOf remainderLeft partLeft body r v) (leftIn decisionOf remainderLeft partLeft body r v) (isPart (decidedIn decisionOf remainderLeft partLeft body r v .answer))
+    step asks = by (decidedIn decisionOf remainderLeft partLeft body r v) (asked (v .presence) (v .moment) (lentIn body r v) asks)
+      where
+        by : (x : Result) → Asked (v .presence) (v .moment) (lentIn body r v) x → Came x
+        by _ (is-refused n) = keeps
+        by _ (is-word w q) = rw (asks-so (v .lent) asks) keeps
+        by _ (is-part some within room) =
+            subst (λ (o : Outcome Sent). Step (got (o, partLaid o (partResponse body r (frameLimit (v .lent .frame))) (v .buffer))) (left r o) 1)
+            (sym (next-given (length body) r (frameLimit (v .lent .frame)) (length (v .buffer)) within room)) (sends some within room)
+
+  -- ---- joined
+  step-in : (r : Remainder) (v : Visit) {s : List ℕ} {k : Remainder} {n : ℕ} → Step r v s k n → r .place + r .count ≤ length body → k .place + k .count ≤ length body
+  step-in r v keeps h = h
+  step-in r v (sends some within room) h = step-within body r (ask v) within
+
+  step-on : (r : Remainder) (v : Visit) {s : List ℕ} {k : Remainder} {n : ℕ} → Step r v s k n → responseBodyOf s ++ remaining body k ≡ remaining body r
+  step-on r v keeps = refl
+  step-on r v (sends some within room) = step-joins body r (ask v) within
+
+  pub within-over : (r : Remainder) (visits : List Visit) → Each Asks visits → r .place + r .count ≤ length body
+      → leftOver decisionOf remainderLeft partLeft body r visits .place + leftOver decisionOf remainderLeft partLeft body r visits .count ≤ length body
+  within-over r [] e h = h
+  within-over r (v ∷ visits) (also x e) h = within-over (leftIn decisionOf remainderLeft partLeft body r v) visits e (step-in r v (step r v x) h)
+
+  pub joins-over : (r : Remainder) (visits : List Visit) → Each Asks visits
+      → joinedOver decisionOf remainderLeft partLeft body r visits ++ remaining body (leftOver decisionOf remainderLeft partLeft body r visits) ≡ remaining body r
+  joins-over r [] e = refl
+  joins-over r (v ∷ visits) (also x e) =
+      append-assoc (responseBodyOf (sentIn decisionOf remainderLeft partLeft body r v)) _ _
+      ∙ ap (λ (l : List ℕ). responseBodyOf (sentIn decisionOf remainderLeft partLeft body r v) ++ l) (joins-over (leftIn decisionOf remainderLeft partLeft body r v) visits e)
+      ∙ step-on r v (step r v x)
+
+  -- ---- how many: each part takes a byte at least
+  step-takes : (r : Remainder) (v : Visit) {s : List ℕ} {k : Remainder} {n : ℕ} → Step r v s k n → n + k .count ≤ r .count
+  step-takes r v keeps = omega arith
+  step-takes r v (sends some within room) =
+      let limit = frameLimit (v .lent .frame) in
+      let is : left r (called sendingOf body r (ask v) .0) .count ≡ restAfter r limit .count = ap (λ (o : Outcome Sent). left r o .count) (sym (next-given (length body) r limit (length (v .buffer)) within room)) in
+      omega (arith, is, part-some limit (r .count) some, part-most limit (r .count))
+
+  pub parts-over : (r : Remainder) (visits : List Visit) → Each Asks visits → partsOver decisionOf remainderLeft partLeft body r visits ≤ r .count
+  parts-over r [] e = omega arith
+  parts-over r (v ∷ visits) (also x e) =
+      omega (arith, step-takes r v (step r v x), parts-over (leftIn decisionOf remainderLeft partLeft body r v) visits e)
