@@ -12,6 +12,7 @@
  *   room N                                 ok                     the reply buffer has N bytes from now on (1024 at first)
  *   read FRAME   strict FRAME              SHAPE LC LE START END  data from START, up to and without END
  *   write CLA INS P1 P2 SHAPE LE DATA      9000 FRAME             written into the reply buffer
+ *   writestrict CLA INS P1 P2 SHAPE LE DATA   9000 FRAME          the same by ISO's cases alone
  *   command FRAME                          register CHALLENGE APPLICATION | version | getresponse
  *                                          | authenticate P1 CHALLENGE APPLICATION HANDLE END    places in the frame
  *   decide T ALLOWED FRAME HANDLE STORED CERTIFICATE ATTESTATION X Y GOOD COUNTER COUNTED
@@ -382,7 +383,7 @@ static void put_wrote(uint16_t answer, size_t length)
         then_bytes(reply, length);
 }
 
-static bool call_write(char **word)
+static bool write_frame(char **word, bool strictly)
 {
     uint8_t cla, ins, p1, p2;
     uint32_t shape, le;
@@ -390,9 +391,23 @@ static bool call_write(char **word)
     if (!byte(word[0], &cla) || !byte(word[1], &ins) || !byte(word[2], &p1) || !byte(word[3], &p2)
         || !number32(word[4], &shape) || !number32(word[5], &le) || !bytes(word[6], &content))
         return false;
-    struct brinecandle_wrote wrote = brinecandle_write(cla, ins, p1, p2, shape, content.at, content.length, le, reply, room);
+    struct brinecandle_wrote wrote;
+    if (strictly)
+        wrote = brinecandle_write_strict(cla, ins, p1, p2, shape, content.at, content.length, le, reply, room);
+    else
+        wrote = brinecandle_write(cla, ins, p1, p2, shape, content.at, content.length, le, reply, room);
     put_wrote(wrote.answer, wrote.length);
     return true;
+}
+
+static bool call_write(char **word)
+{
+    return write_frame(word, false);
+}
+
+static bool call_writestrict(char **word)
+{
+    return write_frame(word, true);
 }
 
 static bool call_command(char **word)
@@ -750,7 +765,7 @@ static const struct call {
     {"data", 1, call_data},       {"parts", 1, call_parts},    {"try", 12, call_try},      {"outroom", 1, call_outroom},
     {"outfill", 1, call_outfill}, {"out", 0, call_out},        {"ramp", 1, call_ramp},     {"remainder", 0, call_remainder},
     {"remain", 2, call_remain},   {"limit", 0, call_limit},    {"cut", 1, call_cut},       {"next", 1, call_next},
-    {"respond", 2, call_respond}, {"response", 1, call_response},
+    {"respond", 2, call_respond}, {"response", 1, call_response}, {"writestrict", 7, call_writestrict},
 };
 
 /* ---- the pipe */

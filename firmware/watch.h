@@ -95,6 +95,7 @@ static struct brinecandle_frame watched_read_strict(const uint8_t *frame, size_t
 {
     struct brinecandle_frame said = brinecandle_read_strict(frame, length);
     held(said.shape != 6, "strict: shape 6");
+    held(said.shape != 7 || said.lc, "strict: shape 7 without data");
     return watched_frame(said, frame, length, brinecandle_read_strict);
 }
 
@@ -112,6 +113,27 @@ static struct brinecandle_wrote watched_write(uint8_t cla, uint8_t ins, uint8_t 
 {
     keep(watched_buffer, out, room);
     return watched_wrote(brinecandle_write(cla, ins, p1, p2, shape, content, content_length, le, out, room), out, room);
+}
+
+/* what the strict writer takes is read strictly, as it was meant; what it does not take, and the writer does, is no case of ISO's */
+static struct brinecandle_wrote watched_write_strict(uint8_t cla, uint8_t ins, uint8_t p1, uint8_t p2, uint32_t shape,
+                                                     const uint8_t *content, size_t content_length, uint32_t le, uint8_t *out,
+                                                     size_t room)
+{
+    keep(watched_buffer, out, room);
+    struct brinecandle_wrote said = brinecandle_write_strict(cla, ins, p1, p2, shape, content, content_length, le, out, room);
+    if (said.answer == BRINECANDLE_OK) {
+        struct brinecandle_frame back = brinecandle_read_strict(out, said.length);
+        held(back.shape == shape && back.le == le && back.lc == content_length && back.cla == cla && back.ins == ins && back.p1 == p1
+                 && back.p2 == p2 && same_from(0, out + back.start, content, content_length),
+             "write strict: read back otherwise");
+    } else if (shape == 6 || (shape == 7 && !content_length)) {
+        held(said.answer == BRINECANDLE_R5, "write strict: no case of ISO's, and not R5");
+    } else {
+        held(brinecandle_write(cla, ins, p1, p2, shape, content, content_length, le, out, room).answer == said.answer,
+             "write strict: refused otherwise");
+    }
+    return watched_wrote(said, out, room);
 }
 
 static struct brinecandle_command watched_read_command(const uint8_t *frame, size_t length)
@@ -300,6 +322,7 @@ static struct brinecandle_wrote watched_finish(struct brinecandle_order order, c
 #define brinecandle_read watched_read
 #define brinecandle_read_strict watched_read_strict
 #define brinecandle_write watched_write
+#define brinecandle_write_strict watched_write_strict
 #define brinecandle_read_command watched_read_command
 #define brinecandle_new watched_new
 #define brinecandle_grant_up watched_grant_up

@@ -52,6 +52,9 @@ static void null_pointers(void)
     held(brinecandle_read_command(0, 0).answer == BRINECANDLE_WRONG_DATA, "command of no frame");
     held(brinecandle_write(0, 3, 0, 0, 1, 0, 0, 0, reply, sizeof reply).length == 4, "write of no data");
     held(brinecandle_write(0, 3, 0, 0, 1, 0, 0, 0, 0, 0).answer == BRINECANDLE_R2, "write into no buffer");
+    held(brinecandle_write_strict(0, 3, 0, 0, 1, 0, 0, 0, reply, sizeof reply).length == 4, "strict write of no data");
+    held(brinecandle_write_strict(0, 3, 0, 0, 1, 0, 0, 0, 0, 0).answer == BRINECANDLE_R2, "strict write into no buffer");
+    held(brinecandle_write_strict(0, 3, 0, 0, 7, 0, 0, 5, 0, 0).answer == BRINECANDLE_R5, "strict write of no data in shape 7, into no buffer");
     held(no_frame(touched, 1).answer == BRINECANDLE_R1, "decide on no frame, too early");
     held(no_frame(touched, 50).answer == BRINECANDLE_WRONG_DATA, "decide on no frame");
     held(fetched(nothing) == BRINECANDLE_COND_USE_NOT_SATISFIED, "nothing fetched");

@@ -110,10 +110,10 @@ fn against_the_documents() -> Vec<Difference> {
             &["6 0 5 7 7", "version", "6700 surplus 7"],
         ),
         show(
-            "an extended Lc of 0 is read",
+            "an extended Lc of 0 is read, and strictly it is not",
             read(&[0, 3, 0, 0, 0, 0, 0, 0, 5]),
             "shape 7, Lc 0, Le 5",
-            &["7 0 5 7 7", "version", "7 0 5 7 7"],
+            &["7 0 5 7 7", "version", "6700 surplus 7"],
         ),
         show(
             "a short frame is wrong data, not wrong length",

@@ -1,4 +1,5 @@
-// Command frames of ISO 7816-3, read by one table of eight shapes (apdu_stated's specs/Table.antt); the writer is apdu_write's.
+// Command frames of ISO 7816-3, read by a table of eight shapes, or strictly by ISO's seven cases (apdu_stated's specs/Table.antt); the
+// writers are apdu_write's.
 //
 //    +-----+-----+----+----+----------+----------------+----------+
 //    | CLA | INS | P1 | P2 | Lc field | data, Lc bytes | Le field |
@@ -18,8 +19,10 @@ pub use apdu_stated::Place;
 pub use apdu_stated::Reading;
 pub use apdu_stated::Written;
 pub use apdu_write::write;
+pub use apdu_write::write_strict;
 use outcome::ApduStatusCode;
 use outcome::LengthFault;
+pub use shapes::strict_has;
 
 const APDU_HEADER_LEN: usize = 4;
 
@@ -80,7 +83,7 @@ pub fn read(frame: &[u8]) -> Reading
     read_by(frame, Entry::Ordinary)
 }
 
-// The strict entry: shape 6, which is no case of ISO 7816-3, is in no shape here.
+// The strict entry: ISO 7816-3's seven cases. Shape 6, and an extended Lc of 0 with more behind it, are in no shape here.
 pub fn read_strict(frame: &[u8]) -> Reading
     ensures { λ r. ⌜ ReadStrict (now (frame .entry)) r ⌝ }
 {

@@ -2,9 +2,10 @@
 -- The only file that opens these definitions; it mentions no function.
 use Prim.Native.Nat.{ℕ, _+_, _-_, _*_, _<_, _≤_}
 use mathlib.Core.Path.{_≡_, refl, ap, sym, _∙_}
+use mathlib.Core.Bool.{Bool, true, false}
 use mathlib.Core.List.{List}
 use native.Mathlib.Omega.{arith}
-use borrow.Author.Tests.{lt-ltb, le-ltb, eq-eqb, ne-eqb}
+use borrow.Author.Tests.{lt-ltb, le-ltb, ltb-false, eq-eqb, ne-eqb}
 use lib.ListN.{length, take, drop}
 use mir.Syntax.{w16}
 use mir.Val.{Fits}
@@ -13,7 +14,7 @@ use Rattle.octets.proofs.Laws.{tail-is}
 use Rattle.octets.specs.Bytes.{byte, pairAt, partOf}
 use Rattle.apdu_stated.specs.Words.{Case, Instruction, Le1, Lc1Data, Lc1DataLe1, Lc3Data, Lc3DataLe1, Lc3DataLe2, Le3, shapeNo}
 use Rattle.apdu_stated.specs.Answers.{Apdu, Place, Says, saysOf}
-use Rattle.apdu_stated.specs.Table.{lcField, leRead, leMost, leLeast, byLength}
+use Rattle.apdu_stated.specs.Table.{lcField, leRead, leMost, leLeast, byLength, leastOf, lcUnder}
 use Rattle.apdu_stated.specs.Reading.{Entry, Ordinary, Strict, shortOf, loneLe, afterData, extendedOf, lengthsOf, headerOf, sayOf, readBy, placeOf, dataOf}
 use Rattle.apdu_stated.specs.Contracts.{lcFound}
 use Rattle.apdu_stated.specs.declared.Lengths.{Lengths}
@@ -83,6 +84,20 @@ module _ (entry : Entry) (p : List ℕ) (lc : ℕ) where
   unfolding afterData
   after-surplus h n3 n4 n5 = rw (le-ltb (length p) (3 + lc) h, ne-eqb (length p) (3 + lc) n3, ne-eqb (length p) (4 + lc) n4, ne-eqb (length p) (5 + lc) n5)
 
+-- an extended Lc under row 7's least: never by the ordinary table, 0 by the strict one
+pub not-under : (entry : Entry) (lc : ℕ) → leastOf entry Lc3DataLe2 ≤ lc → lcUnder entry lc ≡ false
+not-under entry lc h = le-ltb lc (leastOf entry Lc3DataLe2) h
+
+pub from-least : (entry : Entry) (lc : ℕ) → lcUnder entry lc ≡ false → leastOf entry Lc3DataLe2 ≤ lc
+from-least entry lc e = ltb-false lc (leastOf entry Lc3DataLe2) e
+
+pub ordinary-has : (lc : ℕ) → lcUnder Ordinary lc ≡ false
+ordinary-has lc = not-under Ordinary lc (omega arith)
+
+pub has-data : (entry : Entry) (lc : ℕ) → (lc ≡ 0 → ⊥) → lcUnder entry lc ≡ false
+has-data Ordinary lc n = ordinary-has lc
+has-data Strict lc n = not-under Strict lc (omega arith)
+
 -- row 6, by entry
 module _ (p : List ℕ) (lc : ℕ) where
   pub one-ordinary : (le : ℕ) → le ≡ leRead 1 (byte p (3 + lc)) → Found Lc3DataLe1 lc le ≡ loneLe Ordinary p lc
@@ -101,9 +116,19 @@ module _ (entry : Entry) (p : List ℕ) where
     unfolding extendedOf
     extended-le3 le h e = rw (le-ltb (length p) 3 (omega arith), eq-eqb (length p) 3 h, e, is-field)
 
-    pub extended-after : (l : Lengths) → 3 ≤ length p → (length p ≡ 3 → ⊥) → l ≡ afterData entry p field → l ≡ extendedOf entry p
-    unfolding extendedOf
-    extended-after l h n3 e = rw (le-ltb (length p) 3 h, ne-eqb (length p) 3 n3, e, is-field)
+    -- whether Lc is in the table
+    module _ (under : Bool) (is-under : under ≡ lcUnder entry field) (h : 3 ≤ length p) (n3 : length p ≡ 3 → ⊥) where
+      pub extended-lc-zero : under ≡ true → Surplus 7 ≡ extendedOf entry p
+      unfolding extendedOf
+      extended-lc-zero z =
+          let zero-lc : lcUnder entry (pairAt p 1) ≡ true = rw (← is-field) (sym is-under ∙ z) in
+          rw (le-ltb (length p) 3 h, ne-eqb (length p) 3 n3, zero-lc)
+
+      pub extended-after : (l : Lengths) → under ≡ false → l ≡ afterData entry p field → l ≡ extendedOf entry p
+      unfolding extendedOf
+      extended-after l z e =
+          let some : lcUnder entry (pairAt p 1) ≡ false = rw (← is-field) (sym is-under ∙ z) in
+          rw (le-ltb (length p) 3 h, ne-eqb (length p) 3 n3, some, e, is-field)
 
   pub lengths-none : length p ≡ 0 → Found Instruction 0 0 ≡ lengthsOf entry p
   unfolding lengthsOf

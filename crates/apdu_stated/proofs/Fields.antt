@@ -5,14 +5,16 @@ use mathlib.Core.Bool.{Bool, true, false, not}
 use mathlib.Core.List.{List, [], _∷_, _++_}
 use native.Mathlib.Omega.{arith}
 use borrow.Author.Tests.{lt-ltb, le-ltb, eq-eqb, ne-eqb, not-true, not-false}
+use lib.Dec.{ltb}
 use lib.ListN.{length, take, drop, length-append}
-use Rattle.outcome.specs.Outcome.{R, Gives}
+use Rattle.outcome.specs.Notation.{if_then_else_}
+use Rattle.outcome.specs.Outcome.{Outcome, R, Gives}
 use Rattle.octets.specs.Bytes.{laid, bytes2}
 use Rattle.octets.proofs.Laws.{laid-then}
 use Rattle.apdu_stated.specs.Words.{Case, ApduHeader, Instruction, Le1, Lc1Data, Lc1DataLe1, Lc3Data, Lc3DataLe1, Lc3DataLe2, Le3}
-use Rattle.apdu_stated.specs.Table.{lcField, leField, lcMost, canCarry, lcBytes, leBytes}
-use Rattle.apdu_stated.specs.Writing.{partsOf, headerBytes, payloadOf, frameOf, writeOf, bufferOf}
-use Rattle.apdu_stated.proofs.LaidOut.{carried}
+use Rattle.apdu_stated.specs.Table.{Ordinary, Strict, lcField, leField, lcMost, canCarry, inRow, carriedBy, lcBytes, leBytes}
+use Rattle.apdu_stated.specs.Writing.{Parts, partsOf, headerBytes, payloadOf, frameOf, writeBy, leftBy, bufferBy}
+use Rattle.apdu_stated.proofs.LaidOut.{carried, carried-ordinary}
 
 -- ---- the Lc field
 module _ (count long : ℕ) (old : List ℕ) (within : count ≤ lcMost long) where
@@ -77,33 +79,76 @@ frame-long h s content le =
 -- ---- the writer's answers
 -- a refusal leaves the buffer as it was; a frame stands at its front
 pub refused : (h : ApduHeader) (s : Case) (content : List ℕ) (le : ℕ) (old : List ℕ) (k : ℕ) → let w = partsOf h s content le in
-    R k ≡ writeOf w (length old) → (R k ≡ writeOf w (length old)) × (old ≡ bufferOf w old)
-unfolding bufferOf
+    R k ≡ writeBy Ordinary w (length old) → (R k ≡ writeBy Ordinary w (length old)) × (old ≡ bufferBy Ordinary w old)
+unfolding bufferBy
 refused h s content le old k e = (e, rw (← e))
 
 pub wrote : (h : ApduHeader) (s : Case) (content : List ℕ) (le : ℕ) (old new : List ℕ) (n : ℕ) → let w = partsOf h s content le in
-    new ≡ laid (frameOf w) old → Gives n ≡ writeOf w (length old) → (Gives n ≡ writeOf w (length old)) × (new ≡ bufferOf w old)
-unfolding bufferOf
+    new ≡ laid (frameOf w) old → Gives n ≡ writeBy Ordinary w (length old) → (Gives n ≡ writeBy Ordinary w (length old)) × (new ≡ bufferBy Ordinary w old)
+unfolding bufferBy
 wrote h s content le old new n is-new e = (e, is-new ∙ rw (← e))
 
 module _ (h : ApduHeader) (s : Case) (content : List ℕ) (le room : ℕ) (a : Bool) (is-a : a ≡ canCarry s (length content) le) where
-  pub no-fit : not a ≡ true → R 5 ≡ writeOf (partsOf h s content le) room
-  unfolding writeOf
-  no-fit n = rw (← is-a, not-true a n)
+  pub no-fit : not a ≡ true → R 5 ≡ writeBy Ordinary (partsOf h s content le) room
+  unfolding writeBy
+  no-fit n = rw (carried-ordinary s (length content) le, ← is-a, not-true a n)
 
   module _ (fits : not a ≡ false) (lcLong leLong : ℕ) (is-lc : lcLong ≡ lcField s) (is-le : leLong ≡ leField s) where
-    pub no-room : room < 4 + lcLong + length content + leLong → R 2 ≡ writeOf (partsOf h s content le) room
-    unfolding writeOf
+    pub no-room : room < 4 + lcLong + length content + leLong → R 2 ≡ writeBy Ordinary (partsOf h s content le) room
+    unfolding writeBy
     no-room r =
         let long = frame-long h s content le in
-        rw (← is-a, not-false a fits, lt-ltb room (length (frameOf (partsOf h s content le))) (omega arith))
+        rw (carried-ordinary s (length content) le, ← is-a, not-false a fits, lt-ltb room (length (frameOf (partsOf h s content le))) (omega arith))
 
-    pub has-room : 4 + lcLong + length content + leLong ≤ room → Gives (4 + lcLong + length content + leLong) ≡ writeOf (partsOf h s content le) room
-    unfolding writeOf
+    pub has-room : 4 + lcLong + length content + leLong ≤ room → Gives (4 + lcLong + length content + leLong) ≡ writeBy Ordinary (partsOf h s content le) room
+    unfolding writeBy
     has-room r =
         let long = frame-long h s content le in
         let same : 4 + lcLong + length content + leLong ≡ length (frameOf (partsOf h s content le)) = omega arith in
-        rw (← is-a, not-false a fits, le-ltb room (length (frameOf (partsOf h s content le))) (omega arith), same)
+        rw (carried-ordinary s (length content) le, ← is-a, not-false a fits, le-ltb room (length (frameOf (partsOf h s content le))) (omega arith), same)
+
+-- ---- the strict writer: where its table has no such row R5, else as the writer
+-- the two are one where they can carry the same
+module _ (w : Parts) (alike : carriedBy Ordinary (w .shape) (length (w .content)) (w .le) ≡ carriedBy Strict (w .shape) (length (w .content)) (w .le)) where
+  pub write-alike : (room : ℕ) → writeBy Ordinary w room ≡ writeBy Strict w room
+  unfolding writeBy
+  write-alike room = ap (λ (b : Bool). if not b then R 5 else if ltb room (length (frameOf w)) then R 2 else Gives (length (frameOf w))) alike
+
+  pub buffer-alike : (old : List ℕ) → bufferBy Ordinary w old ≡ bufferBy Strict w old
+  unfolding bufferBy
+  buffer-alike old = ap (λ (o : Outcome ℕ). leftBy o (frameOf w) old) (write-alike (length old))
+
+row-alone : (s : Case) (n le : ℕ) → inRow Strict s n ≡ true → carriedBy Ordinary s n le ≡ carriedBy Strict s n le
+unfolding carriedBy
+row-alone s n le e = carried-ordinary s n le ∙ rw e
+
+module _ (w : Parts) where
+  pub strict-out : inRow Strict (w .shape) (length (w .content)) ≡ false → (room : ℕ) → R 5 ≡ writeBy Strict w room
+  unfolding writeBy carriedBy
+  strict-out e room = rw e
+
+  pub strict-out-kept : inRow Strict (w .shape) (length (w .content)) ≡ false → (old : List ℕ) → old ≡ bufferBy Strict w old
+  unfolding bufferBy
+  strict-out-kept e old = rw (← strict-out e (length old))
+
+  pub strict-same : inRow Strict (w .shape) (length (w .content)) ≡ true → (room : ℕ) → writeBy Ordinary w room ≡ writeBy Strict w room
+  strict-same e = write-alike w (row-alone (w .shape) (length (w .content)) (w .le) e)
+
+  pub strict-same-buffer : inRow Strict (w .shape) (length (w .content)) ≡ true → (old : List ℕ) → bufferBy Ordinary w old ≡ bufferBy Strict w old
+  strict-same-buffer e = buffer-alike w (row-alone (w .shape) (length (w .content)) (w .le) e)
+
+module _ (h : ApduHeader) (s : Case) (content : List ℕ) (le : ℕ) (old : List ℕ) (a : Bool) (is-a : a ≡ inRow Strict s (length content)) where
+  pub strict-unfit : not a ≡ true → R 5 ≡ writeBy Strict (partsOf h s content le) (length old)
+  strict-unfit n = strict-out (partsOf h s content le) (sym is-a ∙ not-true a n) (length old)
+
+  pub strict-kept : not a ≡ true → old ≡ bufferBy Strict (partsOf h s content le) old
+  strict-kept n = strict-out-kept (partsOf h s content le) (sym is-a ∙ not-true a n) old
+
+  pub strict-wrote : not a ≡ false → (o : Outcome ℕ) → o ≡ writeBy Ordinary (partsOf h s content le) (length old) → o ≡ writeBy Strict (partsOf h s content le) (length old)
+  strict-wrote n o e = e ∙ strict-same (partsOf h s content le) (sym is-a ∙ not-false a n) (length old)
+
+  pub strict-laid : not a ≡ false → (new : List ℕ) → new ≡ bufferBy Ordinary (partsOf h s content le) old → new ≡ bufferBy Strict (partsOf h s content le) old
+  strict-laid n new e = e ∙ strict-same-buffer (partsOf h s content le) (sym is-a ∙ not-false a n) old
 
 -- what the fields' writers ask
 pub asks-room : (s : Case) (n long leLong room : ℕ) → long ≡ lcField s → 4 + long + n + leLong ≤ room → 4 + (lcField s + n) ≤ room

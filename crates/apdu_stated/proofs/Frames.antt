@@ -1,5 +1,5 @@
 -- Frames and the table: what the theorems are put together from.
-use Prim.Native.Nat.{ℕ, suc, _+_, _-_, _<_, _≤_}
+use Prim.Native.Nat.{ℕ, zero, suc, _+_, _-_, _/_, _%_, _<_, _≤_}
 use mathlib.Core.Path.{_≡_, refl, ap, ap₂, sym, subst, _∙_}
 use mathlib.Core.Bool.{true, false}
 use mathlib.Core.List.{List, [], _∷_, _++_}
@@ -10,7 +10,7 @@ use lib.ListN.{length, take, drop, length-drop}
 use lib.Seq.{drop-drop, drop-at, take-at, getD-drop}
 use Rattle.outcome.specs.Outcome.{StatusWord, Outcome, R, Word, Gives}
 use Rattle.outcome.proofs.Laws.{gives-same, word-same, word-gives, r-word, r-gives}
-use Rattle.octets.specs.Bytes.{byte, pairAt, AreBytes, partOf}
+use Rattle.octets.specs.Bytes.{byte, pairAt, bytes2, AreBytes, partOf}
 use Rattle.octets.proofs.Laws.{part-within, part-length}
 use Rattle.apdu_stated.specs.Words.{Case, Instruction, Le1, Lc1Data, Lc1DataLe1, Lc3Data, Lc3DataLe1, Lc3DataLe2, Le3, shapeNo}
 use Rattle.apdu_stated.specs.Answers.{Says, saysOf}
@@ -21,9 +21,11 @@ use Rattle.apdu_stated.specs.declared.Lengths.{Lengths}
 use Rattle.apdu_stated.specs.declared.Lengths.the-variants.{Found, Missing, Surplus}
 use Rattle.apdu_stated.proofs.Cases
 use Rattle.apdu_stated.proofs.Fields.{lc-long, frame-long}
-use Rattle.apdu_stated.proofs.LaidOut.{carried, row-read}
-use Rattle.apdu_stated.proofs.Ways.{Way, way, none, le1, short, short-le, le3, wide, wide-le1, wide-le2, missing, short-surplus, le1-surplus, wide-surplus, saidBy, FrameWay, frame-way}
-use Rattle.apdu_stated.proofs.Ways.{Takes, way-takes, under, found, ends, goes-on}
+use Rattle.apdu_stated.specs.Terms.{AreParts}
+use Rattle.apdu_stated.proofs.LaidOut.{Carried, carried, row-read}
+use Rattle.apdu_stated.proofs.Ways.{Way, way, none, le1, short, short-le, le3, wide, wide-le1, wide-le2, missing, short-surplus, le1-surplus, wide-surplus, zero-surplus, saidBy, FrameWay, frame-way}
+use Rattle.apdu_stated.proofs.Ways.{under, found, ends, goes-on}
+use Rattle.apdu_stated.proofs.Rows.{RowIn}
 use Rattle.apdu_stated.proofs.Sound.{Laid, LaidAs, sound}
 
 -- a frame that is laid out as the definitions' table lays these parts out, and the table's row can carry them
@@ -46,6 +48,58 @@ four (a ∷ b ∷ c ∷ d ∷ frame) h = refl
 pub payload-bytes : (frame : List ℕ) → AreBytes frame → AreBytes (drop 4 frame)
 payload-bytes frame bytes i = rw getD-drop (bytes (4 + i))
 
+-- a frame of parts that are bytes is made of bytes
+bytes-on : (x : ℕ) (l : List ℕ) → x < 256 → AreBytes l → AreBytes (x ∷ l)
+bytes-on x l h b zero = h
+bytes-on x l h b (suc i) = b i
+
+bytes-then : (a b : List ℕ) → AreBytes a → AreBytes b → AreBytes (a ++ b)
+bytes-then [] b p q = q
+bytes-then (x ∷ a) b p q = bytes-on x (a ++ b) (p 0) (bytes-then a b (λ i. p (suc i)) q)
+
+bytes-none : AreBytes []
+bytes-none i = omega arith
+
+bytes-one : (x : ℕ) → x < 256 → AreBytes (x ∷ [])
+bytes-one x h = bytes-on x [] h bytes-none
+
+bytes-pair : (n : ℕ) → n ≤ 65535 → AreBytes (bytes2 n)
+bytes-pair n h = bytes-on (n / 256) (n % 256 ∷ []) (omega arith) (bytes-one (n % 256) (omega arith))
+
+bytes-three : (n : ℕ) → n ≤ 65535 → AreBytes (0 ∷ bytes2 n)
+bytes-three n h = bytes-on 0 (bytes2 n) (omega arith) (bytes-pair n h)
+
+lc-bytes : (s : Case) (n le : ℕ) → Carried s n le → AreBytes (lcBytes (lcField s) n)
+lc-bytes Instruction n le k = bytes-none
+lc-bytes Le1 n le k = bytes-none
+lc-bytes Lc1Data n le k = bytes-one n (omega (arith, k .lc-high))
+lc-bytes Lc1DataLe1 n le k = bytes-one n (omega (arith, k .lc-high))
+lc-bytes Lc3Data n le k = bytes-three n (k .lc-high)
+lc-bytes Lc3DataLe1 n le k = bytes-three n (k .lc-high)
+lc-bytes Lc3DataLe2 n le k = bytes-three n (k .lc-high)
+lc-bytes Le3 n le k = bytes-none
+
+le-bytes : (s : Case) (le : ℕ) → AreBytes (leBytes (leField s) le)
+le-bytes Instruction le = bytes-none
+le-bytes Le1 le = bytes-one (le % 256) (omega arith)
+le-bytes Lc1Data le = bytes-none
+le-bytes Lc1DataLe1 le = bytes-one (le % 256) (omega arith)
+le-bytes Lc3Data le = bytes-none
+le-bytes Lc3DataLe1 le = bytes-one (le % 256) (omega arith)
+le-bytes Lc3DataLe2 le = bytes-pair (le % 65536) (omega arith)
+le-bytes Le3 le = bytes-three (le % 65536) (omega arith)
+
+pub frame-bytes : (w : Parts) → AreParts w → canCarry (w .shape) (length (w .content)) (w .le) ≡ true → AreBytes (frameOf w)
+unfolding frameOf payloadOf
+frame-bytes w b c =
+    let h = w .header in
+    let n = length (w .content) in
+    let lc = lcBytes (lcField (w .shape)) n in
+    let le = leBytes (leField (w .shape)) (w .le) in
+    let p = lc ++ (w .content ++ le) in
+    let payload : AreBytes p = bytes-then lc (w .content ++ le) (lc-bytes (w .shape) n (w .le) (carried (w .shape) n (w .le) c)) (bytes-then (w .content) le (b .content) (le-bytes (w .shape) (w .le))) in
+    bytes-on (h .cla) (h .ins ∷ h .p1 ∷ h .p2 ∷ p) (b .cla) (bytes-on (h .ins) (h .p1 ∷ h .p2 ∷ p) (b .ins) (bytes-on (h .p1) (h .p2 ∷ p) (b .p1) (bytes-on (h .p2) p (b .p2) payload)))
+
 -- ---- read, so in the table
 pub in-table : (entry : Entry) (frame : List ℕ) → AreBytes (drop 4 frame) → 4 ≤ length frame → (s : Case) (lc le : ℕ) → Found s lc le ≡ lengthsOf entry (drop 4 frame)
     → (w : Parts) × Built frame w × (saidBy frame s lc le ≡ said w)
@@ -58,7 +112,7 @@ in-table entry frame bytes long s lc le e =
     )
 
 -- ---- in the table, so read, and cut as the table says
-pub table-read : (entry : Entry) (frame : List ℕ) (w : Parts) → Built frame w → Takes entry (w .shape) → readBy entry frame ≡ Gives (said w)
+pub table-read : (entry : Entry) (frame : List ℕ) (w : Parts) → Built frame w → RowIn entry (w .shape) (length (w .content)) → readBy entry frame ≡ Gives (said w)
 unfolding frameOf
 table-read entry frame w t takes =
     let row = row-read entry (w .shape) (w .content) (w .le) takes (carried (w .shape) (length (w .content)) (w .le) (t .carried)) in
@@ -96,11 +150,12 @@ way-within p w s lc le e = go w s lc le e
     go (le3 z h) s lc le e = use-it s Le3 lc 0 le _ e (omega arith)
     go (wide z n h) s lc le e = use-it s Lc3Data lc (pairAt p 1) le _ e (omega arith)
     go (wide-le1 o z h) s lc le e = use-it s Lc3DataLe1 lc (pairAt p 1) le _ e (omega arith)
-    go (wide-le2 z h) s lc le e = use-it s Lc3DataLe2 lc (pairAt p 1) le _ e (omega arith)
+    go (wide-le2 d z h) s lc le e = use-it s Lc3DataLe2 lc (pairAt p 1) le _ e (omega arith)
     go (missing early) s lc le e = absurd (let z : _≡_ {A = ℕ} 0 1 = cc in omega arith)
     go (short-surplus n h) s lc le e = absurd (let z : _≡_ {A = ℕ} 0 1 = cc in omega arith)
-    go (le1-surplus o z h) s lc le e = absurd (let z : _≡_ {A = ℕ} 0 1 = cc in omega arith)
-    go (wide-surplus z h) s lc le e = absurd (let z : _≡_ {A = ℕ} 0 1 = cc in omega arith)
+    go (le1-surplus o n z h) s lc le e = absurd (let z : _≡_ {A = ℕ} 0 1 = cc in omega arith)
+    go (wide-surplus d z h) s lc le e = absurd (let z : _≡_ {A = ℕ} 0 1 = cc in omega arith)
+    go (zero-surplus d z h) s lc le e = absurd (let z : _≡_ {A = ℕ} 0 1 = cc in omega arith)
 
 pub data-within : (frame : List ℕ) (said : Says) → readOf frame ≡ Gives said → said .dataAt + said .lc ≤ length frame
 data-within frame said e = go (readOf frame) (frame-way Ordinary frame) e

@@ -1,4 +1,4 @@
--- ISO's seven cases and the reading, case by case.
+-- ISO's seven cases and the reading, case by case, by either table.
 use Prim.Native.Nat.{ℕ, _+_, _*_, _<_, _≤_}
 use mathlib.Core.Path.{_≡_, refl, ap, sym, subst, _∙_}
 use mathlib.Core.Bool.{Bool, true, false, not, _&&_, _||_, and-eq-true-iff, true≢false}
@@ -6,15 +6,16 @@ use mathlib.Core.List.{List}
 use native.Mathlib.Omega.{arith}
 use borrow.Author.Tests.{le-leb, lt-leb, leb-true, eq-eqb, ne-eqb, eqb-true, eqb-false, not-true}
 use lib.Dec.{leb, eqb}
-use lib.ListN.{length}
+use lib.ListN.{length, drop}
 use Rattle.octets.specs.Bytes.{byte, pairAt}
 use Rattle.apdu_stated.specs.Words.{Case, Instruction, Le1, Lc1Data, Lc1DataLe1, Lc3Data, Lc3DataLe1, Lc3DataLe2, Le3, shapeNo}
 use Rattle.apdu_stated.specs.Table.{leRead}
-use Rattle.apdu_stated.specs.Reading.{Ordinary, lengthsOf}
+use Rattle.outcome.specs.Outcome.{Gives}
+use Rattle.apdu_stated.specs.Reading.{Entry, lengthsOf, sayOf, readBy}
 use Rattle.apdu_stated.specs.Iso.{IsoCase, Case1, Case2S, Case3S, Case4S, Case2E, Case3E, Case4E, isCase, shapeFor, isTolerated}
 use Rattle.apdu_stated.specs.declared.Lengths.the-variants.{Found}
 use Rattle.apdu_stated.proofs.Cases
-use Rattle.apdu_stated.proofs.Ways.{Way, none, le1, short, short-le, le3, wide, wide-le1, wide-le2}
+use Rattle.apdu_stated.proofs.Ways.{Way, none, le1, short, short-le, le3, wide, wide-le1, wide-le2, saidBy}
 
 -- ---- a test that is a conjunction
 and-1 : (a b : Bool) → a && b ≡ true → a ≡ true
@@ -66,11 +67,11 @@ module _ (p : List ℕ) (k : ℕ) where
   extended-holds s =
       rw (le-leb 3 (length p) (s .some), eq-eqb (byte p 0) 0 (s .marker), ne-eqb (pairAt p 1) 0 (s .not-zero), eq-eqb (length p) (k + pairAt p 1) (s .long))
 
--- ---- of a case, so read in its shape
+-- ---- of a case, so read in its shape, by both tables alike
 pub record ReadIn (p : List ℕ) (c : IsoCase) : Type 0 where
   pub lc : ℕ
   pub le : ℕ
-  pub is : Found (shapeFor c) lc le ≡ lengthsOf Ordinary p
+  pub is : (entry : Entry) → Found (shapeFor c) lc le ≡ lengthsOf entry p
   pub iso : isTolerated (shapeNo (shapeFor c)) lc ≡ false
 
 module _ (p : List ℕ) where
@@ -79,7 +80,7 @@ module _ (p : List ℕ) where
       record {
         lc = 0;
         le = leRead 3 (pairAt p 1);
-        is = Cases.lengths-extended Ordinary p _ (omega arith) (omega arith) z (Cases.extended-le3 Ordinary p (pairAt p 1) refl _ e refl);
+        is = λ entry. Cases.lengths-extended entry p _ (omega arith) (omega arith) z (Cases.extended-le3 entry p (pairAt p 1) refl _ e refl);
         iso = refl;
       }
 
@@ -88,7 +89,7 @@ module _ (p : List ℕ) where
       record {
         lc = byte p 0;
         le = 0;
-        is = Cases.lengths-short Ordinary p _ (omega arith) (omega (arith, s .not-zero)) (s .not-zero) (Cases.short-data p (byte p 0) (byte p 0) refl refl (s .long));
+        is = λ entry. Cases.lengths-short entry p _ (omega arith) (omega (arith, s .not-zero)) (s .not-zero) (Cases.short-data p (byte p 0) (byte p 0) refl refl (s .long));
         iso = refl;
       }
 
@@ -97,7 +98,7 @@ module _ (p : List ℕ) where
       record {
         lc = byte p 0;
         le = leRead 1 (byte p (1 + byte p 0));
-        is = Cases.lengths-short Ordinary p _ (omega arith) (omega arith) (s .not-zero) (Cases.short-le p (byte p 0) (byte p 0) refl refl _ (s .long) refl);
+        is = λ entry. Cases.lengths-short entry p _ (omega arith) (omega arith) (s .not-zero) (Cases.short-le p (byte p 0) (byte p 0) refl refl _ (s .long) refl);
         iso = refl;
       }
 
@@ -106,8 +107,8 @@ module _ (p : List ℕ) where
       record {
         lc = pairAt p 1;
         le = 0;
-        is = Cases.lengths-extended Ordinary p _ (omega arith) (omega arith) (s .marker)
-            (Cases.extended-after Ordinary p (pairAt p 1) refl _ (omega arith) (omega (arith, s .not-zero)) (Cases.after-plain Ordinary p (pairAt p 1) (s .long)));
+        is = λ entry. Cases.lengths-extended entry p _ (omega arith) (omega arith) (s .marker)
+            (Cases.extended-after entry p (pairAt p 1) refl false (sym (Cases.has-data entry (pairAt p 1) (s .not-zero))) (omega arith) (omega (arith, s .not-zero)) _ refl (Cases.after-plain entry p (pairAt p 1) (s .long)));
         iso = refl;
       }
 
@@ -117,15 +118,15 @@ module _ (p : List ℕ) where
       record {
         lc = pairAt p 1;
         le = leRead 2 (pairAt p (3 + pairAt p 1));
-        is = Cases.lengths-extended Ordinary p _ (omega arith) (omega arith) (s .marker)
-            (Cases.extended-after Ordinary p (pairAt p 1) refl _ (omega arith) (omega arith)
-            (Cases.after-le2 Ordinary p (pairAt p 1) _ (pairAt p (3 + pairAt p 1)) (s .long) (rw next) refl));
+        is = λ entry. Cases.lengths-extended entry p _ (omega arith) (omega arith) (s .marker)
+            (Cases.extended-after entry p (pairAt p 1) refl false (sym (Cases.has-data entry (pairAt p 1) (s .not-zero))) (omega arith) (omega arith) _ refl
+            (Cases.after-le2 entry p (pairAt p 1) _ (pairAt p (3 + pairAt p 1)) (s .long) (rw next) refl));
         iso = rw (ne-eqb (pairAt p 1) 0 (s .not-zero));
       }
 
   pub iso-read : (c : IsoCase) → isCase c p ≡ true → ReadIn p c
-  iso-read Case1 e = record { lc = 0; le = 0; is = Cases.lengths-none Ordinary p (eqb-true (length p) 0 e); iso = refl }
-  iso-read Case2S e = record { lc = 0; le = leRead 1 (byte p 0); is = Cases.lengths-le1 Ordinary p _ (eqb-true (length p) 1 e) refl; iso = refl }
+  iso-read Case1 e = record { lc = 0; le = 0; is = λ entry. Cases.lengths-none entry p (eqb-true (length p) 0 e); iso = refl }
+  iso-read Case2S e = record { lc = 0; le = leRead 1 (byte p 0); is = λ entry. Cases.lengths-le1 entry p _ (eqb-true (length p) 1 e) refl; iso = refl }
   iso-read Case3S e = three-s (short-test p 1 e)
   iso-read Case4S e = four-s (short-test p 2 e)
   iso-read Case2E e =
@@ -137,14 +138,17 @@ module _ (p : List ℕ) where
   iso-read Case4E e = four-e (extended-test p 5 e)
 
   -- ---- read in its shape and not tolerated, so of the case
-  pub iso-back : (c : IsoCase) (lc le : ℕ) → Way Ordinary p (Found (shapeFor c) lc le) → isTolerated (shapeNo (shapeFor c)) lc ≡ false → isCase c p ≡ true
+  pub iso-back : {entry : Entry} (c : IsoCase) (lc le : ℕ) → Way entry p (Found (shapeFor c) lc le) → isTolerated (shapeNo (shapeFor c)) lc ≡ false → isCase c p ≡ true
   iso-back Case1 _ _ (none e) t = eq-eqb (length p) 0 e
   iso-back Case2S _ _ (le1 e) t = eq-eqb (length p) 1 e
   iso-back Case3S _ _ (short nz e) t = short-holds p 1 (record { some = omega arith; not-zero = nz; long = e })
   iso-back Case4S _ _ (short-le nz e) t = short-holds p 2 (record { some = omega arith; not-zero = nz; long = e })
   iso-back Case2E _ _ (le3 z e) t = rw (le-leb 1 (length p) (omega arith), eq-eqb (byte p 0) 0 z, eq-eqb (length p) 3 e)
   iso-back Case3E _ _ (wide z nz e) t = extended-holds p 3 (record { some = omega arith; marker = z; not-zero = nz; long = e })
-  iso-back Case4E _ _ (wide-le2 z e) t = extended-holds p 5 (record { some = omega arith; marker = z; not-zero = eqb-false (pairAt p 1) 0 t; long = e })
+  iso-back Case4E _ _ (wide-le2 d z e) t = extended-holds p 5 (record { some = omega arith; marker = z; not-zero = eqb-false (pairAt p 1) 0 t; long = e })
+
+pub iso-said : (frame : List ℕ) (c : IsoCase) → 4 ≤ length frame → (r : ReadIn (drop 4 frame) c) (entry : Entry) → readBy entry frame ≡ Gives (saidBy frame (shapeFor c) (r .lc) (r .le))
+iso-said frame c long r entry = Cases.read-by entry frame long ∙ ap (sayOf frame) (sym (r .is entry)) ∙ Cases.say-found frame (shapeFor c) (r .lc) (r .le)
 
 -- every shape but 6 is a case's
 pub case-for : (s : Case) (lc : ℕ) → isTolerated (shapeNo s) lc ≡ false → (c : IsoCase) × (shapeFor c ≡ s)

@@ -2,6 +2,7 @@ pub mod Cases
 pub mod Carries
 pub mod LaidOut
 pub mod Fields
+pub mod Rows
 pub mod Ways
 pub mod Sound
 pub mod Places
@@ -9,7 +10,11 @@ pub mod Frames
 pub mod Entries
 pub mod IsoCases
 pub mod Numbers
+pub mod Readings
+pub mod Beside
+pub mod Writings
 pub mod Theorems
+pub mod Agree
 pub mod Only
 pub mod Refuted
 pub mod Laws

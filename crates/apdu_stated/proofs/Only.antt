@@ -12,34 +12,25 @@ use Rattle.outcome.specs.Outcome.{Outcome, R, Word, Gives}
 use Rattle.outcome.proofs.Laws.{gives-same, word-gives}
 use Rattle.octets.specs.Bytes.{AreBytes}
 use Rattle.octets.specs.Terms.{DeterminesOn}
-use Rattle.apdu_stated.specs.Words.{ApduHeader, Case, Instruction, Le1, Lc1Data, Lc1DataLe1, Lc3Data, Lc3DataLe1, Lc3DataLe2, Le3}
+use Rattle.apdu_stated.specs.Words.{ApduHeader, Case, Instruction, Le1, Lc1Data, Lc1DataLe1, Lc3Data, Lc3DataLe1, Lc3DataLe2, Le3, shapeNo}
 use Rattle.apdu_stated.specs.Answers.{Says}
-use Rattle.apdu_stated.specs.Table.{canCarry}
-use Rattle.apdu_stated.specs.Reading.{Entry, Ordinary, Strict, readBy, lengthsOf}
+use Rattle.apdu_stated.specs.Reading.{Entry, Ordinary, Strict, lengthsOf}
 use Rattle.apdu_stated.specs.declared.Lengths.{Lengths}
 use Rattle.apdu_stated.specs.declared.Lengths.the-variants.{Found, Missing, Surplus}
-use Rattle.apdu_stated.specs.Writing.{Parts, frameOf}
-use Rattle.apdu_stated.specs.Terms.{InTable, apduOf, Carries}
+use Rattle.apdu_stated.specs.Writing.{Parts}
+use Rattle.apdu_stated.specs.Terms.{InTable, LcZero, apduOf, Carries}
 use Rattle.apdu_stated.specs.Claims
-use Rattle.apdu_stated.proofs.Ways.{TableOf, FrameWay, under, found, ends, goes-on, frame-way, WriteWay, unfit, no-room, written, write-way}
-use Rattle.apdu_stated.proofs.Theorems as Theorems
-use Rattle.apdu_stated.proofs.Theorems.{frame-of}
+use Rattle.apdu_stated.proofs.Ways.{TableOf}
+use Rattle.apdu_stated.proofs.Readings.{payload-exactly}
+use Rattle.apdu_stated.proofs.Beside.{lc-zero-known}
+use Rattle.apdu_stated.proofs.Agree.{same-reading, same-writing}
 
 -- ---- reading, by either table
-only-reading : (entry : Entry) (read : List ℕ → Outcome Says) → Claims.ReadingExactly (TableOf entry) read → (frame : List ℕ) → AreBytes frame → read frame ≡ readBy entry frame
-only-reading entry read exact frame bytes = by (readBy entry frame) (frame-way entry frame) refl
-  where
-    by : (o : Outcome Says) → FrameWay entry frame o → readBy entry frame ≡ o → read frame ≡ o
-    by _ (under h) e = exact .short frame .1 h
-    by _ (ends h f) e = exact .missing frame (length frame) .1 (Theorems.reading-exactly entry .missing frame (length frame) .0 e)
-    by _ (goes-on h k f) e = exact .surplus frame bytes k .1 (Theorems.reading-exactly entry .surplus frame bytes k .0 e)
-    by _ (found long s lc le f) e = exact .reads frame bytes _ .1 (Theorems.reading-exactly entry .reads frame bytes _ .0 e)
-
 pub ReadingExactly : DeterminesOn AreBytes (Claims.ReadingExactly InTable)
-ReadingExactly f g p q frame bytes = only-reading Ordinary f p frame bytes ∙ sym (only-reading Ordinary g q frame bytes)
+ReadingExactly f g p q frame bytes = same-reading Ordinary f p frame bytes ∙ sym (same-reading Ordinary g q frame bytes)
 
 pub StrictExactly : DeterminesOn AreBytes Claims.StrictExactly
-StrictExactly f g p q frame bytes = only-reading Strict f p frame bytes ∙ sym (only-reading Strict g q frame bytes)
+StrictExactly f g p q frame bytes = same-reading Strict f p frame bytes ∙ sym (same-reading Strict g q frame bytes)
 
 -- ---- the payload by itself
 only-payload : (entry : Entry) (payload : List ℕ → Lengths) → Claims.PayloadExactly (TableOf entry) payload → (p : List ℕ) → AreBytes p → payload p ≡ lengthsOf entry p
@@ -49,9 +40,9 @@ only-payload entry payload exact p bytes = go (lengthsOf entry p) refl
     h0 = record { cla = 0; ins = 0; p1 = 0; p2 = 0 }
 
     go : (l : Lengths) → lengthsOf entry p ≡ l → payload p ≡ l
-    go (Found s lc le) e = exact .in-shape p bytes h0 s lc le .1 (Theorems.payload-exactly entry .in-shape p bytes h0 s lc le .0 e)
-    go Missing e = exact .too-few p .1 (Theorems.payload-exactly entry .too-few p .0 e)
-    go (Surplus k) e = exact .too-many p bytes h0 k .1 (Theorems.payload-exactly entry .too-many p bytes h0 k .0 e)
+    go (Found s lc le) e = exact .in-shape p bytes h0 s lc le .1 (payload-exactly entry .in-shape p bytes h0 s lc le .0 e)
+    go Missing e = exact .too-few p .1 (payload-exactly entry .too-few p .0 e)
+    go (Surplus k) e = exact .too-many p bytes h0 k .1 (payload-exactly entry .too-many p bytes h0 k .0 e)
 
 pub PayloadExactly : DeterminesOn AreBytes (Claims.PayloadExactly InTable)
 PayloadExactly f g p q l bytes = only-payload Ordinary f p l bytes ∙ sym (only-payload Ordinary g q l bytes)
@@ -62,19 +53,20 @@ StrictPayloadExactly f g p q l bytes = only-payload Strict f p l bytes ∙ sym (
 -- ---- strict reading
 -- beside one first reading, on every frame
 pub StrictOtherwise : (read : List ℕ → Outcome Says) → Determines (Claims.StrictOtherwise read)
-StrictOtherwise read f g p q frame = go (read frame) refl
+StrictOtherwise read f g p q frame = go (lc-zero-known frame) (read frame) refl
   where
-    as-read : ((says : Says) → read frame ≡ Gives says → says .shape ≡ 6 → ⊥) → f frame ≡ g frame
-    as-read n = p .other frame n ∙ sym (q .other frame n)
+    as-read : (LcZero frame → ⊥) → ((says : Says) → read frame ≡ Gives says → says .shape ≡ 6 → ⊥) → f frame ≡ g frame
+    as-read m n = p .other frame n m ∙ sym (q .other frame n m)
 
-    by : (says : Says) → read frame ≡ Gives says → Dec (says .shape ≡ 6) → f frame ≡ g frame
-    by says e (yes y) = p .six frame says e y ∙ sym (q .six frame says e y)
-    by says e (no n) = as-read (λ s d y. n (ap (λ (x : Says). x .shape) (gives-same _ _ (sym e ∙ d)) ∙ y))
+    by : (LcZero frame → ⊥) → (says : Says) → read frame ≡ Gives says → Dec (says .shape ≡ 6) → f frame ≡ g frame
+    by m says e (yes y) = p .six frame says e y ∙ sym (q .six frame says e y)
+    by m says e (no n) = as-read m (λ s d y. n (ap (λ (x : Says). x .shape) (gives-same _ _ (sym e ∙ d)) ∙ y))
 
-    go : (o : Outcome Says) → read frame ≡ o → f frame ≡ g frame
-    go (Gives says) e = by says e (ℕ-discrete (says .shape) 6)
-    go (Word w) e = as-read (λ s d y. word-gives _ _ (sym e ∙ d))
-    go (R n) e = as-read (λ s d y. let z : _≡_ {A = ℕ} 0 1 = cc in omega arith)
+    go : Dec (LcZero frame) → (o : Outcome Says) → read frame ≡ o → f frame ≡ g frame
+    go (yes l) o e = p .lc-zero frame l ∙ sym (q .lc-zero frame l)
+    go (no m) (Gives says) e = by m says e (ℕ-discrete (says .shape) 6)
+    go (no m) (Word w) e = as-read m (λ s d y. word-gives _ _ (sym e ∙ d))
+    go (no m) (R n) e = as-read m (λ s d y. let z : _≡_ {A = ℕ} 0 1 = cc in omega arith)
 
 -- ---- the data and its place
 pub DataExactly : Determines2 Claims.DataExactly
@@ -134,27 +126,41 @@ RowExactly f g p q Lc3DataLe1 = p .lc3-data-le1 ∙ sym (q .lc3-data-le1)
 RowExactly f g p q Lc3DataLe2 = p .lc3-data-le2 ∙ sym (q .lc3-data-le2)
 RowExactly f g p q Le3 = p .le3 ∙ sym (q .le3)
 
-pub FitsExactly : Determines3 Claims.FitsExactly
-FitsExactly f g p q s n le = go (f s n le) (g s n le) refl refl
+fits-exactly : (Carry : Case → ℕ → ℕ → Type 0) → Determines3 (Claims.FitsExactly Carry)
+fits-exactly Carry f g p q s n le = go (f s n le) (g s n le) refl refl
   where
     go : (a b : Bool) → f s n le ≡ a → g s n le ≡ b → f s n le ≡ g s n le
     go true b e d = e ∙ sym (q s n le .1 (p s n le .0 e))
     go false true e d = p s n le .1 (q s n le .0 d) ∙ sym d
     go false false e d = e ∙ sym d
 
--- ---- writing: the answer and the buffer, for any parts and any buffer
-pub WriteExactly : Determines2 Claims.WriteExactly
-WriteExactly f g p q w old = go (canCarry (w .shape) (length (w .content)) (w .le)) refl (decLt (length old) (length (frameOf w)))
+pub FitsExactly : Determines3 (Claims.FitsExactly Carries)
+FitsExactly = fits-exactly Carries
+
+pub StrictRowExactly : Determines2 Claims.StrictRowExactly
+StrictRowExactly f g p q s n = go (f s n) (g s n) refl refl
   where
-    both : f w old .0 ≡ g w old .0 → f w old .1 ≡ g w old .1 → f w old ≡ g w old
-    both a b = ap₂ (λ (x : Outcome ℕ) (y : List ℕ). (x, y)) a b
+    go : (a b : Bool) → f s n ≡ a → g s n ≡ b → f s n ≡ g s n
+    go true b e d = e ∙ sym (q s n .1 (p s n .0 e))
+    go false true e d = p s n .1 (q s n .0 d) ∙ sym d
+    go false false e d = e ∙ sym d
 
-    refusing : (n : ℕ) → f w old .0 ≡ R n → g w old .0 ≡ R n → f w old ≡ g w old
-    refusing n a b = both (a ∙ sym b) (p .refused w old n a ∙ sym (q .refused w old n b))
+pub StrictFitsExactly : Determines3 Claims.StrictFitsExactly
+StrictFitsExactly = fits-exactly _
 
-    go : (b : Bool) → canCarry (w .shape) (length (w .content)) (w .le) ≡ b → Dec (length old < length (frameOf w)) → f w old ≡ g w old
-    go false c d =
-        let never : Carries (w .shape) (length (w .content)) (w .le) → ⊥ = λ k. true≢false (sym (Theorems.FitsExactly (w .shape) (length (w .content)) (w .le) .1 k) ∙ c) in
-        refusing 5 (p .r5 w old .1 never) (q .r5 w old .1 never)
-    go true c (yes h) = refusing 2 (p .r2 w old .1 (frameOf w, frame-of w c, h)) (q .r2 w old .1 (frameOf w, frame-of w c, h))
-    go true c (no n) = p .writes w old (frameOf w) (frame-of w c) (omega arith) ∙ sym (q .writes w old (frameOf w) (frame-of w c) (omega arith))
+-- ---- writing: the answer and the buffer, for any parts and any buffer, by either table
+pub WriteExactly : Determines2 (Claims.WriteExactly Carries InTable)
+WriteExactly = same-writing Ordinary
+
+pub StrictWriteExactly : Determines2 Claims.StrictWriteExactly
+StrictWriteExactly = same-writing Strict
+
+-- beside one writer
+pub StrictWriteOtherwise : (write : Parts → List ℕ → Outcome ℕ × List ℕ) → Determines2 (Claims.StrictWriteOtherwise write)
+StrictWriteOtherwise write f g p q w old = go (ℕ-discrete (shapeNo (w .shape)) 6) (ℕ-discrete (shapeNo (w .shape)) 7) (ℕ-discrete (length (w .content)) 0)
+  where
+    go : Dec (shapeNo (w .shape) ≡ 6) → Dec (shapeNo (w .shape) ≡ 7) → Dec (length (w .content) ≡ 0) → f w old ≡ g w old
+    go (yes e) d z = p .six w old e ∙ sym (q .six w old e)
+    go (no n) (yes e) (yes z) = p .seven w old e z ∙ sym (q .seven w old e z)
+    go (no n) (yes e) (no m) = p .other w old n (λ x. omega arith) ∙ sym (q .other w old n (λ x. omega arith))
+    go (no n) (no d) z = p .other w old n (λ x. absurd (d x)) ∙ sym (q .other w old n (λ x. absurd (d x)))

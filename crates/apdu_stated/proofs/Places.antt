@@ -1,20 +1,21 @@
 -- Where a frame goes on too long: the length of the longest part from its front that is itself in the table. One proof for every
--- entry, by the three ways to a surplus.
+-- entry, by the four ways to a surplus.
 use Prim.Native.Nat.{ℕ, zero, suc, _+_, _-_, _*_, _<_, _≤_}
 use mathlib.Core.Path.{_≡_, refl, ap, ap₂, sym, subst, _∙_}
+use mathlib.Core.Bool.{true, false}
 use mathlib.Core.List.{List, [], _∷_}
 use native.Mathlib.Omega.{arith}
-use native.Mathlib.Decide.{ℕ-discrete, decLt}
+use native.Mathlib.Decide.{ℕ-discrete}
 use lib.ListN.{length, take, drop, length-drop}
 use lib.Seq.{length-take-le, getD-take, take-all, take-add, drop-at}
 use Rattle.octets.specs.Bytes.{byte, pairAt, AreBytes}
 use Rattle.apdu_stated.specs.Words.{Case, Lc1DataLe1, Lc3Data, Lc3DataLe2, Le3}
-use Rattle.apdu_stated.specs.Table.{leRead}
+use Rattle.apdu_stated.specs.Table.{leRead, lcUnder}
 use Rattle.apdu_stated.specs.Reading.{Entry, shortOf, extendedOf, afterData, lengthsOf}
 use Rattle.apdu_stated.specs.declared.Lengths.{Lengths}
 use Rattle.apdu_stated.specs.declared.Lengths.the-variants.{Found, Missing, Surplus}
 use Rattle.apdu_stated.proofs.Cases
-use Rattle.apdu_stated.proofs.Ways.{Way, way, none, le1, short, short-le, le3, wide, wide-le1, wide-le2, missing, short-surplus, le1-surplus, wide-surplus}
+use Rattle.apdu_stated.proofs.Ways.{Way, way, none, le1, short, short-le, le3, wide, wide-le1, wide-le2, missing, short-surplus, le1-surplus, wide-surplus, zero-surplus}
 
 -- ---- parts from the front
 
@@ -92,13 +93,13 @@ module _ (entry : Entry) (p : List ℕ) where
         let long = as-long j l in
         Cases.lengths-extended entry (take j p) x (omega arith) (omega arith) (sym (same j l 0 (omega arith)) ∙ z) e
 
-    by-after : 3 < j → (x : Lengths) → x ≡ afterData entry (take j p) (pairAt p 1) → x ≡ lengthsOf entry (take j p)
-    by-after h x e =
+    by-after : lcUnder entry (pairAt p 1) ≡ false → 3 < j → (x : Lengths) → x ≡ afterData entry (take j p) (pairAt p 1) → x ≡ lengthsOf entry (take j p)
+    by-after d h x e =
         let long = as-long j l in
-        by-extended (omega arith) x (Cases.extended-after entry (take j p) (pairAt p 1) (same-pair j l (omega arith)) x (omega arith) (omega arith) e)
+        by-extended (omega arith) x (Cases.extended-after entry (take j p) (pairAt p 1) (same-pair j l (omega arith)) false (sym d) (omega arith) (omega arith) x refl e)
 
-  wide-front : byte p 0 ≡ 0 → 5 + pairAt p 1 < length p → Front entry p (9 + pairAt p 1)
-  wide-front z more =
+  wide-front : lcUnder entry (pairAt p 1) ≡ false → byte p 0 ≡ 0 → 5 + pairAt p 1 < length p → Front entry p (9 + pairAt p 1)
+  wide-front d z more =
       record {
         m = 5 + pairAt p 1;
         is = omega arith;
@@ -107,7 +108,7 @@ module _ (entry : Entry) (p : List ℕ) where
         lc = pairAt p 1;
         le = leRead 2 (byte (take (5 + pairAt p 1) p) (3 + pairAt p 1) * 256 + byte (take (5 + pairAt p 1) p) (4 + pairAt p 1));
         found =
-            by-after z (5 + pairAt p 1) (omega arith) (omega arith) _
+            by-after z (5 + pairAt p 1) (omega arith) d (omega arith) _
             (Cases.after-le2 entry (take (5 + pairAt p 1) p) (pairAt p 1) _ _ (as-long (5 + pairAt p 1) (omega arith)) refl refl);
         beyond = λ j h l. (9 + pairAt p 1, beyond j h l);
       }
@@ -115,11 +116,11 @@ module _ (entry : Entry) (p : List ℕ) where
       beyond : (j : ℕ) → 5 + pairAt p 1 < j → j ≤ length p → Surplus (9 + pairAt p 1) ≡ lengthsOf entry (take j p)
       beyond j h l =
           let long = as-long j l in
-          by-after z j l (omega arith) _ (Cases.after-surplus entry (take j p) (pairAt p 1) (omega arith) (omega arith) (omega arith) (omega arith))
+          by-after z j l d (omega arith) _ (Cases.after-surplus entry (take j p) (pairAt p 1) (omega arith) (omega arith) (omega arith) (omega arith))
 
   -- one byte behind the data: the front part is shape 5, or shape 8 where Lc is 0
-  le1-front : byte p 0 ≡ 0 → length p ≡ 4 + pairAt p 1 → Surplus (7 + pairAt p 1) ≡ lengthsOf entry p → Front entry p (7 + pairAt p 1)
-  le1-front z e is = go (ℕ-discrete (pairAt p 1) 0)
+  le1-front : lcUnder entry (pairAt p 1) ≡ false → byte p 0 ≡ 0 → length p ≡ 4 + pairAt p 1 → Surplus (7 + pairAt p 1) ≡ lengthsOf entry p → Front entry p (7 + pairAt p 1)
+  le1-front d z e is = go (ℕ-discrete (pairAt p 1) 0)
     where
       beyond : (j : ℕ) → 3 + pairAt p 1 < j → j ≤ length p → Surplus (7 + pairAt p 1) ≡ lengthsOf entry (take j p)
       beyond j h l = is ∙ ap (lengthsOf entry) (sym (take-all j p (omega arith)))
@@ -138,7 +139,26 @@ module _ (entry : Entry) (p : List ℕ) where
       go (no some) =
           let l : 3 + pairAt p 1 ≤ length p = omega arith in
           front Lc3Data (pairAt p 1) 0
-          (by-after z (3 + pairAt p 1) l (omega arith) _ (Cases.after-plain entry (take (3 + pairAt p 1) p) (pairAt p 1) (as-long (3 + pairAt p 1) l)))
+          (by-after z (3 + pairAt p 1) l d (omega arith) _ (Cases.after-plain entry (take (3 + pairAt p 1) p) (pairAt p 1) (as-long (3 + pairAt p 1) l)))
+
+  -- an Lc of 0 that is in no row: the front part is shape 8, and nothing longer is in the table
+  zero-front : lcUnder entry (pairAt p 1) ≡ true → byte p 0 ≡ 0 → 3 < length p → Front entry p 7
+  zero-front d z more =
+      record {
+        m = 3;
+        is = refl;
+        within = more;
+        s = Le3;
+        lc = 0;
+        le = leRead 3 (pairAt p 1);
+        found = by-extended z 3 (omega arith) (omega arith) _ (Cases.extended-le3 entry (take 3 p) (pairAt p 1) (same-pair 3 (omega arith) (omega arith)) _ (as-long 3 (omega arith)) refl);
+        beyond = λ j h l. (7, beyond j h l);
+      }
+    where
+      beyond : (j : ℕ) → 3 < j → j ≤ length p → Surplus 7 ≡ lengthsOf entry (take j p)
+      beyond j h l =
+          let long = as-long j l in
+          by-extended z j l (omega arith) _ (Cases.extended-lc-zero entry (take j p) (pairAt p 1) (same-pair j l (omega arith)) true (sym d) (omega arith) (omega arith) refl)
 
   pub surplus-front : (k : ℕ) → Surplus k ≡ lengthsOf entry p → Front entry p k
   surplus-front k e = go (lengthsOf entry p) (way entry p) e refl
@@ -157,8 +177,9 @@ module _ (entry : Entry) (p : List ℕ) where
       go _ (le3 z h) e is = not-found _ _ _ e
       go _ (wide z nz h) e is = not-found _ _ _ e
       go _ (wide-le1 o z h) e is = not-found _ _ _ e
-      go _ (wide-le2 z h) e is = not-found _ _ _ e
+      go _ (wide-le2 d z h) e is = not-found _ _ _ e
       go _ (missing early) e is = let z : _≡_ {A = ℕ} 0 1 = cc in absurd (omega arith)
       go _ (short-surplus nz h) e is = at _ e (short-front nz h)
-      go _ (le1-surplus o z h) e is = at _ e (le1-front z h is)
-      go _ (wide-surplus z h) e is = at _ e (wide-front z h)
+      go _ (le1-surplus o n z h) e is = at _ e (le1-front n z h is)
+      go _ (wide-surplus d z h) e is = at _ e (wide-front d z h)
+      go _ (zero-surplus d z h) e is = at _ e (zero-front d z h)

@@ -1,40 +1,28 @@
 -- The claim that is false of each wrong program, at an input where it bites.
-use Prim.Native.Nat.{ℕ, suc, zero, _+_, _<_, _≤_}
+use Prim.Native.Nat.{ℕ, _+_, _<_, _≤_}
 use mathlib.Core.Path.{_≡_, refl, sym, ap, _∙_}
-use mathlib.Core.Bool.{Bool, true, false, _&&_, true≢false}
+use mathlib.Core.Bool.{Bool, true, false, true≢false}
 use mathlib.Core.List.{List, [], _∷_}
 use native.Mathlib.Omega.{arith}
-use borrow.Author.Tests.{ltb-true}
-use lib.Dec.{ltb}
 use lib.ListN.{length}
 use Rattle.outcome.specs.Outcome.{StatusWord, Outcome, R, Word, SW, Gives}
 use Rattle.outcome.proofs.Laws.{gives-same, word-same, sw-same, word-gives, r-gives}
 use Rattle.octets.specs.Bytes.{byte, AreBytes, partOf}
-use Rattle.octets.proofs.Laws.{both}
-use Rattle.apdu_stated.specs.Words.{ApduHeader, Case, Instruction, Le1, Lc3Data, Lc1DataLe1, Lc1Data}
+use Rattle.octets.proofs.Laws.{small, bytes-of}
+use Rattle.apdu_stated.specs.Words.{ApduHeader, Case, Instruction, Le1, Lc3Data, Lc1DataLe1, Lc1Data, Lc3DataLe1, Lc3DataLe2}
 use Rattle.apdu_stated.specs.Answers.{Apdu, Place, Says}
-use Rattle.apdu_stated.specs.Table.{TableRow, lcFits, leFits}
+use Rattle.apdu_stated.specs.Table.{TableRow, lcFits, leFits, carriedBy}
 use Rattle.apdu_stated.specs.Reading.{Ordinary, Strict, readBy, readOf, sayOf, lengthsOf, shortOf, extendedOf, afterData, strictOf, dataOf}
-use Rattle.apdu_stated.specs.Writing.{Parts, partsOf, frameOf, payloadOf, writeOf, bufferOf}
+use Rattle.apdu_stated.specs.Writing.{Parts, partsOf, frameOf, payloadOf, writeBy, bufferBy, writingOf}
 use Rattle.apdu_stated.specs.Iso.{IsoCase, Case1, Case2S, Case3S, Case4S, Case2E, Case3E, Case4E, isCase}
-use Rattle.apdu_stated.specs.Terms.{full, plain, whole, pair, frameWith, saying, InTable, InStrictTable, LongestFront, EndsEarly, in-lc, in-short-data, in-extended-data, row1, row2, row4, row5, row6, row8, IsFrameOf, Carries, shape2, shape3, apduOf}
+use Rattle.apdu_stated.specs.Terms.{full, plain, whole, pair, frameWith, saying, InTable, InStrictTable, LcZero, LongestFront, EndsEarly, in-lc, in-short-data, in-extended-data, row1, row2, row4, row5, row6, row8, IsFrameOf, Carries, shape2, shape3, CarriesStrictly, AreParts, apduOf}
 use Rattle.apdu_stated.specs.declared.Lengths.the-variants.{Found, Missing, Surplus}
 use Rattle.apdu_stated.specs.Claims
 use Rattle.apdu_stated.specs.Wrong
 use Rattle.apdu_stated.proofs.Theorems
-use Rattle.apdu_stated.proofs.Theorems.{reads-entry}
+use Rattle.apdu_stated.proofs.Readings.{reads-entry}
 
 -- ---- frames to try: header 00 03 00 00, and a payload
-small : List ℕ → Bool
-small [] = true
-small (x ∷ s) = ltb x 256 && small s
-
-bytes-of : (s : List ℕ) → small s ≡ true → AreBytes s
-unfolding small
-bytes-of [] e i = omega arith
-bytes-of (x ∷ s) e zero = ltb-true x 256 (both (ltb x 256) (small s) e .0)
-bytes-of (x ∷ s) e (suc i) = bytes-of s (both (ltb x 256) (small s) e .1) i
-
 abbrev h0 : ApduHeader
 h0 = record { cla = 0x00; ins = 0x03; p1 = 0x00; p2 = 0x00 }
 
@@ -151,15 +139,86 @@ pairDropped exact = omega (arith, exact .0 .paired (try (0 ∷ 1 ∷ [])) _ refl
 -- ---- the strict entry, at 00 00 00 05: shape 6
 pub strictTakesShape6 : Claims.StrictExactly Wrong.strictTakesShape6 → ⊥
 unfolding small readBy sayOf lengthsOf extendedOf afterData
-strictTakesShape6 exact = exact .reads (try (0 ∷ 0 ∷ 0 ∷ 5 ∷ [])) (bytes-of (try (0 ∷ 0 ∷ 0 ∷ 5 ∷ [])) refl) (saying h0 6 7 0 5) .0 refl .1 .not-six refl
+strictTakesShape6 exact = exact .reads (try (0 ∷ 0 ∷ 0 ∷ 5 ∷ [])) (bytes-of (try (0 ∷ 0 ∷ 0 ∷ 5 ∷ [])) refl) (saying h0 6 7 0 5) .0 refl .1 .row .not-six refl
 
 pub strictRefusesEverything : Claims.StrictExactly Wrong.strictRefusesEverything → ⊥
 unfolding small
-strictRefusesEverything exact = word-gives _ _ (exact .reads (try []) (bytes-of (try []) refl) (saying h0 1 4 0 0) .1 ([], record { table = row1; not-six = λ e. omega arith }))
+strictRefusesEverything exact = word-gives _ _ (exact .reads (try []) (bytes-of (try []) refl) (saying h0 1 4 0 0) .1 ([], record { table = row1; row = record { not-six = λ e. omega arith; some-data = λ a b. absurd (omega arith) } }))
+
+-- the certification house's frame, 00 00 00 00 05: an extended Lc of 0 and an Le
+abbrev house : List ℕ
+house = try (0 ∷ 0 ∷ 0 ∷ 0 ∷ 5 ∷ [])
+
+of-no-case : (c : IsoCase) → isCase c (0 ∷ 0 ∷ 0 ∷ 0 ∷ 5 ∷ []) ≡ false
+of-no-case Case1 = refl
+of-no-case Case2S = refl
+of-no-case Case3S = refl
+of-no-case Case4S = refl
+of-no-case Case2E = refl
+of-no-case Case3E = refl
+of-no-case Case4E = refl
+
+pub strictTakesLcZero : Claims.StrictIsIso Wrong.strictTakesLcZero → ⊥
+unfolding readBy sayOf lengthsOf extendedOf afterData
+strictTakesLcZero exact = let c = exact .no-other house (saying h0 7 7 0 5) refl .1 in true≢false (sym (c .1) ∙ of-no-case (c .0))
+
+pub strictTakesLcZeroExactly : Claims.StrictExactly Wrong.strictTakesLcZero → ⊥
+unfolding small readBy sayOf lengthsOf extendedOf afterData
+strictTakesLcZeroExactly exact = let some = exact .reads house (bytes-of house refl) (saying h0 7 7 0 5) .0 refl .1 .row .some-data (omega arith) (omega arith) in omega arith
+
+pub strictTakesLcZeroBeside : Claims.DifferExactly readOf Wrong.strictTakesLcZero → ⊥
+unfolding readBy sayOf lengthsOf extendedOf afterData
+strictTakesLcZeroBeside exact = word-gives _ _ (sym (exact .at-nine h0 0 5 5 (pair (record { high = omega arith; low = omega arith; is = refl }) (omega arith)) .1))
+
+-- shape 6, by ISO's table and by the number alone
+six-of-no-case : (c : IsoCase) → isCase c (0 ∷ 0 ∷ 0 ∷ 5 ∷ []) ≡ false
+six-of-no-case Case1 = refl
+six-of-no-case Case2S = refl
+six-of-no-case Case3S = refl
+six-of-no-case Case4S = refl
+six-of-no-case Case2E = refl
+six-of-no-case Case3E = refl
+six-of-no-case Case4E = refl
+
+pub strictTakesShape6Iso : Claims.StrictIsIso Wrong.strictTakesShape6 → ⊥
+unfolding readBy sayOf lengthsOf extendedOf afterData
+strictTakesShape6Iso exact = let c = exact .no-other (try (0 ∷ 0 ∷ 0 ∷ 5 ∷ [])) (saying h0 6 7 0 5) refl .1 in true≢false (sym (c .1) ∙ six-of-no-case (c .0))
+
+no-strict-row : (says : Says) (content : List ℕ) → InStrictTable (try (0 ∷ 0 ∷ 0 ∷ 5 ∷ [])) says content → ⊥
+unfolding readBy sayOf lengthsOf extendedOf
+no-strict-row says content i = word-gives _ _ (reads-entry Strict (try (0 ∷ 0 ∷ 0 ∷ 5 ∷ [])) content says i)
+
+pub strictTakesShape6NoShape : Claims.StrictNoShapeExactly Wrong.strictTakesShape6 → ⊥
+unfolding small readBy sayOf lengthsOf extendedOf afterData
+strictTakesShape6NoShape exact = word-gives _ _ (sym (exact (try (0 ∷ 0 ∷ 0 ∷ 5 ∷ [])) (bytes-of (try (0 ∷ 0 ∷ 0 ∷ 5 ∷ [])) refl) .1 (omega arith, no-strict-row) .is))
+
+pub strictLcZeroAt9 : Claims.PlacesExactly readOf Wrong.strictLcZeroAt9 → ⊥
+strictLcZeroAt9 exact =
+    omega (arith, place-is _ _ (exact .strict-lc-zero (try (0 ∷ 0 ∷ 0 ∷ 0 ∷ 0 ∷ 0 ∷ [])) (record { extended = refl; zero-lc = refl; longer = omega arith })))
+
+strict-nine : {says : Says} → Gives says ≡ strictOf (try (0 ∷ 0 ∷ 0 ∷ 0 ∷ 0 ∷ [])) → ⊥
+unfolding readBy sayOf lengthsOf extendedOf
+strict-nine e = word-gives _ _ (sym e)
+
+-- the same by the law of every table: cut at 9 the frame is in no row of the strict one
+pub strictLcZeroAt9Exactly : Claims.StrictExactly Wrong.strictLcZeroAt9 → ⊥
+unfolding small
+strictLcZeroAt9Exactly exact =
+    let t = exact .surplus (try (0 ∷ 0 ∷ 0 ∷ 0 ∷ 0 ∷ 0 ∷ [])) (bytes-of (try (0 ∷ 0 ∷ 0 ∷ 0 ∷ 0 ∷ 0 ∷ [])) refl) 9 .0 refl in
+    in-no-row (t .2 .in-table .0) (t .2 .in-table .1) (t .2 .in-table .2)
+  where
+    in-no-row : (says : Says) (content : List ℕ) → InStrictTable (try (0 ∷ 0 ∷ 0 ∷ 0 ∷ 0 ∷ [])) says content → ⊥
+    in-no-row says content i = strict-nine (sym (reads-entry Strict (try (0 ∷ 0 ∷ 0 ∷ 0 ∷ 0 ∷ [])) content says i))
+
+pub strictRefusesLe3 : Claims.StrictIsIso Wrong.strictRefusesLe3 → ⊥
+strictRefusesLe3 exact = word-gives _ _ (exact .each-case (try (0 ∷ 0 ∷ 0 ∷ [])) Case2E (omega arith) .0 refl .1)
+
+pub readRefusesLcZero : Claims.DifferExactly Wrong.readRefusesLcZero strictOf → ⊥
+readRefusesLcZero exact = word-gives _ _ (exact .at-nine h0 0 5 5 (pair (record { high = omega arith; low = omega arith; is = refl }) (omega arith)) .0)
 
 pub strictShortGets6700 : Claims.StrictOtherwise readOf Wrong.strictShortGets6700 → ⊥
 unfolding readBy
-strictShortGets6700 exact = omega (arith, sw-same _ _ (exact .other (0x00 ∷ 0x03 ∷ 0x00 ∷ []) (λ says e y. word-gives _ _ e)))
+strictShortGets6700 exact = omega (arith, sw-same _ _ (exact .other (0x00 ∷ 0x03 ∷ 0x00 ∷ []) (λ says e y. word-gives _ _ e) (λ l. let long = l .longer in omega arith)))
 
 -- ---- data, at 01 AA 00
 abbrev said4 : Says
@@ -203,11 +262,11 @@ no-257 (shape2 a b) = omega arith
 no-0-in-3 : Carries Lc1Data 0 0 → ⊥
 no-0-in-3 (shape3 a b) = omega arith
 
-pub carriesAnyLe : Claims.FitsExactly Wrong.carriesAnyLe → ⊥
+pub carriesAnyLe : Claims.FitsExactly Carries Wrong.carriesAnyLe → ⊥
 unfolding lcFits
 carriesAnyLe exact = no-257 (exact Le1 0 257 .0 refl)
 
-pub carriesNoData : Claims.FitsExactly Wrong.carriesNoData → ⊥
+pub carriesNoData : Claims.FitsExactly Carries Wrong.carriesNoData → ⊥
 carriesNoData exact = no-0-in-3 (exact Lc1Data 0 0 .0 refl)
 
 pub extendedLcOfTwo : Claims.SaysExactly Wrong.extendedLcOfTwo → ⊥
@@ -217,40 +276,40 @@ extendedLcOfTwo exact = omega (arith, ap (λ (s : Says). s .dataAt) (exact .lc3-
 abbrev le-of : ℕ → Parts
 le-of le = partsOf h0 Le1 [] le
 
-frame-1 : IsFrameOf (le-of 1) (try (1 ∷ []))
+frame-1 : IsFrameOf InTable (le-of 1) (try (1 ∷ []))
 frame-1 = record { says = saying h0 2 4 0 1; table = row2 (plain {b = 1} (omega arith) (omega arith)); header = refl; shape = refl; le = refl }
 
 abbrev five : List ℕ
 five = 9 ∷ 9 ∷ 9 ∷ 9 ∷ 9 ∷ []
 
-pub le257InOneByte : Claims.WriteExactly Wrong.le257InOneByte → ⊥
+pub le257InOneByte : Claims.WriteExactly Carries InTable Wrong.le257InOneByte → ⊥
 unfolding frameOf payloadOf
 le257InOneByte exact = r-gives _ _ (sym (exact .r5 (le-of 257) five .1 no-257))
 
-pub r2OneByteEarly : Claims.WriteExactly Wrong.r2OneByteEarly → ⊥
+pub r2OneByteEarly : Claims.WriteExactly Carries InTable Wrong.r2OneByteEarly → ⊥
 unfolding frameOf payloadOf
 r2OneByteEarly exact = r-gives _ _ (ap (λ (o : Outcome ℕ × List ℕ). o .0) (exact .writes (le-of 1) five (try (1 ∷ [])) frame-1 (omega arith)))
 
-pub r2OneByteLate : Claims.WriteExactly Wrong.r2OneByteLate → ⊥
+pub r2OneByteLate : Claims.WriteExactly Carries InTable Wrong.r2OneByteLate → ⊥
 unfolding frameOf payloadOf
 r2OneByteLate exact = r-gives _ _ (sym (exact .r2 (le-of 1) (9 ∷ 9 ∷ 9 ∷ 9 ∷ []) .1 (try (1 ∷ []), frame-1, omega arith)))
 
 r-is : (m n : ℕ) → _≡_ {A = Outcome ℕ} (R m) (R n) → m ≡ n
 r-is m n e = cc
 
-pub r2BeforeR5 : Claims.WriteExactly Wrong.r2BeforeR5 → ⊥
+pub r2BeforeR5 : Claims.WriteExactly Carries InTable Wrong.r2BeforeR5 → ⊥
 unfolding frameOf payloadOf
 r2BeforeR5 exact = omega (arith, r-is _ _ (exact .r5 (le-of 257) [] .1 no-257))
 
-pub clearsTheRest : Claims.WriteExactly Wrong.clearsTheRest → ⊥
+pub clearsTheRest : Claims.WriteExactly Carries InTable Wrong.clearsTheRest → ⊥
 unfolding frameOf payloadOf
 clearsTheRest exact = omega (arith, ap (λ (o : Outcome ℕ × List ℕ). byte (o .1) 5) (exact .writes (le-of 1) (9 ∷ five) (try (1 ∷ [])) frame-1 (omega arith)))
 
-pub refusalWrites : Claims.WriteExactly Wrong.refusalWrites → ⊥
-unfolding writeOf frameOf payloadOf lcFits leFits
+pub refusalWrites : Claims.WriteExactly Carries InTable Wrong.refusalWrites → ⊥
+unfolding writeBy carriedBy frameOf payloadOf lcFits leFits
 refusalWrites exact = omega (arith, ap (λ (l : List ℕ). byte l 0) (exact .refused (le-of 257) five 5 refl))
 
-pub lengthInvented : Claims.WriteExactly Wrong.lengthInvented → ⊥
+pub lengthInvented : Claims.WriteExactly Carries InTable Wrong.lengthInvented → ⊥
 unfolding frameOf payloadOf
 lengthInvented exact = omega (arith, gives-same _ _ (ap (λ (o : Outcome ℕ × List ℕ). o .0) (exact .writes (le-of 1) (9 ∷ five) (try (1 ∷ [])) frame-1 (omega arith))))
 
@@ -263,3 +322,60 @@ le256As01 back =
 pub le257Taken : Claims.WrittenThenRead readOf dataOf Wrong.le257Taken → ⊥
 unfolding readBy sayOf lengthsOf frameOf payloadOf
 le257Taken back = omega (arith, le-is _ _ (back (le-of 257) five 5 refl .0))
+
+-- ---- the strict writer: shapes 6 and 7 without data, in a buffer of nine bytes, and of none
+abbrev nine : List ℕ
+nine = 7 ∷ 7 ∷ 7 ∷ 7 ∷ five
+
+abbrev empty-7 : Parts
+empty-7 = partsOf h0 Lc3DataLe2 [] 5
+
+no-six : (n le : ℕ) → CarriesStrictly Lc3DataLe1 n le → ⊥
+no-six n le c = c .row .not-six refl
+
+no-empty-7 : (le : ℕ) → CarriesStrictly Lc3DataLe2 0 le → ⊥
+no-empty-7 le c = let some = c .row .some-data (omega arith) (omega arith) in omega arith
+
+pub strictWritesShape6 : Claims.StrictWriteExactly Wrong.strictWritesShape6 → ⊥
+unfolding writeBy carriedBy frameOf payloadOf lcFits leFits
+strictWritesShape6 exact = r-gives _ _ (sym (exact .r5 (partsOf h0 Lc3DataLe1 [] 5) nine .1 (no-six 0 5)))
+
+pub strictWritesNoData : Claims.StrictWriteExactly Wrong.strictWritesNoData → ⊥
+unfolding writeBy carriedBy frameOf payloadOf lcFits leFits
+strictWritesNoData exact = r-gives _ _ (sym (exact .r5 empty-7 nine .1 (no-empty-7 5)))
+
+pub strictWritesNoDataBack : Claims.StrictThereAndBack strictOf dataOf Wrong.strictWritesNoData → ⊥
+unfolding readBy sayOf lengthsOf extendedOf writeBy bufferBy carriedBy frameOf payloadOf lcFits leFits
+strictWritesNoDataBack exact = word-gives _ _ (exact .written-then-read empty-7 nine 9 refl .0)
+
+-- no frame is read strictly as these parts, so none is to be written
+parts-of-bytes : (s : Case) → AreParts (partsOf h0 s [] 5)
+parts-of-bytes s = record { cla = omega arith; ins = omega arith; p1 = omega arith; p2 = omega arith; content = λ i. omega arith }
+
+pub strictWritesNoDataAccepted : Claims.AcceptsWhatIsRead strictOf dataOf Wrong.strictWritesNoData → ⊥
+unfolding writeBy carriedBy frameOf payloadOf lcFits leFits
+strictWritesNoDataAccepted exact =
+    let t = exact empty-7 nine 9 (parts-of-bytes Lc3DataLe2) .0 refl in
+    let some = Theorems.StrictExactly .reads (t .0) (t .1) _ .0 (t .4) .1 .row .some-data (omega arith) (omega arith) in
+    omega arith
+
+pub strictWritesShape6Accepted : Claims.AcceptsWhatIsRead strictOf dataOf Wrong.strictWritesShape6 → ⊥
+unfolding writeBy carriedBy frameOf payloadOf lcFits leFits
+strictWritesShape6Accepted exact =
+    let t = exact (partsOf h0 Lc3DataLe1 [] 5) nine 8 (parts-of-bytes Lc3DataLe1) .0 refl in
+    Theorems.StrictExactly .reads (t .0) (t .1) _ .0 (t .4) .1 .row .not-six refl
+
+pub strictRowOfNoData : Claims.StrictRowExactly Wrong.strictRowOfNoData → ⊥
+strictRowOfNoData exact = let some = exact Lc3DataLe2 0 .0 refl .some-data (omega arith) (omega arith) in omega arith
+
+pub strictCarriesNoData : Claims.StrictFitsExactly Wrong.strictCarriesNoData → ⊥
+unfolding lcFits leFits
+strictCarriesNoData exact = no-empty-7 5 (exact Lc3DataLe2 0 5 .0 refl)
+
+pub strictR2BeforeR5 : Claims.StrictWriteExactly Wrong.strictR2BeforeR5 → ⊥
+unfolding frameOf payloadOf
+strictR2BeforeR5 exact = omega (arith, r-is _ _ (exact .r5 empty-7 [] .1 (no-empty-7 5)))
+
+pub strictWantsData : Claims.StrictWriteOtherwise writingOf Wrong.strictWantsData → ⊥
+unfolding writeBy carriedBy frameOf payloadOf lcFits leFits
+strictWantsData exact = r-gives _ _ (ap (λ (o : Outcome ℕ × List ℕ). o .0) (exact .other (partsOf h0 Instruction [] 0) nine (λ e. omega arith) (λ e. omega arith)))

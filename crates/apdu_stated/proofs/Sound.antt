@@ -18,7 +18,7 @@ use Rattle.apdu_stated.specs.Writing.{payloadOf}
 use Rattle.apdu_stated.specs.declared.Lengths.{Lengths}
 use Rattle.apdu_stated.specs.declared.Lengths.the-variants.{Found, Missing, Surplus}
 use Rattle.apdu_stated.proofs.LaidOut.{Carried}
-use Rattle.apdu_stated.proofs.Ways.{Way, none, le1, short, short-le, le3, wide, wide-le1, wide-le2, missing, short-surplus, le1-surplus, wide-surplus}
+use Rattle.apdu_stated.proofs.Ways.{Way, none, le1, short, short-le, le3, wide, wide-le1, wide-le2, missing, short-surplus, le1-surplus, wide-surplus, zero-surplus}
 
 pub record LaidAs (p : List ℕ) (s : Case) (lc le : ℕ) : Type 0 where
   pub content : List ℕ
@@ -176,8 +176,9 @@ module _ (p : List ℕ) (bytes : AreBytes p) where
   sound (le3 z e) = is-le3 z e
   sound (wide z nz e) = is-wide z nz e
   sound (wide-le1 o z e) = is-wide-le1 z e
-  sound (wide-le2 z e) = is-wide-le2 z e
+  sound (wide-le2 d z e) = is-wide-le2 z e
   sound (missing early) = tt
   sound (short-surplus nz h) = tt
-  sound (le1-surplus o z h) = tt
-  sound (wide-surplus z h) = tt
+  sound (le1-surplus o n z h) = tt
+  sound (wide-surplus d z h) = tt
+  sound (zero-surplus d z h) = tt

@@ -1,30 +1,32 @@
 -- What is promised of frames: open this file first. Each claim takes the program as its argument; the definitions (`readOf`,
--- `strictOf`, `dataOf` of Reading.antt, `writingOf` of Writing.antt) meet it by proofs/Theorems.antt, nothing else does by
+-- `strictOf`, `dataOf` of Reading.antt, `writingOf`, `strictWritingOf` of Writing.antt) meet it by proofs/Theorems.antt, nothing else does by
 -- proofs/Only.antt, and the programs of Wrong.antt do not by proofs/Refuted.antt. The words `InTable`, `InStrictTable`, `LongestFront`,
--- `Carries`: Terms.antt. A claim that takes a table is made of both: of `readOf` with `InTable`, of `strictOf` with `InStrictTable`.
+-- `Carries`, `CarriesStrictly`, `Differ`: Terms.antt. A claim that takes a table is made of both: of `readOf` and `writingOf` with `InTable`,
+-- of `strictOf` and `strictWritingOf` with `InStrictTable`.
 use mathlib.Core.Logic.{_↔_}
 use Rattle.outcome.specs.Notation.{AtMostOne}
 use Rattle.outcome.specs.Outcome.{Outcome, R, SW, Gives, wrongLength}
 use Rattle.outcome.specs.Terms.{PairsExactly, HasStatus}
 use Rattle.octets.specs.Bytes.{AreBytes, byte, pairAt}
-use Rattle.apdu_stated.specs.Words.{ℕ, _+_, _≤_, _<_, _≡_, Bool, true, false, List, [], _++_, map, length, take, drop, ApduHeader, Case, Instruction, Le1, Lc1Data, Lc1DataLe1, Lc3Data, Lc3DataLe1, Lc3DataLe2, Le3, shapeNo}
+use Rattle.apdu_stated.specs.Words.{ℕ, _+_, _≤_, _<_, _≡_, Bool, true, false, List, [], _∷_, _++_, map, length, take, drop, ApduHeader, Case, Instruction, Le1, Lc1Data, Lc1DataLe1, Lc3Data, Lc3DataLe1, Lc3DataLe2, Le3, shapeNo}
 use Rattle.apdu_stated.specs.Answers.{Apdu, Place, Reading, Written, Says, saysOf, readingOf, writtenOf}
 use Rattle.apdu_stated.specs.Table.{TableRow, columns}
 use Rattle.apdu_stated.specs.Reading.{Entry}
 use Rattle.apdu_stated.specs.Writing.{Parts, partsOf}
 use Rattle.apdu_stated.specs.Iso.{IsoCase, isCase, shapeFor, isTolerated}
 use Rattle.apdu_stated.specs.Examples.{Example, examples}
-use Rattle.apdu_stated.specs.Contracts.{Row, Fits, Payload, ShapeNumber, Read, ReadStrict, DataPlace, Data, Write}
+use Rattle.apdu_stated.specs.Contracts.{Row, Fits, StrictHas, Payload, ShapeNumber, Read, ReadStrict, DataPlace, Data, Write, WriteStrict}
 use Rattle.apdu_stated.specs.declared.Lengths.{Lengths}
 use Rattle.apdu_stated.specs.declared.Lengths.the-variants.{Found, Missing, Surplus}
-use Rattle.apdu_stated.specs.Terms.{frameWith, saying, InTable, InStrictTable, EndsEarly, LongestFront, IsFrameOf, Carries, apduOf, span}
+use Rattle.apdu_stated.specs.Terms.{IsPair, OneByteLe, TwoByteLe, frameWith, saying, InTable, IsoRow, InStrictTable, LcZero, Differ, EndsEarly, LongestFront, IsFrameOf, Carries, CarriesStrictly, AreParts, apduOf, span}
 
 -- ---- reading is the table
 
 -- A frame is read exactly when it is in the table, and then as its row says.
 -- 01: the table, "Data is exactly Lc bytes", the rule of Le. Rejects a reader that refuses everything, one that always says
 -- Instruction, one that reads `00 00 00` as Lc 0, or Le 0 as 0. Bites at 00 03 00 00 | 00 00 00.
--- Of the strict entry, 01: "It accepts the ISO cases, that is the shapes above without shape 6": rejects one that takes shape 6.
+-- Of the strict entry, 01: "It accepts the ISO cases, that is the shapes above without shape 6"; 02, E4: "Strict shape 7 needs Lc
+-- 1..65535": rejects one that takes shape 6, and one that takes an Lc of 0. Bites at 00 03 00 00 | 00 00 00 00 05.
 abbrev pub ReadExactly : (List ℕ → Says → List ℕ → Type 0) → (List ℕ → Outcome Says) → Type 0
 ReadExactly Table read =
     (frame : List ℕ) → AreBytes frame → (says : Says)
@@ -58,13 +60,16 @@ SurplusExactly Table read =
     → (read frame ≡ wrongLength 2 k) ↔ ((EndsEarly (drop 4 frame) → ⊥) × (k < length frame) × LongestFront Table frame k)
 
 -- The same in the document's numbers: "6 + Lc from the frame's start in the short form, 9 + Lc in the extended"; "shape 6 in the
--- strict reading is surplus at its Le byte, 7 + Lc". Rejects a strict entry that says 9 + Lc there. Bites at 00 03 00 00 | 00 00 00 05.
+-- strict reading is surplus at its Le byte, 7 + Lc"; E4: "every strict frame longer than 7 bytes with an extended Lc of 0 is surplus, at byte
+-- 7". Rejects a strict entry that says 9 + Lc there. Bites at 00 03 00 00 | 00 00 00 05, and at an extended Lc of 0 with ten bytes.
 pub record PlacesExactly (read strict : List ℕ → Outcome Says) : Type 0 where
   pub short-form : (frame : List ℕ) → (byte frame 4 ≡ 0x00 → ⊥) → 6 + byte frame 4 < length frame
       → (read frame ≡ wrongLength 2 (6 + byte frame 4)) × (strict frame ≡ wrongLength 2 (6 + byte frame 4))
-  pub extended-form : (frame : List ℕ) → byte frame 4 ≡ 0x00 → 9 + pairAt frame 5 < length frame
-      → (read frame ≡ wrongLength 2 (9 + pairAt frame 5)) × (strict frame ≡ wrongLength 2 (9 + pairAt frame 5))
+  pub extended-form : (frame : List ℕ) → byte frame 4 ≡ 0x00 → 9 + pairAt frame 5 < length frame → read frame ≡ wrongLength 2 (9 + pairAt frame 5)
+  pub strict-extended : (frame : List ℕ) → byte frame 4 ≡ 0x00 → 1 ≤ pairAt frame 5 → 9 + pairAt frame 5 < length frame
+      → strict frame ≡ wrongLength 2 (9 + pairAt frame 5)
   pub strict-six : (frame : List ℕ) → byte frame 4 ≡ 0x00 → length frame ≡ 8 + pairAt frame 5 → strict frame ≡ wrongLength 2 (7 + pairAt frame 5)
+  pub strict-lc-zero : (frame : List ℕ) → LcZero frame → strict frame ≡ wrongLength 2 7
 
 -- In both readings a 6700 has a pair, and no other status word has one. Rejects a reader that drops the pair. Bites at 00 03 00 00 | 00 01.
 abbrev pub ReadPairsExactly : (read strict : List ℕ → Outcome Says) → Type 0
@@ -142,8 +147,16 @@ pub record RowExactly (row : Case → TableRow) : Type 0 where
   pub le3 : row Le3 ≡ columns 0 0 3
 
 -- 01: "data length or Le is not one that the shape can carry". Rejects Le 257 in one byte, and Lc 0 in shape 3. Bites at Le 257.
-abbrev pub FitsExactly : (Case → ℕ → ℕ → Bool) → Type 0
-FitsExactly fits = (s : Case) (count le : ℕ) → (fits s count le ≡ true) ↔ Carries s count le
+abbrev pub FitsExactly : (Case → ℕ → ℕ → Type 0) → (Case → ℕ → ℕ → Bool) → Type 0
+FitsExactly Carry fits = (s : Case) (count le : ℕ) → (fits s count le ≡ true) ↔ Carry s count le
+
+-- 02, E4: "refuses shape 6, and Lc 0 in shape 7": the strict table's rows, and what the strict writer can carry by them. Rejects Lc 0 in shape 7.
+-- Bites at shape 7 without data.
+abbrev pub StrictRowExactly : (Case → ℕ → Bool) → Type 0
+StrictRowExactly has = (s : Case) (count : ℕ) → (has s count ≡ true) ↔ IsoRow (shapeNo s) count
+
+abbrev pub StrictFitsExactly : (Case → ℕ → ℕ → Bool) → Type 0
+StrictFitsExactly fits = FitsExactly CarriesStrictly fits
 
 -- What the code holds of a frame, in these numbers: shape by shape its number and where its data starts; header, Lc and Le as they
 -- are. Rejects an extended Lc of two bytes. Bites at shape 5.
@@ -176,12 +189,23 @@ ToleratedExactly read =
 
 -- ---- the strict entry
 
--- 01: "It accepts the ISO cases, that is the shapes above without shape 6, and gives 6700 for shape 6": every answer, each exactly
--- when, by the strict table. Rejects a strict entry that takes shape 6, and one that refuses everything. Bites at 00 03 00 00 | 00 00 00 05.
+-- 02, E4: "The strict frames are then ISO's seven cases": a body is of an ISO case exactly when its frame is read strictly in that case's
+-- shape; and what is read strictly is of a case. ISO 7816-3, 12.1.3, by Iso.antt's table, which is written apart.
+-- Rejects a strict entry that takes an Lc of 0, or shape 6, and one that refuses an extended Le of 65536 with the Lc of 0. Bites at the certification
+-- house's frame, 00 03 00 00 | 00 00 00 00 05.
+pub record StrictIsIso (strict : List ℕ → Outcome Says) : Type 0 where
+  pub each-case : (frame : List ℕ) (c : IsoCase) → 4 ≤ length frame
+      → (isCase c (drop 4 frame) ≡ true) ↔ ((says : Says) × (strict frame ≡ Gives says) × (says .shape ≡ shapeNo (shapeFor c)))
+  pub no-other : (frame : List ℕ) (says : Says) → strict frame ≡ Gives says
+      → (4 ≤ length frame) × ((c : IsoCase) × (isCase c (drop 4 frame) ≡ true) × (says .shape ≡ shapeNo (shapeFor c)))
+
+-- 01: "It accepts the ISO cases, that is the shapes above without shape 6, and gives 6700 for shape 6"; 02, E4: "with Lc 0 it is 6700":
+-- every answer, each exactly when, by the strict table and the same law as the ordinary reading. Rejects a strict entry that takes shape 6,
+-- or Lc 0, one that says surplus at 9 there, and one that refuses everything. Bites at 00 03 00 00 | 00 00 00 05.
 abbrev pub StrictExactly : (List ℕ → Outcome Says) → Type 0
 StrictExactly strict = ReadingExactly InStrictTable strict
 
--- 01: "gives 6700 for shape 6", and for what is in no shape, by the number. Rejects a strict entry that takes shape 6.
+-- 01: "gives 6700 for shape 6", 02: "with Lc 0 it is 6700", and for what is in no shape, by the number. Rejects a strict entry that takes shape 6.
 abbrev pub StrictNoShapeExactly : (List ℕ → Outcome Says) → Type 0
 StrictNoShapeExactly strict = NoShapeExactly InStrictTable strict
 
@@ -189,11 +213,29 @@ StrictNoShapeExactly strict = NoShapeExactly InStrictTable strict
 abbrev pub StrictPayloadExactly : (List ℕ → Lengths) → Type 0
 StrictPayloadExactly payload = PayloadExactly InStrictTable payload
 
--- 01: "It accepts the ISO cases .. and gives 6700 for shape 6; otherwise it equals the first", on any frame, beside any first reading;
--- of what is shape 6 the pair too. Rejects a strict entry with a status of its own. Bites at 00 03 00.
+-- 01: "It accepts the ISO cases .. and gives 6700 for shape 6; otherwise it equals the first", amended by 02, E4, on any frame, beside any
+-- first reading: of shape 6 and of an extended Lc of 0 the answer with its pair, of every other frame the first reading's.
+-- Rejects a strict entry with a status of its own. Bites at 00 03 00.
 pub record StrictOtherwise (read strict : List ℕ → Outcome Says) : Type 0 where
   pub six : (frame : List ℕ) (says : Says) → read frame ≡ Gives says → says .shape ≡ 6 → strict frame ≡ wrongLength 2 (7 + says .lc)
-  pub other : (frame : List ℕ) → ((says : Says) → read frame ≡ Gives says → says .shape ≡ 6 → ⊥) → strict frame ≡ read frame
+  pub lc-zero : (frame : List ℕ) → LcZero frame → strict frame ≡ wrongLength 2 7
+  pub other : (frame : List ℕ) → ((says : Says) → read frame ≡ Gives says → says .shape ≡ 6 → ⊥) → (LcZero frame → ⊥) → strict frame ≡ read frame
+
+-- Where the two readings agree and differ, both answers said, pairs included. Every frame that ISO has, they read alike. They differ
+-- exactly at shape 6 and at an extended Lc of 0 longer than 7 bytes: with 8 bytes that is shape 6, with 9 "The ordinary reading still takes it, as
+-- the Rust does", with ten or more it is surplus at 9 and at 7. A frame of shape 6 and one of nine bytes are said as the table has them.
+-- Rejects an ordinary reading that refuses an Lc of 0, and a strict one that takes it. Bites at 00 03 00 00 | 00 00 00 00 05.
+pub record DifferExactly (read strict : List ℕ → Outcome Says) : Type 0 where
+  pub on-iso : (frame : List ℕ) (c : IsoCase) → 4 ≤ length frame → isCase c (drop 4 frame) ≡ true → strict frame ≡ read frame
+  pub agree : (frame : List ℕ) → (Differ frame → ⊥) → strict frame ≡ read frame
+  pub differ : (frame : List ℕ) → Differ frame → strict frame ≡ read frame → ⊥
+  pub at-six : (h : ApduHeader) (d : List ℕ) (hi lo b le : ℕ) → IsPair hi lo (length d) → OneByteLe b le
+      → let frame = frameWith h (0x00 ∷ hi ∷ lo ∷ (d ++ b ∷ [])) in
+      (read frame ≡ Gives (saying h 6 7 (length d) le)) × (strict frame ≡ wrongLength 2 (7 + length d))
+  pub at-nine : (h : ApduHeader) (a b le : ℕ) → TwoByteLe a b le
+      → let frame = frameWith h (0x00 ∷ 0x00 ∷ 0x00 ∷ a ∷ b ∷ []) in
+      (read frame ≡ Gives (saying h 7 7 0 le)) × (strict frame ≡ wrongLength 2 7)
+  pub from-ten : (frame : List ℕ) → LcZero frame → 10 ≤ length frame → (read frame ≡ wrongLength 2 9) × (strict frame ≡ wrongLength 2 7)
 
 -- ---- writing
 
@@ -201,13 +243,25 @@ pub record StrictOtherwise (read strict : List ℕ → Outcome Says) : Type 0 wh
 -- shorter than the frame; else it writes the frame at the front and leaves the rest." Of a writer's answer (.0) and of what the
 -- buffer holds afterwards (.1), for any parts and any buffer.
 -- Rejects Le 257 in one byte, R2 one byte early or late, R2 before R5, a rest that is cleared, a refusal that writes, an invented length.
--- Bites at shape 2 with Le 257, in a buffer of none.
-pub record WriteExactly (write : Parts → List ℕ → Outcome ℕ × List ℕ) : Type 0 where
-  pub r5 : (w : Parts) (old : List ℕ) → (write w old .0 ≡ R 5) ↔ (Carries (w .shape) (length (w .content)) (w .le) → ⊥)
-  pub r2 : (w : Parts) (old : List ℕ) → (write w old .0 ≡ R 2) ↔ ((frame : List ℕ) × IsFrameOf w frame × (length old < length frame))
-  pub writes : (w : Parts) (old frame : List ℕ) → IsFrameOf w frame → length frame ≤ length old
+-- Bites at shape 2 with Le 257, in a buffer of none. What a writer can carry and the table of its frames belong together: `Carries` and `InTable`,
+-- of the strict one `CarriesStrictly` and `InStrictTable`.
+pub record WriteExactly (Carry : Case → ℕ → ℕ → Type 0) (Table : List ℕ → Says → List ℕ → Type 0) (write : Parts → List ℕ → Outcome ℕ × List ℕ) : Type 0 where
+  pub r5 : (w : Parts) (old : List ℕ) → (write w old .0 ≡ R 5) ↔ (Carry (w .shape) (length (w .content)) (w .le) → ⊥)
+  pub r2 : (w : Parts) (old : List ℕ) → (write w old .0 ≡ R 2) ↔ ((frame : List ℕ) × IsFrameOf Table w frame × (length old < length frame))
+  pub writes : (w : Parts) (old frame : List ℕ) → IsFrameOf Table w frame → length frame ≤ length old
       → write w old ≡ (Gives (length frame), frame ++ drop (length frame) old)
   pub refused : (w : Parts) (old : List ℕ) (n : ℕ) → write w old .0 ≡ R n → write w old .1 ≡ old
+
+-- 02, E4: "a strict writer is added that refuses shape 6, and Lc 0 in shape 7, with R5 and is otherwise the writer": R5, R2, the frame and the
+-- buffer, by the strict table. Rejects a writer of shape 6, one of shape 7 without data, and R2 before R5. Bites at shape 6, in a buffer of none.
+abbrev pub StrictWriteExactly : (Parts → List ℕ → Outcome ℕ × List ℕ) → Type 0
+StrictWriteExactly write = WriteExactly CarriesStrictly InStrictTable write
+
+-- The same sentence, beside any writer, with any parts and buffer. Rejects a strict writer that refuses every shape without data. Bites at shape 1.
+pub record StrictWriteOtherwise (write strict : Parts → List ℕ → Outcome ℕ × List ℕ) : Type 0 where
+  pub six : (w : Parts) (old : List ℕ) → shapeNo (w .shape) ≡ 6 → strict w old ≡ (R 5, old)
+  pub seven : (w : Parts) (old : List ℕ) → shapeNo (w .shape) ≡ 7 → length (w .content) ≡ 0 → strict w old ≡ (R 5, old)
+  pub other : (w : Parts) (old : List ℕ) → (shapeNo (w .shape) ≡ 6 → ⊥) → (shapeNo (w .shape) ≡ 7 → 1 ≤ length (w .content)) → strict w old ≡ write w old
 
 -- ---- there and back
 
@@ -226,6 +280,23 @@ WrittenThenRead read cut write =
     → let says = saysOf (apduOf (w .header) (w .shape) (length (w .content)) (w .le)) in
     (read (take n (write w old .1)) ≡ Gives says) × (cut (take n (write w old .1)) says ≡ w .content)
 
+-- A writer accepts exactly what a reader reads, and has room for: parts that are bytes are written in n bytes exactly when there is a frame of n
+-- bytes, no longer than the buffer, that is read as these parts. Rejects a strict writer that takes shape 6, or shape 7 without data, beside the
+-- strict reading, which has neither. Bites at each without data.
+abbrev pub AcceptsWhatIsRead : (List ℕ → Outcome Says) → (List ℕ → Says → List ℕ) → (Parts → List ℕ → Outcome ℕ × List ℕ) → Type 0
+AcceptsWhatIsRead read cut write =
+    (w : Parts) (old : List ℕ) (n : ℕ) → AreParts w
+    → let says = saysOf (apduOf (w .header) (w .shape) (length (w .content)) (w .le)) in
+    (write w old .0 ≡ Gives n)
+    ↔ ((frame : List ℕ) × AreBytes frame × (length frame ≡ n) × (n ≤ length old) × (read frame ≡ Gives says) × (cut frame says ≡ w .content))
+
+-- The strict pair, there and back, each by the law above. E4's request: "Strict write then strict read, and back, are the identity; given room, the
+-- strict writer accepts exactly what the strict reader reads". Rejects a strict writer that takes shape 7 without data: it is not read back. Bites there.
+pub record StrictThereAndBack (strict : List ℕ → Outcome Says) (cut : List ℕ → Says → List ℕ) (write : Parts → List ℕ → Outcome ℕ × List ℕ) : Type 0 where
+  pub read-then-written : ReadThenWritten strict cut write
+  pub written-then-read : WrittenThenRead strict cut write
+  pub accepts : AcceptsWhatIsRead strict cut write
+
 -- ---- the numbers tell the cases apart
 
 abbrev pub ShapeOneToOne : Type 0
@@ -240,11 +311,26 @@ ReadingOneToOne = (a b : Reading) → readingOf a ≡ readingOf b → a ≡ b
 abbrev pub WrittenOneToOne : Type 0
 WrittenOneToOne = (a b : Written) → writtenOf a ≡ writtenOf b → a ≡ b
 
--- ---- two results that satisfy a contract are equal, for each public function; of the writer, the answer and the buffer
+-- ---- the contracts and the claims
+
+-- Whatever meets a contract of reading or writing meets the claim on it: the contracts say what is claimed. A contract of the strict writer that names the
+-- other table fails it, with code to match.
+pub record ContractsAsClaimed : Type 0 where
+  pub fits : (f : Case → ℕ → ℕ → Bool) → ((s : Case) (count le : ℕ) → Fits s count le (f s count le)) → FitsExactly Carries f
+  pub strict-has : (f : Case → ℕ → Bool) → ((s : Case) (count : ℕ) → StrictHas s count (f s count)) → StrictRowExactly f
+  pub read : (f : List ℕ → Reading) → ((frame : List ℕ) → Read frame (f frame)) → ReadingExactly InTable (λ frame. readingOf (f frame))
+  pub read-strict : (f : List ℕ → Reading) → ((frame : List ℕ) → ReadStrict frame (f frame)) → StrictExactly (λ frame. readingOf (f frame))
+  pub write : (f : Parts → List ℕ → Written × List ℕ) → ((w : Parts) (old : List ℕ) → Write w old (f w old .0) (f w old .1))
+      → WriteExactly Carries InTable (λ w old. (writtenOf (f w old .0), f w old .1))
+  pub write-strict : (f : Parts → List ℕ → Written × List ℕ) → ((w : Parts) (old : List ℕ) → WriteStrict w old (f w old .0) (f w old .1))
+      → StrictWriteExactly (λ w old. (writtenOf (f w old .0), f w old .1))
+
+-- ---- two results that satisfy a contract are equal, for each public function; of the writers, the answer and the buffer
 
 pub record ResultsDetermined : Type 0 where
   pub row : (s : Case) → AtMostOne (Row s)
   pub fits : (s : Case) (count le : ℕ) → AtMostOne (Fits s count le)
+  pub strict-has : (s : Case) (count : ℕ) → AtMostOne (StrictHas s count)
   pub payload : (entry : Entry) (p : List ℕ) → AtMostOne (Payload entry p)
   pub shape-number : (s : Case) → AtMostOne (ShapeNumber s)
   pub read : (frame : List ℕ) → AtMostOne (Read frame)
@@ -252,3 +338,4 @@ pub record ResultsDetermined : Type 0 where
   pub data-place : (a : Apdu) → AtMostOne (DataPlace a)
   pub cut-data : (frame : List ℕ) (a : Apdu) → AtMostOne (Data frame a)
   pub write : (w : Parts) (old : List ℕ) → AtMostOne (λ (o : Written × List ℕ). Write w old (o .0) (o .1))
+  pub write-strict : (w : Parts) (old : List ℕ) → AtMostOne (λ (o : Written × List ℕ). WriteStrict w old (o .0) (o .1))

@@ -1,10 +1,10 @@
 -- What each public function of `shapes`, `apdu_write` and `apdu` promises of its result, and of what is lent to it for writing, on every input.
 use Rattle.outcome.specs.Outcome.{Outcome}
 use Rattle.apdu_stated.specs.Words.{ℕ, _≤_, _≡_, Bool, List, length, Case, shapeNo}
-use Rattle.apdu_stated.specs.Table.{TableRow, lcField, lcLeast, leField, canCarry}
+use Rattle.apdu_stated.specs.Table.{TableRow, lcField, lcLeast, leField, canCarry, inRow}
 use Rattle.apdu_stated.specs.Answers.{Apdu, Place, Reading, Written, saysOf, readingOf, writtenOf}
-use Rattle.apdu_stated.specs.Reading.{Entry, lengthsOf, readOf, strictOf, placeOf, dataOf}
-use Rattle.apdu_stated.specs.Writing.{Parts, writeOf, bufferOf}
+use Rattle.apdu_stated.specs.Reading.{Entry, Ordinary, Strict, lengthsOf, readOf, strictOf, placeOf, dataOf}
+use Rattle.apdu_stated.specs.Writing.{Parts, writeBy, bufferBy}
 use Rattle.apdu_stated.specs.declared.Lengths.{Lengths}
 use Rattle.apdu_stated.specs.declared.Lengths.the-variants.{Found, Missing, Surplus}
 
@@ -18,6 +18,9 @@ pub record Row (shape : Case) (r : TableRow) : Type 0 where
 
 abbrev pub Fits : Case → ℕ → ℕ → Bool → Type 0
 Fits shape count le r = r ≡ canCarry shape count le
+
+abbrev pub StrictHas : Case → ℕ → Bool → Type 0
+StrictHas shape count r = r ≡ inRow Strict shape count
 
 -- the Lc that was found
 abbrev pub lcFound : Lengths → ℕ
@@ -46,5 +49,11 @@ abbrev pub Data : List ℕ → Apdu → List ℕ → Type 0
 Data frame says r = r ≡ dataOf frame (saysOf says)
 
 -- the answer, and what the buffer holds afterwards
+abbrev pub WriteBy : Entry → Parts → List ℕ → Written → List ℕ → Type 0
+WriteBy entry w old r after = (writtenOf r ≡ writeBy entry w (length old)) × (after ≡ bufferBy entry w old)
+
 abbrev pub Write : Parts → List ℕ → Written → List ℕ → Type 0
-Write w old r after = (writtenOf r ≡ writeOf w (length old)) × (after ≡ bufferOf w old)
+Write w old r after = WriteBy Ordinary w old r after
+
+abbrev pub WriteStrict : Parts → List ℕ → Written → List ℕ → Type 0
+WriteStrict w old r after = WriteBy Strict w old r after

@@ -1,14 +1,16 @@
 -- Document 01, 'Eight frame shapes': the table, its columns, and what follows from them.
 -- Covered: the payload and condition of each row; "Data is exactly Lc bytes"; "A written Le of 0 means 256 in one byte and
--- 65536 in two; an absent Le reads as 0"; which data length and Le a shape can carry.
+-- 65536 in two; an absent Le reads as 0"; which data length and Le a shape can carry. Document 02, E4: what of it the strict table has.
 use Prim.Native.Nat.{ℕ, _%_}
-use mathlib.Core.Bool.{Bool, _&&_}
+use mathlib.Core.Bool.{Bool, true, not, _&&_}
 use mathlib.Core.List.{List, [], _∷_}
-use lib.Dec.{leb, eqb}
+use lib.Dec.{leb, ltb, eqb}
 use Rattle.outcome.specs.Notation.{if_then_else_}
 use Rattle.octets.specs.Bytes.{bytes2}
 pub use Rattle.apdu_stated.specs.declared.TableRow.{TableRow}
-use Rattle.apdu_stated.specs.Words.{Case, Instruction, Le1, Lc1Data, Lc1DataLe1, Lc3Data, Lc3DataLe1, Lc3DataLe2, Le3}
+pub use Rattle.apdu_stated.specs.declared.Entry.{Entry}
+pub use Rattle.apdu_stated.specs.declared.Entry.the-variants.{Ordinary, Strict}
+use Rattle.apdu_stated.specs.Words.{Case, Instruction, Le1, Lc1Data, Lc1DataLe1, Lc3Data, Lc3DataLe1, Lc3DataLe2, Le3, shapeNo}
 
 -- a row: the Lc field's bytes, the least Lc, the Le field's bytes
 abbrev pub columns : ℕ → ℕ → ℕ → TableRow
@@ -60,6 +62,28 @@ leFits s le = leb (leLeast (leField s)) le && leb le (leMost (leField s))
 -- "data length or Le is not one that the shape can carry"
 abbrev pub canCarry : Case → ℕ → ℕ → Bool
 canCarry s dataLength le = lcFits s dataLength && leFits s le
+
+-- ---- the two tables. 02, E9, of E4's: "The strict reading is the same table with other least Lc and without row 6"
+abbrev pub hasRow : Entry → Case → Bool
+hasRow Ordinary s = true
+hasRow Strict s = not (eqb (shapeNo s) 6)
+
+-- 02, E4: "In ISO 7816-3 a case with an Lc field carries at least one byte of data": so row 7 begins at Lc 1, as rows 3, 4 and 5 do in both
+abbrev pub leastOf : Entry → Case → ℕ
+leastOf Ordinary s = lcLeast s
+leastOf Strict s = if eqb (lcField s) 0 then 0 else 1
+
+-- whether a table has its row for so much data: from the row's least on
+abbrev pub inRow : Entry → Case → ℕ → Bool
+inRow entry s lc = hasRow entry s && leb (leastOf entry s) lc
+
+-- what each table can carry
+unfoldable pub carriedBy : Entry → Case → ℕ → ℕ → Bool
+carriedBy entry s dataLength le = inRow entry s dataLength && canCarry s dataLength le
+
+-- an extended Lc under row 7's least, which is in no row of the table
+abbrev pub lcUnder : Entry → ℕ → Bool
+lcUnder entry lc = ltb lc (leastOf entry Lc3DataLe2)
 
 -- "A written Le of 0 means 256 in one byte and 65536 in two": the rule once, over the number of bytes
 abbrev pub leRead : ℕ → ℕ → ℕ

@@ -1,8 +1,8 @@
 -- Words that only the claims use: document 01's table once more, apart from Table.antt, row by row and with every number spelled
--- out, and the strict entry's; when a payload ends early, and how much of a frame's front is in a table; which data length and Le a
--- shape can carry, once more.
+-- out, and the strict one; where the two readings differ; when a payload ends early, and how much of a frame's front is in a table;
+-- which data length and Le a shape can carry, once more, and what the strict writer takes of it.
 use Prim.Native.Nat.{ℕ, _+_, _*_, _≤_, _<_}
-use Rattle.octets.specs.Bytes.{byte}
+use Rattle.octets.specs.Bytes.{AreBytes, byte, pairAt}
 use Rattle.apdu_stated.specs.Words.{_≡_, List, [], _∷_, _++_, length, take, ApduHeader, Case, Instruction, Le1, Lc1Data, Lc1DataLe1, Lc3Data, Lc3DataLe1, Lc3DataLe2, Le3, shapeNo}
 use Rattle.apdu_stated.specs.Answers.{Says, Apdu, Place}
 use Rattle.apdu_stated.specs.Writing.{Parts}
@@ -60,10 +60,27 @@ pub data EndsEarly (p : List ℕ) : Type 0 where
   in-short-data : 2 ≤ length p → (byte p 0 ≡ 0x00 → ⊥) → length p < 1 + byte p 0 → EndsEarly p
   in-extended-data : byte p 0 ≡ 0x00 → 3 < length p → length p < 3 + (byte p 1 * 256 + byte p 2) → EndsEarly p
 
--- 01: the strict entry "accepts the ISO cases, that is the shapes above without shape 6"
+-- `IsoRow shape lc`: a row of ISO's. 01: the strict entry "accepts the ISO cases, that is the shapes above without shape 6"; 02, E4: "In ISO
+-- 7816-3 a case with an Lc field carries at least one byte of data", and that is shapes 3 to 7: "Strict shape 7 needs Lc 1..65535"
+pub record IsoRow (shape lc : ℕ) : Type 0 where
+  pub not-six : shape ≡ 6 → ⊥
+  pub some-data : 3 ≤ shape → shape ≤ 7 → 1 ≤ lc
+
+-- the strict table: the rows above that are ISO's
 pub record InStrictTable (frame : List ℕ) (says : Says) (content : List ℕ) : Type 0 where
   pub table : InTable frame says content
-  pub not-six : says .shape ≡ 6 → ⊥
+  pub row : IsoRow (says .shape) (says .lc)
+
+-- 02, E4: a "frame longer than 7 bytes with an extended Lc of 0"
+pub record LcZero (frame : List ℕ) : Type 0 where
+  pub longer : 7 < length frame
+  pub extended : byte frame 4 ≡ 0x00
+  pub zero-lc : pairAt frame 5 ≡ 0
+
+-- `Differ frame`: what the two readings differ on. A frame of shape 6, by its length; an extended Lc of 0 with more behind it
+pub data Differ (frame : List ℕ) : Type 0 where
+  at-six : byte frame 4 ≡ 0x00 → length frame ≡ 8 + pairAt frame 5 → Differ frame
+  at-lc-zero : LcZero frame → Differ frame
 
 -- `LongestFront Table frame k`: of the parts that begin at the frame's front and are themselves in the table, the longest has k bytes
 pub record LongestFront (Table : List ℕ → Says → List ℕ → Type 0) (frame : List ℕ) (k : ℕ) : Type 0 where
@@ -71,10 +88,10 @@ pub record LongestFront (Table : List ℕ → Says → List ℕ → Type 0) (fra
   pub in-table : (says : Says) × (content : List ℕ) × Table (take k frame) says content
   pub longest : (j : ℕ) (says : Says) (content : List ℕ) → k < j → j ≤ length frame → Table (take j frame) says content → ⊥
 
--- the frame of the table that has these parts
-pub record IsFrameOf (w : Parts) (frame : List ℕ) : Type 0 where
+-- the frame of a table that has these parts
+pub record IsFrameOf (Table : List ℕ → Says → List ℕ → Type 0) (w : Parts) (frame : List ℕ) : Type 0 where
   pub says : Says
-  pub table : InTable frame says (w .content)
+  pub table : Table frame says (w .content)
   pub header : says .header ≡ w .header
   pub shape : says .shape ≡ shapeNo (w .shape)
   pub le : says .le ≡ w .le
@@ -89,6 +106,19 @@ pub data Carries : Case → ℕ → ℕ → Type 0 where
   shape6 : {n le : ℕ} → n ≤ 65535 → 1 ≤ le → le ≤ 256 → Carries Lc3DataLe1 n le
   shape7 : {n le : ℕ} → n ≤ 65535 → 1 ≤ le → le ≤ 65536 → Carries Lc3DataLe2 n le
   shape8 : {le : ℕ} → 1 ≤ le → le ≤ 65536 → Carries Le3 0 le
+
+-- 02, E4: the strict writer "refuses shape 6, and Lc 0 in shape 7 .. and is otherwise the writer"
+pub record CarriesStrictly (s : Case) (count le : ℕ) : Type 0 where
+  pub carries : Carries s count le
+  pub row : IsoRow (shapeNo s) count
+
+-- parts that are bytes
+pub record AreParts (w : Parts) : Type 0 where
+  pub cla : w .header .cla < 256
+  pub ins : w .header .ins < 256
+  pub p1 : w .header .p1 < 256
+  pub p2 : w .header .p2 < 256
+  pub content : AreBytes (w .content)
 
 -- what a frame was read to say, as the code holds it
 abbrev pub apduOf : ApduHeader → Case → ℕ → ℕ → Apdu

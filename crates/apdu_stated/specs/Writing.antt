@@ -1,5 +1,7 @@
 -- Document 01, 'Eight frame shapes': the writer. "It refuses (R5) exactly when data length or Le is not one that the shape
 -- can carry, else R2 exactly when the buffer is shorter than the frame; else it writes the frame at the front and leaves the rest."
+-- Document 02, E4: "a strict writer is added that refuses shape 6, and Lc 0 in shape 7, with R5 and is otherwise the writer": one writer
+-- by two tables, as the reading is.
 use Prim.Native.Nat.{ℕ}
 use mathlib.Core.Bool.{not}
 use mathlib.Core.List.{List, [], _∷_, _++_}
@@ -9,7 +11,7 @@ use Rattle.outcome.specs.Notation.{if_then_else_}
 use Rattle.outcome.specs.Outcome.{Outcome, R, Word, Gives}
 use Rattle.octets.specs.Bytes.{laid}
 use Rattle.apdu_stated.specs.Words.{Case, ApduHeader}
-use Rattle.apdu_stated.specs.Table.{lcField, leField, canCarry, lcBytes, leBytes}
+use Rattle.apdu_stated.specs.Table.{Entry, Ordinary, Strict, lcField, leField, carriedBy, lcBytes, leBytes}
 
 -- the four parts of a frame
 pub record Parts : Type 0 where
@@ -32,10 +34,10 @@ payloadOf shape content le = lcBytes (lcField shape) (length content) ++ (conten
 unfoldable pub frameOf : Parts → List ℕ
 frameOf w = headerBytes (w .header) ++ payloadOf (w .shape) (w .content) (w .le)
 
--- what the writer answers: the frame's length, for a buffer of so many bytes (room)
-unfoldable pub writeOf : Parts → ℕ → Outcome ℕ
-writeOf w room =
-    if not (canCarry (w .shape) (length (w .content)) (w .le)) then R 5
+-- what a writer answers, by its table: the frame's length, for a buffer of so many bytes (room)
+unfoldable pub writeBy : Entry → Parts → ℕ → Outcome ℕ
+writeBy entry w room =
+    if not (carriedBy entry (w .shape) (length (w .content)) (w .le)) then R 5
     else if ltb room (length (frameOf w)) then R 2
     else Gives (length (frameOf w))
 
@@ -45,9 +47,15 @@ leftBy (R n) frame old = old
 leftBy (Word s) frame old = old
 leftBy (Gives n) frame old = laid frame old
 
-unfoldable pub bufferOf : Parts → List ℕ → List ℕ
-bufferOf w old = leftBy (writeOf w (length old)) (frameOf w) old
+unfoldable pub bufferBy : Entry → Parts → List ℕ → List ℕ
+bufferBy entry w old = leftBy (writeBy entry w (length old)) (frameOf w) old
 
 -- both: the answer, and what the buffer holds afterwards
+abbrev pub writingBy : Entry → Parts → List ℕ → Outcome ℕ × List ℕ
+writingBy entry w old = (writeBy entry w (length old), bufferBy entry w old)
+
 abbrev pub writingOf : Parts → List ℕ → Outcome ℕ × List ℕ
-writingOf w old = (writeOf w (length old), bufferOf w old)
+writingOf w old = writingBy Ordinary w old
+
+abbrev pub strictWritingOf : Parts → List ℕ → Outcome ℕ × List ℕ
+strictWritingOf w old = writingBy Strict w old

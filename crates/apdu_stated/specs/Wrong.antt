@@ -6,9 +6,9 @@ use Rattle.outcome.specs.Outcome.{StatusWord, Outcome, R, Word, SW, Gives, miss
 use Rattle.octets.specs.Bytes.{byte, pairAt, partOf, laid}
 use Rattle.apdu_stated.specs.Words.{Bool, not, _&&_, List, [], _∷_, _++_, length, drop, leb, ltb, eqb, Case, Instruction, Le1, Lc1Data, Lc1DataLe1, Lc3Data, Lc3DataLe1, Lc3DataLe2, Le3, shapeNo}
 use Rattle.apdu_stated.specs.Answers.{Apdu, Place, Says, saysOf}
-use Rattle.apdu_stated.specs.Table.{TableRow, columns, rowOf, lcFits, canCarry}
-use Rattle.apdu_stated.specs.Reading.{Ordinary, lengthsOf, readOf, strictOf, headerOf, placeOf}
-use Rattle.apdu_stated.specs.Writing.{Parts, partsOf, frameOf, writeOf, bufferOf, writingOf}
+use Rattle.apdu_stated.specs.Table.{TableRow, columns, rowOf, lcFits, canCarry, carriedBy}
+use Rattle.apdu_stated.specs.Reading.{Ordinary, Strict, lengthsOf, readOf, strictOf, headerOf, placeOf}
+use Rattle.apdu_stated.specs.Writing.{Parts, partsOf, frameOf, writeBy, bufferBy, writingOf, strictWritingOf}
 use Rattle.apdu_stated.specs.declared.Lengths.{Lengths}
 use Rattle.apdu_stated.specs.declared.Lengths.the-variants.{Found, Missing, Surplus}
 use Rattle.apdu_stated.specs.Terms.{saying}
@@ -118,6 +118,22 @@ strictTakesShape6 frame = readOf frame
 abbrev pub strictRefusesEverything : List ℕ → Outcome Says
 strictRefusesEverything frame = SW 0x6700
 
+-- "Strict shape 7 needs Lc 1..65535": here it takes Lc 0, as it did before
+abbrev pub strictTakesLcZero : List ℕ → Outcome Says
+strictTakesLcZero frame = if eqb (length frame) 9 && eqb (byte frame 4) 0x00 && eqb (pairAt frame 5) 0 then readOf frame else strictOf frame
+
+-- "surplus, at byte 7": here at 9, as in the ordinary reading
+abbrev pub strictLcZeroAt9 : List ℕ → Outcome Says
+strictLcZeroAt9 frame = if ltb 9 (length frame) && eqb (byte frame 4) 0x00 && eqb (pairAt frame 5) 0 then surplusAt 9 else strictOf frame
+
+-- "longer than 7 bytes": here an extended Le of 65536, in 7 bytes, is refused with the Lc of 0
+abbrev pub strictRefusesLe3 : List ℕ → Outcome Says
+strictRefusesLe3 frame = if eqb (length frame) 7 && eqb (byte frame 4) 0x00 && eqb (pairAt frame 5) 0 then missingAt 7 else strictOf frame
+
+-- "The ordinary reading still takes it, as the Rust does": here it does not
+abbrev pub readRefusesLcZero : List ℕ → Outcome Says
+readRefusesLcZero frame = if eqb (length frame) 9 && eqb (byte frame 4) 0x00 && eqb (pairAt frame 5) 0 then surplusAt 7 else readOf frame
+
 -- "otherwise it equals the first": here a short frame gets 6700 of the strict entry
 abbrev pub strictShortGets6700 : List ℕ → Outcome Says
 strictShortGets6700 frame = if ltb (length frame) 4 then SW 0x6700 else strictOf frame
@@ -184,20 +200,43 @@ r2BeforeR5 w old = if ltb (length old) (length (frameOf w)) then (R 2, old) else
 abbrev pub clearsTheRest : Parts → List ℕ → Outcome ℕ × List ℕ
 clearsTheRest w old =
     if ltb (length old) (length (frameOf w)) then writingOf w old
-    else (writeOf w (length old), frameOf w ++ replicate (length old - length (frameOf w)) 0)
+    else (writeBy Ordinary w (length old), frameOf w ++ replicate (length old - length (frameOf w)) 0)
 
 -- "An R refusal changes no buffer"
 abbrev pub refusalWrites : Parts → List ℕ → Outcome ℕ × List ℕ
-refusalWrites w old = (writeOf w (length old), laid (frameOf w) old)
+refusalWrites w old = (writeBy Ordinary w (length old), laid (frameOf w) old)
 
 -- writes the frame, and says a length of its own
 abbrev pub lengthInvented : Parts → List ℕ → Outcome ℕ × List ℕ
-lengthInvented w old = (if ltb (length old) (length (frameOf w)) then writeOf w (length old) else Gives (length old), bufferOf w old)
+lengthInvented w old = (if ltb (length old) (length (frameOf w)) then writeBy Ordinary w (length old) else Gives (length old), bufferBy Ordinary w old)
 
 -- "A written Le of 0 means 256 in one byte": here 256 is written 01
 abbrev pub le256As01 : Parts → List ℕ → Outcome ℕ × List ℕ
-le256As01 w old = if eqb (w .le) 256 then (writeOf w (length old), laid (frameOf (partsOf (w .header) (w .shape) (w .content) 1)) old) else writingOf w old
+le256As01 w old = if eqb (w .le) 256 then (writeBy Ordinary w (length old), laid (frameOf (partsOf (w .header) (w .shape) (w .content) 1)) old) else writingOf w old
 
 -- "Le .. 1..256": here 257 is taken in any shape, and reads back as 1
 abbrev pub le257Taken : Parts → List ℕ → Outcome ℕ × List ℕ
 le257Taken w old = if eqb (w .le) 257 then (Gives (length (frameOf w)), laid (frameOf w) old) else writingOf w old
+
+-- ---- the strict writer
+
+-- "refuses shape 6, and Lc 0 in shape 7": here it writes the one, here the other, and here a table says that the other can be carried
+abbrev pub strictWritesShape6 : Parts → List ℕ → Outcome ℕ × List ℕ
+strictWritesShape6 w old = if eqb (shapeNo (w .shape)) 6 then writingOf w old else strictWritingOf w old
+
+abbrev pub strictWritesNoData : Parts → List ℕ → Outcome ℕ × List ℕ
+strictWritesNoData w old = if eqb (shapeNo (w .shape)) 7 && eqb (length (w .content)) 0 then writingOf w old else strictWritingOf w old
+
+abbrev pub strictRowOfNoData : Case → ℕ → Bool
+strictRowOfNoData s count = not (eqb (shapeNo s) 6)
+
+abbrev pub strictCarriesNoData : Case → ℕ → ℕ → Bool
+strictCarriesNoData s count le = if eqb (shapeNo s) 7 then canCarry s count le else carriedBy Strict s count le
+
+-- "with R5": here R2 where the buffer is short as well
+abbrev pub strictR2BeforeR5 : Parts → List ℕ → Outcome ℕ × List ℕ
+strictR2BeforeR5 w old = if ltb (length old) (length (frameOf w)) then (R 2, old) else strictWritingOf w old
+
+-- "and is otherwise the writer": here it wants data in every shape
+abbrev pub strictWantsData : Parts → List ℕ → Outcome ℕ × List ℕ
+strictWantsData w old = if eqb (length (w .content)) 0 then (R 5, old) else strictWritingOf w old

@@ -42,7 +42,7 @@ pub enum Reading {
     Status(ApduStatusCode),
 }
 
-// Which table a frame is read by: document 01's eight shapes, or those of them that ISO 7816-3 has.
+// Which table a frame is read by: document 01's eight shapes, or ISO 7816-3's seven cases (no shape 6, no Lc of 0).
 pub enum Entry {
     Ordinary,
     Strict,

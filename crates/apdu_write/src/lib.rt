@@ -1,4 +1,4 @@
-// The writer of command frames: a frame at the front of a lent buffer, by the same table as reading (apdu_stated's specs/Table.antt).
+// The writers of command frames: a frame at the front of a lent buffer, by the tables of the two readings (apdu_stated's specs/Table.antt).
 //
 //    +-----+-----+----+----+----------+----------------+----------+
 //    | CLA | INS | P1 | P2 | Lc field | data, Lc bytes | Le field |
@@ -11,7 +11,7 @@ ghost use lib.ListN.{length};
 ghost use Rattle.octets.specs.Bytes.{laid};
 ghost use Rattle.apdu_stated.specs.Table.{lcField, lcMost, lcBytes, leBytes};
 ghost use Rattle.apdu_stated.specs.Writing.{partsOf, payloadOf, frameOf};
-ghost use Rattle.apdu_stated.specs.Contracts.{Write};
+ghost use Rattle.apdu_stated.specs.Contracts.{Write, WriteStrict};
 use apdu_stated::ApduHeader;
 use apdu_stated::Case;
 use apdu_stated::Written;
@@ -76,4 +76,20 @@ pub fn write(header: ApduHeader, shape: Case, content: &[u8], le: u32, out: &mut
     }
     put_frame(out, header, shape, content, le);
     Written::Frame(n)
+}
+
+// The strict writer, by ISO's seven cases: R5 for shape 6 and for shape 7 without data, then as the writer.
+pub fn write_strict(
+    header: ApduHeader,
+    shape: Case,
+    content: &[u8],
+    le: u32,
+    out: &mut [u8],
+) -> Written
+    ensures { λ r. ⌜ WriteStrict (partsOf header shape (now (content .entry)) le) (now (out .entry)) r (now (out .exit)) ⌝ }
+{
+    if !shapes::strict_has(shape, content.len()) {
+        return Written::Refused(Refusal::R5);
+    }
+    write(header, shape, content, le, out)
 }

@@ -4,8 +4,9 @@
 -- input where it bites stand beside it in that crate's specs/Claims.antt; that nothing but f meets it, in proofs/Only.antt.
 use Rattle.apdu_stated.specs.Claims as Frames
 use Rattle.apdu_stated.specs.Reading.{readOf, strictOf, dataOf}
-use Rattle.apdu_stated.specs.Terms.{InTable}
-use Rattle.apdu_stated.specs.Writing.{writingOf}
+use Rattle.apdu_stated.specs.Terms.{InTable, Carries}
+use Rattle.apdu_stated.specs.Writing.{writingOf, strictWritingOf}
+use Rattle.apdu_stated.specs.declared.Entry.the-variants.{Ordinary, Strict}
 use Rattle.command_stated.specs.Claims as Commands
 use Rattle.command_stated.specs.Command.{commandOf, challengeOf, applicationOf, handleOf, challengePlaceOf, applicationPlaceOf, handlePlaceOf}
 use Rattle.response_stated.specs.Claims as Responses
@@ -24,7 +25,7 @@ use Rattle.session_stated.specs.Claims as Sessions
 use Rattle.ctap1_stated.specs.Calls.{panelCalls}
 use Rattle.panel_stated.specs.Claims as Panel
 use Rattle.panel_stated.specs.Numbers.{presenceOf, presenceNumbers}
-use Rattle.panel_stated.specs.Exports.{madeNumbers, stepNumbers, saidBy, frameNumbers, commandNumbers, decidesOf, nextsOf, respondsOf}
+use Rattle.panel_stated.specs.Exports.{madeNumbers, stepNumbers, saidBy, frameNumbers, commandNumbers, readsOf, writesOf, decidesOf, nextsOf, respondsOf}
 
 -- 1. "Every frame, moment, answer and buffer length gets an answer. Nothing is asked of the caller beforehand." Every function ends and
 -- meets its contract on every input: the check of its crate. That none has a `requires`: the gate's look at the contracts.
@@ -43,8 +44,11 @@ pub record EveryInputIsAnswered : Type 0 where
   pub touches : Presence.TouchesExactly touchOf
   pub checks : Presence.ChecksExactly checkOf
   pub asks : Presence.AsksExactly askOf
-  -- R5 and R2 of the writer; every status of command reading
-  pub writing : Frames.WriteExactly writingOf
+  -- R5 and R2 of the writer, and of the strict one (02, E4); what meets a contract of reading or writing meets these claims
+  pub writing : Frames.WriteExactly Carries InTable writingOf
+  pub strict-writing : Frames.StrictWriteExactly strictWritingOf
+  pub frames-as-claimed : Frames.ContractsAsClaimed
+  -- every status of command reading
   pub commands : Commands.CommandExactly commandOf
   -- R2 of responses, written and read, and of the next part of a body: 02, E2
   pub responses-written : Responses.WritesExactly respondingOf
@@ -59,9 +63,15 @@ pub record EveryInputIsAnswered : Type 0 where
   pub replies : Decision.RepliesExactly decisionOf replyLeft
   pub block : Panel.BlockExactly blockAfter
   -- the same over plain numbers, as C calls it: each lent thing under its name, what it is answered, and what is left in every buffer
+  pub exported-readings : Panel.ReadExported (readsOf Ordinary)
+  pub exported-strict-readings : Panel.ReadStrictExported (readsOf Strict)
+  pub exported-writing : Panel.WriteExported (writesOf Ordinary)
+  pub exported-strict-writing : Panel.WriteStrictExported (writesOf Strict)
   pub exported-decisions : Panel.DecideExported decidesOf
   pub exported-parts : Panel.NextPartExported nextsOf
   pub exported-responses : Panel.ResponseExported respondsOf
+  -- what meets an export's contract meets its claim
+  pub exports-as-claimed : Panel.ContractsAsClaimed
   pub refusals-hand-back : Panel.RefusalHandsBack (λ n t. stepNumbers (touchOf (presenceOf n) t)) (λ n t. stepNumbers (checkOf (presenceOf n) t)) saidBy
   -- 02, E2: the remainder is dropped exactly when the document says, and only a part changes the buffer for part and status
   pub remainder : Decision.RemainderExactly decisionOf remainderLeft
@@ -78,6 +88,9 @@ pub record AsTheDocumentsSay : Type 0 where
   pub strict : Frames.StrictExactly strictOf
   pub iso : Frames.IsoExactly readOf
   pub tolerated : Frames.ToleratedExactly readOf
+  -- 02, E4: "The strict frames are then ISO's seven cases"; where the two readings agree, and what each says where they do not
+  pub strict-iso : Frames.StrictIsIso strictOf
+  pub differences : Frames.DifferExactly readOf strictOf
   pub frames-to-try : Frames.ExamplesRead readOf
   -- 02, E1: "Tell us where the length went wrong": the places in the document's numbers (that they are the only ones, and when each
   -- comes, is in `reading`, `strict` and the demand above); "Command reading, strict reading and decision carry the pair upward"
@@ -104,6 +117,10 @@ pub record AsTheDocumentsSay : Type 0 where
   -- "A frame that is read and, given room, written again is the same frame; fields that the writer accepts read back as themselves"
   pub read-then-written : Frames.ReadThenWritten readOf dataOf writingOf
   pub written-then-read : Frames.WrittenThenRead readOf dataOf writingOf
+  -- E4's request: "Strict write then strict read, and back, are the identity; given room, the strict writer accepts exactly what the strict reader reads",
+  -- and so of the ordinary pair
+  pub accepted-as-read : Frames.AcceptsWhatIsRead readOf dataOf writingOf
+  pub strict-there-and-back : Frames.StrictThereAndBack strictOf dataOf strictWritingOf
 
 -- 3. "From a fresh presence record, each call taking the record the last one gave back, for any sequence of calls":
 pub record TouchesAreAsTheHistorySays : Type 1 where

@@ -9,7 +9,7 @@ fn answered(desk: &mut Desk, call: usize, space: &[u8], out: &mut [u8], part: &m
         0..=5 => panel_calls::on_record(desk, call),
         6..=8 => held::on_buffer(desk, call, out),
         9..=11 => panel_calls::on_frame(call, calls::given(space, desk, 0)),
-        12 => order_calls::write(desk, space, out),
+        12 | 29 => order_calls::write(desk, call, space, out),
         13 => decide_calls::decide(desk, space, out, part),
         14 => order_calls::finish(desk, space, out),
         15 => order_calls::hold(desk, space, out),

@@ -16,21 +16,25 @@ fn order(desk: &Desk) -> OrderNumbers {
     }
 }
 
-pub fn write(desk: &Desk, space: &[u8], out: &mut [u8]) -> Answer {
+// write and writestrict.
+pub fn write(desk: &Desk, call: usize, space: &[u8], out: &mut [u8]) -> Answer {
     let room = desk[ROOM];
     if out.len() < room {
         return answers::bare(0);
     }
-    let said = panel::brinecandle_write(
-        (desk[0] % 256) as u8,
-        (desk[1] % 256) as u8,
-        (desk[2] % 256) as u8,
-        (desk[3] % 256) as u8,
-        (desk[4] % 0x1_0000_0000) as u32,
-        calls::given(space, desk, 6),
-        (desk[5] % 0x1_0000_0000) as u32,
-        &mut out[0..room],
-    );
+    let cla = (desk[0] % 256) as u8;
+    let ins = (desk[1] % 256) as u8;
+    let p1 = (desk[2] % 256) as u8;
+    let p2 = (desk[3] % 256) as u8;
+    let shape = (desk[4] % 0x1_0000_0000) as u32;
+    let le = (desk[5] % 0x1_0000_0000) as u32;
+    let content = calls::given(space, desk, 6);
+    let reply = &mut out[0..room];
+    if call == 12 {
+        let said = panel::brinecandle_write(cla, ins, p1, p2, shape, content, le, reply);
+        return held::wrote(said.answer, said.length);
+    }
+    let said = panel::brinecandle_write_strict(cla, ins, p1, p2, shape, content, le, reply);
     held::wrote(said.answer, said.length)
 }
 

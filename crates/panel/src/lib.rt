@@ -18,7 +18,7 @@ use panel_stated::Stepped;
 use panel_stated::Wrote;
 use response::Remainder;
 use signing::Head;
-ghost use Rattle.panel_stated.specs.Contracts.{BrinecandleRead, BrinecandleReadStrict, BrinecandleWrite, BrinecandleReadCommand, BrinecandleNew, BrinecandleGrantUp, BrinecandleConsumeUp, BrinecandleIsUpNeeded, BrinecandleDecide, BrinecandleFinish, BrinecandleWriteResponse, BrinecandleReadResponse, BrinecandleNextPart};
+ghost use Rattle.panel_stated.specs.Contracts.{BrinecandleRead, BrinecandleReadStrict, BrinecandleWrite, BrinecandleWriteStrict, BrinecandleReadCommand, BrinecandleNew, BrinecandleGrantUp, BrinecandleConsumeUp, BrinecandleIsUpNeeded, BrinecandleDecide, BrinecandleFinish, BrinecandleWriteResponse, BrinecandleReadResponse, BrinecandleNextPart};
 
 // Reads any bytes as a frame; its data comes back as a place in the caller's frame. By cases, and each is a return of its own:
 // so each is written to the caller at once.
@@ -33,7 +33,7 @@ pub extern "C" fn brinecandle_read(frame: &[u8]) -> FrameSaid
     }
 }
 
-// The same without shape 6, and by cases too.
+// The same by ISO's seven cases: without shape 6, and without an extended Lc of 0. By cases too.
 #[no_mangle]
 pub extern "C" fn brinecandle_read_strict(frame: &[u8]) -> FrameSaid
     ensures { λ r. ⌜ BrinecandleReadStrict (now (frame .entry)) r ⌝ }
@@ -61,6 +61,29 @@ pub extern "C" fn brinecandle_write(
 {
     let header = apdu::ApduHeader { cla, ins, p1, p2 };
     plain_frames::write_plain(header, shape, content, le, out)
+}
+
+// The same by ISO's seven cases: R5 for shape 6 and for shape 7 without data, then as the writer.
+#[no_mangle]
+pub extern "C" fn brinecandle_write_strict(
+    cla: u8,
+    ins: u8,
+    p1: u8,
+    p2: u8,
+    shape: u32,
+    content: &[u8],
+    le: u32,
+    out: &mut [u8],
+) -> Wrote
+    ensures { λ r. ⌜ BrinecandleWriteStrict (record { header = record { cla = cla; ins = ins; p1 = p1; p2 = p2 }; shape = shape; content = now (content .entry); le = le; out = now (out .entry) }) r (now (out .exit)) ⌝ }
+{
+    if !plain_frames::strict_plain(shape, content.len()) {
+        return Wrote {
+            answer: 5,
+            length: 0,
+        };
+    }
+    brinecandle_write(cla, ins, p1, p2, shape, content, le, out)
 }
 
 // Reads any bytes as a command; its parts come back as places in the caller's frame.

@@ -15,7 +15,10 @@ use Rattle.outcome.specs.declared.Refusal.{Refusal}
 use Rattle.apdu_stated.specs.Words.{shapeNo}
 use Rattle.apdu_stated.specs.Answers.{saysOf, readingOf, writtenOf}
 use Rattle.apdu_stated.specs.Reading.{placeOf}
-use Rattle.apdu_stated.specs.Writing.{partsOf, writeOf, bufferOf}
+use Rattle.apdu_stated.specs.Table.{inRow}
+use Rattle.apdu_stated.specs.declared.Entry.{Entry}
+use Rattle.apdu_stated.specs.declared.Entry.the-variants.{Ordinary, Strict}
+use Rattle.apdu_stated.specs.Writing.{partsOf, writeBy, bufferBy}
 use Rattle.apdu_stated.specs.declared.Apdu.{Apdu}
 use Rattle.apdu_stated.specs.declared.ApduHeader.{ApduHeader}
 use Rattle.apdu_stated.specs.declared.Case.{Case}
@@ -31,7 +34,7 @@ use Rattle.command_stated.specs.declared.U2fCommand.{U2fCommand}
 use Rattle.command_stated.specs.declared.U2fCommand.the-variants as U2fCommand′
 use Rattle.panel_stated.specs.Words.{FrameSaid, CommandSaid, Wrote, Shaped, PresenceRecord, Made, Stepped, Asked, OrderNumbers, DecisionSaid, ResponseSaid, PartSaid, Kinded}
 use Rattle.panel_stated.specs.Numbers.{shapeOf, greatestNo, windowOf, windowNo, presenceOf, presenceNumbers, isYes, kindOf, noOrder}
-use Rattle.panel_stated.specs.Exports.{frameNumbers, lengthNumbers, ToWrite, writeNumbered, bufferAs, bareCommand, commandNumbers, noRecord, madeNumbers, askedNumbers, stepNumbers, headAfter, decidedNumbers, handedNumbers, decisionNumbers, responseNumbers, partNumbers, statedOf, ToFinish, orderFrom, finishNumbered}
+use Rattle.panel_stated.specs.Exports.{frameNumbers, lengthNumbers, ToWrite, strictAs, writeAs, writeNumbered, bufferAs, bareCommand, commandNumbers, noRecord, madeNumbers, askedNumbers, stepNumbers, headAfter, decidedNumbers, handedNumbers, decisionNumbers, responseNumbers, partNumbers, statedOf, ToFinish, orderFrom, finishNumbered}
 use Rattle.panel_stated.specs.declared.Shaped.the-variants as Shaped′
 use mathlib.Core.Bool.{true, false, not, Bool}
 use Rattle.u2f_up_stated.specs.Moments.{touchOf, checkOf, askOf}
@@ -57,6 +60,7 @@ use Rattle.ctap1_stated.specs.Decision.{refusalResult, statusResult, partResult
 use Rattle.ctap1_stated.specs.Session.{asksOn, remainderAfter, remainderLeft, partAfter, partLeft}
 use Rattle.ctap1_stated.proofs.Laws.{same-refused, same-given, same-word, same-unasked, fetched-decision}
 use Rattle.apdu_stated.specs.Reading.{readOf}
+use Rattle.apdu_stated.proofs.Laws.{strict-out, strict-out-kept, strict-same, strict-same-buffer}
 use Rattle.response_stated.specs.Words.{Sent, rest, responseRead, responseWritten, partSent}
 use Rattle.response_stated.specs.Parts.{partLength, restAfter, nextPartOf, partResponse, partLaid}
 use Rattle.response_stated.specs.declared.Remainder.{Remainder}
@@ -158,21 +162,53 @@ no-shape number a b c d e f g h =
 abbrev toWrite : ApduHeader → ℕ → List ℕ → ℕ → List ℕ → ToWrite
 toWrite header shape content le out = record { header = header; shape = shape; content = content; le = le; out = out }
 
-module _ (header : ApduHeader) (shape : ℕ) (content : List ℕ) (le : ℕ) (old : List ℕ) (shaped : Shaped) (is-shaped : shaped ≡ shapeOf shape) where
+module _ (entry : Entry) (header : ApduHeader) (shape : ℕ) (content : List ℕ) (le : ℕ) (old : List ℕ) (shaped : Shaped) (is-shaped : shaped ≡ shapeOf shape) where
   module _ (s : Case) (z : shaped ≡ Shaped′.As s) where
-    pub write-as : (written : Written) (r : Wrote) → writtenOf written ≡ writeOf (partsOf header s content le) (length old) → r ≡ lengthNumbers (writtenOf written)
-        → r ≡ lengthNumbers (writeNumbered (toWrite header shape content le old))
+    pub write-as : (written : Written) (r : Wrote) → writtenOf written ≡ writeBy entry (partsOf header s content le) (length old) → r ≡ lengthNumbers (writtenOf written)
+        → r ≡ lengthNumbers (writeNumbered entry (toWrite header shape content le old))
     write-as written r is-written is = is ∙ ap lengthNumbers is-written ∙ rw (← is-shaped, z)
 
-    pub buffer-as : (new : List ℕ) → new ≡ bufferOf (partsOf header s content le) old → new ≡ bufferAs (shapeOf shape) (toWrite header shape content le old)
+    pub buffer-as : (new : List ℕ) → new ≡ bufferBy entry (partsOf header s content le) old → new ≡ bufferAs entry (shapeOf shape) (toWrite header shape content le old)
     buffer-as new is = is ∙ rw (← is-shaped, z)
 
   module _ (z : shaped ≡ Shaped′.Nothing) where
-    pub write-as-none : _≡_ {A = Wrote} (record { answer = 5; length = 0 }) (lengthNumbers (writeNumbered (toWrite header shape content le old)))
+    pub write-as-none : _≡_ {A = Wrote} (record { answer = 5; length = 0 }) (lengthNumbers (writeNumbered entry (toWrite header shape content le old)))
     write-as-none = rw (← is-shaped, z)
 
-    pub buffer-as-none : old ≡ bufferAs (shapeOf shape) (toWrite header shape content le old)
+    pub buffer-as-none : old ≡ bufferAs entry (shapeOf shape) (toWrite header shape content le old)
     buffer-as-none = rw (← is-shaped, z)
+
+-- the strict writer: a number whose row the strict table has not decides, else the writer
+module _ (number count : ℕ) (shaped : Shaped) (is-shaped : shaped ≡ shapeOf number) where
+  pub strict-as : (s : Case) (b : Bool) → shaped ≡ Shaped′.As s → b ≡ inRow Strict s count → b ≡ strictAs (shapeOf number) count
+  strict-as s b z e = e ∙ rw (← is-shaped, z)
+
+  pub strict-as-none : shaped ≡ Shaped′.Nothing → false ≡ strictAs (shapeOf number) count
+  strict-as-none z = rw (← is-shaped, z)
+
+module _ (w : ToWrite) where
+  strict-refused : (t : Shaped) → strictAs t (length (w .content)) ≡ false → (R 5 ≡ writeAs Strict t w) × (w .out ≡ bufferAs Strict t w)
+  strict-refused (Shaped′.As s) e = let parts = partsOf (w .header) s (w .content) (w .le) in (strict-out parts e (length (w .out)), strict-out-kept parts e (w .out))
+  strict-refused Shaped′.Nothing e = (refl, refl)
+
+  strict-alike : (t : Shaped) → strictAs t (length (w .content)) ≡ true → (writeAs Ordinary t w ≡ writeAs Strict t w) × (bufferAs Ordinary t w ≡ bufferAs Strict t w)
+  strict-alike (Shaped′.As s) e = let parts = partsOf (w .header) s (w .content) (w .le) in (strict-same parts e (length (w .out)), strict-same-buffer parts e (w .out))
+  strict-alike Shaped′.Nothing e = (refl, refl)
+
+module _ (header : ApduHeader) (shape : ℕ) (content : List ℕ) (le : ℕ) (old : List ℕ) (b : Bool) (is-b : b ≡ strictAs (shapeOf shape) (length content)) where
+  module _ (z : not b ≡ true) where
+    pub strict-unfit : _≡_ {A = Wrote} (record { answer = 5; length = 0 }) (lengthNumbers (writeNumbered Strict (toWrite header shape content le old)))
+    strict-unfit = ap lengthNumbers (strict-refused (toWrite header shape content le old) (shapeOf shape) (sym is-b ∙ not-true b z) .0)
+
+    pub strict-kept : old ≡ bufferAs Strict (shapeOf shape) (toWrite header shape content le old)
+    strict-kept = strict-refused (toWrite header shape content le old) (shapeOf shape) (sym is-b ∙ not-true b z) .1
+
+  module _ (z : not b ≡ false) where
+    pub strict-wrote : (r : Wrote) → r ≡ lengthNumbers (writeNumbered Ordinary (toWrite header shape content le old)) → r ≡ lengthNumbers (writeNumbered Strict (toWrite header shape content le old))
+    strict-wrote r e = e ∙ ap lengthNumbers (strict-alike (toWrite header shape content le old) (shapeOf shape) (sym is-b ∙ not-false b z) .0)
+
+    pub strict-laid : (new : List ℕ) → new ≡ bufferAs Ordinary (shapeOf shape) (toWrite header shape content le old) → new ≡ bufferAs Strict (shapeOf shape) (toWrite header shape content le old)
+    strict-laid new e = e ∙ strict-alike (toWrite header shape content le old) (shapeOf shape) (sym is-b ∙ not-false b z) .1
 
 -- ---- presence
 pub window-closed : (number : ℕ) → number ≡ 0 → Closed ≡ windowOf number

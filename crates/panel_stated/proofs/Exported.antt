@@ -1,14 +1,20 @@
--- The exported decision, next part and response: what their claims say, of the definitions.
+-- The exported readings, writers, decision, next part and response: what their claims say, of the definitions.
 use Prim.Native.Nat.{ℕ, _≤_, _<_}
 use mathlib.Core.Path.{_≡_, refl, ap, ap₂, sym, _∙_}
 use mathlib.Core.List.{List, _∷_}
-use mathlib.Core.Logic.{⊎-elim}
+use mathlib.Core.Logic.{_⊎_, ⊎-elim}
 use native.Mathlib.Omega.{arith}
 use lib.ListN.{length, drop}
 use Rattle.outcome.specs.Outcome.{Outcome, R, Word, Gives, lastRefusal}
 use Rattle.outcome.proofs.Laws.{r-gives, r-word}
 use Rattle.apdu_stated.specs.Answers.{Says}
 use Rattle.apdu_stated.specs.Reading.{readOf}
+use Rattle.apdu_stated.specs.declared.Case.{Case}
+use Rattle.apdu_stated.specs.declared.Entry.{Entry}
+use Rattle.apdu_stated.specs.Words.{shapeNo}
+use Rattle.apdu_stated.specs.Writing.{Parts, partsOf, writingBy}
+use Rattle.apdu_stated.specs.Claims as Frames
+use Rattle.apdu_stated.proofs.Laws.{TableOf, CarryOf, same-reading, write-exactly, same-writing}
 use Rattle.response_stated.specs.declared.Remainder.{Remainder}
 use Rattle.response_stated.specs.Words.{Sent}
 use Rattle.response_stated.specs.Terms.{Sender, Writer, sending, writingOf, sendingOf}
@@ -17,10 +23,13 @@ use Rattle.response_stated.proofs.Laws.{next-given, next-exactly, next-only, wr
 use Rattle.ctap1_stated.specs.Words.{Given, Body, Ordered, Part, Inputs}
 use Rattle.ctap1_stated.specs.Path.{frameLimit}
 use Rattle.ctap1_stated.proofs.Laws.{row, limits-exactly, limits-only, remainder-exactly, replies-exactly, IsPart, is-a-part}
-use Rattle.panel_stated.specs.Numbers.{decidedNo, presenceOf}
-use Rattle.panel_stated.specs.Exports.{ToDecide, partNumbers, lengthNumbers, respondsOf, nextsOf, inputsOf, decidedBy, decidesOf}
+use Rattle.panel_stated.specs.Numbers.{decidedNo, presenceOf, shapeOf}
+use Rattle.panel_stated.specs.declared.Shaped.{Shaped}
+use Rattle.panel_stated.specs.declared.Shaped.the-variants as Shaped′
+use Rattle.panel_stated.specs.Exports.{ToWrite, frameNumbers, readsOf, writeAs, bufferAs, writesOf, ToDecide, partNumbers, lengthNumbers, respondsOf, nextsOf, inputsOf, decidedBy, decidesOf}
 use Rattle.panel_stated.specs.Terms.{IsNumbered}
 use Rattle.panel_stated.specs.Claims
+use Rattle.panel_stated.proofs.Cases
 use Rattle.panel_stated.proofs.Outcomes
 
 module _ (i : ToDecide) where
@@ -115,6 +124,30 @@ decide-exported =
       part = λ i next x is. part-at i next x (decidedBy i .answer) refl (numbered i) is;
       no-part = λ i nay. no-part-at i (decidedBy i .answer) refl nay;
     }
+
+-- by either table
+pub reader-exported : (entry : Entry) → Claims.ReaderExported (Frames.ReadingExactly (TableOf entry)) (readsOf entry)
+reader-exported entry =
+    record {
+      given = λ reader x frame bytes s e. ap frameNumbers (sym (same-reading entry reader x frame bytes) ∙ e);
+      status = λ reader x frame bytes w e. ap frameNumbers (sym (same-reading entry reader x frame bytes) ∙ e);
+    }
+
+pub writer-exported : (entry : Entry) → ((w : ToWrite) → (w .shape ≡ 0) ⊎ (9 ≤ w .shape) → shapeOf (w .shape) ≡ Shaped′.Nothing) → Claims.WriterExported (Frames.WriteExactly (CarryOf entry) (TableOf entry)) (writesOf entry)
+writer-exported entry none =
+    record {
+      given = λ writer x w s n e g. let same = by-shape writer x w s e in
+          (ap (λ (o : Outcome ℕ × List ℕ). lengthNumbers (o .0)) same ∙ ap lengthNumbers g, ap (λ (o : Outcome ℕ × List ℕ). o .1) same);
+      refused = λ writer x w s m e g. let same = by-shape writer x w s e in
+          (ap (λ (o : Outcome ℕ × List ℕ). lengthNumbers (o .0)) same ∙ ap lengthNumbers g, ap (λ (o : Outcome ℕ × List ℕ). o .1) same ∙ x .refused (partsOf (w .header) s (w .content) (w .le)) (w .out) m g);
+      no-shape = λ w out. (ap (λ (s : Shaped). lengthNumbers (writeAs entry s w)) (none w out), ap (λ (s : Shaped). bufferAs entry s w) (none w out));
+    }
+  where
+    by-shape : (writer : Parts → List ℕ → Outcome ℕ × List ℕ) → Frames.WriteExactly (CarryOf entry) (TableOf entry) writer → (w : ToWrite) (s : Case) → w .shape ≡ shapeNo s
+        → (writeAs entry (shapeOf (w .shape)) w, bufferAs entry (shapeOf (w .shape)) w) ≡ writer (partsOf (w .header) s (w .content) (w .le)) (w .out)
+    by-shape writer x w s e =
+        ap (λ (t : Shaped). (writeAs entry t w, bufferAs entry t w)) (sym (Cases.shaped s (w .shape) e))
+        ∙ same-writing entry (writingBy entry) writer (write-exactly entry) x (partsOf (w .header) s (w .content) (w .le)) (w .out)
 
 pub next-part-exported : Claims.NextPartExported nextsOf
 next-part-exported =

@@ -1,9 +1,9 @@
 -- Only the definitions meet the claims: two functions that meet one agree on every input.
-use Prim.Native.Nat.{ℕ, zero, suc, _+_, _<_}
+use Prim.Native.Nat.{ℕ, zero, suc, _+_, _<_, _≤_}
 use mathlib.Core.Bool.{Bool, true, false}
 use native.Mathlib.Decide.{ℕ-discrete, decLt}
 use mathlib.Core.Path.{_≡_, refl, ap, sym, subst, _∙_}
-use mathlib.Core.Logic.{inl, inr}
+use mathlib.Core.Logic.{_⊎_, inl, inr}
 use mathlib.Core.List.{List}
 use native.Mathlib.Omega.{arith}
 use lib.ListN.{length}
@@ -12,7 +12,12 @@ use Rattle.outcome.specs.Outcome.{StatusWord, Outcome, R, Word, Gives, lastRefu
 use Rattle.outcome.specs.Terms.{HasStatus}
 use Rattle.outcome.proofs.Laws.{gives-same, r-gives, word-gives}
 use Rattle.apdu_stated.specs.Answers.{Says}
-use Rattle.apdu_stated.specs.Reading.{readOf}
+use Rattle.octets.specs.Bytes.{AreBytes}
+use Rattle.octets.specs.Terms.{DeterminesOn}
+use Rattle.apdu_stated.specs.Reading.{readBy, readOf}
+use Rattle.apdu_stated.specs.Writing.{Parts, partsOf, writingBy}
+use Rattle.apdu_stated.specs.Claims as Frames
+use Rattle.apdu_stated.proofs.Laws.{TableOf, CarryOf, reading-exactly, FrameWay, under, found, ends, goes-on, frame-way, write-exactly, WriteWay, unfit, no-room, written, write-way}
 use Rattle.command_stated.specs.Command.{Register, Authenticate, Version, GetResponse}
 use Rattle.u2f_up_stated.specs.declared.Presence.{Presence}
 use Rattle.ctap1_stated.specs.Words.{Given, Body, Ordered, Part, Result}
@@ -27,7 +32,7 @@ use Rattle.response_stated.proofs.Laws.{next-exactly, writes-exactly, write-sho
 use Rattle.response_stated.specs.declared.Remainder.{Remainder}
 use Rattle.signing_stated.specs.declared.Kind.{Kind}
 use Rattle.signing_stated.specs.declared.Kind.the-variants as Kind′
-use Rattle.panel_stated.specs.Words.{DecisionSaid, PresenceRecord}
+use Rattle.panel_stated.specs.Words.{DecisionSaid, PresenceRecord, Entry, Ordinary, Strict, Case, Instruction, Le1, Lc1Data, Lc1DataLe1, Lc3Data, Lc3DataLe1, Lc3DataLe2, Le3, shapeNo}
 use Rattle.panel_stated.specs.Terms.{IsNumbered, AreOf64Bits, AfterWriting, AfterPart, AfterDeciding, Reports}
 use Rattle.panel_stated.specs.Numbers.{decidedNo, presenceOf}
 use Rattle.panel_stated.specs.Exports.{ToDecide, inputsOf, decidedBy}
@@ -329,3 +334,67 @@ ResponseExported f g p q body status old = by (decLt (length old) (length body +
         let x = p .given writingOf writes-exactly body status old (length body + 2) e in
         let y = q .given writingOf writes-exactly body status old (length body + 2) e in
         after-writing _ _ (x .0 ∙ sym (y .0)) (x .1 ∙ sym (y .1))
+
+-- ---- the exported readings, by either table, on every frame of bytes
+reader-exported : (entry : Entry) → DeterminesOn AreBytes (Claims.ReaderExported (Frames.ReadingExactly (TableOf entry)))
+reader-exported entry f g p q frame bytes = by (readBy entry frame) (frame-way entry frame) refl
+  where
+    by : (o : Outcome Says) → FrameWay entry frame o → readBy entry frame ≡ o → f frame ≡ g frame
+    by _ (under h) e = p .status (readBy entry) (reading-exactly entry) frame bytes _ e ∙ sym (q .status (readBy entry) (reading-exactly entry) frame bytes _ e)
+    by _ (ends h n) e = p .status (readBy entry) (reading-exactly entry) frame bytes _ e ∙ sym (q .status (readBy entry) (reading-exactly entry) frame bytes _ e)
+    by _ (goes-on h k n) e = p .status (readBy entry) (reading-exactly entry) frame bytes _ e ∙ sym (q .status (readBy entry) (reading-exactly entry) frame bytes _ e)
+    by _ (found h s lc le n) e = p .given (readBy entry) (reading-exactly entry) frame bytes _ e ∙ sym (q .given (readBy entry) (reading-exactly entry) frame bytes _ e)
+
+pub ReadExported : DeterminesOn AreBytes Claims.ReadExported
+ReadExported = reader-exported Ordinary
+
+pub ReadStrictExported : DeterminesOn AreBytes Claims.ReadStrictExported
+ReadStrictExported = reader-exported Strict
+
+-- ---- the exported writers of frames, by either table
+writer-exported : (entry : Entry) → Determines (Claims.WriterExported (Frames.WriteExactly (CarryOf entry) (TableOf entry)))
+writer-exported entry f g p q w = go (w .shape) refl
+  where
+    none : (w .shape ≡ 0) ⊎ (9 ≤ w .shape) → f w ≡ g w
+    none out =
+        let x = p .no-shape w out in
+        let y = q .no-shape w out in
+        after-writing _ _ (x .0 ∙ sym (y .0)) (x .1 ∙ sym (y .1))
+
+    by-shape : (s : Case) → w .shape ≡ shapeNo s → f w ≡ g w
+    by-shape s e = by (writingBy entry parts (w .out)) (write-way entry parts (w .out)) refl
+      where
+        parts : Parts
+        parts = partsOf (w .header) s (w .content) (w .le)
+
+        refused : (m : ℕ) → writingBy entry parts (w .out) .0 ≡ R m → f w ≡ g w
+        refused m d =
+            let x = p .refused (writingBy entry) (write-exactly entry) w s m e d in
+            let y = q .refused (writingBy entry) (write-exactly entry) w s m e d in
+            after-writing _ _ (x .0 ∙ sym (y .0)) (x .1 ∙ sym (y .1))
+
+        by : (o : Outcome ℕ × List ℕ) → WriteWay entry parts (w .out) o → writingBy entry parts (w .out) ≡ o → f w ≡ g w
+        by _ (unfit c) d = refused 5 (ap (λ (o : Outcome ℕ × List ℕ). o .0) d)
+        by _ (no-room c h) d = refused 2 (ap (λ (o : Outcome ℕ × List ℕ). o .0) d)
+        by _ (written c h) d =
+            let x = p .given (writingBy entry) (write-exactly entry) w s _ e (ap (λ (o : Outcome ℕ × List ℕ). o .0) d) in
+            let y = q .given (writingBy entry) (write-exactly entry) w s _ e (ap (λ (o : Outcome ℕ × List ℕ). o .0) d) in
+            after-writing _ _ (x .0 ∙ sym (y .0)) (x .1 ∙ sym (y .1))
+
+    go : (n : ℕ) → w .shape ≡ n → f w ≡ g w
+    go zero e = none (inl e)
+    go (suc zero) e = by-shape Instruction e
+    go (suc (suc zero)) e = by-shape Le1 e
+    go (suc (suc (suc zero))) e = by-shape Lc1Data e
+    go (suc (suc (suc (suc zero)))) e = by-shape Lc1DataLe1 e
+    go (suc (suc (suc (suc (suc zero))))) e = by-shape Lc3Data e
+    go (suc (suc (suc (suc (suc (suc zero)))))) e = by-shape Lc3DataLe1 e
+    go (suc (suc (suc (suc (suc (suc (suc zero))))))) e = by-shape Lc3DataLe2 e
+    go (suc (suc (suc (suc (suc (suc (suc (suc zero)))))))) e = by-shape Le3 e
+    go (suc (suc (suc (suc (suc (suc (suc (suc (suc n))))))))) e = none (inr (omega arith))
+
+pub WriteExported : Determines Claims.WriteExported
+WriteExported = writer-exported Ordinary
+
+pub WriteStrictExported : Determines Claims.WriteStrictExported
+WriteStrictExported = writer-exported Strict

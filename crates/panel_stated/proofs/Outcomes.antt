@@ -12,8 +12,8 @@ use Rattle.apdu_stated.specs.Answers.{Says}
 use Rattle.apdu_stated.specs.declared.Entry.{Entry}
 use Rattle.apdu_stated.specs.declared.Entry.the-variants.{Ordinary, Strict}
 use Rattle.apdu_stated.specs.Reading.{readBy, readOf, sayOf, lengthsOf, strictOf}
-use Rattle.apdu_stated.specs.Table.{canCarry}
-use Rattle.apdu_stated.specs.Writing.{Parts, frameOf, writeOf}
+use Rattle.apdu_stated.specs.Table.{carriedBy}
+use Rattle.apdu_stated.specs.Writing.{Parts, frameOf, writeBy}
 use Rattle.apdu_stated.specs.declared.Lengths.{Lengths}
 use Rattle.apdu_stated.specs.declared.Lengths.the-variants as Lengths′
 use Rattle.command_stated.specs.Command.{Command, Register, Authenticate, Version, GetResponse, isControl, registerOf, authenticateOf, versionOf, getResponseOf, byInstruction, onReading, commandOf}
@@ -61,10 +61,10 @@ read-said = read-by-said Ordinary
 pub strict-said : (frame : List ℕ) → IsNumbered (strictOf frame)
 strict-said = read-by-said Strict
 
-pub write-said : (w : Parts) (room : ℕ) → IsNumbered (writeOf w room)
-unfolding writeOf
-write-said w room =
-    test (not (canCarry (w .shape) (length (w .content)) (w .le))) _ _ (omega arith, omega arith)
+pub write-said : (entry : Entry) (w : Parts) (room : ℕ) → IsNumbered (writeBy entry w room)
+unfolding writeBy
+write-said entry w room =
+    test (not (carriedBy entry (w .shape) (length (w .content)) (w .le))) _ _ (omega arith, omega arith)
     (test (ltb room (length (frameOf w))) _ _ (omega arith, omega arith) tt)
 
 -- ---- commands

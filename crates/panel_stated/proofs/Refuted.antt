@@ -8,6 +8,10 @@ use native.Mathlib.Omega.{arith}
 use lib.ListN.{length, replicate}
 use Rattle.outcome.specs.Outcome.{StatusWord, Outcome, R, Word, SW, Gives, plainWord}
 use Rattle.apdu_stated.specs.Answers.{Says}
+use Rattle.apdu_stated.specs.Table.{lcFits, leFits, carriedBy}
+use Rattle.apdu_stated.specs.Writing.{frameOf, payloadOf, writeBy, bufferBy, writingBy}
+use Rattle.apdu_stated.proofs.Laws.{reading-exactly, write-exactly}
+use Rattle.octets.proofs.Laws.{small, bytes-of}
 use Rattle.apdu_stated.specs.Reading.{readBy, lengthsOf, sayOf, shortOf, extendedOf, afterData, dataOf}
 use Rattle.u2f_up_stated.specs.History.{Call, Checking}
 use Rattle.u2f_up_stated.specs.Runs.{own, after, doneBy}
@@ -27,13 +31,13 @@ use Rattle.response_stated.specs.Parts.{partLength, nextPartOf, limitOf, leftSt
 use Rattle.response_stated.specs.Responses.{writeResponseOf}
 use Rattle.response_stated.proofs.Laws.{next-exactly, writes-exactly}
 use Rattle.outcome.proofs.Laws.{r-word}
-use Rattle.octets.specs.Bytes.{partOf, byte}
+use Rattle.octets.specs.Bytes.{AreBytes, partOf, byte}
 use Rattle.signing_stated.specs.Orders.{isAuthenticateLayout, registerOrderOf, block}
 use Rattle.signing_stated.specs.Finishing.{finishOf}
 use Rattle.signing_stated.specs.declared.Kind.the-variants as Kind′
-use Rattle.panel_stated.specs.Words.{Window, Made, PresenceRecord, OrderNumbers, FrameSaid, CommandSaid, Wrote, Stepped, Asked, Order, ResponseSaid, PartSaid, HardwareSaid, Remainder}
-use Rattle.panel_stated.specs.Numbers.{answerNo, decidedNo, presenceNumbers, kindOf}
-use Rattle.panel_stated.specs.Exports.{ToDecide, writeNumbered, saidBy, statedOf, commandNumbers}
+use Rattle.panel_stated.specs.Words.{Ordinary, Strict, Instruction, Lc3DataLe1, Window, Made, PresenceRecord, OrderNumbers, FrameSaid, CommandSaid, Wrote, Stepped, Asked, Order, ResponseSaid, PartSaid, HardwareSaid, Remainder}
+use Rattle.panel_stated.specs.Numbers.{answerNo, decidedNo, presenceNumbers, shapeOf, kindOf}
+use Rattle.panel_stated.specs.Exports.{ToWrite, ToDecide, writeNumbered, saidBy, statedOf, commandNumbers}
 use Rattle.panel_stated.specs.Claims
 use Rattle.panel_stated.specs.Wrong
 use Rattle.panel_stated.specs.declared.Kinded.the-variants as Kinded′
@@ -319,4 +323,54 @@ pub responds9000 : Claims.ResponseExported Wrong.responds9000 → ⊥
 unfolding writeResponseOf
 responds9000 p =
     let e : _≡_ {A = ℕ} 0x90 0x69 = ap (λ (l : List ℕ). byte l 0) (p .given writingOf writes-exactly [] 0x6985 (replicate 2 0) 2 refl .1) in
+    omega arith
+
+-- ---- the exported readings
+-- the certification house's frame
+abbrev house : List ℕ
+house = 0x00 ∷ 0x03 ∷ 0x00 ∷ 0x00 ∷ 0x00 ∷ 0x00 ∷ 0x00 ∷ 0x00 ∷ 0x05 ∷ []
+
+pub strictExportReads : Claims.ReadStrictExported Wrong.strictExportReads → ⊥
+unfolding small readBy sayOf lengthsOf extendedOf afterData
+strictExportReads p =
+    let e : _≡_ {A = ℕ} 7 0 = ap (λ (f : FrameSaid). f .shape) (p .status (readBy Strict) (reading-exactly Strict) house (bytes-of house refl) _ refl) in
+    omega arith
+
+-- 00 01
+pub placeUnsaid : Claims.ReadExported Wrong.placeUnsaid → ⊥
+unfolding small readBy sayOf lengthsOf extendedOf
+placeUnsaid p =
+    let frame : List ℕ = 0x00 ∷ 0x03 ∷ 0x00 ∷ 0x00 ∷ 0x00 ∷ 0x01 ∷ [] in
+    let e : _≡_ {A = ℕ} 0 6 = ap (λ (f : FrameSaid). f .place) (p .status (readBy Ordinary) (reading-exactly Ordinary) frame (bytes-of frame refl) _ refl) in
+    omega arith
+
+-- 01 AA 00
+pub dataWithLe : Claims.ReadStrictExported Wrong.dataWithLe → ⊥
+unfolding small readBy sayOf lengthsOf shortOf
+dataWithLe p =
+    let frame : List ℕ = 0x00 ∷ 0x03 ∷ 0x00 ∷ 0x00 ∷ 0x01 ∷ 0xAA ∷ 0x00 ∷ [] in
+    let e : _≡_ {A = ℕ} 7 6 = ap (λ (f : FrameSaid). f .end) (p .given (readBy Strict) (reading-exactly Strict) frame (bytes-of frame refl) _ refl) in
+    omega arith
+
+-- ---- the exported writers of frames
+abbrev toWrite : (shape : ℕ) → (out : List ℕ) → ToWrite
+toWrite shape out = record { header = record { cla = 0x00; ins = 0x03; p1 = 0x01; p2 = 0x02 }; shape = shape; content = []; le = 0; out = out }
+
+-- shape 6, in a buffer of none
+pub strictExportWrites : Claims.WriteStrictExported Wrong.strictExportWrites → ⊥
+unfolding writeBy bufferBy carriedBy lcFits leFits frameOf payloadOf shapeOf
+strictExportWrites p =
+    let w : ToWrite = record { header = record { cla = 0x00; ins = 0x03; p1 = 0x01; p2 = 0x02 }; shape = 6; content = []; le = 5; out = [] } in
+    let e : _≡_ {A = ℕ} 2 5 = ap (λ (s : Wrote). s .answer) (p .refused (writingBy Strict) (write-exactly Strict) w Lc3DataLe1 5 refl refl .0) in
+    omega arith
+
+-- shape 9
+pub noShapeClears : Claims.WriteExported Wrong.noShapeClears → ⊥
+noShapeClears p = let e : _≡_ {A = ℕ} 0 7 = ap (λ (l : List ℕ). byte l 0) (p .no-shape (toWrite 9 (7 ∷ [])) (inr (omega arith)) .1) in omega arith
+
+-- shape 1: the third byte
+pub parametersSwapped : Claims.WriteStrictExported Wrong.parametersSwapped → ⊥
+unfolding writeBy bufferBy carriedBy lcFits leFits frameOf payloadOf shapeOf
+parametersSwapped p =
+    let e : _≡_ {A = ℕ} 2 1 = ap (λ (l : List ℕ). byte l 2) (p .given (writingBy Strict) (write-exactly Strict) (toWrite 1 (replicate 4 0)) Instruction 4 refl refl .1) in
     omega arith

@@ -1,6 +1,6 @@
 -- The definitions meet the claims of specs/Claims.antt, each under the claim's own name.
 use Prim.Native.Nat.{ℕ, zero, suc, _≤_, _<_, _^_, _+_}
-use mathlib.Core.Path.{_≡_, refl, ap, sym, _∙_}
+use mathlib.Core.Path.{_≡_, refl, ap, sym, subst, _∙_}
 use mathlib.Core.Logic.{_↔_, _⊎_, inl, inr}
 use native.Mathlib.Omega.{arith}
 use borrow.Author.Tests.{ne-eqb, le-ltb}
@@ -15,7 +15,7 @@ use Rattle.signing_stated.specs.Orders.{kindNo, blankOrder}
 use Rattle.ctap1_stated.specs.Words.{Given, Body, Ordered, Part}
 use Rattle.panel_stated.specs.Numbers.{answerNo, decidedNo, faultNo, placeNo, greatestNo, windowOf, windowNo, presenceOf, presenceNumbers, shapeOf, kindOf}
 use Rattle.ctap1_stated.specs.Decision.{blockAfter}
-use Rattle.panel_stated.specs.Exports.{ToWrite, ToFinish, inputsOf, writeAs, finishAs, writeNumbered, finishNumbered, orderAfter, frameNumbers, commandNumbers, lengthNumbers, askedNumbers, stepNumbers, madeNumbers, decisionNumbers, decidedBy, saidBy, responseNumbers, partNumbers, statedOf, respondsOf, nextsOf, decidesOf, bodyLength}
+use Rattle.panel_stated.specs.Exports.{ToWrite, ToFinish, inputsOf, writeAs, finishAs, writeNumbered, readsOf, writesOf, finishNumbered, orderAfter, frameNumbers, commandNumbers, lengthNumbers, askedNumbers, stepNumbers, madeNumbers, decisionNumbers, decidedBy, saidBy, responseNumbers, partNumbers, statedOf, respondsOf, nextsOf, decidesOf, bodyLength}
 use Rattle.panel_stated.specs.Claims
 use Rattle.panel_stated.specs.Terms.{IsNumbered, IsOfMoment, AfterWriting, AfterDeciding, AfterPart, AfterFetching, Carries, register, authenticate}
 use Rattle.panel_stated.specs.declared.Shaped.{Shaped}
@@ -24,7 +24,7 @@ use Rattle.panel_stated.specs.declared.Kinded.{Kinded}
 use Rattle.panel_stated.specs.declared.Kinded.the-variants as Kinded′
 use Rattle.panel_stated.proofs.Cases
 use Rattle.panel_stated.proofs.Outcomes
-use Rattle.panel_stated.proofs.Exported.{decide-exported, next-part-exported, response-exported}
+use Rattle.panel_stated.proofs.Exported.{reader-exported, writer-exported, decide-exported, next-part-exported, response-exported}
 use Rattle.panel_stated.proofs.Runs.{runs-over}
 use mathlib.Core.Bool.{Bool, true, false}
 use mathlib.Core.List.{List}
@@ -40,7 +40,7 @@ use Rattle.ctap1_stated.specs.Words.{Inputs, Result}
 use Rattle.ctap1_stated.specs.Session.{remainderLeft}
 use Rattle.response_stated.specs.declared.Remainder.{Remainder}
 use Rattle.ctap1_stated.specs.Decision.{decisionOf}
-use Rattle.panel_stated.specs.Words.{Kind, Order, OrderNumbers}
+use Rattle.panel_stated.specs.Words.{Kind, Order, OrderNumbers, Entry, Ordinary, Strict}
 
 -- ---- one answer number says which answer it is
 pub EveryOutcomeNumbered : Claims.EveryOutcomeNumbered
@@ -49,7 +49,7 @@ EveryOutcomeNumbered =
       read = Outcomes.read-said;
       read-strict = Outcomes.strict-said;
       read-command = Outcomes.command-said;
-      write = λ w. write (shapeOf (w .shape)) w;
+      write = λ entry w. write entry (shapeOf (w .shape)) w;
       new = Outcomes.new-said;
       grant-up = Outcomes.touch-said;
       consume-up = Outcomes.check-said;
@@ -61,9 +61,9 @@ EveryOutcomeNumbered =
       next-part = Outcomes.next-said;
     }
   where
-    write : (s : Shaped) (w : ToWrite) → IsNumbered (writeAs s w)
-    write (Shaped′.As s) w = Outcomes.write-said (partsOf (w .header) s (w .content) (w .le)) (length (w .out))
-    write Shaped′.Nothing w = (omega arith, omega arith)
+    write : (entry : Entry) (s : Shaped) (w : ToWrite) → IsNumbered (writeAs entry s w)
+    write entry (Shaped′.As s) w = Outcomes.write-said entry (partsOf (w .header) s (w .content) (w .le)) (length (w .out))
+    write entry Shaped′.Nothing w = (omega arith, omega arith)
 
     finish : (k : Kinded) (i : ToFinish) → IsNumbered (finishAs k i)
     finish (Kinded′.As k) i = Outcomes.finish-said _
@@ -222,7 +222,7 @@ KindNumbers = record { register = refl; authenticate = refl; none = λ n out. sy
 pub OthersRefused : Claims.OthersRefused writeNumbered finishNumbered
 OthersRefused =
     record {
-      shape = λ w out. ap (λ (s : Shaped). writeAs s w) (sym (no-shape-at (w .shape) out));
+      shape = λ entry w out. ap (λ (s : Shaped). writeAs entry s w) (sym (no-shape-at (w .shape) out));
       kind = λ i out. ap (λ (k : Kinded). finishAs k i) (sym (no-kind-at (i .order .kind) out));
     }
 
@@ -381,8 +381,33 @@ DecideExported = decide-exported
 pub NextPartExported : Claims.NextPartExported nextsOf
 NextPartExported = next-part-exported
 
+pub ReadExported : Claims.ReadExported (readsOf Ordinary)
+ReadExported = reader-exported Ordinary
+
+pub ReadStrictExported : Claims.ReadStrictExported (readsOf Strict)
+ReadStrictExported = reader-exported Strict
+
+pub WriteExported : Claims.WriteExported (writesOf Ordinary)
+WriteExported = writer-exported Ordinary (λ w out. sym (no-shape-at (w .shape) out))
+
+pub WriteStrictExported : Claims.WriteStrictExported (writesOf Strict)
+WriteStrictExported = writer-exported Strict (λ w out. sym (no-shape-at (w .shape) out))
+
 pub ResponseExported : Claims.ResponseExported respondsOf
 ResponseExported = response-exported
+
+-- a function that gives what a definition gives, input by input, is that definition
+pub ContractsAsClaimed : Claims.ContractsAsClaimed
+ContractsAsClaimed =
+    record {
+      read = λ f is. subst Claims.ReadExported (λ d frame. sym (is frame) d) ReadExported;
+      read-strict = λ f is. subst Claims.ReadStrictExported (λ d frame. sym (is frame) d) ReadStrictExported;
+      write = λ f is. subst Claims.WriteExported (λ d w. record { said = sym (is w .0) d; buffer = sym (is w .1) d }) WriteExported;
+      write-strict = λ f is. subst Claims.WriteStrictExported (λ d w. record { said = sym (is w .0) d; buffer = sym (is w .1) d }) WriteStrictExported;
+      decide = λ f is. subst Claims.DecideExported (λ d i. record { said = sym (is i .0) d; reply = sym (is i .1) d; block = sym (is i .2) d; part = sym (is i .3) d }) DecideExported;
+      next-part = λ f is. subst Claims.NextPartExported (λ d body k l old. record { said = sym (is body k l old .0) d; buffer = sym (is body k l old .1) d }) NextPartExported;
+      write-response = λ f is. subst Claims.ResponseExported (λ d body s old. record { said = sym (is body s old .0) d; buffer = sym (is body s old .1) d }) ResponseExported;
+    }
 
 -- ---- runs
 new-record : (w : ℕ) → 0 < w → w ≤ 60000 → madeNumbers (newOf w) .presence ≡ presenceNumbers (fresh w)
@@ -403,6 +428,7 @@ ResultsDetermined =
       shape-numbered = λ n a b. both-are a b;
       frame-numbers = λ says a b. both-are a b;
       frame-status = λ s a b. both-are a b;
+      strict-plain = λ n count a b. both-are a b;
       write-plain = λ w a b p q. written a b (both-are _ _ (p .0) (q .0)) (both-are _ _ (p .1) (q .1));
       command-plain = λ read a b. both-are a b;
       record-lent = λ n a b. both-are a b;
@@ -420,6 +446,7 @@ ResultsDetermined =
       brinecandle-read = λ frame a b. both-are a b;
       brinecandle-read-strict = λ frame a b. both-are a b;
       brinecandle-write = λ w a b p q. written a b (both-are _ _ (p .0) (q .0)) (both-are _ _ (p .1) (q .1));
+      brinecandle-write-strict = λ w a b p q. written a b (both-are _ _ (p .0) (q .0)) (both-are _ _ (p .1) (q .1));
       brinecandle-read-command = λ frame a b. both-are a b;
       brinecandle-new = λ w a b. both-are a b;
       brinecandle-grant-up = λ n t a b. both-are a b;

@@ -8,12 +8,14 @@ use Rattle.panel_stated.specs.Words.{ℕ, _≡_, _≤_, _<_, Bool, List,
 use Rattle.panel_stated.specs.Words.{Instruction, Le1, Lc1Data, Lc1DataLe1, Lc3Data, Lc3DataLe1, Lc3DataLe2, Le3}
 use Rattle.panel_stated.specs.Words.{PresenceRecord, OrderNumbers, Shaped, Kinded}
 use Rattle.panel_stated.specs.Words.{FrameSaid, CommandSaid, Wrote, Made, Stepped, Asked, DecisionSaid, ResponseSaid, PartSaid}
-use Rattle.panel_stated.specs.Words.{Says, Command, Register, Authenticate, Version, GetResponse, Told, length, Remainder, Response, Sent, along, fetchPath, true, writeResponseOf, readResponseOf, nextPartOf, _+_, false, readOf, strictOf, commandOf, newOf, touchOf, checkOf, askOf, finishOf, Given, Body, Ordered, Part, Result}
+use Rattle.panel_stated.specs.Words.{Says, Entry, Case, Parts, partsOf, shapeNo, Command, Register, Authenticate, Version, GetResponse, Told, length, Remainder, Response, Sent, along, fetchPath, true, writeResponseOf, readResponseOf, nextPartOf, _+_, false, readOf, strictOf, commandOf, newOf, touchOf, checkOf, askOf, finishOf, Given, Body, Ordered, Part, Result}
 use Rattle.panel_stated.specs.Exports.{orderAfter, ToWrite, ToDecide, ToFinish, decidedBy, writeNumbered, finishNumbered}
-use Rattle.panel_stated.specs.Contracts.{ShapeNumbered, FramePlain, WritePlain, CommandPlain, RecordLent, RecordPlain, MadePlain, AskedPlain, StepPlain, KindNumbered, RefusedPlain, StatusPlain, BodyPlain, PartPlain, OrderPlain, FinishedPlain, ResponsePlain, WroteResponsePlain, NextPlain, StatedPlain}
-use Rattle.panel_stated.specs.Contracts.{BrinecandleRead, BrinecandleReadStrict, BrinecandleWrite, BrinecandleReadCommand, BrinecandleNew, BrinecandleGrantUp, BrinecandleConsumeUp, BrinecandleIsUpNeeded, BrinecandleDecide, BrinecandleFinish, BrinecandleWriteResponse, BrinecandleReadResponse, BrinecandleNextPart}
-use Rattle.octets.specs.Bytes.{partOf}
+use Rattle.panel_stated.specs.Contracts.{ShapeNumbered, FramePlain, StrictPlain, WritePlain, CommandPlain, RecordLent, RecordPlain, MadePlain, AskedPlain, StepPlain, KindNumbered, RefusedPlain, StatusPlain, BodyPlain, PartPlain, OrderPlain, FinishedPlain, ResponsePlain, WroteResponsePlain, NextPlain, StatedPlain}
+use Rattle.panel_stated.specs.Contracts.{BrinecandleRead, BrinecandleReadStrict, BrinecandleWrite, BrinecandleWriteStrict, BrinecandleReadCommand, BrinecandleNew, BrinecandleGrantUp, BrinecandleConsumeUp, BrinecandleIsUpNeeded, BrinecandleDecide, BrinecandleFinish, BrinecandleWriteResponse, BrinecandleReadResponse, BrinecandleNextPart}
+use Rattle.octets.specs.Bytes.{AreBytes, partOf}
 use Rattle.apdu_stated.specs.Reading.{dataOf}
+use Rattle.apdu_stated.specs.Claims as Frames
+use Rattle.apdu_stated.specs.Terms.{InTable, Carries as Carried}
 use Rattle.command_stated.specs.Command.{challengeOf, applicationOf, handleOf}
 use Rattle.panel_stated.specs.Numbers.{presenceNumbers, presenceOf, hardwareOf, isYes}
 use Rattle.ctap1_stated.specs.Claims as Decision
@@ -47,7 +49,7 @@ pub record EveryOutcomeNumbered : Type 0 where
   pub read : (frame : List ℕ) → IsNumbered (readOf frame)
   pub read-strict : (frame : List ℕ) → IsNumbered (strictOf frame)
   pub read-command : (frame : List ℕ) → IsNumbered (commandOf frame)
-  pub write : (w : ToWrite) → IsNumbered (writeNumbered w)
+  pub write : (entry : Entry) (w : ToWrite) → IsNumbered (writeNumbered entry w)
   pub new : (w : ℕ) → IsNumbered (newOf w)
   pub grant-up : (p : Presence) (t : ℕ) → IsNumbered (touchOf p t .outcome)
   pub consume-up : (p : Presence) (t : ℕ) → IsNumbered (checkOf p t .outcome)
@@ -149,8 +151,8 @@ pub record KindNumbers (kind : ℕ → Kinded) : Type 0 where
 
 -- Ours: OPEN POINTS, "a shape number outside 1..8 is R5", "Over plain numbers any other kind is R7". A finisher that refuses an order of
 -- no kind for its room (`noKindIsR2`) fails it.
-pub record OthersRefused (write : ToWrite → Outcome ℕ) (finish : ToFinish → Outcome (List ℕ)) : Type 0 where
-  pub shape : (w : ToWrite) → (w .shape ≡ 0) ⊎ (9 ≤ w .shape) → write w ≡ R 5
+pub record OthersRefused (write : Entry → ToWrite → Outcome ℕ) (finish : ToFinish → Outcome (List ℕ)) : Type 0 where
+  pub shape : (entry : Entry) (w : ToWrite) → (w .shape ≡ 0) ⊎ (9 ≤ w .shape) → write entry w ≡ R 5
   pub kind : (i : ToFinish) → (i .order .kind ≡ 0) ⊎ (3 ≤ i .order .kind) → finish i ≡ R 7
 
 -- An order that went out as numbers and block is finished as that order, its signer's answer by `YesNumbers`. A certificate length that goes out as the number of
@@ -346,6 +348,41 @@ pub record ResponseExported (respond : (body : List ℕ) (status : ℕ) (old : L
   pub refused : (writer : Writer) → Responses.WritesExactly writer → (body : List ℕ) (status : ℕ) (old : List ℕ) (m : ℕ) → writer body status old .0 ≡ R m
       → (respond body status old .said ≡ record { answer = m; length = 0 }) × (respond body status old .buffer ≡ old)
 
+-- The exported readings as a whole, by whatever reading meets apdu_stated's `ReadingExactly`, of the strict one `StrictExactly`, on every frame of bytes: what the
+-- frame says in numbers, the data as a place in it, or the status word with its pair. 02, E4: "The strict frames are then ISO's seven cases". A strict export
+-- that is the other one (`strictExportReads`) fails it, one that keeps the place to itself (`placeUnsaid`), and one that hands the data on with the Le (`dataWithLe`).
+pub record ReaderExported (Reads : (List ℕ → Outcome Says) → Type 0) (read : List ℕ → FrameSaid) : Type 0 where
+  pub given : (reader : List ℕ → Outcome Says) → Reads reader → (frame : List ℕ) → AreBytes frame → (s : Says) → reader frame ≡ Gives s
+      → read frame
+      ≡ record { answer = 0x9000; fault = 0; cla = s .header .cla; ins = s .header .ins; p1 = s .header .p1; p2 = s .header .p2; shape = s .shape; lc = s .lc; le = s .le; start = s .dataAt; end = s .dataAt + s .lc; place = 0 }
+  pub status : (reader : List ℕ → Outcome Says) → Reads reader → (frame : List ℕ) → AreBytes frame → (w : StatusWord) → reader frame ≡ Word w
+      → read frame ≡ record { answer = w .number; fault = w .kind; cla = 0; ins = 0; p1 = 0; p2 = 0; shape = 0; lc = 0; le = 0; start = 0; end = 0; place = w .place }
+
+abbrev pub ReadExported : (List ℕ → FrameSaid) → Type 0
+ReadExported read = ReaderExported (Frames.ReadingExactly InTable) read
+
+abbrev pub ReadStrictExported : (List ℕ → FrameSaid) → Type 0
+ReadStrictExported read = ReaderExported Frames.StrictExactly read
+
+-- The exported writers of frames as a whole, by whatever writer meets apdu_stated's `WriteExactly`, of the strict one `StrictWriteExactly`: of a shape's
+-- number that writer's answer in numbers and its buffer, on the header, data and Le that are lent under these names; of any other number R5. 02, E4: the strict
+-- writer "refuses shape 6, and Lc 0 in shape 7, with R5 and is otherwise the writer". A strict export that is the other one (`strictExportWrites`) fails it, one
+-- that gives R5 for no shape a written buffer (`noShapeClears`), and one that takes P2 for P1 (`parametersSwapped`).
+pub record WriterExported (Writes : (Parts → List ℕ → Outcome ℕ × List ℕ) → Type 0) (write : ToWrite → AfterWriting) : Type 0 where
+  pub given : (writer : Parts → List ℕ → Outcome ℕ × List ℕ) → Writes writer → (w : ToWrite) (s : Case) (n : ℕ) → w .shape ≡ shapeNo s
+      → writer (partsOf (w .header) s (w .content) (w .le)) (w .out) .0 ≡ Gives n
+      → (write w .said ≡ record { answer = 0x9000; length = n }) × (write w .buffer ≡ writer (partsOf (w .header) s (w .content) (w .le)) (w .out) .1)
+  pub refused : (writer : Parts → List ℕ → Outcome ℕ × List ℕ) → Writes writer → (w : ToWrite) (s : Case) (m : ℕ) → w .shape ≡ shapeNo s
+      → writer (partsOf (w .header) s (w .content) (w .le)) (w .out) .0 ≡ R m
+      → (write w .said ≡ record { answer = m; length = 0 }) × (write w .buffer ≡ w .out)
+  pub no-shape : (w : ToWrite) → (w .shape ≡ 0) ⊎ (9 ≤ w .shape) → (write w .said ≡ record { answer = 5; length = 0 }) × (write w .buffer ≡ w .out)
+
+abbrev pub WriteExported : (ToWrite → AfterWriting) → Type 0
+WriteExported write = WriterExported (Frames.WriteExactly Carried InTable) write
+
+abbrev pub WriteStrictExported : (ToWrite → AfterWriting) → Type 0
+WriteStrictExported write = WriterExported Frames.StrictWriteExactly write
+
 -- 01: "the bytes to sign in a block of 385 bytes": the lent block is written for an order alone. One that is written after a status
 -- word (`blockAfterStatus`) or a refusal (`blockAfterRefusal`) fails it: an order that waits for its signature is lost.
 pub record BlockExactly (after : Outcome Given → (bytes old : List ℕ) → List ℕ) : Type 0 where
@@ -372,11 +409,27 @@ pub record PlacesCut (frames : Outcome Says → FrameSaid) (commands : Outcome C
       → (commands (Gives (Authenticate p1 s)) .«handle_end» ≤ length frame)
       × (partOf frame (commands (Gives (Authenticate p1 s)) .handle) (commands (Gives (Authenticate p1 s)) .«handle_end») ≡ handleOf frame s)
 
+-- ---- the contracts and the claims on a call as a whole
+
+-- Whatever meets the contract of an export meets the claim on it: the contracts say what is claimed, and of the same call. A contract of the strict writer that
+-- names the other writer fails it, with code to match.
+pub record ContractsAsClaimed : Type 0 where
+  pub read : (f : List ℕ → FrameSaid) → ((frame : List ℕ) → BrinecandleRead frame (f frame)) → ReadExported f
+  pub read-strict : (f : List ℕ → FrameSaid) → ((frame : List ℕ) → BrinecandleReadStrict frame (f frame)) → ReadStrictExported f
+  pub write : (f : ToWrite → AfterWriting) → ((w : ToWrite) → BrinecandleWrite w (f w .said) (f w .buffer)) → WriteExported f
+  pub write-strict : (f : ToWrite → AfterWriting) → ((w : ToWrite) → BrinecandleWriteStrict w (f w .said) (f w .buffer)) → WriteStrictExported f
+  pub decide : (f : ToDecide → AfterDeciding) → ((i : ToDecide) → BrinecandleDecide i (f i .said) (f i .reply) (f i .block) (f i .part)) → DecideExported f
+  pub next-part : (f : (body : List ℕ) → Remainder → (limit : ℕ) (old : List ℕ) → AfterPart)
+      → ((body : List ℕ) (k : Remainder) (limit : ℕ) (old : List ℕ) → BrinecandleNextPart body k limit old (f body k limit old .said) (f body k limit old .buffer)) → NextPartExported f
+  pub write-response : (f : (body : List ℕ) (status : ℕ) (old : List ℕ) → AfterWriting)
+      → ((body : List ℕ) (status : ℕ) (old : List ℕ) → BrinecandleWriteResponse body status old (f body status old .said) (f body status old .buffer)) → ResponseExported f
+
 -- ---- two results that satisfy a contract are equal, and so are the contents of what was lent
 pub record ResultsDetermined : Type 0 where
   pub shape-numbered : (n : ℕ) → AtMostOne (ShapeNumbered n)
   pub frame-numbers : (says : Apdu) → AtMostOne (FramePlain (Reading′.Frame says))
   pub frame-status : (s : ApduStatusCode) → AtMostOne (FramePlain (Reading′.Status s))
+  pub strict-plain : (n count : ℕ) → AtMostOne (StrictPlain n count)
   pub write-plain : (w : ToWrite) → AtMostOne (λ (r : AfterWriting). WritePlain w (r .said) (r .buffer))
   pub command-plain : (read : U2fCommand) → AtMostOne (CommandPlain read)
   pub record-lent : (n : PresenceRecord) → AtMostOne (RecordLent n)
@@ -394,6 +447,7 @@ pub record ResultsDetermined : Type 0 where
   pub brinecandle-read : (frame : List ℕ) → AtMostOne (BrinecandleRead frame)
   pub brinecandle-read-strict : (frame : List ℕ) → AtMostOne (BrinecandleReadStrict frame)
   pub brinecandle-write : (w : ToWrite) → AtMostOne (λ (r : AfterWriting). BrinecandleWrite w (r .said) (r .buffer))
+  pub brinecandle-write-strict : (w : ToWrite) → AtMostOne (λ (r : AfterWriting). BrinecandleWriteStrict w (r .said) (r .buffer))
   pub brinecandle-read-command : (frame : List ℕ) → AtMostOne (BrinecandleReadCommand frame)
   pub brinecandle-new : (w : ℕ) → AtMostOne (BrinecandleNew w)
   pub brinecandle-grant-up : (n : PresenceRecord) (t : ℕ) → AtMostOne (BrinecandleGrantUp n t)

@@ -1,9 +1,9 @@
 -- What is promised of each public function of plain_frames, plain_presence, plain_orders, plain_responses and panel, over what it is lent,
 -- its result, and the final contents of what it writes.
-use Rattle.panel_stated.specs.Words.{ℕ, _≡_, Bool, List, length, R, Word, Gives, Body, Ordered, Part, Head, Presence, Remainder, readOf, strictOf, commandOf, newOf, touchOf, checkOf, askOf, lengthOf, replyOf, remainderAfter, partAfter, responseRead, responseWritten, partSent, readResponseOf, partResponse}
+use Rattle.panel_stated.specs.Words.{ℕ, _≡_, Bool, List, length, R, Word, Gives, Body, Ordered, Part, Head, Presence, Remainder, Ordinary, Strict, commandOf, newOf, touchOf, checkOf, askOf, lengthOf, replyOf, remainderAfter, partAfter, responseRead, responseWritten, partSent, readResponseOf, partResponse}
 use Rattle.panel_stated.specs.Words.{PresenceRecord, FrameSaid, CommandSaid, Wrote, Made, Stepped, Asked, DecisionSaid, ResponseSaid, PartSaid, Shaped, Kinded}
 use Rattle.panel_stated.specs.Numbers.{presenceOf, presenceNumbers, shapeOf, kindOf, noOrder}
-use Rattle.panel_stated.specs.Exports.{frameNumbers, lengthNumbers, ToWrite, writeNumbered, bufferAs, commandNumbers, madeNumbers, askedNumbers, stepNumbers, headAfter, decidedNumbers, decisionNumbers, ToDecide, decidesOf, respondsOf, nextsOf, responseNumbers, partNumbers, statedOf, ToFinish, finishNumbered}
+use Rattle.panel_stated.specs.Exports.{frameNumbers, lengthNumbers, ToWrite, strictAs, readsOf, writesOf, commandNumbers, madeNumbers, askedNumbers, stepNumbers, headAfter, decidedNumbers, decisionNumbers, ToDecide, decidesOf, respondsOf, nextsOf, responseNumbers, partNumbers, statedOf, ToFinish, finishNumbered}
 use Rattle.apdu_stated.specs.Answers.{readingOf}
 use Rattle.apdu_stated.specs.declared.Reading.{Reading}
 use Rattle.command_stated.specs.Command.{commandSaid}
@@ -28,8 +28,11 @@ ShapeNumbered number r = r ≡ shapeOf number
 abbrev pub FramePlain : Reading → FrameSaid → Type 0
 FramePlain reading r = r ≡ frameNumbers (readingOf reading)
 
+abbrev pub StrictPlain : ℕ → ℕ → Bool → Type 0
+StrictPlain number count r = r ≡ strictAs (shapeOf number) count
+
 abbrev pub WritePlain : ToWrite → Wrote → List ℕ → Type 0
-WritePlain w r after = (r ≡ lengthNumbers (writeNumbered w)) × (after ≡ bufferAs (shapeOf (w .shape)) w)
+WritePlain w r after = (r ≡ writesOf Ordinary w .said) × (after ≡ writesOf Ordinary w .buffer)
 
 abbrev pub CommandPlain : U2fCommand → CommandSaid → Type 0
 CommandPlain read r = r ≡ commandNumbers (commandSaid read)
@@ -92,13 +95,16 @@ StatedPlain status asks taken kept settled k limit body entry r exit =
 
 -- ---- panel: what C links
 abbrev pub BrinecandleRead : List ℕ → FrameSaid → Type 0
-BrinecandleRead frame r = r ≡ frameNumbers (readOf frame)
+BrinecandleRead frame r = r ≡ readsOf Ordinary frame
 
 abbrev pub BrinecandleReadStrict : List ℕ → FrameSaid → Type 0
-BrinecandleReadStrict frame r = r ≡ frameNumbers (strictOf frame)
+BrinecandleReadStrict frame r = r ≡ readsOf Strict frame
 
 abbrev pub BrinecandleWrite : ToWrite → Wrote → List ℕ → Type 0
 BrinecandleWrite w r after = WritePlain w r after
+
+abbrev pub BrinecandleWriteStrict : ToWrite → Wrote → List ℕ → Type 0
+BrinecandleWriteStrict w r after = (r ≡ writesOf Strict w .said) × (after ≡ writesOf Strict w .buffer)
 
 abbrev pub BrinecandleReadCommand : List ℕ → CommandSaid → Type 0
 BrinecandleReadCommand frame r = r ≡ commandNumbers (commandOf frame)

@@ -2,7 +2,7 @@
 -- A number that an answer has no use for is 0.
 use Rattle.panel_stated.specs.Words.{ℕ, _+_, Bool, false, List, length, StatusWord, Outcome, R, Word, Gives, plainWord, ApduHeader, Presence, Kind, Head, Order, headOf}
 use Rattle.panel_stated.specs.Words.{PresenceRecord, HardwareSaid, OrderNumbers, FrameSaid, CommandSaid, Wrote, Made, Stepped, Asked, DecisionSaid, ResponseSaid, PartSaid, Shaped, Kinded}
-use Rattle.panel_stated.specs.Words.{Says, placeOf, partsOf, writeOf, bufferOf, Command, Register, Authenticate, Version, GetResponse, handlePlaceOf, Told}
+use Rattle.panel_stated.specs.Words.{Says, placeOf, Entry, Strict, inRow, readBy, partsOf, writeBy, bufferBy, Command, Register, Authenticate, Version, GetResponse, handlePlaceOf, Told}
 use Rattle.panel_stated.specs.Words.{kindNo, finishOf, Given, Body, Ordered, Part, Result, Handed, handedOf, decisionOf, Remainder, Response, Sent, frameLimit, fetchPath, along, remainderLeft, partLeft, replyLeft, blockLeft}
 use Rattle.panel_stated.specs.Numbers.{answerNo, decidedNo, faultNo, placeNo, presenceOf, presenceNumbers, isYes, hardwareOf, shapeOf, kindOf, noOrder}
 use mathlib.Core.Bool.{_&&_}
@@ -51,7 +51,7 @@ lengthIn (Gives n) = n
 abbrev pub lengthNumbers : Outcome ℕ → Wrote
 lengthNumbers o = record { answer = answerNo o; length = lengthIn o }
 
--- what the writer is lent, the shape as a number
+-- what a writer of frames is lent, the shape as a number
 pub record ToWrite : Type 0 where
   pub header : ApduHeader
   pub shape : ℕ
@@ -60,16 +60,22 @@ pub record ToWrite : Type 0 where
   pub out : List ℕ  -- the buffer before the call
 
 -- 01: "It refuses (R5) exactly when data length or Le is not one that the shape can carry": where there is no shape, nothing is
-abbrev pub writeAs : Shaped → ToWrite → Outcome ℕ
-writeAs (Shaped′.As s) w = writeOf (partsOf (w .header) s (w .content) (w .le)) (length (w .out))
-writeAs Shaped′.Nothing w = R 5
+abbrev pub writeAs : Entry → Shaped → ToWrite → Outcome ℕ
+writeAs entry (Shaped′.As s) w = writeBy entry (partsOf (w .header) s (w .content) (w .le)) (length (w .out))
+writeAs entry Shaped′.Nothing w = R 5
 
-abbrev pub bufferAs : Shaped → ToWrite → List ℕ
-bufferAs (Shaped′.As s) w = bufferOf (partsOf (w .header) s (w .content) (w .le)) (w .out)
-bufferAs Shaped′.Nothing w = w .out
+abbrev pub bufferAs : Entry → Shaped → ToWrite → List ℕ
+bufferAs entry (Shaped′.As s) w = bufferBy entry (partsOf (w .header) s (w .content) (w .le)) (w .out)
+bufferAs entry Shaped′.Nothing w = w .out
 
-abbrev pub writeNumbered : ToWrite → Outcome ℕ
-writeNumbered w = writeAs (shapeOf (w .shape)) w
+-- whether the strict table has a row for so many bytes of data in a shape: 02, E4, "refuses shape 6, and Lc 0 in shape 7"
+abbrev pub strictAs : Shaped → ℕ → Bool
+strictAs (Shaped′.As s) count = inRow Strict s count
+strictAs Shaped′.Nothing count = false
+
+-- by either table: "and is otherwise the writer"
+abbrev pub writeNumbered : Entry → ToWrite → Outcome ℕ
+writeNumbered entry w = writeAs entry (shapeOf (w .shape)) w
 
 -- ---- commands
 -- a command without parts, or a status word alone
@@ -157,7 +163,14 @@ pub record AfterPart : Type 0 where
   pub said : PartSaid
   pub buffer : List ℕ
 
--- the exported writer and the exported next part
+-- the exported readings
+abbrev pub readsOf : Entry → List ℕ → FrameSaid
+readsOf entry frame = frameNumbers (readBy entry frame)
+
+-- the exported writers of frames, of responses, and the exported next part
+abbrev pub writesOf : Entry → ToWrite → AfterWriting
+writesOf entry w = record { said = lengthNumbers (writeNumbered entry w); buffer = bufferAs entry (shapeOf (w .shape)) w }
+
 abbrev pub respondsOf : (body : List ℕ) (status : ℕ) (old : List ℕ) → AfterWriting
 respondsOf body status old = record { said = lengthNumbers (writingOf body status old .0); buffer = writingOf body status old .1 }
 

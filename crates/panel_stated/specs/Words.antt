@@ -38,8 +38,11 @@ pub use Rattle.panel_stated.specs.declared.Shaped.{Shaped}
 pub use Rattle.panel_stated.specs.declared.Kinded.{Kinded}
 pub use Rattle.apdu_stated.specs.Words.{shapeNo}
 pub use Rattle.apdu_stated.specs.Answers.{Says}
-pub use Rattle.apdu_stated.specs.Reading.{readOf, strictOf, placeOf}
-pub use Rattle.apdu_stated.specs.Writing.{partsOf, writeOf, bufferOf}
+pub use Rattle.apdu_stated.specs.Reading.{readBy, readOf, strictOf, placeOf}
+pub use Rattle.apdu_stated.specs.Writing.{Parts, partsOf, writeBy, bufferBy}
+pub use Rattle.apdu_stated.specs.Table.{inRow}
+pub use Rattle.apdu_stated.specs.declared.Entry.{Entry}
+pub use Rattle.apdu_stated.specs.declared.Entry.the-variants.{Ordinary, Strict}
 pub use Rattle.command_stated.specs.Command.{Command, Register, Authenticate, Version, GetResponse, commandOf, handlePlaceOf}
 pub use Rattle.u2f_up_stated.specs.Moments.{Told, newOf, touchOf, checkOf, askOf}
 pub use Rattle.signing_stated.specs.Orders.{kindNo, toSign, certificateLength}

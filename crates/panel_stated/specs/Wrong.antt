@@ -5,7 +5,8 @@ use Rattle.panel_stated.specs.Words.{DecisionSaid, PresenceRecord, Order
 use Rattle.panel_stated.specs.Words.{Says, Command, Register, Authenticate, Version, GetResponse, Told, Result, Given, Body, Ordered, Part, toSign, certificateLength, Remainder, rest, Response, Sent}
 use Rattle.panel_stated.specs.Numbers.{greatestNo, presenceOf, presenceNumbers, shapeOf, kindOf}
 use Rattle.panel_stated.specs.Exports.{ToFinish, finishNumbered, frameNumbers, commandNumbers, lengthNumbers, madeNumbers, askedNumbers, orderAfter, decisionNumbers, stepNumbers, responseNumbers, partNumbers, statedOf}
-use Rattle.panel_stated.specs.Exports.{ToDecide, inputsOf, decidedBy, decidesOf, nextsOf, respondsOf, AfterWriting, AfterPart, AfterDeciding}
+use Rattle.panel_stated.specs.Words.{Ordinary, Strict}
+use Rattle.panel_stated.specs.Exports.{ToWrite, readsOf, writesOf, ToDecide, inputsOf, decidedBy, decidesOf, nextsOf, respondsOf, AfterWriting, AfterPart, AfterDeciding}
 use Rattle.ctap1_stated.specs.Decision.{blockAfter}
 use Rattle.ctap1_stated.specs.Session.{partLeft}
 use Rattle.signing_stated.specs.Orders.{blankOrder}
@@ -13,6 +14,7 @@ use Rattle.signing_stated.specs.declared.Kind.the-variants as Kind′
 use Rattle.panel_stated.specs.declared.Shaped.the-variants as Shaped′
 use Rattle.panel_stated.specs.declared.Kinded.the-variants as Kinded′
 use lib.Dec.{leb}
+use lib.ListN.{length, replicate}
 
 -- ---- answers
 -- "one answer number": a status word under what was asked for
@@ -325,3 +327,35 @@ nextWhole body r limit old = nextsOf body r 0 old
 -- "the status is any 16-bit number": it is 9000
 abbrev pub responds9000 : (body : List ℕ) (status : ℕ) (old : List ℕ) → AfterWriting
 responds9000 body status old = respondsOf body 0x9000 old
+
+-- ---- the exported readings
+-- "The strict frames are then ISO's seven cases": the strict export is the other one
+abbrev pub strictExportReads : List ℕ → FrameSaid
+strictExportReads frame = readsOf Ordinary frame
+
+-- "a place": it is 0
+abbrev pub placeUnsaid : List ℕ → FrameSaid
+placeUnsaid frame =
+    let a = readsOf Ordinary frame in
+    record { answer = a .answer; fault = a .fault; cla = a .cla; ins = a .ins; p1 = a .p1; p2 = a .p2; shape = a .shape; lc = a .lc; le = a .le; start = a .start; end = a .end; place = 0 }
+
+-- "Data is exactly Lc bytes": it ends one byte late
+abbrev pub dataWithLe : List ℕ → FrameSaid
+dataWithLe frame =
+    let a = readsOf Strict frame in
+    record { answer = a .answer; fault = a .fault; cla = a .cla; ins = a .ins; p1 = a .p1; p2 = a .p2; shape = a .shape; lc = a .lc; le = a .le; start = a .start; end = a .end + 1; place = a .place }
+
+-- ---- the exported writers of frames
+-- "refuses shape 6, and Lc 0 in shape 7": the strict export is the other one
+abbrev pub strictExportWrites : ToWrite → AfterWriting
+strictExportWrites w = writesOf Ordinary w
+
+-- "An R refusal changes no buffer": a number that is no shape's sets every byte of it to 0
+abbrev pub noShapeClears : ToWrite → AfterWriting
+noShapeClears w = let a = writesOf Ordinary w in record { said = a .said; buffer = if leb 9 (w .shape) then replicate (length (w .out)) 0 else a .buffer }
+
+-- "CLA INS P1 P2": P2 for P1
+abbrev pub parametersSwapped : ToWrite → AfterWriting
+parametersSwapped w =
+    let h = w .header in
+    writesOf Strict (record { header = record { cla = h .cla; ins = h .ins; p1 = h .p2; p2 = h .p1 }; shape = w .shape; content = w .content; le = w .le; out = w .out })

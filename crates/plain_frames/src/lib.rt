@@ -18,7 +18,7 @@ ghost use Rattle.apdu_stated.specs.Answers.{saysOf, writtenOf};
 ghost use Rattle.command_stated.specs.Command.{flagsNo, Register, Authenticate};
 ghost use Rattle.apdu_stated.specs.declared.Reading.the-variants.{Frame, Status};
 ghost use Rattle.panel_stated.specs.Exports.{bareCommand, commandNumbers, lengthNumbers};
-ghost use Rattle.panel_stated.specs.Contracts.{ShapeNumbered, FramePlain, WritePlain, CommandPlain, BrinecandleReadCommand};
+ghost use Rattle.panel_stated.specs.Contracts.{ShapeNumbered, FramePlain, StrictPlain, WritePlain, CommandPlain, BrinecandleReadCommand};
 
 pub fn shape_numbered(number: u32) -> Shaped
     ensures { λ r. ⌜ ShapeNumbered number r ⌝ }
@@ -91,6 +91,17 @@ fn wrote_said(written: Written) -> Wrote
             answer: 0x9000,
             length,
         },
+    }
+}
+
+// Whether the strict writer may write so many bytes of data in the shape of this number; what it may not is R5.
+pub fn strict_plain(number: u32, count: usize) -> bool
+    ensures { λ r. ⌜ StrictPlain number count r ⌝ }
+{
+    let shaped = shape_numbered(number);
+    match shaped {
+        Shaped::As(case) => apdu::strict_has(case, count),
+        Shaped::Nothing => false,
     }
 }
 

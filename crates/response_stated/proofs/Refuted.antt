@@ -1,17 +1,15 @@
 -- The claim that is false of each wrong program, at an input where it bites.
-use Prim.Native.Nat.{ℕ, zero, suc, _<_, _≤_}
+use Prim.Native.Nat.{ℕ, _<_, _≤_}
 use mathlib.Core.Path.{_≡_, refl, ap, sym, _∙_}
-use mathlib.Core.Bool.{Bool, true, _&&_}
+use mathlib.Core.Bool.{Bool, true}
 use mathlib.Core.List.{List, [], _∷_}
 use mathlib.Core.Logic.{inl}
 use native.Mathlib.Omega.{arith}
-use borrow.Author.Tests.{ltb-true}
-use lib.Dec.{ltb}
 use lib.ListN.{length, replicate}
 use Rattle.outcome.specs.Outcome.{Outcome, Gives}
 use Rattle.outcome.proofs.Laws.{gives-same, r-gives}
 use Rattle.octets.specs.Bytes.{byte, AreBytes}
-use Rattle.octets.proofs.Laws.{both}
+use Rattle.octets.proofs.Laws.{small, bytes-of}
 use Rattle.apdu_stated.specs.Reading.{readOf, readBy, sayOf, lengthsOf, extendedOf, afterData}
 use Rattle.response_stated.specs.Words.{Says, Remainder, rest, Response, Sent}
 use Rattle.response_stated.specs.Responses.{writeResponseOf, readResponseOf, responseBodyOf}
@@ -65,16 +63,6 @@ pub cutOneShort : Claims.BodyExactly Wrong.cutOneShort → ⊥
 cutOneShort p = omega (arith, ap length (p .before (1 ∷ []) 0x90 0x00))
 
 -- ---- frames to try
-small : List ℕ → Bool
-small [] = true
-small (x ∷ s) = ltb x 256 && small s
-
-bytes-of : (s : List ℕ) → small s ≡ true → AreBytes s
-unfolding small
-bytes-of [] e i = omega arith
-bytes-of (x ∷ s) e zero = ltb-true x 256 (both (ltb x 256) (small s) e .0)
-bytes-of (x ∷ s) e (suc i) = bytes-of s (both (ltb x 256) (small s) e .1) i
-
 pub cutWithStatusWritten : Claims.ReadThenWritten readResponseOf Wrong.cutWithStatus writingOf → ⊥
 unfolding readResponseOf writeResponseOf small
 cutWithStatusWritten p =

@@ -1,12 +1,13 @@
-// The eight shapes in code: a shape's row of the table, what a shape can carry, and which shape a payload is in. Reading and
-// writing of whole frames stand on it (apdu). The table itself is apdu_stated's specs/Table.antt.
+// The eight shapes in code: a shape's row of the table, what a shape can carry, which rows the strict table has, and which shape a
+// payload is in by either table. Reading and writing of whole frames stand on it (apdu, apdu_write). The tables themselves are
+// apdu_stated's specs/Table.antt.
 ghost use Prim.Native.Nat.{_+_, _<_, _≤_};
 ghost use mathlib.Core.Path.{_≡_};
 ghost use lib.ListN.{length};
 ghost use Rattle.octets.specs.Bytes.{byte};
-ghost use Rattle.apdu_stated.specs.Table.{lcMost};
+ghost use Rattle.apdu_stated.specs.Table.{lcMost, lcUnder};
 ghost use Rattle.apdu_stated.specs.Reading.{shortOf, loneLe, extendedOf, afterData};
-ghost use Rattle.apdu_stated.specs.Contracts.{Row, Fits, Payload, lcFound};
+ghost use Rattle.apdu_stated.specs.Contracts.{Row, StrictHas, Fits, Payload, lcFound};
 use apdu_stated::Case;
 use apdu_stated::Entry;
 use apdu_stated::Lengths;
@@ -46,6 +47,23 @@ fn lc_most(long: usize) -> usize
         return 0;
     }
     if long == 1 { 255 } else { 65535 }
+}
+
+// Whether the strict table has a row for so many bytes of data in this shape: ISO has no case with a one-byte Le behind an extended Lc,
+// and none with an Lc field that says 0.
+pub fn strict_has(shape: Case, count: usize) -> bool
+    ensures { λ r. ⌜ StrictHas shape count r ⌝ }
+{
+    match shape {
+        Case::Instruction => true,
+        Case::Le1 => true,
+        Case::Lc1Data => count != 0,
+        Case::Lc1DataLe1 => count != 0,
+        Case::Lc3Data => count != 0,
+        Case::Lc3DataLe1 => false,
+        Case::Lc3DataLe2 => count != 0,
+        Case::Le3 => true,
+    }
 }
 
 // Whether a frame of the shape can hold so many bytes of data, and say this Le.
@@ -112,6 +130,16 @@ fn after_data(p: &[u8], lc: u16, entry: Entry) -> Lengths
     Lengths::Surplus(9 + n)
 }
 
+// Whether an extended Lc is under the table's least: by ISO's an Lc field counts at least one byte.
+fn lc_under(lc: u16, entry: Entry) -> bool
+    ensures { λ r. ⌜ r ≡ lcUnder entry lc ⌝ }
+{
+    match entry {
+        Entry::Ordinary => false,
+        Entry::Strict => lc == 0,
+    }
+}
+
 // A payload that begins with 00: an extended Le alone, or an extended Lc.
 fn extended(p: &[u8], entry: Entry) -> Lengths
     requires { ⌜ 1 < length (now p) ⌝ }
@@ -123,6 +151,9 @@ fn extended(p: &[u8], entry: Entry) -> Lengths
     let lc = octets::pair(p[1], p[2]);
     if p.len() == 3 {
         return Lengths::Found(Case::Le3, 0, le::read(&p[0..3]));
+    }
+    if lc_under(lc, entry) {
+        return Lengths::Surplus(7);
     }
     after_data(p, lc, entry)
 }

@@ -12,7 +12,10 @@ returns-2 : tie.Need-returns-2
 returns-2 c = (search (needs, Fields.le3), search needs)
 
 returns-3 : tie.Need-returns-3
-returns-3 c = (search (needs, Cases.extended-after), search needs)
+returns-3 c = (search (needs, Cases.extended-lc-zero), search needs)
+
+returns-4 : tie.Need-returns-4
+returns-4 c = (search (needs, Cases.extended-after), search needs)
 
 pub extended-spec : {M : Type 1} → statement M
 extended-spec =
@@ -28,4 +31,6 @@ extended-spec =
     (λ c κs. search needs)
     returns-2
     (λ c κs. search needs)
-    returns-3)
+    returns-3
+    (λ c κs. search needs)
+    returns-4)
