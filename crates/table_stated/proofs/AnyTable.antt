@@ -1,0 +1,201 @@
+-- What comes of trying the rows of any table, each exactly when.
+use Prim.Native.Nat.{ℕ, _<_, _≤_}
+use mathlib.Core.Path.{_≡_, refl, ap, sym, subst, _∙_}
+use mathlib.Core.Bool.{Bool, true, false, true≢false}
+use mathlib.Core.List.{List, [], _∷_}
+use mathlib.Core.Logic.{_↔_, _⊎_, inl, inr}
+use native.Mathlib.Omega.{arith}
+use native.Mathlib.Decide.{decLt, ℕ-discrete}
+use lib.ListN.{length, take}
+use lib.Seq.{take-length, length-take-le}
+use Rattle.octets.specs.Bytes.{AreBytes}
+use Rattle.apdu_stated.specs.Terms.{LongestFront}
+use Rattle.table_stated.specs.Words.{Says, Row, Tried, Short, Fits, EndsEarly, GoesOn}
+use Rattle.table_stated.specs.Trying.{stands, fits, endsEarly, claimed, rowEnd, inTurn, tried}
+use Rattle.table_stated.specs.Answers.{saysBy}
+use Rattle.table_stated.specs.Terms.{OfRow, IsOf, OfTable, EarlyIn, Has, here, behind, First, now, later, MostClaimed, some, none}
+use Rattle.table_stated.specs.Claims
+use Rattle.table_stated.proofs.Columns
+use Rattle.table_stated.proofs.Built.{fit-of, of-fit, claimed-of, front-of, front-four, early-in, in-early}
+use Rattle.table_stated.proofs.Turns.{Chosen, at-once, further, chosen-has, chosen-fits, Turn, chosen, short, beyond, turn}
+use Rattle.table_stated.proofs.Agreement.{tried-short, tried-turn}
+
+is-of : (r : Row) (frame : List ℕ) → AreBytes frame → fits r frame ≡ true → IsOf r frame
+is-of r frame bytes e = let o = of-fit r frame bytes e in (saysBy r frame, o .0, o .1)
+
+-- the first row, in the claims' words and by the tests
+first-of : {rows : List Row} {frame : List ℕ} {r : Row} → AreBytes frame → Chosen rows frame r → First rows frame r
+first-of bytes (at-once {r} {rows} {frame} e) = now (is-of r frame bytes e)
+first-of bytes (further {r} {x} {rows} {frame} e c) = later (λ o. true≢false (sym (fit-of x frame o) ∙ e)) (first-of bytes c)
+
+first-long : {rows : List Row} {frame : List ℕ} {r : Row} → First rows frame r → 4 ≤ length frame
+first-long (now {r} {rows} {frame} (says, content, o)) = front-four r frame content says o
+first-long (later n f) = first-long f
+
+pub first-row : {rows : List Row} {frame : List ℕ} {r : Row} → First rows frame r → IsOf r frame
+first-row (now o) = o
+first-row (later n f) = first-row f
+
+of-first : {rows : List Row} {frame : List ℕ} {r : Row} → AreBytes frame → (early : Bool) (most : ℕ) → First rows frame r → inTurn rows frame early most ≡ Fits r
+of-first bytes early most (now {r} {rows} {frame} o) = rw (fit-of r frame o)
+of-first bytes early most (later {r} {x} {rows} {frame} n f) =
+    rw (Columns.is-false (fits x frame) (λ e. n (is-of x frame bytes e))) (of-first bytes _ _ f)
+
+-- two most are one
+module _ (rows : List Row) (frame : List ℕ) where
+  -- every row claims at most what is most claimed
+  most-of : (k : ℕ) → AreBytes frame → MostClaimed rows frame k → (r : Row) → Has rows r → claimed r frame ≤ k
+  most-of k bytes m r h = Columns.claimed-most r frame k (λ t. go m t (front-of frame bytes r t))
+    where
+      go : MostClaimed rows frame k → (t : Columns.Stands r frame) → ((content : List ℕ) × OfRow r (take (rowEnd r frame) frame) (saysBy r frame) content) → rowEnd r frame ≤ k
+      go (some l) t o = by (decLt k (rowEnd r frame))
+        where
+          by : Dec (k < rowEnd r frame) → rowEnd r frame ≤ k
+          by (yes q) = absurd (l .longest (rowEnd r frame) (saysBy r frame) (o .0) q (t .within) (r, h, o .1))
+          by (no q) = omega arith
+      go (none z n) t o = absurd (n (rowEnd r frame) (saysBy r frame) (o .0) (t .within) (r, h, o .1))
+
+  -- and it is claimed by a row, or it is 0
+  claimed-by : (k : ℕ) → MostClaimed rows frame k → (k ≡ 0) ⊎ ((r : Row) × Has rows r × (claimed r frame ≡ k))
+  claimed-by k (none z n) = inl z
+  claimed-by k (some l) = let t = l .in-table in inr (t .2 .0, t .2 .1, claimed-of (t .2 .0) frame (t .1) (t .0) k (l .within) (t .2 .2))
+
+  -- the most that the tests find is the claims'
+  is-most : (k : ℕ) → AreBytes frame → ((r : Row) → Has rows r → claimed r frame ≤ k) → (k ≡ 0) ⊎ ((r : Row) × Has rows r × (claimed r frame ≡ k)) → MostClaimed rows frame k
+  is-most k bytes bound at = go (ℕ-discrete k 0) at
+    where
+      over : (j : ℕ) (says : Says) (content : List ℕ) → j ≤ length frame → OfTable rows (take j frame) says content → j ≤ k
+      over j says content h x = let c = claimed-of (x .0) frame content says j h (x .2) in let b = bound (x .0) (x .1) in omega arith
+
+      four : (j : ℕ) (says : Says) (content : List ℕ) → j ≤ length frame → OfTable rows (take j frame) says content → 4 ≤ j
+      four j says content h x = let f = front-four (x .0) (take j frame) content says (x .2) in let l = length-take-le j frame h in omega arith
+
+      nothing : k ≡ 0 → MostClaimed rows frame k
+      nothing z = none z (λ j says content h x. let a = over j says content h x in let b = four j says content h x in omega arith)
+
+      go : Dec (k ≡ 0) → (k ≡ 0) ⊎ ((r : Row) × Has rows r × (claimed r frame ≡ k)) → MostClaimed rows frame k
+      go (yes z) at = nothing z
+      go (no n) (inl z) = nothing z
+      go (no n) (inr (r, h, e)) = by (Columns.known (stands r frame))
+        where
+          by : Dec (stands r frame ≡ true) → MostClaimed rows frame k
+          by (no q) = absurd (n (sym e ∙ Columns.claimed-not r frame (Columns.is-false (stands r frame) q)))
+          by (yes q) =
+              let t = Columns.stands-of r frame q in
+              let is : rowEnd r frame ≡ k = sym (Columns.claimed-stands r frame q) ∙ e in
+              let o = front-of frame bytes r t in
+              some
+              (record {
+                within = omega (arith, t .within);
+                in-table = (saysBy r frame, o .0, (r, h, subst (λ (x : ℕ). OfRow r (take x frame) (saysBy r frame) (o .0)) is (o .1)));
+                longest = λ j says content more l x. let a = over j says content l x in omega arith;
+              })
+
+-- ---- the four answers
+module _ (rows : List Row) (frame : List ℕ) where
+  -- what was tried, by every way through it
+  data Way : Tried → Type 0 where
+    under : length frame < 4 → Way Short
+    by-turn : {t : Tried} → 4 ≤ length frame → Turn rows frame false 0 t → Way t
+
+  way : Way (tried rows frame)
+  way = go (decLt (length frame) 4)
+    where
+      go : Dec (length frame < 4) → Way (tried rows frame)
+      go (yes h) = subst Way (sym (tried-short rows frame h)) (under h)
+      go (no h) = subst Way (sym (tried-turn rows frame (omega arith))) (by-turn (omega arith) (turn rows frame false 0))
+
+  is-short : (tried rows frame ≡ Short) ↔ (length frame < 4)
+  is-short = (λ e. go (tried rows frame) way e, tried-short rows frame)
+    where
+      never : (t : Tried) → Turn rows frame false 0 t → t ≡ Short → length frame < 4
+      never _ (chosen r c) e = let z : _≡_ {A = ℕ} 0 1 = cc in absurd (omega arith)
+      never _ (short n s) e = let z : _≡_ {A = ℕ} 0 1 = cc in absurd (omega arith)
+      never _ (beyond k n s l b a c) e = let z : _≡_ {A = ℕ} 0 1 = cc in absurd (omega arith)
+
+      go : (t : Tried) → Way t → t ≡ Short → length frame < 4
+      go _ (under h) e = h
+      go _ (by-turn h t) e = never _ t e
+
+  module _ (bytes : AreBytes frame) where
+    fits-exactly : (r : Row) → (tried rows frame ≡ Fits r) ↔ First rows frame r
+    fits-exactly r = (λ e. go (tried rows frame) way e, λ f. tried-turn rows frame (first-long f) ∙ of-first bytes false 0 f)
+      where
+        go : (t : Tried) → Way t → t ≡ Fits r → First rows frame r
+        go _ (under h) e = let z : _≡_ {A = ℕ} 0 1 = cc in absurd (omega arith)
+        go _ (by-turn h (chosen x c)) e = let same : x ≡ r = cc in subst (First rows frame) same (first-of bytes c)
+        go _ (by-turn h (short n s)) e = let z : _≡_ {A = ℕ} 0 1 = cc in absurd (omega arith)
+        go _ (by-turn h (beyond k n s l b a c)) e = let z : _≡_ {A = ℕ} 0 1 = cc in absurd (omega arith)
+
+    early-exactly : (tried rows frame ≡ EndsEarly) ↔ ((4 ≤ length frame) × ((r : Row) → Has rows r → IsOf r frame → ⊥) × ((r : Row) × Has rows r × EarlyIn r frame))
+    early-exactly = (λ e. go (tried rows frame) way e, λ x. back (tried rows frame) way (x .0) (x .1) (x .2))
+      where
+        go : (t : Tried) → Way t → t ≡ EndsEarly → (4 ≤ length frame) × ((r : Row) → Has rows r → IsOf r frame → ⊥) × ((r : Row) × Has rows r × EarlyIn r frame)
+        go _ (under h) e = let z : _≡_ {A = ℕ} 0 1 = cc in absurd (omega arith)
+        go _ (by-turn h (chosen x c)) e = let z : _≡_ {A = ℕ} 0 1 = cc in absurd (omega arith)
+        go _ (by-turn h (short n (inl s))) e = absurd (true≢false (sym s))
+        go _ (by-turn h (short n (inr s))) e = (h, λ r m o. true≢false (sym (fit-of r frame o) ∙ n r m), (s .0, s .1, early-in (s .0) frame h (s .2)))
+        go _ (by-turn h (beyond k n s l b a c)) e = let z : _≡_ {A = ℕ} 0 1 = cc in absurd (omega arith)
+
+        back : (t : Tried) → Way t → 4 ≤ length frame → ((r : Row) → Has rows r → IsOf r frame → ⊥) → ((r : Row) × Has rows r × EarlyIn r frame) → t ≡ EndsEarly
+        back _ (under h) l n x = absurd (omega arith)
+        back _ (by-turn h (chosen r c)) l n x = absurd (n r (chosen-has c) (is-of r frame bytes (chosen-fits c)))
+        back _ (by-turn h (short m s)) l n x = refl
+        back _ (by-turn h (beyond k m s no-early b a c)) l n x = absurd (true≢false (sym (in-early (x .0) frame h (x .2)) ∙ no-early (x .0) (x .1)))
+
+    goes-on-exactly : (k : ℕ) → (tried rows frame ≡ GoesOn k) ↔ ((4 ≤ length frame) × ((r : Row) → Has rows r → EarlyIn r frame → ⊥) × (k < length frame) × MostClaimed rows frame k)
+    goes-on-exactly k = (λ e. go (tried rows frame) way e, λ x. back (tried rows frame) way (x .0) (x .1) (x .2) (x .3))
+      where
+        -- the most is not all: a row that claims all fits
+        not-all : (m : ℕ) → 4 ≤ length frame → ((r : Row) → Has rows r → fits r frame ≡ false) → (m ≡ 0) ⊎ ((r : Row) × Has rows r × (claimed r frame ≡ m)) → m ≡ length frame → ⊥
+        not-all m h n (inl z) e = omega arith
+        not-all m h n (inr (r, i, c)) e = true≢false (sym (Columns.claimed-all r frame (omega arith) (c ∙ e)) ∙ n r i)
+
+        go : (t : Tried) → Way t → t ≡ GoesOn k → (4 ≤ length frame) × ((r : Row) → Has rows r → EarlyIn r frame → ⊥) × (k < length frame) × MostClaimed rows frame k
+        go _ (under h) e = let z : _≡_ {A = ℕ} 0 1 = cc in absurd (omega arith)
+        go _ (by-turn h (chosen x c)) e = let z : _≡_ {A = ℕ} 0 1 = cc in absurd (omega arith)
+        go _ (by-turn h (short n s)) e = let z : _≡_ {A = ℕ} 0 1 = cc in absurd (omega arith)
+        go _ (by-turn h (beyond m n s no-early b bound at)) e =
+            let same : m ≡ k = cc in
+            let most = is-most rows frame m bytes bound at in
+            let differs = not-all m h n at in
+            let under = within m at in
+            (h, λ r i x. true≢false (sym (in-early r frame h x) ∙ no-early r i), below m (within m at) differs same, subst (MostClaimed rows frame) same most)
+          where
+            within : (m : ℕ) → (m ≡ 0) ⊎ ((r : Row) × Has rows r × (claimed r frame ≡ m)) → m ≤ length frame
+            within m (inl z) = omega arith
+            within m (inr (r, i, c)) = let l = Columns.claimed-most r frame (length frame) (λ t. t .within) in omega arith
+
+            below : (m : ℕ) → m ≤ length frame → (m ≡ length frame → ⊥) → m ≡ k → k < length frame
+            below m l d same = omega arith
+
+        back : (t : Tried) → Way t → 4 ≤ length frame → ((r : Row) → Has rows r → EarlyIn r frame → ⊥) → k < length frame → MostClaimed rows frame k → t ≡ GoesOn k
+        back _ (under h) l n less most = absurd (omega arith)
+        back _ (by-turn h (chosen r c)) l n less most =
+            let fit = Columns.fits-of r frame (chosen-fits c) in
+            let all = Columns.claimed-stands r frame (Columns.of-stands r frame (fit .0)) in
+            let bound = most-of rows frame k bytes most r (chosen-has c) in
+            absurd (omega (arith, fit .1))
+        back _ (by-turn h (short m (inl s))) l n less most = absurd (true≢false (sym s))
+        back _ (by-turn h (short m (inr s))) l n less most = absurd (n (s .0) (s .1) (early-in (s .0) frame h (s .2)))
+        back _ (by-turn h (beyond m no-fit s no-early b bound at)) l n less most = ap GoesOn (same at (claimed-by rows frame k most))
+          where
+            up : (a b : ℕ) → ((r : Row) → Has rows r → claimed r frame ≤ b) → (a ≡ 0) ⊎ ((r : Row) × Has rows r × (claimed r frame ≡ a)) → a ≤ b
+            up a b f (inl z) = omega arith
+            up a b f (inr (r, i, c)) = let q = f r i in omega arith
+
+            same : (m ≡ 0) ⊎ ((r : Row) × Has rows r × (claimed r frame ≡ m)) → (k ≡ 0) ⊎ ((r : Row) × Has rows r × (claimed r frame ≡ k)) → m ≡ k
+            same p q = let x = up m k (most-of rows frame k bytes most) p in let y = up k m bound q in omega arith
+
+pub tries-exactly : Claims.TriesExactly tried
+tries-exactly = record { short = is-short; fits = fits-exactly; early = early-exactly; goes-on = goes-on-exactly }
+
+-- whatever meets the claim is `tried`
+pub same-tries : (try : List Row → List ℕ → Tried) → Claims.TriesExactly try → (rows : List Row) (frame : List ℕ) → AreBytes frame → try rows frame ≡ tried rows frame
+same-tries try x rows frame bytes = go (tried rows frame) refl
+  where
+    go : (t : Tried) → tried rows frame ≡ t → try rows frame ≡ t
+    go Short e = x .short rows frame .1 (tries-exactly .short rows frame .0 e)
+    go (Fits r) e = x .fits rows frame bytes r .1 (tries-exactly .fits rows frame bytes r .0 e)
+    go EndsEarly e = x .early rows frame bytes .1 (tries-exactly .early rows frame bytes .0 e)
+    go (GoesOn k) e = x .goes-on rows frame bytes k .1 (tries-exactly .goes-on rows frame bytes k .0 e)

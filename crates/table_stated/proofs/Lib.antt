@@ -1,0 +1,13 @@
+pub mod Columns
+pub mod Fitting
+pub mod ByRows
+pub mod Turns
+pub mod Agreement
+pub mod Built
+pub mod AnyTable
+pub mod Numbers
+pub mod Theorems
+pub mod Only
+pub mod Refuted
+pub mod Cases
+pub mod Laws
