@@ -18,6 +18,10 @@ use panel_stated::Stepped;
 use panel_stated::Wrote;
 use response::Remainder;
 use signing::Head;
+use table::TableReading;
+ghost use mathlib.Core.Path.{_≡_};
+ghost use Rattle.table_stated.specs.Answers.{tableReadingOf};
+ghost use Rattle.panel_stated.specs.Exports.{frameNumbers};
 ghost use Rattle.panel_stated.specs.Contracts.{BrinecandleRead, BrinecandleReadStrict, BrinecandleWrite, BrinecandleWriteStrict, BrinecandleReadCommand, BrinecandleNew, BrinecandleGrantUp, BrinecandleConsumeUp, BrinecandleIsUpNeeded, BrinecandleDecide, BrinecandleFinish, BrinecandleWriteResponse, BrinecandleReadResponse, BrinecandleNextPart};
 
 // Reads any bytes as a frame; its data comes back as a place in the caller's frame. By cases, and each is a return of its own:
@@ -43,6 +47,49 @@ pub extern "C" fn brinecandle_read_strict(frame: &[u8]) -> FrameSaid
         Reading::Frame(says) => return plain_frames::frame_numbers(says),
         Reading::Status(status) => return plain_frames::frame_status(status),
     }
+}
+
+// A frame by its row, or a status word, as plain numbers.
+fn table_plain(reading: TableReading) -> FrameSaid
+    ensures { λ r. ⌜ r ≡ frameNumbers (tableReadingOf reading) ⌝ }
+{
+    match reading {
+        TableReading::Frame(says) => {
+            let header = says.header;
+            let start = says.start as usize;
+            FrameSaid {
+                answer: 0x9000,
+                fault: 0,
+                cla: header.cla,
+                ins: header.ins,
+                p1: header.p1,
+                p2: header.p2,
+                shape: says.number as u32,
+                lc: says.lc,
+                le: says.le,
+                start,
+                end: start + (says.lc as usize),
+                place: 0,
+            }
+        }
+        TableReading::Status(status) => plain_frames::frame_status(status),
+    }
+}
+
+// The second reader, by document 01's table as data. Its contract is brinecandle_read's own: the two answer the same.
+#[no_mangle]
+pub extern "C" fn brinecandle_read_by_table(frame: &[u8]) -> FrameSaid
+    ensures { λ r. ⌜ BrinecandleRead (now (frame .entry)) r ⌝ }
+{
+    table_plain(table::read(frame))
+}
+
+// By ISO's table as data, as brinecandle_read_strict.
+#[no_mangle]
+pub extern "C" fn brinecandle_read_strict_by_table(frame: &[u8]) -> FrameSaid
+    ensures { λ r. ⌜ BrinecandleReadStrict (now (frame .entry)) r ⌝ }
+{
+    table_plain(table::read_strict(frame))
 }
 
 // Writes a frame at the front of out.

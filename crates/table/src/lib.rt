@@ -167,7 +167,7 @@ fn says(row: Row, frame: &[u8]) -> RowSays
     RowSays {
         header,
         number: row.number,
-        start,
+        start: start as u8,
         lc,
         le: le::read(&frame[at..end]),
     }

@@ -23,7 +23,7 @@ pub enum Tried {
 pub struct RowSays {
     pub header: ApduHeader,
     pub number: u8,
-    pub start: usize,
+    pub start: u8,
     pub lc: u16,
     pub le: u32,
 }
