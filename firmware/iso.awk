@@ -1,4 +1,4 @@
-# For firmware/test: frames for the panel on a pipe, read, read strictly, written and written strictly, and what document 02, E4 and E1, and
+# For firmware/test: frames for the panel on a pipe, read and read strictly by both readers, written and written strictly, and what document 02, E4 and E1, and
 # ISO 7816-3's table of seven cases have them answered, worked out here from their sentences and from nothing that the panel says.
 #
 #   awk -v calls=FILE -v answers=FILE -f firmware/iso.awk
@@ -94,6 +94,9 @@ function reading(body, strictly,    s, k) {
 function read(body) {
     ask("read a0a1a2a3" body, reading(body, 0))
     ask("strict a0a1a2a3" body, reading(body, 1))
+    # 02, E9: the second reader is "equal to the branching reader on every frame, E1's pairs included"
+    ask("table a0a1a2a3" body, reading(body, 0))
+    ask("tablestrict a0a1a2a3" body, reading(body, 1))
 }
 
 # document 01's table: the bytes of the Lc field, the least and the most data, the bytes of the Le field and the most it says

@@ -11,6 +11,7 @@
  *                                          | ? no record yet      making that was not refused there is none (four zeros)
  *   room N                                 ok                     the reply buffer has N bytes from now on (1024 at first)
  *   read FRAME   strict FRAME              SHAPE LC LE START END  data from START, up to and without END
+ *   table FRAME   tablestrict FRAME        the same, by the second reader
  *   write CLA INS P1 P2 SHAPE LE DATA      9000 FRAME             written into the reply buffer
  *   writestrict CLA INS P1 P2 SHAPE LE DATA   9000 FRAME          the same by ISO's cases alone
  *   command FRAME                          register CHALLENGE APPLICATION | version | getresponse
@@ -45,8 +46,8 @@
  *   respond STATUS BODY                    9000 RESPONSE          body and status, of 16 bits
  *   response RESPONSE                      STATUS LENGTH          of a response that was read
  *
- * Any of them may be refused, `R1` to `R7`, or answered with a status word, as `6985`. A 6700 (read, strict, command, decide and try
- * answer it) goes on with what is wrong with the length, and where, counted from the frame's start:
+ * Any of them may be refused, `R1` to `R7`, or answered with a status word, as `6985`. A 6700 (read, strict, table, tablestrict,
+ * command, decide and try answer it) goes on with what is wrong with the length, and where, counted from the frame's start:
  *
  *   6700 missing PLACE                     the frame ends before its Lc field or its data does; PLACE is its length
  *   6700 surplus PLACE                     from PLACE on there are bytes that no field can claim
@@ -357,22 +358,34 @@ static void put_frame(struct brinecandle_frame frame)
     then_number(frame.end);
 }
 
-static bool call_read(char **word)
+/* The four readings of a frame. */
+static bool read_by(struct brinecandle_frame (*reader)(const uint8_t *, size_t), char **word)
 {
     struct bytes frame;
     if (!bytes(word[0], &frame))
         return false;
-    put_frame(brinecandle_read(frame.at, frame.length));
+    put_frame(reader(frame.at, frame.length));
     return true;
+}
+
+static bool call_read(char **word)
+{
+    return read_by(brinecandle_read, word);
 }
 
 static bool call_strict(char **word)
 {
-    struct bytes frame;
-    if (!bytes(word[0], &frame))
-        return false;
-    put_frame(brinecandle_read_strict(frame.at, frame.length));
-    return true;
+    return read_by(brinecandle_read_strict, word);
+}
+
+static bool call_table(char **word)
+{
+    return read_by(brinecandle_read_by_table, word);
+}
+
+static bool call_tablestrict(char **word)
+{
+    return read_by(brinecandle_read_strict_by_table, word);
 }
 
 /* What was written at the front of the reply buffer. */
@@ -766,6 +779,7 @@ static const struct call {
     {"outfill", 1, call_outfill}, {"out", 0, call_out},        {"ramp", 1, call_ramp},     {"remainder", 0, call_remainder},
     {"remain", 2, call_remain},   {"limit", 0, call_limit},    {"cut", 1, call_cut},       {"next", 1, call_next},
     {"respond", 2, call_respond}, {"response", 1, call_response}, {"writestrict", 7, call_writestrict},
+    {"table", 1, call_table},     {"tablestrict", 1, call_tablestrict},
 };
 
 /* ---- the pipe */

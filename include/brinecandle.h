@@ -46,8 +46,8 @@
 
 /* docs/CHANGES.md says when these move */
 #define BRINECANDLE_VERSION_MAJOR 0
-#define BRINECANDLE_VERSION_MINOR 7
-#define BRINECANDLE_VERSION "0.7"
+#define BRINECANDLE_VERSION_MINOR 8
+#define BRINECANDLE_VERSION "0.8"
 
 #include <stdbool.h>
 #include <stddef.h>
@@ -152,6 +152,16 @@ struct brinecandle_frame brinecandle_read(const uint8_t *frame, size_t frame_len
  * frame of more than 7 bytes, surplus at 7: an Lc field of ISO's counts at least one byte. Such a frame of 9 bytes is shape 7 above. */
 BRINECANDLE_TAKE_IT
 struct brinecandle_frame brinecandle_read_strict(const uint8_t *frame, size_t frame_length);
+
+/* The second reader: the rows of a table, as data, are tried in turn, and the one that fits answers; its number is `shape`. On every frame it
+ * answers as brinecandle_read, every field of it; it takes several times as long, and is there to be read beside its table
+ * (crates/table/src/rows.rt). */
+BRINECANDLE_TAKE_IT
+struct brinecandle_frame brinecandle_read_by_table(const uint8_t *frame, size_t frame_length);
+
+/* By ISO's table; on every frame as brinecandle_read_strict. */
+BRINECANDLE_TAKE_IT
+struct brinecandle_frame brinecandle_read_strict_by_table(const uint8_t *frame, size_t frame_length);
 
 /* How many bytes were written at the front of a buffer. */
 struct brinecandle_wrote {

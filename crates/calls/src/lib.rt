@@ -5,8 +5,8 @@ pub use words::given;
 
 // Each call's name, and a letter for each of its words: `words` says what they stand for. The crates that answer calls know them by
 // their places here, from 0 on.
-const CALLS: [u8; 280] =
-    *b"new n;touch n;check n;ask n;record ;resume nwwn;room r;fill b;reply ;read x;strict x;command x;write bbbb44x;decide n4xx4x4kk444;finish x4x;hold 4nno;data x;parts x;outroom r;outfill b;out ;ramp b;remainder ;remain nn;limit ;cut n;next 4;respond 2x;response x;writestrict bbbb44x;";
+const CALLS: [u8; 302] =
+    *b"new n;touch n;check n;ask n;record ;resume nwwn;room r;fill b;reply ;read x;strict x;command x;write bbbb44x;decide n4xx4x4kk444;finish x4x;hold 4nno;data x;parts x;outroom r;outfill b;out ;ramp b;remainder ;remain nn;limit ;cut n;next 4;respond 2x;response x;writestrict bbbb44x;table x;tablestrict x;";
 
 // The numbers of the words (`answers` has them) for a line that is no call.
 const NO_CALL: u16 = 16;

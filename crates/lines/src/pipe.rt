@@ -8,7 +8,7 @@ fn answered(desk: &mut Desk, call: usize, space: &[u8], out: &mut [u8], part: &m
     match call {
         0..=5 => panel_calls::on_record(desk, call),
         6..=8 => held::on_buffer(desk, call, out),
-        9..=11 => panel_calls::on_frame(call, calls::given(space, desk, 0)),
+        9..=11 | 30..=31 => panel_calls::on_frame(call, calls::given(space, desk, 0)),
         12 | 29 => order_calls::write(desk, call, space, out),
         13 => decide_calls::decide(desk, space, out, part),
         14 => order_calls::finish(desk, space, out),

@@ -37,11 +37,13 @@ fn command(c: CommandSaid) -> Answer {
     }
 }
 
-// read, strict and command.
+// read, strict, table, tablestrict and command.
 pub fn on_frame(call: usize, given: &[u8]) -> Answer {
     match call {
         9 => frame(panel::brinecandle_read(given)),
         10 => frame(panel::brinecandle_read_strict(given)),
+        30 => frame(panel::brinecandle_read_by_table(given)),
+        31 => frame(panel::brinecandle_read_strict_by_table(given)),
         _ => command(panel::brinecandle_read_command(given)),
     }
 }

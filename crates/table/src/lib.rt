@@ -18,8 +18,8 @@ ghost use Rattle.apdu_stated.specs.declared.Entry.the-variants.{Ordinary, Stric
 use apdu_stated::ApduHeader;
 use outcome::ApduStatusCode;
 use outcome::LengthFault;
-pub use rows::ORDINARY;
-pub use rows::STRICT;
+pub use rows::ordinary;
+pub use rows::strict;
 pub use table_stated::Row;
 pub use table_stated::RowSays;
 pub use table_stated::TableReading;
@@ -71,7 +71,7 @@ fn lc_in(long: usize, frame: &[u8]) -> u16
     0
 }
 
-// The frame can begin as the row does. A row whose fields have other lengths than fields do is nobody's.
+// The frame can begin as the row does. A row whose fields have other lengths than fields do fits nothing.
 fn opens(row: Row, frame: &[u8]) -> bool
     ensures { λ r. ⌜ r ≡ opens row (now (frame .entry)) ⌝ }
 {
@@ -135,7 +135,7 @@ pub fn try_rows(table: &[[u8; 4]], frame: &[u8]) -> Tried
         let row = row_at(table, i);
         let n = claimed(row, frame);
         if n == frame.len() {
-            return Tried::Fits(row);
+            return Tried::ByRow(row);
         }
         early = ends_early(early, row, frame);
         if most < n {
@@ -144,9 +144,9 @@ pub fn try_rows(table: &[[u8; 4]], frame: &[u8]) -> Tried
         i += 1;
     }
     if early {
-        return Tried::EndsEarly;
+        return Tried::Early;
     }
-    Tried::GoesOn(most)
+    Tried::Beyond(most)
 }
 
 // What a frame says by a row that fits it.
@@ -180,12 +180,12 @@ pub fn read_rows(table: &[[u8; 4]], frame: &[u8]) -> TableReading
     let tried = try_rows(table, frame);
     match tried {
         Tried::Short => TableReading::Status(ApduStatusCode::WrongData),
-        Tried::Fits(row) => TableReading::Frame(says(row, frame)),
-        Tried::EndsEarly => TableReading::Status(ApduStatusCode::WrongLength(
+        Tried::ByRow(row) => TableReading::Frame(says(row, frame)),
+        Tried::Early => TableReading::Status(ApduStatusCode::WrongLength(
             LengthFault::Missing,
             frame.len(),
         )),
-        Tried::GoesOn(place) => TableReading::Status(ApduStatusCode::WrongLength(
+        Tried::Beyond(place) => TableReading::Status(ApduStatusCode::WrongLength(
             LengthFault::Surplus,
             place,
         )),
@@ -196,7 +196,7 @@ pub fn read_rows(table: &[[u8; 4]], frame: &[u8]) -> TableReading
 pub fn read(frame: &[u8]) -> TableReading
     ensures { λ r. ⌜ ReadTable Ordinary (now (frame .entry)) r ⌝ }
 {
-    let table = ORDINARY;
+    let table = ordinary();
     read_rows(&table, frame)
 }
 
@@ -204,6 +204,6 @@ pub fn read(frame: &[u8]) -> TableReading
 pub fn read_strict(frame: &[u8]) -> TableReading
     ensures { λ r. ⌜ ReadTable Strict (now (frame .entry)) r ⌝ }
 {
-    let table = STRICT;
+    let table = strict();
     read_rows(&table, frame)
 }

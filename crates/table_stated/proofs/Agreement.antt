@@ -13,14 +13,14 @@ use Rattle.apdu_stated.specs.Reading.{readBy, lengthsOf, sayOf}
 use Rattle.apdu_stated.specs.declared.Lengths.{Lengths}
 use Rattle.apdu_stated.specs.declared.Lengths.the-variants.{Found, Missing, Surplus}
 use Rattle.apdu_stated.proofs.Laws.{way, read-under, read-by, say-missing, say-surplus}
-use Rattle.table_stated.specs.Words.{Entry, Ordinary, Strict, Row, Tried, Short, Fits, EndsEarly, GoesOn}
+use Rattle.table_stated.specs.Words.{Entry, Ordinary, Strict, Row, Tried, Short, ByRow, Early, Beyond}
 use Rattle.table_stated.specs.Rows.{tableOf}
 use Rattle.table_stated.specs.Trying.{fits, endsEarly, claimed, inTurn, tried}
 use Rattle.table_stated.specs.Answers.{answerOf, readRows}
 use Rattle.table_stated.specs.Terms.{Has, here, behind}
 use Rattle.table_stated.proofs.Fitting.{RowIs, is-1, is-2, is-3, is-4, is-5, is-6, is-7, is-8, fit-reads}
 use Rattle.table_stated.proofs.ByRows.{ByRows, fit, early, on, by-rows}
-use Rattle.table_stated.proofs.Turns.{Turn, chosen, short, beyond, turn, chosen-has, chosen-fits, no-row}
+use Rattle.table_stated.proofs.Turns.{Turn, chosen, short, past-all, turn, chosen-has, chosen-fits, no-row}
 
 -- the rows of the two tables, both ways
 pub has-is : (entry : Entry) {r : Row} → Has (tableOf entry) r → RowIs entry r
@@ -80,7 +80,7 @@ module _ (entry : Entry) (frame : List ℕ) (long : 4 ≤ length frame) where
       go (inr x) _ e (fit r is f) = absurd (true≢false (sym f ∙ no-fit r (is-has entry is)))
       go (inr x) _ e (early r is f) = sym (read-by entry frame long ∙ ap (sayOf frame) (sym e) ∙ say-missing frame)
       go (inr x) _ e (on k no-early bound r is at) = absurd (no-early (x .0) (x .2))
-  answered (beyond k no-fit none no-early low bound at) l e b = go l e b
+  answered (past-all k no-fit none no-early low bound at) l e b = go l e b
     where
       go : (l : Lengths) → l ≡ lengthsOf entry (drop 4 frame) → ByRows entry frame l → surplusAt k ≡ readBy entry frame
       go _ e (fit r is f) = absurd (true≢false (sym f ∙ no-fit r (is-has entry is)))

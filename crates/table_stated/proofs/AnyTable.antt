@@ -8,36 +8,48 @@ use native.Mathlib.Omega.{arith}
 use native.Mathlib.Decide.{decLt, ℕ-discrete}
 use lib.ListN.{length, take}
 use lib.Seq.{take-length, length-take-le}
+use Rattle.outcome.specs.Outcome.{StatusWord, Outcome, Word, SW, Gives, wrongLength}
+use Rattle.outcome.proofs.Laws.{gives-same, word-same, word-gives}
 use Rattle.octets.specs.Bytes.{AreBytes}
 use Rattle.apdu_stated.specs.Terms.{LongestFront}
-use Rattle.table_stated.specs.Words.{Says, Row, Tried, Short, Fits, EndsEarly, GoesOn}
+use Rattle.table_stated.specs.Words.{Says, Row, Tried, Short, ByRow, Early, Beyond}
 use Rattle.table_stated.specs.Trying.{stands, fits, endsEarly, claimed, rowEnd, inTurn, tried}
-use Rattle.table_stated.specs.Answers.{saysBy}
-use Rattle.table_stated.specs.Terms.{OfRow, IsOf, OfTable, EarlyIn, Has, here, behind, First, now, later, MostClaimed, some, none}
+use Rattle.table_stated.specs.Answers.{saysBy, answerOf, readRows}
+use Rattle.table_stated.specs.Terms.{OfRow, IsOf, OfTable, EarlyIn, Has, here, behind, First, this, later, MostClaimed, a-part, no-part}
 use Rattle.table_stated.specs.Claims
 use Rattle.table_stated.proofs.Columns
-use Rattle.table_stated.proofs.Built.{fit-of, of-fit, claimed-of, front-of, front-four, early-in, in-early}
-use Rattle.table_stated.proofs.Turns.{Chosen, at-once, further, chosen-has, chosen-fits, Turn, chosen, short, beyond, turn}
+use Rattle.table_stated.proofs.Built.{fit-of, said-of, of-fit, claimed-of, front-of, front-four, early-in, in-early}
+use Rattle.table_stated.proofs.Turns.{Chosen, at-once, further, chosen-has, chosen-fits, Turn, chosen, short, past-all, turn}
 use Rattle.table_stated.proofs.Agreement.{tried-short, tried-turn}
+
+-- two status words that are one: number, kind and place
+number-is : (v w : StatusWord) → _≡_ {A = Outcome Says} (Word v) (Word w) → v .number ≡ w .number
+number-is v w e = ap (λ (x : StatusWord). x .number) (word-same v w e)
+
+kind-is : (v w : StatusWord) → _≡_ {A = Outcome Says} (Word v) (Word w) → v .kind ≡ w .kind
+kind-is v w e = ap (λ (x : StatusWord). x .kind) (word-same v w e)
+
+place-is : (v w : StatusWord) → _≡_ {A = Outcome Says} (Word v) (Word w) → v .place ≡ w .place
+place-is v w e = ap (λ (x : StatusWord). x .place) (word-same v w e)
 
 is-of : (r : Row) (frame : List ℕ) → AreBytes frame → fits r frame ≡ true → IsOf r frame
 is-of r frame bytes e = let o = of-fit r frame bytes e in (saysBy r frame, o .0, o .1)
 
 -- the first row, in the claims' words and by the tests
 first-of : {rows : List Row} {frame : List ℕ} {r : Row} → AreBytes frame → Chosen rows frame r → First rows frame r
-first-of bytes (at-once {r} {rows} {frame} e) = now (is-of r frame bytes e)
+first-of bytes (at-once {r} {rows} {frame} e) = this (is-of r frame bytes e)
 first-of bytes (further {r} {x} {rows} {frame} e c) = later (λ o. true≢false (sym (fit-of x frame o) ∙ e)) (first-of bytes c)
 
 first-long : {rows : List Row} {frame : List ℕ} {r : Row} → First rows frame r → 4 ≤ length frame
-first-long (now {r} {rows} {frame} (says, content, o)) = front-four r frame content says o
+first-long (this {r} {rows} {frame} (says, content, o)) = front-four r frame content says o
 first-long (later n f) = first-long f
 
 pub first-row : {rows : List Row} {frame : List ℕ} {r : Row} → First rows frame r → IsOf r frame
-first-row (now o) = o
+first-row (this o) = o
 first-row (later n f) = first-row f
 
-of-first : {rows : List Row} {frame : List ℕ} {r : Row} → AreBytes frame → (early : Bool) (most : ℕ) → First rows frame r → inTurn rows frame early most ≡ Fits r
-of-first bytes early most (now {r} {rows} {frame} o) = rw (fit-of r frame o)
+of-first : {rows : List Row} {frame : List ℕ} {r : Row} → AreBytes frame → (early : Bool) (most : ℕ) → First rows frame r → inTurn rows frame early most ≡ ByRow r
+of-first bytes early most (this {r} {rows} {frame} o) = rw (fit-of r frame o)
 of-first bytes early most (later {r} {x} {rows} {frame} n f) =
     rw (Columns.is-false (fits x frame) (λ e. n (is-of x frame bytes e))) (of-first bytes _ _ f)
 
@@ -48,17 +60,17 @@ module _ (rows : List Row) (frame : List ℕ) where
   most-of k bytes m r h = Columns.claimed-most r frame k (λ t. go m t (front-of frame bytes r t))
     where
       go : MostClaimed rows frame k → (t : Columns.Stands r frame) → ((content : List ℕ) × OfRow r (take (rowEnd r frame) frame) (saysBy r frame) content) → rowEnd r frame ≤ k
-      go (some l) t o = by (decLt k (rowEnd r frame))
+      go (a-part l) t o = by (decLt k (rowEnd r frame))
         where
           by : Dec (k < rowEnd r frame) → rowEnd r frame ≤ k
           by (yes q) = absurd (l .longest (rowEnd r frame) (saysBy r frame) (o .0) q (t .within) (r, h, o .1))
           by (no q) = omega arith
-      go (none z n) t o = absurd (n (rowEnd r frame) (saysBy r frame) (o .0) (t .within) (r, h, o .1))
+      go (no-part z n) t o = absurd (n (rowEnd r frame) (saysBy r frame) (o .0) (t .within) (r, h, o .1))
 
   -- and it is claimed by a row, or it is 0
   claimed-by : (k : ℕ) → MostClaimed rows frame k → (k ≡ 0) ⊎ ((r : Row) × Has rows r × (claimed r frame ≡ k))
-  claimed-by k (none z n) = inl z
-  claimed-by k (some l) = let t = l .in-table in inr (t .2 .0, t .2 .1, claimed-of (t .2 .0) frame (t .1) (t .0) k (l .within) (t .2 .2))
+  claimed-by k (no-part z n) = inl z
+  claimed-by k (a-part l) = let t = l .in-table in inr (t .2 .0, t .2 .1, claimed-of (t .2 .0) frame (t .1) (t .0) k (l .within) (t .2 .2))
 
   -- the most that the tests find is the claims'
   is-most : (k : ℕ) → AreBytes frame → ((r : Row) → Has rows r → claimed r frame ≤ k) → (k ≡ 0) ⊎ ((r : Row) × Has rows r × (claimed r frame ≡ k)) → MostClaimed rows frame k
@@ -71,7 +83,7 @@ module _ (rows : List Row) (frame : List ℕ) where
       four j says content h x = let f = front-four (x .0) (take j frame) content says (x .2) in let l = length-take-le j frame h in omega arith
 
       nothing : k ≡ 0 → MostClaimed rows frame k
-      nothing z = none z (λ j says content h x. let a = over j says content h x in let b = four j says content h x in omega arith)
+      nothing z = no-part z (λ j says content h x. let a = over j says content h x in let b = four j says content h x in omega arith)
 
       go : Dec (k ≡ 0) → (k ≡ 0) ⊎ ((r : Row) × Has rows r × (claimed r frame ≡ k)) → MostClaimed rows frame k
       go (yes z) at = nothing z
@@ -84,7 +96,7 @@ module _ (rows : List Row) (frame : List ℕ) where
               let t = Columns.stands-of r frame q in
               let is : rowEnd r frame ≡ k = sym (Columns.claimed-stands r frame q) ∙ e in
               let o = front-of frame bytes r t in
-              some
+              a-part
               (record {
                 within = omega (arith, t .within);
                 in-table = (saysBy r frame, o .0, (r, h, subst (λ (x : ℕ). OfRow r (take x frame) (saysBy r frame) (o .0)) is (o .1)));
@@ -111,39 +123,39 @@ module _ (rows : List Row) (frame : List ℕ) where
       never : (t : Tried) → Turn rows frame false 0 t → t ≡ Short → length frame < 4
       never _ (chosen r c) e = let z : _≡_ {A = ℕ} 0 1 = cc in absurd (omega arith)
       never _ (short n s) e = let z : _≡_ {A = ℕ} 0 1 = cc in absurd (omega arith)
-      never _ (beyond k n s l b a c) e = let z : _≡_ {A = ℕ} 0 1 = cc in absurd (omega arith)
+      never _ (past-all k n s l b a c) e = let z : _≡_ {A = ℕ} 0 1 = cc in absurd (omega arith)
 
       go : (t : Tried) → Way t → t ≡ Short → length frame < 4
       go _ (under h) e = h
       go _ (by-turn h t) e = never _ t e
 
   module _ (bytes : AreBytes frame) where
-    fits-exactly : (r : Row) → (tried rows frame ≡ Fits r) ↔ First rows frame r
+    fits-exactly : (r : Row) → (tried rows frame ≡ ByRow r) ↔ First rows frame r
     fits-exactly r = (λ e. go (tried rows frame) way e, λ f. tried-turn rows frame (first-long f) ∙ of-first bytes false 0 f)
       where
-        go : (t : Tried) → Way t → t ≡ Fits r → First rows frame r
+        go : (t : Tried) → Way t → t ≡ ByRow r → First rows frame r
         go _ (under h) e = let z : _≡_ {A = ℕ} 0 1 = cc in absurd (omega arith)
         go _ (by-turn h (chosen x c)) e = let same : x ≡ r = cc in subst (First rows frame) same (first-of bytes c)
         go _ (by-turn h (short n s)) e = let z : _≡_ {A = ℕ} 0 1 = cc in absurd (omega arith)
-        go _ (by-turn h (beyond k n s l b a c)) e = let z : _≡_ {A = ℕ} 0 1 = cc in absurd (omega arith)
+        go _ (by-turn h (past-all k n s l b a c)) e = let z : _≡_ {A = ℕ} 0 1 = cc in absurd (omega arith)
 
-    early-exactly : (tried rows frame ≡ EndsEarly) ↔ ((4 ≤ length frame) × ((r : Row) → Has rows r → IsOf r frame → ⊥) × ((r : Row) × Has rows r × EarlyIn r frame))
+    early-exactly : (tried rows frame ≡ Early) ↔ ((4 ≤ length frame) × ((r : Row) → Has rows r → IsOf r frame → ⊥) × ((r : Row) × Has rows r × EarlyIn r frame))
     early-exactly = (λ e. go (tried rows frame) way e, λ x. back (tried rows frame) way (x .0) (x .1) (x .2))
       where
-        go : (t : Tried) → Way t → t ≡ EndsEarly → (4 ≤ length frame) × ((r : Row) → Has rows r → IsOf r frame → ⊥) × ((r : Row) × Has rows r × EarlyIn r frame)
+        go : (t : Tried) → Way t → t ≡ Early → (4 ≤ length frame) × ((r : Row) → Has rows r → IsOf r frame → ⊥) × ((r : Row) × Has rows r × EarlyIn r frame)
         go _ (under h) e = let z : _≡_ {A = ℕ} 0 1 = cc in absurd (omega arith)
         go _ (by-turn h (chosen x c)) e = let z : _≡_ {A = ℕ} 0 1 = cc in absurd (omega arith)
         go _ (by-turn h (short n (inl s))) e = absurd (true≢false (sym s))
         go _ (by-turn h (short n (inr s))) e = (h, λ r m o. true≢false (sym (fit-of r frame o) ∙ n r m), (s .0, s .1, early-in (s .0) frame h (s .2)))
-        go _ (by-turn h (beyond k n s l b a c)) e = let z : _≡_ {A = ℕ} 0 1 = cc in absurd (omega arith)
+        go _ (by-turn h (past-all k n s l b a c)) e = let z : _≡_ {A = ℕ} 0 1 = cc in absurd (omega arith)
 
-        back : (t : Tried) → Way t → 4 ≤ length frame → ((r : Row) → Has rows r → IsOf r frame → ⊥) → ((r : Row) × Has rows r × EarlyIn r frame) → t ≡ EndsEarly
+        back : (t : Tried) → Way t → 4 ≤ length frame → ((r : Row) → Has rows r → IsOf r frame → ⊥) → ((r : Row) × Has rows r × EarlyIn r frame) → t ≡ Early
         back _ (under h) l n x = absurd (omega arith)
         back _ (by-turn h (chosen r c)) l n x = absurd (n r (chosen-has c) (is-of r frame bytes (chosen-fits c)))
         back _ (by-turn h (short m s)) l n x = refl
-        back _ (by-turn h (beyond k m s no-early b a c)) l n x = absurd (true≢false (sym (in-early (x .0) frame h (x .2)) ∙ no-early (x .0) (x .1)))
+        back _ (by-turn h (past-all k m s no-early b a c)) l n x = absurd (true≢false (sym (in-early (x .0) frame h (x .2)) ∙ no-early (x .0) (x .1)))
 
-    goes-on-exactly : (k : ℕ) → (tried rows frame ≡ GoesOn k) ↔ ((4 ≤ length frame) × ((r : Row) → Has rows r → EarlyIn r frame → ⊥) × (k < length frame) × MostClaimed rows frame k)
+    goes-on-exactly : (k : ℕ) → (tried rows frame ≡ Beyond k) ↔ ((4 ≤ length frame) × ((r : Row) → Has rows r → EarlyIn r frame → ⊥) × (k < length frame) × MostClaimed rows frame k)
     goes-on-exactly k = (λ e. go (tried rows frame) way e, λ x. back (tried rows frame) way (x .0) (x .1) (x .2) (x .3))
       where
         -- the most is not all: a row that claims all fits
@@ -151,11 +163,11 @@ module _ (rows : List Row) (frame : List ℕ) where
         not-all m h n (inl z) e = omega arith
         not-all m h n (inr (r, i, c)) e = true≢false (sym (Columns.claimed-all r frame (omega arith) (c ∙ e)) ∙ n r i)
 
-        go : (t : Tried) → Way t → t ≡ GoesOn k → (4 ≤ length frame) × ((r : Row) → Has rows r → EarlyIn r frame → ⊥) × (k < length frame) × MostClaimed rows frame k
+        go : (t : Tried) → Way t → t ≡ Beyond k → (4 ≤ length frame) × ((r : Row) → Has rows r → EarlyIn r frame → ⊥) × (k < length frame) × MostClaimed rows frame k
         go _ (under h) e = let z : _≡_ {A = ℕ} 0 1 = cc in absurd (omega arith)
         go _ (by-turn h (chosen x c)) e = let z : _≡_ {A = ℕ} 0 1 = cc in absurd (omega arith)
         go _ (by-turn h (short n s)) e = let z : _≡_ {A = ℕ} 0 1 = cc in absurd (omega arith)
-        go _ (by-turn h (beyond m n s no-early b bound at)) e =
+        go _ (by-turn h (past-all m n s no-early b bound at)) e =
             let same : m ≡ k = cc in
             let most = is-most rows frame m bytes bound at in
             let differs = not-all m h n at in
@@ -169,7 +181,7 @@ module _ (rows : List Row) (frame : List ℕ) where
             below : (m : ℕ) → m ≤ length frame → (m ≡ length frame → ⊥) → m ≡ k → k < length frame
             below m l d same = omega arith
 
-        back : (t : Tried) → Way t → 4 ≤ length frame → ((r : Row) → Has rows r → EarlyIn r frame → ⊥) → k < length frame → MostClaimed rows frame k → t ≡ GoesOn k
+        back : (t : Tried) → Way t → 4 ≤ length frame → ((r : Row) → Has rows r → EarlyIn r frame → ⊥) → k < length frame → MostClaimed rows frame k → t ≡ Beyond k
         back _ (under h) l n less most = absurd (omega arith)
         back _ (by-turn h (chosen r c)) l n less most =
             let fit = Columns.fits-of r frame (chosen-fits c) in
@@ -178,7 +190,7 @@ module _ (rows : List Row) (frame : List ℕ) where
             absurd (omega (arith, fit .1))
         back _ (by-turn h (short m (inl s))) l n less most = absurd (true≢false (sym s))
         back _ (by-turn h (short m (inr s))) l n less most = absurd (n (s .0) (s .1) (early-in (s .0) frame h (s .2)))
-        back _ (by-turn h (beyond m no-fit s no-early b bound at)) l n less most = ap GoesOn (same at (claimed-by rows frame k most))
+        back _ (by-turn h (past-all m no-fit s no-early b bound at)) l n less most = ap Beyond (same at (claimed-by rows frame k most))
           where
             up : (a b : ℕ) → ((r : Row) → Has rows r → claimed r frame ≤ b) → (a ≡ 0) ⊎ ((r : Row) × Has rows r × (claimed r frame ≡ a)) → a ≤ b
             up a b f (inl z) = omega arith
@@ -188,7 +200,7 @@ module _ (rows : List Row) (frame : List ℕ) where
             same p q = let x = up m k (most-of rows frame k bytes most) p in let y = up k m bound q in omega arith
 
 pub tries-exactly : Claims.TriesExactly tried
-tries-exactly = record { short = is-short; fits = fits-exactly; early = early-exactly; goes-on = goes-on-exactly }
+tries-exactly = record { short = is-short; by-row = fits-exactly; early = early-exactly; beyond = goes-on-exactly }
 
 -- whatever meets the claim is `tried`
 pub same-tries : (try : List Row → List ℕ → Tried) → Claims.TriesExactly try → (rows : List Row) (frame : List ℕ) → AreBytes frame → try rows frame ≡ tried rows frame
@@ -196,6 +208,74 @@ same-tries try x rows frame bytes = go (tried rows frame) refl
   where
     go : (t : Tried) → tried rows frame ≡ t → try rows frame ≡ t
     go Short e = x .short rows frame .1 (tries-exactly .short rows frame .0 e)
-    go (Fits r) e = x .fits rows frame bytes r .1 (tries-exactly .fits rows frame bytes r .0 e)
-    go EndsEarly e = x .early rows frame bytes .1 (tries-exactly .early rows frame bytes .0 e)
-    go (GoesOn k) e = x .goes-on rows frame bytes k .1 (tries-exactly .goes-on rows frame bytes k .0 e)
+    go (ByRow r) e = x .by-row rows frame bytes r .1 (tries-exactly .by-row rows frame bytes r .0 e)
+    go Early e = x .early rows frame bytes .1 (tries-exactly .early rows frame bytes .0 e)
+    go (Beyond k) e = x .beyond rows frame bytes k .1 (tries-exactly .beyond rows frame bytes k .0 e)
+
+-- ---- what is answered, each exactly when
+module _ (rows : List Row) (frame : List ℕ) where
+  answer-of : (t : Tried) → tried rows frame ≡ t → answerOf frame t ≡ readRows rows frame
+  unfolding readRows
+  answer-of t e = ap (answerOf frame) (sym e)
+
+  short-answer : (readRows rows frame ≡ SW 0x6a80) ↔ (length frame < 4)
+  short-answer = (λ e. go (tried rows frame) refl e, λ h. sym (answer-of Short (is-short rows frame .1 h)))
+    where
+      go : (t : Tried) → tried rows frame ≡ t → readRows rows frame ≡ SW 0x6a80 → length frame < 4
+      go Short t e = is-short rows frame .0 t
+      go (ByRow r) t e = absurd (word-gives _ _ (sym (answer-of (ByRow r) t ∙ e)))
+      go Early t e = let n = number-is _ _ (answer-of Early t ∙ e) in absurd (omega arith)
+      go (Beyond k) t e = let n = number-is _ _ (answer-of (Beyond k) t ∙ e) in absurd (omega arith)
+
+  module _ (bytes : AreBytes frame) where
+    reads-answer : (says : Says) → (readRows rows frame ≡ Gives says) ↔ ((r : Row) × (content : List ℕ) × First rows frame r × OfRow r frame says content)
+    reads-answer says = (λ e. go (tried rows frame) refl e, back)
+      where
+        go : (t : Tried) → tried rows frame ≡ t → readRows rows frame ≡ Gives says → (r : Row) × (content : List ℕ) × First rows frame r × OfRow r frame says content
+        go Short t e = absurd (word-gives _ _ (answer-of Short t ∙ e))
+        go (ByRow r) t e =
+            let f = fits-exactly rows frame bytes r .0 t in
+            let o = first-row f in
+            let same : o .0 ≡ says = sym (said-of r frame (o .1) (o .0) (o .2)) ∙ gives-same _ _ (answer-of (ByRow r) t ∙ e) in
+            (r, o .1, f, subst (λ (s : Says). OfRow r frame s (o .1)) same (o .2))
+        go Early t e = absurd (word-gives _ _ (answer-of Early t ∙ e))
+        go (Beyond k) t e = absurd (word-gives _ _ (answer-of (Beyond k) t ∙ e))
+
+        back : ((r : Row) × (content : List ℕ) × First rows frame r × OfRow r frame says content) → readRows rows frame ≡ Gives says
+        back (r, content, f, o) = sym (answer-of (ByRow r) (fits-exactly rows frame bytes r .1 f)) ∙ ap Gives (said-of r frame content says o)
+
+    missing-answer : (k : ℕ) → (readRows rows frame ≡ wrongLength 1 k)
+        ↔ ((4 ≤ length frame) × ((r : Row) → Has rows r → IsOf r frame → ⊥) × ((r : Row) × Has rows r × EarlyIn r frame) × (k ≡ length frame))
+    missing-answer k = (λ e. go (tried rows frame) refl e, back)
+      where
+        go : (t : Tried) → tried rows frame ≡ t → readRows rows frame ≡ wrongLength 1 k
+            → (4 ≤ length frame) × ((r : Row) → Has rows r → IsOf r frame → ⊥) × ((r : Row) × Has rows r × EarlyIn r frame) × (k ≡ length frame)
+        go Short t e = let n = number-is _ _ (answer-of Short t ∙ e) in absurd (omega arith)
+        go (ByRow r) t e = absurd (word-gives _ _ (sym (answer-of (ByRow r) t ∙ e)))
+        go Early t e = let x = early-exactly rows frame bytes .0 t in (x .0, x .1, x .2, sym (place-is _ _ (answer-of Early t ∙ e)))
+        go (Beyond m) t e = let n = kind-is _ _ (answer-of (Beyond m) t ∙ e) in absurd (omega arith)
+
+        back : ((4 ≤ length frame) × ((r : Row) → Has rows r → IsOf r frame → ⊥) × ((r : Row) × Has rows r × EarlyIn r frame) × (k ≡ length frame)) → readRows rows frame ≡ wrongLength 1 k
+        back (h, n, x, e) = sym (answer-of Early (early-exactly rows frame bytes .1 (h, n, x))) ∙ ap (wrongLength 1) (sym e)
+
+    surplus-answer : (k : ℕ) → (readRows rows frame ≡ wrongLength 2 k) ↔ ((4 ≤ length frame) × ((r : Row) → Has rows r → EarlyIn r frame → ⊥) × (k < length frame) × MostClaimed rows frame k)
+    surplus-answer k = (λ e. go (tried rows frame) refl e, λ x. sym (answer-of (Beyond k) (goes-on-exactly rows frame bytes k .1 x)))
+      where
+        go : (t : Tried) → tried rows frame ≡ t → readRows rows frame ≡ wrongLength 2 k → (4 ≤ length frame) × ((r : Row) → Has rows r → EarlyIn r frame → ⊥) × (k < length frame) × MostClaimed rows frame k
+        go Short t e = let n = number-is _ _ (answer-of Short t ∙ e) in absurd (omega arith)
+        go (ByRow r) t e = absurd (word-gives _ _ (sym (answer-of (ByRow r) t ∙ e)))
+        go Early t e = let n = kind-is _ _ (answer-of Early t ∙ e) in absurd (omega arith)
+        go (Beyond m) t e = let same : m ≡ k = place-is _ _ (answer-of (Beyond m) t ∙ e) in goes-on-exactly rows frame bytes k .0 (t ∙ ap Beyond same)
+
+pub answers-exactly : Claims.AnswersExactly readRows
+answers-exactly = record { reads = reads-answer; short = short-answer; missing = missing-answer; surplus = surplus-answer }
+
+-- whatever meets the claim is `readRows`
+pub same-answers : (read : List Row → List ℕ → Outcome Says) → Claims.AnswersExactly read → (rows : List Row) (frame : List ℕ) → AreBytes frame → read rows frame ≡ readRows rows frame
+same-answers read x rows frame bytes = go (tried rows frame) refl
+  where
+    go : (t : Tried) → tried rows frame ≡ t → read rows frame ≡ readRows rows frame
+    go Short t = let e = sym (answer-of rows frame Short t) in x .short rows frame .1 (answers-exactly .short rows frame .0 e) ∙ sym e
+    go (ByRow r) t = let e = sym (answer-of rows frame (ByRow r) t) in x .reads rows frame bytes _ .1 (answers-exactly .reads rows frame bytes _ .0 e) ∙ sym e
+    go Early t = let e = sym (answer-of rows frame Early t) in x .missing rows frame bytes _ .1 (answers-exactly .missing rows frame bytes _ .0 e) ∙ sym e
+    go (Beyond k) t = let e = sym (answer-of rows frame (Beyond k) t) in x .surplus rows frame bytes k .1 (answers-exactly .surplus rows frame bytes k .0 e) ∙ sym e

@@ -14,7 +14,7 @@ use Rattle.apdu_stated.specs.declared.Lengths.{Lengths}
 use Rattle.apdu_stated.specs.declared.Lengths.the-variants.{Found, Missing, Surplus}
 use Rattle.apdu_stated.proofs.Laws.{Way, none, le1, short, short-le, le3, wide, wide-le1, wide-le2, missing, short-surplus, le1-surplus, wide-surplus, zero-surplus, from-least, ordinary-has, least-one}
 use Rattle.table_stated.specs.Words.{Case, Lc3DataLe2, Entry, Ordinary, Strict, Row}
-use Rattle.table_stated.specs.Rows.{row}
+use Rattle.table_stated.specs.Rows.{numbered}
 use Rattle.table_stated.specs.Trying.{begins, lcIn, dataEnd, rowEnd, fits, endsEarly, claimed}
 use Rattle.table_stated.proofs.Columns.{begins-other, begins-zero, begins-known, lc-none, lc-one, lc-three, IsLc, lc-0, lc-1, lc-3, row-lc, Opens, Stands, of-fits, early-of, of-early, of-stands, claimed-stands, claimed-most}
 use Rattle.table_stated.proofs.Fitting.{RowIs, is-1, is-2, is-3, is-4, is-5, is-6, is-7, is-8, payload-long, payload-byte, payload-pair}
@@ -51,23 +51,23 @@ module _ (entry : Entry) (frame : List ℕ) (long : 4 ≤ length frame) where
   z0 : _≡_ {A = ℕ} 0 (lcIn 0 frame)
   z0 = lc-none frame
 
-  fits-7 : lcUnder entry (pairAt (drop 4 frame) 1) ≡ false → byte frame 4 ≡ 0 → 9 + pairAt frame 5 ≤ length frame → Stands (row 7 3 (leastOf entry Lc3DataLe2) 2) frame
+  fits-7 : lcUnder entry (pairAt (drop 4 frame) 1) ≡ false → byte frame 4 ≡ 0 → 9 + pairAt frame 5 ≤ length frame → Stands (numbered 7 3 (leastOf entry Lc3DataLe2) 2) frame
   fits-7 d z h =
       let l = lc-three frame (omega arith) in
       let least : leastOf entry Lc3DataLe2 ≤ lcIn 3 frame = rw (← l, ← pp) (from-least entry (pairAt (drop 4 frame) 1) d) in
       record { is-row = refl; begin = begins-zero 3 4 frame z; least = least; within = omega arith; le-begin = begins-other 2 _ frame (omega arith) }
 
-  fits-8 : byte frame 4 ≡ 0 → 7 ≤ length frame → Stands (row 8 0 0 3) frame
+  fits-8 : byte frame 4 ≡ 0 → 7 ≤ length frame → Stands (numbered 8 0 0 3) frame
   fits-8 z h =
       let at : byte frame (4 + 0 + lcIn 0 frame) ≡ 0 = ap (byte frame) (omega (arith, z0)) ∙ z in
       record { is-row = refl; begin = begins-other 0 4 frame (omega arith); least = omega arith; within = omega (arith, z0); le-begin = begins-zero 3 _ frame at }
 
-  fits-5 : byte frame 4 ≡ 0 → (pairAt frame 5 ≡ 0 → ⊥) → 7 + pairAt frame 5 ≤ length frame → Stands (row 5 3 1 0) frame
+  fits-5 : byte frame 4 ≡ 0 → (pairAt frame 5 ≡ 0 → ⊥) → 7 + pairAt frame 5 ≤ length frame → Stands (numbered 5 3 1 0) frame
   fits-5 z some h =
       let l = lc-three frame (omega arith) in
       record { is-row = refl; begin = begins-zero 3 4 frame z; least = omega arith; within = omega arith; le-begin = begins-other 0 _ frame (omega arith) }
 
-  fits-4 : (byte frame 4 ≡ 0 → ⊥) → 6 + byte frame 4 ≤ length frame → Stands (row 4 1 1 1) frame
+  fits-4 : (byte frame 4 ≡ 0 → ⊥) → 6 + byte frame 4 ≤ length frame → Stands (numbered 4 1 1 1) frame
   fits-4 some h =
       let l = lc-one frame (omega arith) in
       record { is-row = refl; begin = begins-other 1 4 frame (omega arith); least = omega arith; within = omega arith; le-begin = begins-other 1 _ frame (omega arith) }
@@ -119,36 +119,36 @@ module _ (entry : Entry) (frame : List ℕ) (long : 4 ≤ length frame) where
 
   at-missing : EndsEarly (drop 4 frame) → ByRows entry frame Missing
   at-missing (in-lc two z h) =
-      early (row 5 3 1 0) is-5 (of-early (row 5 3 1 0) frame (record { is-row = refl; begin = begins-zero 3 4 frame (sym p0 ∙ z) }) (omega (arith, n)))
+      early (numbered 5 3 1 0) is-5 (of-early (numbered 5 3 1 0) frame (record { is-row = refl; begin = begins-zero 3 4 frame (sym p0 ∙ z) }) (omega (arith, n)))
   at-missing (in-short-data two nz h) =
-      early (row 3 1 1 0) is-3
-      (of-early (row 3 1 1 0) frame (record { is-row = refl; begin = begins-other 1 4 frame (omega arith) }) (omega (arith, n, p0, lc-one frame (omega (arith, n)))))
+      early (numbered 3 1 1 0) is-3
+      (of-early (numbered 3 1 1 0) frame (record { is-row = refl; begin = begins-other 1 4 frame (omega arith) }) (omega (arith, n, p0, lc-one frame (omega (arith, n)))))
   at-missing (in-extended-data z more h) =
-      early (row 5 3 1 0) is-5
-      (of-early (row 5 3 1 0) frame (record { is-row = refl; begin = begins-zero 3 4 frame (sym p0 ∙ z) }) (omega (arith, n, pp, lc-three frame (omega (arith, n)))))
+      early (numbered 5 3 1 0) is-5
+      (of-early (numbered 5 3 1 0) frame (record { is-row = refl; begin = begins-zero 3 4 frame (sym p0 ∙ z) }) (omega (arith, n, pp, lc-three frame (omega (arith, n)))))
 
   pub by-rows : {l : Lengths} → Way entry (drop 4 frame) l → ByRows entry frame l
   by-rows (none e) =
-      let t : Stands (row 1 0 0 0) frame = record { is-row = refl; begin = begins-other 0 4 frame (omega arith); least = omega arith; within = omega (arith, n, z0); le-begin = begins-other 0 _ frame (omega arith) } in
-      fit (row 1 0 0 0) is-1 (of-fits _ frame t (omega (arith, n, z0)))
+      let t : Stands (numbered 1 0 0 0) frame = record { is-row = refl; begin = begins-other 0 4 frame (omega arith); least = omega arith; within = omega (arith, n, z0); le-begin = begins-other 0 _ frame (omega arith) } in
+      fit (numbered 1 0 0 0) is-1 (of-fits _ frame t (omega (arith, n, z0)))
   by-rows (le1 e) =
-      let t : Stands (row 2 0 0 1) frame = record { is-row = refl; begin = begins-other 0 4 frame (omega arith); least = omega arith; within = omega (arith, n, z0); le-begin = begins-other 1 _ frame (omega arith) } in
-      fit (row 2 0 0 1) is-2 (of-fits _ frame t (omega (arith, n, z0)))
+      let t : Stands (numbered 2 0 0 1) frame = record { is-row = refl; begin = begins-other 0 4 frame (omega arith); least = omega arith; within = omega (arith, n, z0); le-begin = begins-other 1 _ frame (omega arith) } in
+      fit (numbered 2 0 0 1) is-2 (of-fits _ frame t (omega (arith, n, z0)))
   by-rows (short nz e) =
       let l = lc-one frame (omega (arith, n)) in
-      let t : Stands (row 3 1 1 0) frame = record { is-row = refl; begin = begins-other 1 4 frame (omega arith); least = omega (arith, p0); within = omega (arith, n, p0); le-begin = begins-other 0 _ frame (omega arith) } in
-      fit (row 3 1 1 0) is-3 (of-fits _ frame t (omega (arith, n, p0)))
+      let t : Stands (numbered 3 1 1 0) frame = record { is-row = refl; begin = begins-other 1 4 frame (omega arith); least = omega (arith, p0); within = omega (arith, n, p0); le-begin = begins-other 0 _ frame (omega arith) } in
+      fit (numbered 3 1 1 0) is-3 (of-fits _ frame t (omega (arith, n, p0)))
   by-rows (short-le nz e) =
       let l = lc-one frame (omega (arith, n)) in
-      fit (row 4 1 1 1) is-4 (of-fits _ frame (fits-4 (λ q. nz (p0 ∙ q)) (omega (arith, n, p0))) (omega (arith, n, p0)))
-  by-rows (le3 z e) = fit (row 8 0 0 3) is-8 (of-fits _ frame (fits-8 (sym p0 ∙ z) (omega (arith, n))) (omega (arith, n, z0)))
+      fit (numbered 4 1 1 1) is-4 (of-fits _ frame (fits-4 (λ q. nz (p0 ∙ q)) (omega (arith, n, p0))) (omega (arith, n, p0)))
+  by-rows (le3 z e) = fit (numbered 8 0 0 3) is-8 (of-fits _ frame (fits-8 (sym p0 ∙ z) (omega (arith, n))) (omega (arith, n, z0)))
   by-rows (wide z nz e) =
       let l = lc-three frame (omega (arith, n)) in
-      fit (row 5 3 1 0) is-5 (of-fits _ frame (fits-5 (sym p0 ∙ z) (λ q. nz (pp ∙ q)) (omega (arith, n, pp))) (omega (arith, n, pp)))
+      fit (numbered 5 3 1 0) is-5 (of-fits _ frame (fits-5 (sym p0 ∙ z) (λ q. nz (pp ∙ q)) (omega (arith, n, pp))) (omega (arith, n, pp)))
   by-rows (wide-le1 o z e) =
       let l = lc-three frame (omega (arith, n)) in
-      let t : Stands (row 6 3 0 1) frame = record { is-row = refl; begin = begins-zero 3 4 frame (sym p0 ∙ z); least = omega arith; within = omega (arith, n, pp); le-begin = begins-other 1 _ frame (omega arith) } in
-      fit (row 6 3 0 1) (is-6 o) (of-fits _ frame t (omega (arith, n, pp)))
+      let t : Stands (numbered 6 3 0 1) frame = record { is-row = refl; begin = begins-zero 3 4 frame (sym p0 ∙ z); least = omega arith; within = omega (arith, n, pp); le-begin = begins-other 1 _ frame (omega arith) } in
+      fit (numbered 6 3 0 1) (is-6 o) (of-fits _ frame t (omega (arith, n, pp)))
   by-rows (wide-le2 d z e) =
       let l = lc-three frame (omega (arith, n)) in
       fit _ is-7 (of-fits _ frame (fits-7 d (sym p0 ∙ z) (omega (arith, n, pp))) (omega (arith, n, pp)))
@@ -160,7 +160,7 @@ module _ (entry : Entry) (frame : List ℕ) (long : 4 ≤ length frame) where
       (on (6 + byte frame 4)
       (none-early frame long (λ q. omega (arith, n, p0)) (omega (arith, n)) (λ q. absurd (some q)))
       (most-short some (omega (arith, n)))
-      (row 4 1 1 1) is-4 (attained _ _ (fits-4 some (omega (arith, n, p0))) (omega arith)))
+      (numbered 4 1 1 1) is-4 (attained _ _ (fits-4 some (omega (arith, n, p0))) (omega arith)))
   by-rows (le1-surplus o d z h) =
       let zero : byte frame 4 ≡ 0 = sym p0 ∙ z in
       let low : leastOf Strict Lc3DataLe2 ≤ pairAt (drop 4 frame) 1 = subst (λ (e : Entry). leastOf e Lc3DataLe2 ≤ pairAt (drop 4 frame) 1) o (from-least entry _ d) in
@@ -169,7 +169,7 @@ module _ (entry : Entry) (frame : List ℕ) (long : 4 ≤ length frame) where
       (on (7 + pairAt frame 5)
       (none-early frame long (λ q. omega (arith, n)) (omega (arith, n)) (λ q. (omega (arith, n), omega (arith, n, pp))))
       (most-extended (7 + pairAt frame 5) zero (omega (arith, n)) (omega arith) (λ q. omega arith) (λ q. absurd (not-ordinary (sym o ∙ q))) (λ a b. absurd (omega (arith, n, pp))))
-      (row 5 3 1 0) is-5 (attained _ _ (fits-5 zero (omega (arith, pp)) (omega (arith, n, pp))) (omega arith)))
+      (numbered 5 3 1 0) is-5 (attained _ _ (fits-5 zero (omega (arith, pp)) (omega (arith, n, pp))) (omega arith)))
   by-rows (wide-surplus d z h) =
       let zero : byte frame 4 ≡ 0 = sym p0 ∙ z in
       let l = lc-three frame (omega (arith, n)) in
@@ -186,4 +186,4 @@ module _ (entry : Entry) (frame : List ℕ) (long : 4 ≤ length frame) where
       on 7
       (none-early frame long (λ q. omega (arith, n)) (omega (arith, n)) (λ q. (omega (arith, n), omega (arith, n, pp))))
       (most-extended 7 zero (omega (arith, n)) (omega arith) (λ q. absurd (omega (arith, pp))) (λ q. absurd (ordinary q)) (λ a b. absurd (omega (arith, pp))))
-      (row 8 0 0 3) is-8 (attained _ _ (fits-8 zero (omega (arith, n))) (omega (arith, z0)))
+      (numbered 8 0 0 3) is-8 (attained _ _ (fits-8 zero (omega (arith, n))) (omega (arith, z0)))

@@ -13,16 +13,17 @@ use lib.Dec.{ltb, eqb}
 use Rattle.outcome.specs.Notation.{if_then_else_}
 use Rattle.outcome.specs.Outcome.{Outcome, SW, Gives, missingAt, surplusAt}
 use Rattle.octets.specs.Bytes.{byte, pairAt}
-use Rattle.table_stated.specs.Words.{Says, Row, Tried, Short, Fits, EndsEarly, GoesOn}
-use Rattle.table_stated.specs.Rows.{row, rowFrom, rowsOf}
+use Rattle.table_stated.specs.Words.{Says, Entry, Row, Tried, Short, ByRow, Early, Beyond}
+use Rattle.table_stated.specs.Rows.{numbered, tableOf, rowFrom, rowsOf, columnsOf}
 use Rattle.table_stated.specs.Trying.{isRow, begins, lcIn, leIn, dataEnd, rowEnd, opens, stands, fits, endsEarly, claimed, greater, inTurn, tried}
 use Rattle.table_stated.specs.Answers.{saysBy, answerOf, readRows}
 use Rattle.table_stated.proofs.Columns
-use Rattle.table_stated.proofs.Turns.{Turn, chosen, short, beyond, turn, chosen-fits}
+use Rattle.table_stated.proofs.Turns.{Turn, chosen, short, past-all, turn, chosen-fits}
 use Rattle.table_stated.proofs.Agreement.{tried-short, tried-turn}
+use Rattle.table_stated.proofs.Theorems.{written-out}
 
 -- ---- a row from its four numbers
-pub row-is : (columns : List ℕ) (lc least le : ℕ) → lc ≡ getD columns 1 0 → least ≡ getD columns 2 0 → le ≡ getD columns 3 0 → row (getD columns 0 0) lc least le ≡ rowFrom columns
+pub row-is : (columns : List ℕ) (lc least le : ℕ) → lc ≡ getD columns 1 0 → least ≡ getD columns 2 0 → le ≡ getD columns 3 0 → numbered (getD columns 0 0) lc least le ≡ rowFrom columns
 row-is columns lc least le a b c = rw (a, b, c)
 
 -- ---- the first byte of a field
@@ -140,14 +141,14 @@ module _ (table : List (List ℕ)) (frame : List ℕ) (long : 4 ≤ length frame
   at-start = record { within = omega arith; same = refl }
 
   module _ (i : ℕ) (early : Bool) (most : ℕ) (at : At table frame i early most) where
-    pub at-end : length table ≤ i → (if early then EndsEarly else GoesOn most) ≡ tried (rowsOf table) frame
+    pub at-end : length table ≤ i → (if early then Early else Beyond most) ≡ tried (rowsOf table) frame
     at-end h = ap (λ (t : List (List ℕ)). inTurn (rowsOf t) frame early most) (sym (drop-of-length-le table h)) ∙ at .same ∙ sym (tried-turn (rowsOf table) frame long)
 
-    pub ends-early : length table ≤ i → early ≡ true → EndsEarly ≡ tried (rowsOf table) frame
-    ends-early h e = ap (λ (b : Bool). if b then EndsEarly else GoesOn most) (sym e) ∙ at-end h
+    pub ends-early : length table ≤ i → early ≡ true → Early ≡ tried (rowsOf table) frame
+    ends-early h e = ap (λ (b : Bool). if b then Early else Beyond most) (sym e) ∙ at-end h
 
-    pub goes-on : length table ≤ i → early ≡ false → GoesOn most ≡ tried (rowsOf table) frame
-    goes-on h e = ap (λ (b : Bool). if b then EndsEarly else GoesOn most) (sym e) ∙ at-end h
+    pub goes-on : length table ≤ i → early ≡ false → Beyond most ≡ tried (rowsOf table) frame
+    goes-on h e = ap (λ (b : Bool). if b then Early else Beyond most) (sym e) ∙ at-end h
 
     module _ (h : i < length table) (r : Row) (is-r : r ≡ rowFrom (getD table i [])) (n : ℕ) (is-n : n ≡ claimed r frame) where
       rows-from : rowsOf (drop i table) ≡ r ∷ rowsOf (drop (i + 1) table)
@@ -156,10 +157,10 @@ module _ (table : List (List ℕ)) (frame : List ℕ) (long : 4 ≤ length frame
       turned : inTurn (r ∷ rowsOf (drop (i + 1) table)) frame early most ≡ inTurn (rowsOf table) frame false 0
       turned = ap (λ (rows : List Row). inTurn rows frame early most) (sym rows-from) ∙ at .same
 
-      pub fits-at : n ≡ length frame → Fits r ≡ tried (rowsOf table) frame
+      pub fits-at : n ≡ length frame → ByRow r ≡ tried (rowsOf table) frame
       fits-at e =
           let f : fits r frame ≡ true = Columns.claimed-all r frame (omega arith) (sym is-n ∙ e) in
-          ap (λ (b : Bool). if b then Fits r else inTurn (rowsOf (drop (i + 1) table)) frame (early || endsEarly r frame) (greater most (claimed r frame))) (sym f)
+          ap (λ (b : Bool). if b then ByRow r else inTurn (rowsOf (drop (i + 1) table)) frame (early || endsEarly r frame) (greater most (claimed r frame))) (sym f)
           ∙ turned ∙ sym (tried-turn (rowsOf table) frame long)
 
       module _ (differs : n ≡ length frame → ⊥) (sooner : Bool) (is-sooner : sooner ≡ (early || endsEarly r frame)) where
@@ -172,7 +173,7 @@ module _ (table : List (List ℕ)) (frame : List ℕ) (long : 4 ≤ length frame
               within = omega arith;
               same =
                   rw (e, is-sooner, is-n)
-                  (sym (ap (λ (b : Bool). if b then Fits r else inTurn (rowsOf (drop (i + 1) table)) frame (early || endsEarly r frame) (greater most (claimed r frame))) misfit) ∙ turned);
+                  (sym (ap (λ (b : Bool). if b then ByRow r else inTurn (rowsOf (drop (i + 1) table)) frame (early || endsEarly r frame) (greater most (claimed r frame))) misfit) ∙ turned);
             }
 
         pub next-more : (m : ℕ) → most < n → m ≡ n → At table frame (i + 1) sooner m
@@ -193,29 +194,29 @@ module _ (rows : List Row) (frame : List ℕ) (t : Tried) (is-t : t ≡ tried ro
   pub read-short : t ≡ Short → SW 0x6a80 ≡ readRows rows frame
   read-short e = read-is Short e
 
-  pub read-fits : (r : Row) (said : Says) → said ≡ saysBy r frame → t ≡ Fits r → Gives said ≡ readRows rows frame
-  read-fits r said is e = ap Gives is ∙ read-is (Fits r) e
+  pub read-fits : (r : Row) (said : Says) → said ≡ saysBy r frame → t ≡ ByRow r → Gives said ≡ readRows rows frame
+  read-fits r said is e = ap Gives is ∙ read-is (ByRow r) e
 
-  pub read-early : t ≡ EndsEarly → missingAt (length frame) ≡ readRows rows frame
-  read-early e = read-is EndsEarly e
+  pub read-early : t ≡ Early → missingAt (length frame) ≡ readRows rows frame
+  read-early e = read-is Early e
 
-  pub read-on : (place : ℕ) → t ≡ GoesOn place → surplusAt place ≡ readRows rows frame
-  read-on place e = read-is (GoesOn place) e
+  pub read-on : (place : ℕ) → t ≡ Beyond place → surplusAt place ≡ readRows rows frame
+  read-on place e = read-is (Beyond place) e
 
   -- the row that was found fits: its fields are small, and it ends where the frame does
-  found-fits : (r : Row) → t ≡ Fits r → fits r frame ≡ true
+  found-fits : (r : Row) → t ≡ ByRow r → fits r frame ≡ true
   found-fits r e = go (decLt (length frame) 4)
     where
-      by : (u : Tried) → Turn rows frame false 0 u → Fits r ≡ u → fits r frame ≡ true
+      by : (u : Tried) → Turn rows frame false 0 u → ByRow r ≡ u → fits r frame ≡ true
       by _ (chosen x c) q = let same : r ≡ x = cc in rw same (chosen-fits c)
       by _ (short a b) q = let z : _≡_ {A = ℕ} 0 1 = cc in absurd (omega arith)
-      by _ (beyond k a b c d f g) q = let z : _≡_ {A = ℕ} 0 1 = cc in absurd (omega arith)
+      by _ (past-all k a b c d f g) q = let z : _≡_ {A = ℕ} 0 1 = cc in absurd (omega arith)
 
       go : Dec (length frame < 4) → fits r frame ≡ true
-      go (yes h) = let q : Fits r ≡ Short = sym e ∙ is-t ∙ tried-short rows frame h in let z : _≡_ {A = ℕ} 0 1 = cc in absurd (omega arith)
+      go (yes h) = let q : ByRow r ≡ Short = sym e ∙ is-t ∙ tried-short rows frame h in let z : _≡_ {A = ℕ} 0 1 = cc in absurd (omega arith)
       go (no h) = by (inTurn rows frame false 0) (turn rows frame false 0) (sym e ∙ is-t ∙ tried-turn rows frame (omega arith))
 
-  pub found-lc : (r : Row) → t ≡ Fits r → r .«lc_field» ≤ 3
+  pub found-lc : (r : Row) → t ≡ ByRow r → r .«lc_field» ≤ 3
   found-lc r e = small (Columns.row-lc r (Columns.fits-of r frame (found-fits r e) .0 .is-row))
     where
       small : {k : ℕ} → Columns.IsLc k → k ≤ 3
@@ -223,8 +224,12 @@ module _ (rows : List Row) (frame : List ℕ) (t : Tried) (is-t : t ≡ tried ro
       small Columns.lc-1 = omega arith
       small Columns.lc-3 = omega arith
 
-  pub found-le : (r : Row) → t ≡ Fits r → r .«le_field» ≤ 3
+  pub found-le : (r : Row) → t ≡ ByRow r → r .«le_field» ≤ 3
   found-le r e = Columns.le-most (Columns.row-le r (Columns.fits-of r frame (found-fits r e) .0 .is-row))
 
-  pub found-end : (r : Row) → t ≡ Fits r → rowEnd r frame ≡ length frame
+  pub found-end : (r : Row) → t ≡ ByRow r → rowEnd r frame ≡ length frame
   found-end r e = Columns.fits-of r frame (found-fits r e) .1
+
+-- a table that is given as its rows, four numbers each
+pub by-table : (entry : Entry) (table : List (List ℕ)) (frame : List ℕ) (o : Outcome Says) → table ≡ map columnsOf (tableOf entry) → o ≡ readRows (rowsOf table) frame → o ≡ readRows (tableOf entry) frame
+by-table entry table frame o is e = e ∙ ap (λ (t : List (List ℕ)). readRows (rowsOf t) frame) is ∙ ap (λ (rows : List Row). readRows rows frame) (written-out (tableOf entry))

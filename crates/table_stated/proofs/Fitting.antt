@@ -14,21 +14,21 @@ use Rattle.apdu_stated.specs.declared.Lengths.{Lengths}
 use Rattle.apdu_stated.specs.declared.Lengths.the-variants.{Found}
 use Rattle.apdu_stated.proofs.Laws as Frames
 use Rattle.table_stated.specs.Words.{Case, Instruction, Le1, Lc1Data, Lc1DataLe1, Lc3Data, Lc3DataLe1, Lc3DataLe2, Le3, shapeNo, Entry, Ordinary, Strict, Row}
-use Rattle.table_stated.specs.Rows.{row, tableOf}
+use Rattle.table_stated.specs.Rows.{numbered, tableOf}
 use Rattle.table_stated.specs.Trying.{lcIn, leIn, dataEnd, rowEnd, fits}
 use Rattle.table_stated.specs.Answers.{saysBy}
 use Rattle.table_stated.proofs.Columns.{begins-known, lc-none, lc-one, lc-three, le-none, le-one, le-two, le-three, Stands, fits-of, of-fits}
 
 -- a row of an entry's table
 pub data RowIs (entry : Entry) : Row → Type 0 where
-  is-1 : RowIs entry (row 1 0 0 0)
-  is-2 : RowIs entry (row 2 0 0 1)
-  is-3 : RowIs entry (row 3 1 1 0)
-  is-4 : RowIs entry (row 4 1 1 1)
-  is-5 : RowIs entry (row 5 3 1 0)
-  is-6 : entry ≡ Ordinary → RowIs entry (row 6 3 0 1)
-  is-7 : RowIs entry (row 7 3 (leastOf entry Lc3DataLe2) 2)
-  is-8 : RowIs entry (row 8 0 0 3)
+  is-1 : RowIs entry (numbered 1 0 0 0)
+  is-2 : RowIs entry (numbered 2 0 0 1)
+  is-3 : RowIs entry (numbered 3 1 1 0)
+  is-4 : RowIs entry (numbered 4 1 1 1)
+  is-5 : RowIs entry (numbered 5 3 1 0)
+  is-6 : entry ≡ Ordinary → RowIs entry (numbered 6 3 0 1)
+  is-7 : RowIs entry (numbered 7 3 (leastOf entry Lc3DataLe2) 2)
+  is-8 : RowIs entry (numbered 8 0 0 3)
 
 module _ (entry : Entry) (frame : List ℕ) (long : 4 ≤ length frame) where
   pub payload-long : length (drop 4 frame) ≡ length frame - 4
@@ -83,23 +83,23 @@ module _ (entry : Entry) (frame : List ℕ) (long : 4 ≤ length frame) where
       three h = payload-pair ∙ lc-three frame h
 
       go : {r : Row} → RowIs entry r → Stands r frame → rowEnd r frame ≡ length frame → readBy entry frame ≡ Gives (saysBy r frame)
-      go is-1 t e = by-row (row 1 0 0 0) Instruction 0 0 (Frames.lengths-none entry (drop 4 frame) (omega (arith, n, z, p0))) refl refl z (le-none frame _)
-      go is-2 t e = by-row (row 2 0 0 1) Le1 0 _ (Frames.lengths-le1 entry (drop 4 frame) _ (omega (arith, n, z, p0)) refl) refl refl z (le1-at 0 _ (omega (arith, n, z, p0)))
+      go is-1 t e = by-row (numbered 1 0 0 0) Instruction 0 0 (Frames.lengths-none entry (drop 4 frame) (omega (arith, n, z, p0))) refl refl z (le-none frame _)
+      go is-2 t e = by-row (numbered 2 0 0 1) Le1 0 _ (Frames.lengths-le1 entry (drop 4 frame) _ (omega (arith, n, z, p0)) refl) refl refl z (le1-at 0 _ (omega (arith, n, z, p0)))
       go is-3 t e =
           let l = one (omega (arith, n, z, p0)) in
-          by-row (row 3 1 1 0) Lc1Data (byte (drop 4 frame) 0) 0
+          by-row (numbered 3 1 1 0) Lc1Data (byte (drop 4 frame) 0) 0
           (Frames.lengths-short entry (drop 4 frame) _ (omega (arith, n, z, p0)) (omega (arith, n, z, p0)) (omega (arith, n, z, p0))
           (Frames.payload-short (drop 4 frame) (byte (drop 4 frame) 0) _ refl refl (omega (arith, n, z, p0))))
           refl refl l (le-none frame _)
       go is-4 t e =
           let l = one (omega (arith, n, z, p0)) in
-          by-row (row 4 1 1 1) Lc1DataLe1 (byte (drop 4 frame) 0) _
+          by-row (numbered 4 1 1 1) Lc1DataLe1 (byte (drop 4 frame) 0) _
           (Frames.lengths-short entry (drop 4 frame) _ (omega (arith, n, z, p0)) (omega (arith, n, z, p0)) (omega (arith, n, z, p0))
           (Frames.payload-short-le (drop 4 frame) (byte (drop 4 frame) 0) _ refl refl _ (omega (arith, n, z, p0)) refl))
           refl refl l (le1-at (1 + byte (drop 4 frame) 0) _ (omega (arith, n, z, p0)))
       go is-5 t e =
           let l = three (omega (arith, n, z, p0)) in
-          by-row (row 5 3 1 0) Lc3Data (pairAt (drop 4 frame) 1) 0
+          by-row (numbered 5 3 1 0) Lc3Data (pairAt (drop 4 frame) 1) 0
           (extended (begins-known 3 4 frame (t .begin) refl (omega (arith, n, z, p0))) (omega (arith, n, z, p0)) (Frames.has-data entry _ (omega (arith, n, z, p0))) _
           (Frames.after-plain entry (drop 4 frame) _ (omega (arith, n, z, p0))))
           refl refl l (le-none frame _)
@@ -107,7 +107,7 @@ module _ (entry : Entry) (frame : List ℕ) (long : 4 ≤ length frame) where
           let l = three (omega (arith, n, z, p0)) in
           let le : ℕ = leRead 1 (byte (drop 4 frame) (3 + pairAt (drop 4 frame) 1)) in
           let lone : Found Lc3DataLe1 (pairAt (drop 4 frame) 1) le ≡ loneLe entry (drop 4 frame) (pairAt (drop 4 frame) 1) = rw o (Frames.one-ordinary (drop 4 frame) (pairAt (drop 4 frame) 1) le refl) in
-          by-row (row 6 3 0 1) Lc3DataLe1 (pairAt (drop 4 frame) 1) le
+          by-row (numbered 6 3 0 1) Lc3DataLe1 (pairAt (drop 4 frame) 1) le
           (extended (begins-known 3 4 frame (t .begin) refl (omega (arith, n, z, p0))) (omega (arith, n, z, p0)) (rw o (Frames.ordinary-has (pairAt (drop 4 frame) 1))) _
           (Frames.after-one entry (drop 4 frame) (pairAt (drop 4 frame) 1) _ (omega (arith, n, z, p0)) lone))
           refl refl l (le1-at (3 + pairAt (drop 4 frame) 1) _ (omega (arith, n, z, p0)))
@@ -115,13 +115,13 @@ module _ (entry : Entry) (frame : List ℕ) (long : 4 ≤ length frame) where
           let l = three (omega (arith, n, z, p0)) in
           let least : leastOf entry Lc3DataLe2 ≤ pairAt (drop 4 frame) 1 = rw l (t .least) in
           let next : 4 + pairAt (drop 4 frame) 1 ≡ 3 + pairAt (drop 4 frame) 1 + 1 = omega (arith, n, z, p0) in
-          by-row (row 7 3 (leastOf entry Lc3DataLe2) 2) Lc3DataLe2 (pairAt (drop 4 frame) 1) _
+          by-row (numbered 7 3 (leastOf entry Lc3DataLe2) 2) Lc3DataLe2 (pairAt (drop 4 frame) 1) _
           (extended (begins-known 3 4 frame (t .begin) refl (omega (arith, n, z, p0))) (omega (arith, n, z, p0)) (Frames.not-under entry _ least) _
           (Frames.after-le2 entry (drop 4 frame) _ _ (pairAt (drop 4 frame) (3 + pairAt (drop 4 frame) 1)) (omega (arith, n, z, p0)) (rw next) refl))
           refl refl l (le2-at (3 + pairAt (drop 4 frame) 1) _ (omega (arith, n, z, p0)))
       go is-8 t e =
           let b : byte frame 4 ≡ 0 = ap (byte frame) (omega (arith, n, z, p0)) ∙ begins-known 3 (4 + 0 + lcIn 0 frame) frame (t .le-begin) refl (omega (arith, n, z, p0)) in
           let at : pairAt frame 5 ≡ pairAt frame (4 + 0 + lcIn 0 frame + 1) = ap (pairAt frame) (omega (arith, n, z, p0)) in
-          by-row (row 8 0 0 3) Le3 0 _
+          by-row (numbered 8 0 0 3) Le3 0 _
           (Frames.lengths-extended entry (drop 4 frame) _ (omega (arith, n, z, p0)) (omega (arith, n, z, p0)) (p0 ∙ b) (Frames.extended-le3 entry (drop 4 frame) (pairAt (drop 4 frame) 1) refl _ (omega (arith, n, z, p0)) refl))
           refl refl z (ap (leRead 3) (payload-pair ∙ at) ∙ le-three frame _)

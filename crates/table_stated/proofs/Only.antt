@@ -1,15 +1,15 @@
--- Only the definitions meet the claims: two programs that meet one agree, on every table and on every frame of bytes; and two pairs of tables are one.
+-- Only the definitions meet the claims: two programs that meet one agree, on every table and every frame of bytes; and two pairs of tables are one.
 use Prim.Native.Nat.{ℕ}
-use mathlib.Core.Path.{_≡_, refl, sym, _∙_}
-use mathlib.Core.List.{List}
+use mathlib.Core.Path.{_≡_, sym, _∙_}
+use mathlib.Core.List.{List, [], _∷_}
 use Rattle.outcome.specs.Notation.{Determines}
 use Rattle.outcome.specs.Outcome.{Outcome}
 use Rattle.octets.specs.Bytes.{AreBytes}
-use Rattle.table_stated.specs.Words.{Says, Entry, Row, Tried, Short, Fits, EndsEarly, GoesOn}
+use Rattle.table_stated.specs.Words.{Says, Entry, Row, Tried}
 use Rattle.table_stated.specs.Rows.{tableOf}
-use Rattle.table_stated.specs.Trying.{tried}
+use Rattle.table_stated.specs.Answers.{RowSays}
 use Rattle.table_stated.specs.Claims
-use Rattle.table_stated.proofs.AnyTable.{tries-exactly, same-tries, first-row}
+use Rattle.table_stated.proofs.AnyTable.{same-tries, same-answers}
 
 pub TablesExactly : Determines Claims.TablesExactly
 TablesExactly f g p q entry = p entry ∙ sym (q entry)
@@ -22,12 +22,15 @@ pub TriesExactly : (f g : List Row → List ℕ → Tried) → Claims.TriesExact
 TriesExactly f g p q rows frame bytes = same-tries f p rows frame bytes ∙ sym (same-tries g q rows frame bytes)
 
 pub AnswersExactly : (f g : List Row → List ℕ → Outcome Says) → Claims.AnswersExactly f → Claims.AnswersExactly g → (rows : List Row) (frame : List ℕ) → AreBytes frame → f rows frame ≡ g rows frame
-AnswersExactly f g p q rows frame bytes = go (tried rows frame) refl
-  where
-    go : (t : Tried) → tried rows frame ≡ t → f rows frame ≡ g rows frame
-    go Short e = p .short tried tries-exactly rows frame bytes e ∙ sym (q .short tried tries-exactly rows frame bytes e)
-    go (Fits r) e =
-        let o = first-row (tries-exactly .fits rows frame bytes r .0 e) in
-        p .fits tried tries-exactly rows frame (o .1) bytes r (o .0) e (o .2) ∙ sym (q .fits tried tries-exactly rows frame (o .1) bytes r (o .0) e (o .2))
-    go EndsEarly e = p .early tried tries-exactly rows frame bytes e ∙ sym (q .early tried tries-exactly rows frame bytes e)
-    go (GoesOn k) e = p .goes-on tried tries-exactly rows frame bytes k e ∙ sym (q .goes-on tried tries-exactly rows frame bytes k e)
+AnswersExactly f g p q rows frame bytes = same-answers f p rows frame bytes ∙ sym (same-answers g q rows frame bytes)
+
+-- of four numbers, and of a row
+pub ColumnsExactly : (f g : List ℕ → Row) (k l : Row → List ℕ) → Claims.ColumnsExactly f k → Claims.ColumnsExactly g l
+    → ((number lcLong least leLong : ℕ) → f (number ∷ lcLong ∷ least ∷ leLong ∷ []) ≡ g (number ∷ lcLong ∷ least ∷ leLong ∷ [])) × ((r : Row) → k r ≡ l r)
+ColumnsExactly f g k l p q = (
+  λ number lcLong least leLong. p .forth number lcLong least leLong ∙ sym (q .forth number lcLong least leLong),
+  λ r. p .back (r .number) (r .«lc_field») (r .«lc_least») (r .«le_field») ∙ sym (q .back (r .number) (r .«lc_field») (r .«lc_least») (r .«le_field»)),
+)
+
+pub RowSaysExactly : Determines Claims.RowSaysExactly
+RowSaysExactly f g p q s = p (s .header) (s .number) (s .start) (s .lc) (s .le) ∙ sym (q (s .header) (s .number) (s .start) (s .lc) (s .le))

@@ -4,19 +4,23 @@ use mathlib.Core.Path.{_≡_, refl, sym, ap, _∙_}
 use mathlib.Core.List.{List, [], _∷_, map}
 use lib.ListN.{getD}
 use native.Mathlib.Omega.{arith}
-use Rattle.outcome.specs.Outcome.{StatusWord, Outcome, Word, Gives}
+use Rattle.outcome.specs.Outcome.{StatusWord, Outcome, R, Word, Gives}
+use Rattle.outcome.specs.declared.ApduStatusCode.the-variants as Status′
+use Rattle.outcome.specs.declared.LengthFault.the-variants as Fault′
 use Rattle.outcome.proofs.Laws.{gives-same, word-same, word-gives}
 use Rattle.octets.proofs.Laws.{small, bytes-of}
 use Rattle.apdu_stated.specs.Reading.{readBy, sayOf, lengthsOf, shortOf, extendedOf, afterData}
 use Rattle.apdu_stated.specs.Terms.{whole, pair, frameWith, saying}
-use Rattle.table_stated.specs.Words.{ApduHeader, Says, Ordinary, Strict, Row, Tried, Short, Fits, EndsEarly, GoesOn}
-use Rattle.table_stated.specs.Rows.{row, tableOf}
+use Rattle.table_stated.specs.Words.{ApduHeader, Says, Ordinary, Strict, Row, Tried, Short, ByRow, Early, Beyond}
+use Rattle.table_stated.specs.Rows.{numbered, tableOf, columnsOf}
 use Rattle.table_stated.specs.Trying.{begins, lcIn, leIn, opens, stands, tried}
-use Rattle.table_stated.specs.Answers.{readRows}
-use Rattle.table_stated.specs.Terms.{OfRow, IsOf, no-lc, three-lc, no-le, one-le, three-le, First, now, later, here, behind}
+use Rattle.table_stated.specs.Answers.{TableReading, tableReadingOf, readRows}
+use Rattle.table_stated.specs.declared.TableReading.the-variants as TableReading′
+use Rattle.table_stated.specs.Terms.{OfRow, IsOf, no-lc, three-lc, no-le, one-le, three-le, First, this, here, behind}
 use Rattle.table_stated.specs.Claims
 use Rattle.table_stated.specs.Wrong
 use Rattle.table_stated.proofs.Theorems
+use Rattle.table_stated.proofs.Built.{said-of}
 
 -- ---- frames to try: header 00 03 00 00, and a payload
 abbrev h0 : ApduHeader
@@ -37,7 +41,7 @@ lc-is a b e = ap (λ (s : Says). s .lc) (gives-same a b e)
 place-is : (v w : StatusWord) → _≡_ {A = Outcome Says} (Word v) (Word w) → v .place ≡ w .place
 place-is v w e = ap (λ (x : StatusWord). x .place) (word-same v w e)
 
-number-is : (a b : Row) → Fits a ≡ Fits b → a .number ≡ b .number
+number-is : (a b : Row) → ByRow a ≡ ByRow b → a .number ≡ b .number
 number-is a b e = let same : a ≡ b = cc in ap (λ (r : Row). r .number) same
 
 -- ---- tables
@@ -46,16 +50,21 @@ pub row5FromLc0 : Claims.SameReading Wrong.row5FromLc0 readRows → ⊥
 unfolding readRows tried stands opens begins lcIn leIn readBy sayOf lengthsOf extendedOf
 row5FromLc0 claim = omega (arith, shape-is _ _ (claim Ordinary extended-le))
 
+-- which document 01's list has as shape 8
+pub row5FromLc0InExamples : Claims.ExamplesRead Wrong.row5FromLc0 readRows → ⊥
+unfolding readRows tried stands opens begins lcIn leIn
+row5FromLc0InExamples claim = omega (arith, shape-is _ _ (ap (λ (answers : List (Outcome Says)). getD answers 7 (Gives (saying h0 0 0 0 0))) claim))
+
 -- and two rows fit it
-is-five : OfRow (row 5 3 0 0) extended-le (saying h0 5 7 0 0) []
+is-five : OfRow (numbered 5 3 0 0) extended-le (saying h0 5 7 0 0) []
 is-five = record { header = h0; lcBytes = 0 ∷ 0 ∷ 0 ∷ []; leBytes = []; le = 0; lc-field = three-lc {hi = 0} {lo = 0} (record { high = omega arith; low = omega arith; is = refl }); least = omega arith; le-field = no-le; frame-is = refl; says-is = refl }
 
-is-eight : OfRow (row 8 0 0 3) extended-le (saying h0 8 4 0 65536) []
+is-eight : OfRow (numbered 8 0 0 3) extended-le (saying h0 8 4 0 65536) []
 is-eight = record { header = h0; lcBytes = []; leBytes = 0 ∷ 0 ∷ 0 ∷ []; le = 65536; lc-field = no-lc; least = omega arith; le-field = three-le whole; frame-is = refl; says-is = refl }
 
 pub row5BesideRow8 : Claims.OneRowFits Wrong.row5FromLc0 → ⊥
 row5BesideRow8 claim =
-    let e = claim Ordinary extended-le (row 5 3 0 0) (row 8 0 0 3)
+    let e = claim Ordinary extended-le (numbered 5 3 0 0) (numbered 8 0 0 3)
     (behind (behind (behind (behind here))), (saying h0 5 7 0 0, [], is-five))
     (behind (behind (behind (behind (behind (behind (behind here)))))), (saying h0 8 4 0 65536, [], is-eight)) in
     let z : _≡_ {A = ℕ} 5 8 = ap (λ (r : Row). r .number) e in
@@ -65,6 +74,10 @@ row5BesideRow8 claim =
 pub row6InStrict : Claims.SameReading Wrong.row6InStrict readRows → ⊥
 unfolding readRows tried stands opens begins lcIn leIn readBy sayOf lengthsOf extendedOf afterData
 row6InStrict claim = word-gives _ _ (sym (claim Strict (try (0 ∷ 0 ∷ 1 ∷ 0xAA ∷ 5 ∷ []))))
+
+pub row6AsIn01 : Claims.SameReading Wrong.row6AsIn01 readRows → ⊥
+unfolding readRows tried stands opens begins lcIn leIn readBy sayOf lengthsOf extendedOf afterData
+row6AsIn01 claim = word-gives _ _ (sym (claim Strict (try (0 ∷ 0 ∷ 1 ∷ 0xAA ∷ 5 ∷ []))))
 
 -- 00 00 01 AA is read as shape 7
 pub leSwapped : Claims.SameReading Wrong.leSwapped readRows → ⊥
@@ -93,28 +106,28 @@ unfolding tried stands opens begins lcIn leIn readBy sayOf lengthsOf shortOf
 placeOfFirst claim = omega (arith, place-is _ _ (claim Ordinary (try (1 ∷ 0xAA ∷ 0 ∷ 0 ∷ []))))
 
 -- a frame is found in an empty table
+no-first : {frame : List ℕ} {r : Row} → First [] frame r → ⊥
+no-first f = elim f [ ]
+
 pub knowsItsRows : Claims.TriesExactly Wrong.knowsItsRows → ⊥
 unfolding small tried stands opens begins lcIn
-knowsItsRows claim = no-first (claim .fits [] (try []) (bytes-of (try []) refl) (row 1 0 0 0) .0 refl)
-  where
-    no-first : {frame : List ℕ} {r : Row} → First [] frame r → ⊥
-    no-first f = elim f [ ]
+knowsItsRows claim = no-first (claim .by-row [] (try []) (bytes-of (try []) refl) (numbered 1 0 0 0) .0 refl)
 
 pub readsByName : Claims.AnswersExactly Wrong.readsByName → ⊥
-unfolding small tried readBy sayOf lengthsOf
-readsByName claim = word-gives _ _ (sym (claim .goes-on tried Theorems.TriesExactly [] (try []) (bytes-of (try []) refl) 0 refl))
+unfolding small readBy sayOf lengthsOf
+readsByName claim = no-first (claim .reads [] (try []) (bytes-of (try []) refl) (saying h0 1 4 0 0) .0 refl .2)
 
 -- two rows of one form: the first is the frame's
-bare : OfRow (row 1 0 0 0) (try []) (saying h0 1 4 0 0) []
+bare : OfRow (numbered 1 0 0 0) (try []) (saying h0 1 4 0 0) []
 bare = record { header = h0; lcBytes = []; leBytes = []; le = 0; lc-field = no-lc; least = omega arith; le-field = no-le; frame-is = refl; says-is = refl }
 
 pub lastThatFits : Claims.TriesExactly Wrong.lastThatFits → ⊥
 unfolding small tried stands opens begins lcIn
 lastThatFits claim =
-    omega (arith, number-is _ _ (claim .fits (row 1 0 0 0 ∷ row 9 0 0 0 ∷ []) (try []) (bytes-of (try []) refl) (row 1 0 0 0) .1 (now (saying h0 1 4 0 0, [], bare))))
+    omega (arith, number-is _ _ (claim .by-row (numbered 1 0 0 0 ∷ numbered 9 0 0 0 ∷ []) (try []) (bytes-of (try []) refl) (numbered 1 0 0 0) .1 (this (saying h0 1 4 0 0, [], bare))))
 
 -- 00 FF FF is an extended Le, and no Lc of 65535
-is-extended-le : OfRow (row 8 0 0 3) (try (0 ∷ 0xFF ∷ 0xFF ∷ [])) (saying h0 8 4 0 65535) []
+is-extended-le : OfRow (numbered 8 0 0 3) (try (0 ∷ 0xFF ∷ 0xFF ∷ [])) (saying h0 8 4 0 65535) []
 is-extended-le =
     record {
       header = h0;
@@ -132,14 +145,53 @@ pub earlyFirst : Claims.TriesExactly Wrong.earlyFirst → ⊥
 unfolding small tried stands opens begins lcIn
 earlyFirst claim =
     let e = claim .early (tableOf Ordinary) (try (0 ∷ 0xFF ∷ 0xFF ∷ [])) (bytes-of (try (0 ∷ 0xFF ∷ 0xFF ∷ [])) refl) .0 refl in
-    e .1 (row 8 0 0 3) (behind (behind (behind (behind (behind (behind (behind here))))))) (saying h0 8 4 0 65535, [], is-extended-le)
+    e .1 (numbered 8 0 0 3) (behind (behind (behind (behind (behind (behind (behind here))))))) (saying h0 8 4 0 65535, [], is-extended-le)
 
--- 02 AA misses a byte at 6
+-- 02 AA misses bytes at 6, its length
 pub missingAtThePayload : Claims.AnswersExactly Wrong.missingAtThePayload → ⊥
 unfolding small tried stands opens begins lcIn
-missingAtThePayload claim = omega (arith, place-is _ _ (claim .early tried Theorems.TriesExactly (tableOf Ordinary) (try (2 ∷ 0xAA ∷ [])) (bytes-of (try (2 ∷ 0xAA ∷ [])) refl) refl))
+missingAtThePayload claim =
+    let x = claim .missing (tableOf Ordinary) (try (2 ∷ 0xAA ∷ [])) (bytes-of (try (2 ∷ 0xAA ∷ [])) refl) 4 .0 refl in
+    omega (arith, x .3)
 
 -- 02 AA BB says Lc 2
 pub leastForLc : Claims.SameReading tableOf Wrong.leastForLc → ⊥
 unfolding tried stands opens begins lcIn leIn readBy sayOf lengthsOf shortOf
 leastForLc claim = omega (arith, lc-is _ _ (claim Ordinary (try (2 ∷ 0xAA ∷ 0xBB ∷ []))))
+
+pub leastSaidForLc : Claims.AnswersExactly Wrong.leastForLc → ⊥
+unfolding small tried stands opens begins lcIn leIn
+leastSaidForLc claim =
+    let x = claim .reads (tableOf Ordinary) (try (2 ∷ 0xAA ∷ 0xBB ∷ [])) (bytes-of (try (2 ∷ 0xAA ∷ 0xBB ∷ [])) refl) (saying h0 3 5 1 0) .0 refl in
+    let row : First (tableOf Ordinary) (try (2 ∷ 0xAA ∷ 0xBB ∷ [])) (x .0) = x .2 in
+    let is : ByRow (x .0) ≡ ByRow (numbered 3 1 1 0) = sym (Theorems.TriesExactly .by-row (tableOf Ordinary) (try (2 ∷ 0xAA ∷ 0xBB ∷ [])) (bytes-of (try (2 ∷ 0xAA ∷ 0xBB ∷ [])) refl) (x .0) .1 row) in
+    let same : x .0 ≡ numbered 3 1 1 0 = cc in
+    let said = said-of (x .0) (try (2 ∷ 0xAA ∷ 0xBB ∷ [])) (x .1) (saying h0 3 5 1 0) (x .3) in
+    let lc : lcIn (x .0 .«lc_field») (try (2 ∷ 0xAA ∷ 0xBB ∷ [])) ≡ 1 = ap (λ (s : Says). s .lc) said in
+    let two : lcIn (x .0 .«lc_field») (try (2 ∷ 0xAA ∷ 0xBB ∷ [])) ≡ 2 = ap (λ (r : Row). lcIn (r .«lc_field») (try (2 ∷ 0xAA ∷ 0xBB ∷ []))) same in
+    omega arith
+
+-- ---- what the code holds
+-- row 7 of document 01's table: no Lc field of two
+pub leastLast : Claims.ColumnsExactly Wrong.leastLast columnsOf → ⊥
+leastLast claim = let z : _≡_ {A = ℕ} 2 0 = ap (λ (r : Row). r .«lc_least») (claim .forth 7 3 0 2) in omega arith
+
+pub startOneOn : Claims.RowSaysExactly Wrong.startOneOn → ⊥
+startOneOn claim = let z : _≡_ {A = ℕ} 5 4 = ap (λ (s : Says). s .dataAt) (claim h0 1 4 0 0) in omega arith
+
+surplus-is : ℕ → TableReading
+surplus-is place = TableReading′.Status (Status′.WrongLength Fault′.Surplus place)
+
+pub pairUnsaid : Claims.AnswersOneToOne Wrong.pairUnsaid → ⊥
+unfolding surplus-is
+pairUnsaid claim =
+    let z : _≡_ {A = ℕ} 7 9 = ap placed (claim (surplus-is 7) (surplus-is 9) refl) in
+    omega arith
+  where
+    placed : TableReading → ℕ
+    placed t = placeOf (tableReadingOf t)
+      where
+        placeOf : Outcome Says → ℕ
+        placeOf (R n) = 0
+        placeOf (Word w) = w .place
+        placeOf (Gives s) = 0

@@ -1,25 +1,23 @@
 -- The second reader meets what is claimed of it (specs/Claims.antt).
 use Prim.Native.Nat.{ℕ, _≤_}
-use mathlib.Core.Path.{_≡_, refl, ap, sym, _∙_}
+use mathlib.Core.Path.{_≡_, refl, ap, sym, subst, _∙_}
 use mathlib.Core.Bool.{true}
-use mathlib.Core.List.{List, [], _∷_}
+use mathlib.Core.List.{List, [], _∷_, map}
 use lib.ListN.{length}
 use native.Mathlib.Omega.{arith}
 use lib.Dec.{eqb}
 use Rattle.outcome.specs.Notation.{if_then_else_}
-use Rattle.outcome.specs.Outcome.{Gives}
 use Rattle.outcome.proofs.Laws.{gives-same}
-use Rattle.octets.specs.Bytes.{AreBytes}
-use Rattle.table_stated.specs.Words.{Says, Entry, Ordinary, Strict, Row, Tried, Short, Fits, EndsEarly, GoesOn}
-use Rattle.table_stated.specs.Rows.{row, tableOf}
+use Rattle.table_stated.specs.Words.{Says, Entry, Ordinary, Strict, Row}
+use Rattle.table_stated.specs.Rows.{numbered, tableOf, rowFrom, rowsOf, columnsOf}
 use Rattle.table_stated.specs.Trying.{begins, lcIn, leIn, opens, stands, tried}
-use Rattle.table_stated.specs.Answers.{saysBy, answerOf, readRows}
-use Rattle.table_stated.specs.Terms.{OfRow, IsOf, Has}
+use Rattle.table_stated.specs.Answers.{rowSaysOf, tableReadingOf, readRows}
+use Rattle.table_stated.specs.Terms.{Has}
 use Rattle.table_stated.specs.Claims
 use Rattle.table_stated.proofs.Fitting.{RowIs, is-1, is-2, is-3, is-4, is-5, is-6, is-7, is-8, fit-reads}
-use Rattle.table_stated.proofs.Built.{fit-of, said-of, front-four}
+use Rattle.table_stated.proofs.Built.{fit-of, front-four}
 use Rattle.table_stated.proofs.Agreement.{has-is, same}
-use Rattle.table_stated.proofs.AnyTable.{tries-exactly, same-tries}
+use Rattle.table_stated.proofs.AnyTable.{tries-exactly, answers-exactly}
 use Rattle.table_stated.proofs.Numbers.{table-reading-same}
 
 -- ---- the two tables
@@ -36,12 +34,12 @@ pub SameReading : Claims.SameReading tableOf readRows
 SameReading entry frame = same entry frame
 
 -- a row of a table by its number
-numbered : List Row → ℕ → Row
-numbered [] n = row 0 0 0 0
-numbered (r ∷ rows) n = if eqb (r .number) n then r else numbered rows n
+rowNumbered : List Row → ℕ → Row
+rowNumbered [] n = numbered 0 0 0 0
+rowNumbered (r ∷ rows) n = if eqb (r .number) n then r else rowNumbered rows n
 
-by-number : (entry : Entry) {r : Row} → RowIs entry r → r ≡ numbered (tableOf entry) (r .number)
-unfolding numbered
+by-number : (entry : Entry) {r : Row} → RowIs entry r → r ≡ rowNumbered (tableOf entry) (r .number)
+unfolding rowNumbered
 by-number Ordinary is-1 = refl
 by-number Ordinary is-2 = refl
 by-number Ordinary is-3 = refl
@@ -65,30 +63,49 @@ OneRowFits entry frame a b (ha, oa) (hb, ob) =
     let ia = has-is entry ha in
     let ib = has-is entry hb in
     let same-says = gives-same _ _ (sym (fit-reads entry frame long ia (fit-of a frame oa)) ∙ fit-reads entry frame long ib (fit-of b frame ob)) in
-    by-number entry ia ∙ ap (λ (s : Says). numbered (tableOf entry) (s .shape)) same-says ∙ sym (by-number entry ib)
+    by-number entry ia ∙ ap (λ (s : Says). rowNumbered (tableOf entry) (s .shape)) same-says ∙ sym (by-number entry ib)
 
 -- ---- any table
 pub TriesExactly : Claims.TriesExactly tried
 TriesExactly = tries-exactly
 
-module _ (rows : List Row) (frame : List ℕ) (t : Tried) (e : tried rows frame ≡ t) where
-  read-tried : readRows rows frame ≡ answerOf frame t
-  unfolding readRows
-  read-tried = ap (answerOf frame) e
-
 pub AnswersExactly : Claims.AnswersExactly readRows
-AnswersExactly =
-    record {
-      short = λ try x rows frame bytes e. read-tried rows frame Short (sym (same-tries try x rows frame bytes) ∙ e);
-      fits = λ try x rows frame content bytes r says e o. read-tried rows frame (Fits r) (sym (same-tries try x rows frame bytes) ∙ e) ∙ ap Gives (said-of r frame content says o);
-      early = λ try x rows frame bytes e. read-tried rows frame EndsEarly (sym (same-tries try x rows frame bytes) ∙ e);
-      goes-on = λ try x rows frame bytes k e. read-tried rows frame (GoesOn k) (sym (same-tries try x rows frame bytes) ∙ e);
-    }
+AnswersExactly = answers-exactly
+
+-- ---- what the code holds
+pub ColumnsExactly : Claims.ColumnsExactly rowFrom columnsOf
+ColumnsExactly = record { forth = λ number lcLong least leLong. refl; back = λ number lcLong least leLong. refl }
+
+pub RowSaysExactly : Claims.RowSaysExactly rowSaysOf
+RowSaysExactly h number start lc le = refl
+
+pub AnswersOneToOne : Claims.AnswersOneToOne tableReadingOf
+AnswersOneToOne = table-reading-same
 
 -- ---- contracts
+-- rows that are written out are the rows
+pub written-out : (rows : List Row) → rowsOf (map columnsOf rows) ≡ rows
+written-out [] = refl
+written-out (r ∷ rows) = ap (λ (more : List Row). r ∷ more) (written-out rows)
+
+pub ContractsAsClaimed : Claims.ContractsAsClaimed
+ContractsAsClaimed =
+    record {
+      try-rows = λ f is. subst Claims.TriesExactly (λ d rows frame. sym (is (map columnsOf rows) frame ∙ ap (λ (x : List Row). tried x frame) (written-out rows)) d) TriesExactly;
+      read-rows = λ f is. subst Claims.AnswersExactly (λ d rows frame. sym (is (map columnsOf rows) frame ∙ ap (λ (x : List Row). readRows x frame) (written-out rows)) d) AnswersExactly;
+    }
+
+pub ReadersAgree : Claims.ReadersAgree
+ReadersAgree =
+    record {
+      ordinary = λ f g p q frame. p frame ∙ same Ordinary frame ∙ sym (q frame);
+      strict = λ f g p q frame. p frame ∙ same Strict frame ∙ sym (q frame);
+    }
+
 pub ResultsDetermined : Claims.ResultsDetermined
 ResultsDetermined =
     record {
+      table-rows = λ entry a b p q. p ∙ sym q;
       try-rows = λ table frame a b p q. p ∙ sym q;
       read-rows = λ table frame a b p q. table-reading-same a b (p ∙ sym q);
       read-table = λ entry frame a b p q. table-reading-same a b (p ∙ sym q);

@@ -7,7 +7,7 @@ use mathlib.Core.Logic.{_⊎_, inl, inr}
 use native.Mathlib.Omega.{arith}
 use lib.Dec.{ltb}
 use borrow.Author.Tests.{ltb-true, ltb-false}
-use Rattle.table_stated.specs.Words.{Row, Tried, Fits, EndsEarly, GoesOn}
+use Rattle.table_stated.specs.Words.{Row, Tried, ByRow, Early, Beyond}
 use Rattle.table_stated.specs.Trying.{fits, endsEarly, claimed, greater, inTurn}
 use Rattle.table_stated.specs.Terms.{Has, here, behind}
 use Rattle.table_stated.proofs.Columns.{either}
@@ -26,10 +26,10 @@ chosen-fits (at-once e) = e
 chosen-fits (further e c) = chosen-fits c
 
 pub data Turn (rows : List Row) (frame : List ℕ) (early : Bool) (most : ℕ) : Tried → Type 0 where
-  chosen : (r : Row) → Chosen rows frame r → Turn rows frame early most (Fits r)
-  short : ((r : Row) → Has rows r → fits r frame ≡ false) → (early ≡ true) ⊎ ((r : Row) × Has rows r × (endsEarly r frame ≡ true)) → Turn rows frame early most EndsEarly
-  beyond : (k : ℕ) → ((r : Row) → Has rows r → fits r frame ≡ false) → early ≡ false → ((r : Row) → Has rows r → endsEarly r frame ≡ false)
-      → most ≤ k → ((r : Row) → Has rows r → claimed r frame ≤ k) → (k ≡ most) ⊎ ((r : Row) × Has rows r × (claimed r frame ≡ k)) → Turn rows frame early most (GoesOn k)
+  chosen : (r : Row) → Chosen rows frame r → Turn rows frame early most (ByRow r)
+  short : ((r : Row) → Has rows r → fits r frame ≡ false) → (early ≡ true) ⊎ ((r : Row) × Has rows r × (endsEarly r frame ≡ true)) → Turn rows frame early most Early
+  past-all : (k : ℕ) → ((r : Row) → Has rows r → fits r frame ≡ false) → early ≡ false → ((r : Row) → Has rows r → endsEarly r frame ≡ false)
+      → most ≤ k → ((r : Row) → Has rows r → claimed r frame ≤ k) → (k ≡ most) ⊎ ((r : Row) × Has rows r × (claimed r frame ≡ k)) → Turn rows frame early most (Beyond k)
 
 -- the greater of two, by plain facts
 pub record Greater (a b g : ℕ) : Type 0 where
@@ -65,10 +65,10 @@ module _ (r : Row) (rows : List Row) (frame : List ℕ) (early : Bool) (most : �
       go : ((early || endsEarly r frame) ≡ true) ⊎ ((x : Row) × Has rows x × (endsEarly x frame ≡ true)) → (early ≡ true) ⊎ ((x : Row) × Has (r ∷ rows) x × (endsEarly x frame ≡ true))
       go (inl e) = own (either early (endsEarly r frame) e)
       go (inr x) = inr (x .0, behind (x .1), x .2)
-  step (beyond k no-fit e no-early low bound at) =
+  step (past-all k no-fit e no-early low bound at) =
       let g = greater-is most (claimed r frame) in
       let b = either-false early (endsEarly r frame) e in
-      beyond k (each (λ (x : Row). fits x frame ≡ false) misfit no-fit) (b .0) (each (λ (x : Row). endsEarly x frame ≡ false) (b .1) no-early) (omega arith)
+      past-all k (each (λ (x : Row). fits x frame ≡ false) misfit no-fit) (b .0) (each (λ (x : Row). endsEarly x frame ≡ false) (b .1) no-early) (omega arith)
       (each (λ (x : Row). claimed x frame ≤ k) (omega arith) bound) (go at (g .one))
     where
       go : (k ≡ greater most (claimed r frame)) ⊎ ((x : Row) × Has rows x × (claimed x frame ≡ k)) → (greater most (claimed r frame) ≡ most) ⊎ (greater most (claimed r frame) ≡ claimed r frame)
@@ -82,7 +82,7 @@ no-row h = elim h [ ]
 
 pub turn : (rows : List Row) (frame : List ℕ) (early : Bool) (most : ℕ) → Turn rows frame early most (inTurn rows frame early most)
 turn [] frame true most = short (λ r h. absurd (no-row h)) (inl refl)
-turn [] frame false most = beyond most (λ r h. absurd (no-row h)) refl (λ r h. absurd (no-row h)) (omega arith) (λ r h. absurd (no-row h)) (inl refl)
+turn [] frame false most = past-all most (λ r h. absurd (no-row h)) refl (λ r h. absurd (no-row h)) (omega arith) (λ r h. absurd (no-row h)) (inl refl)
 turn (r ∷ rows) frame early most = go (turn rows frame (early || endsEarly r frame) (greater most (claimed r frame))) (fits r frame) refl
   where
     go : Turn rows frame (early || endsEarly r frame) (greater most (claimed r frame)) (inTurn rows frame (early || endsEarly r frame) (greater most (claimed r frame)))

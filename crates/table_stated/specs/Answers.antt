@@ -1,5 +1,5 @@
 -- What each answer says, in the documents' numbers: of a frame by its row, and of a reading.
-use Rattle.table_stated.specs.Words.{ℕ, _+_, List, length, Outcome, Word, SW, Gives, wordOf, missingAt, surplusAt, Says, Row, Tried, Short, Fits, EndsEarly, GoesOn}
+use Rattle.table_stated.specs.Words.{ℕ, _+_, List, length, Outcome, Word, SW, Gives, wordOf, missingAt, surplusAt, Says, Row, Tried, Short, ByRow, Early, Beyond}
 use Rattle.apdu_stated.specs.Reading.{headerOf}
 use Rattle.table_stated.specs.Trying.{lcIn, leIn, dataEnd, tried}
 pub use Rattle.table_stated.specs.declared.RowSays.{RowSays}
@@ -21,9 +21,9 @@ saysBy r frame =
 -- surplus the first byte that no field can claim"
 abbrev pub answerOf : List ℕ → Tried → Outcome Says
 answerOf frame Short = SW 0x6a80
-answerOf frame (Fits r) = Gives (saysBy r frame)
-answerOf frame EndsEarly = missingAt (length frame)
-answerOf frame (GoesOn place) = surplusAt place
+answerOf frame (ByRow r) = Gives (saysBy r frame)
+answerOf frame Early = missingAt (length frame)
+answerOf frame (Beyond place) = surplusAt place
 
 -- the second reader, over the rows of whatever table it is given
 unfoldable pub readRows : List Row → List ℕ → Outcome Says

@@ -1,27 +1,34 @@
--- What is promised of the second reader: open this file first. Each claim takes the program, or the tables, as its argument; the definitions
--- (`tableOf` of Rows.antt, `tried` of Trying.antt, `readRows` of Answers.antt) meet it by proofs/Theorems.antt, nothing else does by
--- proofs/Only.antt, and the programs and tables of Wrong.antt do not by proofs/Refuted.antt. Words: Terms.antt.
+-- What is promised of the second reader: open this file first. Claims take the program, or the tables, as their argument; the definitions
+-- (`tableOf` of Rows.antt, `tried` of Trying.antt, `readRows` of Answers.antt) meet them by proofs/Theorems.antt, and the programs and tables of
+-- Wrong.antt do not by proofs/Refuted.antt. By proofs/Only.antt nothing else meets `TablesExactly`, `TriesExactly`, `AnswersExactly`, `ColumnsExactly` and
+-- `RowSaysExactly`, and no other answer, by these two tables, `SameReading`; `OneRowFits` and `ExamplesRead` stand beside them. Words: Terms.antt.
 use mathlib.Core.Logic.{_↔_}
-use Rattle.table_stated.specs.Words.{ℕ, _+_, _≤_, _<_, _≡_, Bool, true, List, [], _∷_, map, length, leb, if_then_else_, AtMostOne, Outcome, Gives, SW, wrongLength, AreBytes, Says, Entry, Ordinary, Strict, Case, Instruction, Le1, Lc1Data, Lc1DataLe1, Lc3Data, Lc3DataLe1, Lc3DataLe2, Le3, shapeNo, Row, Tried, Short, Fits, EndsEarly, GoesOn}
+use Rattle.table_stated.specs.Words.{ℕ, _≤_, _<_, _≡_, List, [], _∷_, map, length, if_then_else_, AtMostOne, Outcome, Gives, SW, wrongLength, AreBytes, Says, Entry, Ordinary, Strict, ApduHeader, Case, Instruction, Le1, Lc1Data, Lc1DataLe1, Lc3Data, Lc3DataLe1, Lc3DataLe2, Le3, shapeNo, Row, Tried, Short, ByRow, Early, Beyond}
+use Rattle.apdu_stated.specs.Answers.{readingOf}
+use Rattle.apdu_stated.specs.Contracts.{Read, ReadStrict}
 use Rattle.apdu_stated.specs.Table.{lcField, leField, hasRow, leastOf}
 use Rattle.apdu_stated.specs.Reading.{readBy}
 use Rattle.apdu_stated.specs.Examples.{Example, examples}
-use Rattle.table_stated.specs.Rows.{row}
+use Rattle.apdu_stated.specs.declared.Reading.{Reading}
+use Rattle.apdu_stated.specs.Terms.{saying}
+use Rattle.table_stated.specs.Rows.{numbered, columnsOf}
 use Rattle.table_stated.specs.Terms.{OfRow, IsOf, EarlyIn, Has, First, MostClaimed}
-use Rattle.table_stated.specs.Contracts.{TryRows, ReadRows, ReadTable}
-use Rattle.table_stated.specs.Answers.{TableReading}
+use Rattle.table_stated.specs.Contracts.{TableRows, TryRows, ReadRows, ReadTable}
+use Rattle.table_stated.specs.Answers.{RowSays, TableReading, tableReadingOf}
 
 -- ---- the two tables
 
--- 02, E9: "Prove it equal to the branching reader on every frame, E1's pairs included .. state the agreement once for both tables": by each
--- table, on every frame, the table's reader and the branching reader of apdu_stated's Reading.antt give the same: what the frame says, 6a80, or 6700 with
--- its pair. Rejects a least Lc of 0 in row 5 (`row5FromLc0`), a row 6 in the strict table (`row6InStrict`), rows 5 and 7 with each other's Le (`leSwapped`), a
--- reader that takes the first row that is too short (`firstTooShort`), or says surplus where that one ends (`placeOfFirst`). Bites at 00 03 00 00 | 00 00 00.
+-- 02, E9: "Prove it equal to the branching reader on every frame, E1's pairs included. .. state the agreement once for both tables.": by each
+-- table, on every frame, the table's reader and the branching reader of apdu_stated's Reading.antt give the same: what the frame says, 6a80, or
+-- 6700 with its pair. Rejects a least Lc of 0 in row 5 (`row5FromLc0`), rows 5 and 7 with each other's Le (`leSwapped`), rows numbered by their place
+-- (`numberedByPlace`), a row 6 in the strict table, with ISO's least Lc or with document 01's (`row6InStrict`, `row6AsIn01`), a reader that takes the first
+-- row that is too short (`firstTooShort`), or says surplus where that one ends (`placeOfFirst`). Bites at 00 03 00 00 | 00 00 00, of row 6 strictly at
+-- 00 03 00 00 | 00 00 01 AA 05, of the place at 00 03 00 00 | 01 AA 00 00.
 abbrev pub SameReading : (Entry → List Row) → (List Row → List ℕ → Outcome Says) → Type 0
 SameReading table read = (entry : Entry) (frame : List ℕ) → read (table entry) frame ≡ readBy entry frame
 
 -- At most one row of a table fits a frame, in both tables: so "the row that fits" is one, in whatever order they are tried. Rejects a least Lc
--- of 0 in row 5, which then fits an extended Le beside row 8. Bites at 00 03 00 00 | 00 00 00.
+-- of 0 in row 5 (`row5FromLc0`), which then fits an extended Le of 65536 beside row 8. Bites at 00 03 00 00 | 00 00 00.
 abbrev pub OneRowFits : (Entry → List Row) → Type 0
 OneRowFits table = (entry : Entry) (frame : List ℕ) → AtMostOne (λ (r : Row). Has (table entry) r × IsOf r frame)
 
@@ -33,7 +40,7 @@ shapes = Instruction ∷ Le1 ∷ Lc1Data ∷ Lc1DataLe1 ∷ Lc3Data ∷ Lc3DataL
 abbrev pub rowsIn : Entry → List Case → List Row
 rowsIn entry [] = []
 rowsIn entry (s ∷ more) =
-    if hasRow entry s then row (shapeNo s) (lcField s) (leastOf entry s) (leField s) ∷ rowsIn entry more
+    if hasRow entry s then numbered (shapeNo s) (lcField s) (leastOf entry s) (leField s) ∷ rowsIn entry more
     else rowsIn entry more
 
 -- The rows are those of apdu_stated's table, and of its strict one: "The strict reading is the same table with other least Lc and without
@@ -42,40 +49,82 @@ rowsIn entry (s ∷ more) =
 abbrev pub TablesExactly : (Entry → List Row) → Type 0
 TablesExactly table = (entry : Entry) → table entry ≡ rowsIn entry shapes
 
--- Document 01's frames marked P, read by its table as its list says.
+-- 01, 'Frames and moments to try': the frames marked P, "proved together, as a single statement over a list", by its table. Rejects a least Lc
+-- of 0 in row 5 (`row5FromLc0`). Bites at 00 03 00 00 | 00 00 00.
 abbrev pub ExamplesRead : (Entry → List Row) → (List Row → List ℕ → Outcome Says) → Type 0
 ExamplesRead table read = map (λ (e : Example). read (table Ordinary) (e .frame)) examples ≡ map (λ (e : Example). e .answer) examples
 
 -- ---- any table: nothing in the reader knows a shape by name
 
--- What comes of trying the rows of any table, each exactly when: the frame is under four bytes; its first row; it ends early in some row and is of
--- none; else it goes on behind the most that a row can claim. Rejects a reader that knows document 01's rows whatever it is given
--- (`knowsItsRows`), one that takes the last row that fits (`lastThatFits`), and one that looks for missing bytes before it tries the rows (`earlyFirst`).
--- Bites at an empty table, at a row that stands twice, and at 00 03 00 00 | 00 00 00.
+-- What comes of trying the rows of any table. Short exactly when the frame is under four bytes; ByRow r when r is the first row that the frame is
+-- of; Early when it is of no row and ends early in at least one; Beyond k when it is of no row, ends early in none, and k bytes is the most that a
+-- row claims from its front. Rejects a reader that knows document 01's rows whatever it is given (`knowsItsRows`), one that takes the last row that
+-- fits (`lastThatFits`), and one that looks for missing bytes before it tries the rows (`earlyFirst`). Bites at an empty table, at two rows of equal
+-- columns and different numbers, and at 00 03 00 00 | 00 FF FF.
 pub record TriesExactly (try : List Row → List ℕ → Tried) : Type 0 where
   pub short : (rows : List Row) (frame : List ℕ) → (try rows frame ≡ Short) ↔ (length frame < 4)
-  pub fits : (rows : List Row) (frame : List ℕ) → AreBytes frame → (r : Row) → (try rows frame ≡ Fits r) ↔ First rows frame r
+  pub by-row : (rows : List Row) (frame : List ℕ) → AreBytes frame → (r : Row) → (try rows frame ≡ ByRow r) ↔ First rows frame r
   pub early : (rows : List Row) (frame : List ℕ) → AreBytes frame
-      → (try rows frame ≡ EndsEarly)
+      → (try rows frame ≡ Early)
       ↔ ((4 ≤ length frame) × ((r : Row) → Has rows r → IsOf r frame → ⊥) × ((r : Row) × Has rows r × EarlyIn r frame))
-  pub goes-on : (rows : List Row) (frame : List ℕ) → AreBytes frame → (k : ℕ)
-      → (try rows frame ≡ GoesOn k)
+  pub beyond : (rows : List Row) (frame : List ℕ) → AreBytes frame → (k : ℕ)
+      → (try rows frame ≡ Beyond k)
       ↔ ((4 ≤ length frame) × ((r : Row) → Has rows r → EarlyIn r frame → ⊥) × (k < length frame) × MostClaimed rows frame k)
 
--- The answer, by whatever came of trying the rows: 01's 6a80, 02's E1 kinds 1 and 2 with their places, and what the frame says by its row. Rejects
+-- What is answered by any table: what the frame says by its first row, 01's 6a80, 02's E1 kinds 1 and 2 with their places, each exactly when. Rejects
 -- a reader of document 01's shapes whatever it is given (`readsByName`), missing bytes placed where the payload begins (`missingAtThePayload`), and a
 -- row's least said for the frame's Lc (`leastForLc`). Bites at an empty table, at 00 03 00 00 | 02 AA, and at 00 03 00 00 | 02 AA BB.
 pub record AnswersExactly (read : List Row → List ℕ → Outcome Says) : Type 0 where
-  pub short : (try : List Row → List ℕ → Tried) → TriesExactly try → (rows : List Row) (frame : List ℕ) → AreBytes frame → try rows frame ≡ Short → read rows frame ≡ SW 0x6a80
-  pub fits : (try : List Row → List ℕ → Tried) → TriesExactly try → (rows : List Row) (frame content : List ℕ) → AreBytes frame → (r : Row) (says : Says)
-      → try rows frame ≡ Fits r → OfRow r frame says content → read rows frame ≡ Gives says
-  pub early : (try : List Row → List ℕ → Tried) → TriesExactly try → (rows : List Row) (frame : List ℕ) → AreBytes frame → try rows frame ≡ EndsEarly
-      → read rows frame ≡ wrongLength 1 (length frame)
-  pub goes-on : (try : List Row → List ℕ → Tried) → TriesExactly try → (rows : List Row) (frame : List ℕ) → AreBytes frame → (k : ℕ) → try rows frame ≡ GoesOn k
-      → read rows frame ≡ wrongLength 2 k
+  pub reads : (rows : List Row) (frame : List ℕ) → AreBytes frame → (says : Says)
+      → (read rows frame ≡ Gives says) ↔ ((r : Row) × (content : List ℕ) × First rows frame r × OfRow r frame says content)
+  pub short : (rows : List Row) (frame : List ℕ) → (read rows frame ≡ SW 0x6a80) ↔ (length frame < 4)
+  pub missing : (rows : List Row) (frame : List ℕ) → AreBytes frame → (k : ℕ)
+      → (read rows frame ≡ wrongLength 1 k)
+      ↔ ((4 ≤ length frame) × ((r : Row) → Has rows r → IsOf r frame → ⊥) × ((r : Row) × Has rows r × EarlyIn r frame) × (k ≡ length frame))
+  pub surplus : (rows : List Row) (frame : List ℕ) → AreBytes frame → (k : ℕ)
+      → (read rows frame ≡ wrongLength 2 k)
+      ↔ ((4 ≤ length frame) × ((r : Row) → Has rows r → EarlyIn r frame → ⊥) × (k < length frame) × MostClaimed rows frame k)
+
+-- ---- what the code holds
+
+-- A row of four numbers, in E9's order behind the shape's number: "(length of Lc field, least Lc, length of Le field)"; and back. Rejects
+-- the least Lc and the length of Le exchanged (`leastLast`). Bites at row 7.
+pub record ColumnsExactly (from : List ℕ → Row) (to : Row → List ℕ) : Type 0 where
+  pub forth : (number lcLong least leLong : ℕ)
+      → from (number ∷ lcLong ∷ least ∷ leLong ∷ []) ≡ record { number = number; «lc_field» = lcLong; «lc_least» = least; «le_field» = leLong }
+  pub back : (number lcLong least leLong : ℕ)
+      → to (record { number = number; «lc_field» = lcLong; «lc_least» = least; «le_field» = leLong }) ≡ number ∷ lcLong ∷ least ∷ leLong ∷ []
+
+-- What the code holds of a frame, in the documents' numbers, each as it is. Rejects data that starts one byte on (`startOneOn`). Bites at every frame.
+abbrev pub RowSaysExactly : (RowSays → Says) → Type 0
+RowSaysExactly view =
+    (h : ApduHeader) (number start lc le : ℕ) → view (record { header = h; number = number; start = start; lc = lc; le = le }) ≡ saying h number start lc le
+
+-- Two answers that say the same are one: so a contract that fixes what is said fixes the answer. Rejects a view that drops the pair of a 6700
+-- (`pairUnsaid`). Bites at two places of surplus bytes.
+abbrev pub AnswersOneToOne : (TableReading → Outcome Says) → Type 0
+AnswersOneToOne said = (a b : TableReading) → said a ≡ said b → a ≡ b
+
+-- ---- the contracts, and the two readers
+
+-- Whatever meets a contract of `table` meets the claim on it, by rows written out as four numbers each.
+pub record ContractsAsClaimed : Type 0 where
+  pub try-rows : (f : List (List ℕ) → List ℕ → Tried) → ((table : List (List ℕ)) (frame : List ℕ) → TryRows table frame (f table frame))
+      → TriesExactly (λ (rows : List Row) (frame : List ℕ). f (map columnsOf rows) frame)
+  pub read-rows : (f : List (List ℕ) → List ℕ → TableReading) → ((table : List (List ℕ)) (frame : List ℕ) → ReadRows table frame (f table frame))
+      → AnswersExactly (λ (rows : List Row) (frame : List ℕ). tableReadingOf (f (map columnsOf rows) frame))
+
+-- E9 of the two programs: whatever meets the contract of `table`'s reader, and whatever meets that of apdu's, give the same on every frame; strictly too. A
+-- contract of the strict one that names the other table fails it, with code to match.
+pub record ReadersAgree : Type 0 where
+  pub ordinary : (f : List ℕ → TableReading) (g : List ℕ → Reading) → ((frame : List ℕ) → ReadTable Ordinary frame (f frame)) → ((frame : List ℕ) → Read frame (g frame))
+      → (frame : List ℕ) → tableReadingOf (f frame) ≡ readingOf (g frame)
+  pub strict : (f : List ℕ → TableReading) (g : List ℕ → Reading) → ((frame : List ℕ) → ReadTable Strict frame (f frame)) → ((frame : List ℕ) → ReadStrict frame (g frame))
+      → (frame : List ℕ) → tableReadingOf (f frame) ≡ readingOf (g frame)
 
 -- ---- two results that satisfy a contract are equal
 pub record ResultsDetermined : Type 0 where
+  pub table-rows : (entry : Entry) → AtMostOne (TableRows entry)
   pub try-rows : (table : List (List ℕ)) (frame : List ℕ) → AtMostOne (TryRows table frame)
   pub read-rows : (table : List (List ℕ)) (frame : List ℕ) → AtMostOne (ReadRows table frame)
   pub read-table : (entry : Entry) (frame : List ℕ) → AtMostOne (ReadTable entry frame)

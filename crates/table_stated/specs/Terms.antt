@@ -4,13 +4,13 @@ use Rattle.table_stated.specs.Words.{ℕ, _+_, _≤_, _<_, _≡_, List, 
 use Rattle.apdu_stated.specs.Terms.{IsPair, OneByteLe, TwoByteLe, frameWith, saying, LongestFront}
 
 -- `LcField long lc bytes`: the bytes of an Lc field of this length that says lc. 01: "Lc", "00, Lc (2)", or none
-pub data LcField : ℕ → ℕ → List ℕ → Type 0 where
+pub data LcField : (long : ℕ) → (lc : ℕ) → List ℕ → Type 0 where
   no-lc : LcField 0 0 []
   one-lc : {lc : ℕ} → lc ≤ 255 → LcField 1 lc (lc ∷ [])
   three-lc : {hi lo lc : ℕ} → IsPair hi lo lc → LcField 3 lc (0x00 ∷ hi ∷ lo ∷ [])
 
 -- `LeField long le bytes`: the same of an Le field. 01: "Le (1)", "Le (2)", "00, Le (2)", or none; "an absent Le reads as 0"
-pub data LeField : ℕ → ℕ → List ℕ → Type 0 where
+pub data LeField : (long : ℕ) → (le : ℕ) → List ℕ → Type 0 where
   no-le : LeField 0 0 []
   one-le : {b le : ℕ} → OneByteLe b le → LeField 1 le (b ∷ [])
   two-le : {a b le : ℕ} → TwoByteLe a b le → LeField 2 le (a ∷ b ∷ [])
@@ -33,14 +33,15 @@ pub record OfRow (r : Row) (frame : List ℕ) (says : Says) (content : List ℕ)
 abbrev pub IsOf : Row → List ℕ → Type 0
 IsOf r frame = (says : Says) × (content : List ℕ) × OfRow r frame says content
 
--- `EndsIn frame long`: a frame of four bytes or more that can begin with an Lc field of so many bytes, and ends before this field or its data does
+-- `EndsIn frame long`: a frame that can begin with an Lc field of so many bytes, and ends before this field or its data does. That it has four bytes or
+-- more is asked beside it
 pub data EndsIn (frame : List ℕ) : ℕ → Type 0 where
   in-one : length frame < 5 → EndsIn frame 1
   in-one-data : 5 ≤ length frame → length frame < 5 + byte frame 4 → EndsIn frame 1
   in-three : length frame < 7 → (4 < length frame → byte frame 4 ≡ 0x00) → EndsIn frame 3
   in-three-data : 7 ≤ length frame → byte frame 4 ≡ 0x00 → length frame < 7 + pairAt frame 5 → EndsIn frame 3
 
--- the frame ends early in the row. Ours: a row whose Le field has more than three bytes is nobody's
+-- the frame ends early in the row. Ours: it does not where the row's Le field has more than three bytes, and the least Lc is not asked
 pub record EarlyIn (r : Row) (frame : List ℕ) : Type 0 where
   pub le-field : r .«le_field» ≤ 3
   pub ends : EndsIn frame (r .«lc_field»)
@@ -52,15 +53,15 @@ pub data Has : List Row → Row → Type 0 where
 
 -- `First rows frame r`: the first row of the table that the frame is of
 pub data First : List Row → List ℕ → Row → Type 0 where
-  now : {r : Row} {rows : List Row} {frame : List ℕ} → IsOf r frame → First (r ∷ rows) frame r
+  this : {r : Row} {rows : List Row} {frame : List ℕ} → IsOf r frame → First (r ∷ rows) frame r
   later : {r x : Row} {rows : List Row} {frame : List ℕ} → (IsOf x frame → ⊥) → First rows frame r → First (x ∷ rows) frame r
 
 -- the frame is of a row of the table
 abbrev pub OfTable : List Row → List ℕ → Says → List ℕ → Type 0
 OfTable rows frame says content = (r : Row) × Has rows r × OfRow r frame says content
 
--- "the first byte that no field can claim", over any table: apdu_stated's longest part from the frame's front that is in the table; 0 where
--- no part is (ours: of document 01's tables none is without row 1)
+-- "the first byte that no field can claim", over any table: apdu_stated's longest part from the frame's front that is in the table; 0 where no
+-- part is (ours). Both of document 01's tables have row 1, the header alone, so there it is at least 4
 pub data MostClaimed (rows : List Row) (frame : List ℕ) (k : ℕ) : Type 0 where
-  some : LongestFront (OfTable rows) frame k → MostClaimed rows frame k
-  none : k ≡ 0 → ((j : ℕ) (says : Says) (content : List ℕ) → j ≤ length frame → OfTable rows (take j frame) says content → ⊥) → MostClaimed rows frame k
+  a-part : LongestFront (OfTable rows) frame k → MostClaimed rows frame k
+  no-part : k ≡ 0 → ((j : ℕ) (says : Says) (content : List ℕ) → j ≤ length frame → OfTable rows (take j frame) says content → ⊥) → MostClaimed rows frame k

@@ -18,4 +18,4 @@ pub use Rattle.apdu_stated.specs.declared.Entry.the-variants.{Ordinary, Strict}
 pub use Rattle.apdu_stated.specs.Table.{leRead}
 pub use Rattle.table_stated.specs.declared.Row.{Row}
 pub use Rattle.table_stated.specs.declared.Tried.{Tried}
-pub use Rattle.table_stated.specs.declared.Tried.the-variants.{Short, Fits, EndsEarly, GoesOn}
+pub use Rattle.table_stated.specs.declared.Tried.the-variants.{Short, ByRow, Early, Beyond}

@@ -1,39 +1,45 @@
 -- Tables and readers that are wrong: each fails a claim of Claims.antt, by proofs/Refuted.antt.
 use mathlib.Core.List.{reverse}
-use Rattle.table_stated.specs.Words.{ℕ, _+_, Bool, false, _||_, List, [], _∷_, length, ltb, if_then_else_, Outcome, R, Word, SW, Gives, surplusAt, missingAt, Says, Entry, Ordinary, Strict, Row, Tried, Short, Fits, EndsEarly, GoesOn}
+use Rattle.table_stated.specs.Words.{ℕ, _+_, Bool, false, _||_, List, [], _∷_, length, ltb, if_then_else_, byte, Outcome, SW, Gives, wordOf, surplusAt, missingAt, Says, Entry, Ordinary, Strict, Row, Tried, Short, ByRow, Early, Beyond}
 use Rattle.apdu_stated.specs.Reading.{readBy}
-use Rattle.table_stated.specs.Rows.{row, tableOf}
+use Rattle.table_stated.specs.Rows.{numbered, tableOf}
 use Rattle.table_stated.specs.Trying.{stands, rowEnd, endsEarly, tried}
-use Rattle.table_stated.specs.Answers.{saysBy, answerOf, readRows}
+use Rattle.table_stated.specs.Answers.{RowSays, TableReading, saysBy, answerOf, rowSaysOf}
+use Rattle.table_stated.specs.declared.TableReading.the-variants as TableReading′
 
 -- ---- tables
 
 -- row 5, "Lc 1..65535": here from Lc 0 on
 abbrev pub row5FromLc0 : Entry → List Row
-row5FromLc0 Ordinary = row 1 0 0 0 ∷ row 2 0 0 1 ∷ row 3 1 1 0 ∷ row 4 1 1 1 ∷ row 5 3 0 0 ∷ row 6 3 0 1 ∷ row 7 3 0 2 ∷ row 8 0 0 3 ∷ []
+row5FromLc0 Ordinary = numbered 1 0 0 0 ∷ numbered 2 0 0 1 ∷ numbered 3 1 1 0 ∷ numbered 4 1 1 1 ∷ numbered 5 3 0 0 ∷ numbered 6 3 0 1 ∷ numbered 7 3 0 2 ∷ numbered 8 0 0 3 ∷ []
 row5FromLc0 Strict = tableOf Strict
 
 -- "without row 6": here with it
 abbrev pub row6InStrict : Entry → List Row
 row6InStrict Ordinary = tableOf Ordinary
-row6InStrict Strict = row 1 0 0 0 ∷ row 2 0 0 1 ∷ row 3 1 1 0 ∷ row 4 1 1 1 ∷ row 5 3 1 0 ∷ row 6 3 1 1 ∷ row 7 3 1 2 ∷ row 8 0 0 3 ∷ []
+row6InStrict Strict = numbered 1 0 0 0 ∷ numbered 2 0 0 1 ∷ numbered 3 1 1 0 ∷ numbered 4 1 1 1 ∷ numbered 5 3 1 0 ∷ numbered 6 3 1 1 ∷ numbered 7 3 1 2 ∷ numbered 8 0 0 3 ∷ []
+
+-- and here as document 01 has it, from Lc 0 on
+abbrev pub row6AsIn01 : Entry → List Row
+row6AsIn01 Ordinary = tableOf Ordinary
+row6AsIn01 Strict = numbered 1 0 0 0 ∷ numbered 2 0 0 1 ∷ numbered 3 1 1 0 ∷ numbered 4 1 1 1 ∷ numbered 5 3 1 0 ∷ numbered 6 3 0 1 ∷ numbered 7 3 1 2 ∷ numbered 8 0 0 3 ∷ []
 
 -- rows 5 and 7, each with the other's Le
 abbrev pub leSwapped : Entry → List Row
-leSwapped Ordinary = row 1 0 0 0 ∷ row 2 0 0 1 ∷ row 3 1 1 0 ∷ row 4 1 1 1 ∷ row 5 3 1 2 ∷ row 6 3 0 1 ∷ row 7 3 0 0 ∷ row 8 0 0 3 ∷ []
-leSwapped Strict = row 1 0 0 0 ∷ row 2 0 0 1 ∷ row 3 1 1 0 ∷ row 4 1 1 1 ∷ row 5 3 1 2 ∷ row 7 3 1 0 ∷ row 8 0 0 3 ∷ []
+leSwapped Ordinary = numbered 1 0 0 0 ∷ numbered 2 0 0 1 ∷ numbered 3 1 1 0 ∷ numbered 4 1 1 1 ∷ numbered 5 3 1 2 ∷ numbered 6 3 0 1 ∷ numbered 7 3 0 0 ∷ numbered 8 0 0 3 ∷ []
+leSwapped Strict = numbered 1 0 0 0 ∷ numbered 2 0 0 1 ∷ numbered 3 1 1 0 ∷ numbered 4 1 1 1 ∷ numbered 5 3 1 2 ∷ numbered 7 3 1 0 ∷ numbered 8 0 0 3 ∷ []
 
 -- a row's number is its shape's: here its place in the table
 abbrev pub numberedByPlace : Entry → List Row
 numberedByPlace Ordinary = tableOf Ordinary
-numberedByPlace Strict = row 1 0 0 0 ∷ row 2 0 0 1 ∷ row 3 1 1 0 ∷ row 4 1 1 1 ∷ row 5 3 1 0 ∷ row 6 3 1 2 ∷ row 7 0 0 3 ∷ []
+numberedByPlace Strict = numbered 1 0 0 0 ∷ numbered 2 0 0 1 ∷ numbered 3 1 1 0 ∷ numbered 4 1 1 1 ∷ numbered 5 3 1 0 ∷ numbered 6 3 1 2 ∷ numbered 7 0 0 3 ∷ []
 
 -- ---- readers of any table
 
 -- "answers by the row that fits": here by the first that stands at the frame's front, also where it is too short
 abbrev firstStanding : List Row → List ℕ → Tried
-firstStanding [] frame = EndsEarly
-firstStanding (r ∷ rows) frame = if stands r frame then Fits r else firstStanding rows frame
+firstStanding [] frame = Early
+firstStanding (r ∷ rows) frame = if stands r frame then ByRow r else firstStanding rows frame
 
 abbrev pub firstTooShort : List Row → List ℕ → Outcome Says
 firstTooShort rows frame = if ltb (length frame) 4 then SW 0x6a80 else answerOf frame (firstStanding rows frame)
@@ -45,21 +51,21 @@ firstEnd (r ∷ rows) frame = if stands r frame then rowEnd r frame else firstEn
 
 abbrev placedBy : List Row → List ℕ → Tried → Tried
 placedBy rows frame Short = Short
-placedBy rows frame (Fits r) = Fits r
-placedBy rows frame EndsEarly = EndsEarly
-placedBy rows frame (GoesOn k) = GoesOn (firstEnd rows frame)
+placedBy rows frame (ByRow r) = ByRow r
+placedBy rows frame Early = Early
+placedBy rows frame (Beyond k) = Beyond (firstEnd rows frame)
 
 abbrev pub placeOfFirst : List Row → List ℕ → Outcome Says
 placeOfFirst rows frame = answerOf frame (placedBy rows frame (tried rows frame))
 
--- "the rows of whatever table it is given": here document 01's rows, and here its shapes
+-- E9's request: "the rows of whatever table it is given": here document 01's rows, and here its shapes
 abbrev pub knowsItsRows : List Row → List ℕ → Tried
 knowsItsRows rows frame = tried (tableOf Ordinary) frame
 
 abbrev pub readsByName : List Row → List ℕ → Outcome Says
 readsByName rows frame = readBy Ordinary frame
 
--- the rows from the last one on
+-- the rows are tried from the last to the first
 abbrev pub lastThatFits : List Row → List ℕ → Tried
 lastThatFits rows frame = tried (reverse rows) frame
 
@@ -71,15 +77,15 @@ anyEarly (r ∷ rows) frame = endsEarly r frame || anyEarly rows frame
 abbrev pub earlyFirst : List Row → List ℕ → Tried
 earlyFirst rows frame =
     if ltb (length frame) 4 then Short
-    else if anyEarly rows frame then EndsEarly
+    else if anyEarly rows frame then Early
     else tried rows frame
 
 -- "for missing bytes the frame's length": here 4, where the payload begins
 abbrev missingAt4 : List ℕ → Tried → Outcome Says
 missingAt4 frame Short = SW 0x6a80
-missingAt4 frame (Fits r) = Gives (saysBy r frame)
-missingAt4 frame EndsEarly = missingAt 4
-missingAt4 frame (GoesOn k) = surplusAt k
+missingAt4 frame (ByRow r) = Gives (saysBy r frame)
+missingAt4 frame Early = missingAt 4
+missingAt4 frame (Beyond k) = surplusAt k
 
 abbrev pub missingAtThePayload : List Row → List ℕ → Outcome Says
 missingAtThePayload rows frame = missingAt4 frame (tried rows frame)
@@ -87,11 +93,26 @@ missingAtThePayload rows frame = missingAt4 frame (tried rows frame)
 -- a frame says its Lc: here its row's least
 abbrev leastSaid : List ℕ → Tried → Outcome Says
 leastSaid frame Short = SW 0x6a80
-leastSaid frame (Fits r) =
+leastSaid frame (ByRow r) =
     let s = saysBy r frame in
     Gives (record { header = s .header; shape = s .shape; dataAt = s .dataAt; lc = r .«lc_least»; le = s .le })
-leastSaid frame EndsEarly = missingAt (length frame)
-leastSaid frame (GoesOn k) = surplusAt k
+leastSaid frame Early = missingAt (length frame)
+leastSaid frame (Beyond k) = surplusAt k
 
 abbrev pub leastForLc : List Row → List ℕ → Outcome Says
 leastForLc rows frame = leastSaid frame (tried rows frame)
+
+-- ---- what the code holds
+
+-- "(length of Lc field, least Lc, length of Le field)": here the least comes last
+abbrev pub leastLast : List ℕ → Row
+leastLast columns = numbered (byte columns 0) (byte columns 1) (byte columns 3) (byte columns 2)
+
+-- where the data starts: here one byte on
+abbrev pub startOneOn : RowSays → Says
+startOneOn s = record { header = s .header; shape = s .number; dataAt = s .start + 1; lc = s .lc; le = s .le }
+
+-- the number of a status word alone
+abbrev pub pairUnsaid : TableReading → Outcome Says
+pairUnsaid (TableReading′.Frame s) = Gives (rowSaysOf s)
+pairUnsaid (TableReading′.Status s) = SW (wordOf s .number)

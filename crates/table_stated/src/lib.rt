@@ -14,9 +14,9 @@ pub struct Row {
 // does; or it goes on behind the most that a row can claim of it.
 pub enum Tried {
     Short,
-    Fits(Row),
-    EndsEarly,
-    GoesOn(usize),
+    ByRow(Row),
+    Early,
+    Beyond(usize),
 }
 
 // What a frame says, as its row has it. Its data stays in the frame, from `start` on.
