@@ -99,6 +99,27 @@ static struct brinecandle_frame watched_read_strict(const uint8_t *frame, size_t
     return watched_frame(said, frame, length, brinecandle_read_strict);
 }
 
+static bool same_frame(struct brinecandle_frame a, struct brinecandle_frame b)
+{
+    return a.answer == b.answer && a.fault == b.fault && a.cla == b.cla && a.ins == b.ins && a.p1 == b.p1 && a.p2 == b.p2
+        && a.shape == b.shape && a.lc == b.lc && a.le == b.le && a.start == b.start && a.end == b.end && a.place == b.place;
+}
+
+/* The second reader answers as the first, every field of it. */
+static struct brinecandle_frame watched_read_by_table(const uint8_t *frame, size_t length)
+{
+    struct brinecandle_frame said = brinecandle_read_by_table(frame, length);
+    held(same_frame(said, brinecandle_read(frame, length)), "table: another answer than the branches'");
+    return watched_frame(said, frame, length, brinecandle_read_by_table);
+}
+
+static struct brinecandle_frame watched_read_strict_by_table(const uint8_t *frame, size_t length)
+{
+    struct brinecandle_frame said = brinecandle_read_strict_by_table(frame, length);
+    held(same_frame(said, brinecandle_read_strict(frame, length)), "strict table: another answer than the branches'");
+    return watched_frame(said, frame, length, brinecandle_read_strict_by_table);
+}
+
 /* `out` before the call is in watched_buffer */
 static struct brinecandle_wrote watched_wrote(struct brinecandle_wrote said, const uint8_t *out, size_t room)
 {
@@ -321,6 +342,8 @@ static struct brinecandle_wrote watched_finish(struct brinecandle_order order, c
 
 #define brinecandle_read watched_read
 #define brinecandle_read_strict watched_read_strict
+#define brinecandle_read_by_table watched_read_by_table
+#define brinecandle_read_strict_by_table watched_read_strict_by_table
 #define brinecandle_write watched_write
 #define brinecandle_write_strict watched_write_strict
 #define brinecandle_read_command watched_read_command

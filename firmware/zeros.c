@@ -49,6 +49,8 @@ static void null_pointers(void)
     held(brinecandle_read(0, 0).answer == BRINECANDLE_WRONG_DATA, "read of no frame");
     held(brinecandle_read(0, 0).fault == BRINECANDLE_NO_FAULT, "read of no frame, and a fault");
     held(brinecandle_read_strict(0, 0).answer == BRINECANDLE_WRONG_DATA, "strict of no frame");
+    held(brinecandle_read_by_table(0, 0).answer == BRINECANDLE_WRONG_DATA, "table of no frame");
+    held(brinecandle_read_strict_by_table(0, 0).answer == BRINECANDLE_WRONG_DATA, "strict table of no frame");
     held(brinecandle_read_command(0, 0).answer == BRINECANDLE_WRONG_DATA, "command of no frame");
     held(brinecandle_write(0, 3, 0, 0, 1, 0, 0, 0, reply, sizeof reply).length == 4, "write of no data");
     held(brinecandle_write(0, 3, 0, 0, 1, 0, 0, 0, 0, 0).answer == BRINECANDLE_R2, "write into no buffer");

@@ -5,7 +5,7 @@
 //!     driver SIDE ROW COUNT       makes the call COUNT times on the side
 //!     driver time SIDE ROW COUNT  the same, several times over, and prints nanoseconds a call, the least of them
 //!
-//! Sides: `core` and `rust`; `decide` and `finish`, the two parts of `core`; `lent`, what the upstream's stand-ins allocate
+//! Sides: `core` and `rust`; of a reading `strict`, `table` and `strict-table` too; `decide` and `finish`, the two parts of `core`; `lent`, what the upstream's stand-ins allocate
 //! to hand over the hardware's answers; `nothing`, the loop alone.
 
 #[macro_use]

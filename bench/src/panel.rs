@@ -1,6 +1,7 @@
 //! The part of include/brinecandle.h that is measured. Each struct has the name that it has there, without `brinecandle_`
 //! and with a capital, and its fields one by one, so that the two can be compared line by line.
 
+#[derive(PartialEq)]
 #[repr(C)]
 pub struct Frame {
     pub answer: u16,
@@ -97,6 +98,9 @@ pub struct Decision {
     pub limit: u32,
 }
 
+/// Each of the four readings.
+pub type Reader = unsafe extern "C" fn(*const u8, usize) -> Frame;
+
 pub const ORDER: u16 = 0x0100;
 pub const PART: u16 = 0x0200;
 pub const OK: u16 = 0x9000;
@@ -104,6 +108,9 @@ pub const BLOCK: usize = 385;
 
 extern "C" {
     pub fn brinecandle_read(frame: *const u8, frame_length: usize) -> Frame;
+    pub fn brinecandle_read_strict(frame: *const u8, frame_length: usize) -> Frame;
+    pub fn brinecandle_read_by_table(frame: *const u8, frame_length: usize) -> Frame;
+    pub fn brinecandle_read_strict_by_table(frame: *const u8, frame_length: usize) -> Frame;
     pub fn brinecandle_write(
         cla: u8,
         ins: u8,

@@ -5,7 +5,9 @@ use crate::ctap::ctap1::Ctap1Command;
 use crate::ctap::u2f_up::U2fUserPresenceState;
 use crate::ctap::{CtapState, TOUCH_TIMEOUT_MS};
 use crate::lent::{self, Lent, CERTIFICATE, COUNTER, HANDLE, SIGNATURE, X, Y};
-use crate::panel::{self, Asked, Decision, Frame, Hardware, Order, Part, Presence, Remainder, Touch, Wrote, BLOCK};
+use crate::panel::{
+    self, Asked, Decision, Frame, Hardware, Order, Part, Presence, Reader, Remainder, Touch, Wrote, BLOCK,
+};
 
 /// The room that the panel's firmware has for a reply.
 const ROOM: usize = 1024;
@@ -285,6 +287,9 @@ impl World {
             ("nothing", _) => Some(|_| ()),
             ("core", Kind::Read) => Some(|w| drop(w.said())),
             ("rust", Kind::Read) => Some(|w| drop((w.read)(w.row.frame))),
+            ("strict", Kind::Read) => Some(|w| drop(w.said_by(panel::brinecandle_read_strict))),
+            ("table", Kind::Read) => Some(|w| drop(w.said_by(panel::brinecandle_read_by_table))),
+            ("strict-table", Kind::Read) => Some(|w| drop(w.said_by(panel::brinecandle_read_strict_by_table))),
             ("core", Kind::Write) => Some(|w| drop(w.wrote())),
             ("core", Kind::Next(_)) => Some(|w| drop(w.next())),
             ("core", Kind::Fetch) => Some(|w| drop(w.decided())),
@@ -311,8 +316,13 @@ impl World {
     }
 
     #[inline(always)]
+    fn said_by(&self, reader: Reader) -> Frame {
+        unsafe { reader(self.row.frame.as_ptr(), self.row.frame.len()) }
+    }
+
+    #[inline(always)]
     fn said(&self) -> Frame {
-        unsafe { panel::brinecandle_read(self.row.frame.as_ptr(), self.row.frame.len()) }
+        self.said_by(panel::brinecandle_read)
     }
 
     #[inline(always)]
@@ -447,7 +457,19 @@ impl World {
         );
     }
 
+    /// The second reader answers as the first, by both tables.
+    fn same_by_table(&self) {
+        let strictly = self.said_by(panel::brinecandle_read_strict);
+        assert!(
+            self.said_by(panel::brinecandle_read_by_table) == self.said()
+                && self.said_by(panel::brinecandle_read_strict_by_table) == strictly,
+            "{}: the table's reader answers otherwise",
+            self.row.name
+        );
+    }
+
     fn core_reading(&self) -> (u16, Vec<u8>, [u32; 2]) {
+        self.same_by_table();
         let said = self.said();
         let header = [said.cla, said.ins, said.p1, said.p2];
         let start = [&header[..], &self.row.frame[said.start..said.end]].concat();

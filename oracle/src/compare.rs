@@ -5,7 +5,7 @@
 use crate::device::{amended, read, reading_name, yes_name, Answer, Call, Device, Outcome, Touch, ANSWERS};
 use crate::generate::{all, all_count, boundary, damaged, Aimed, Dice, History, ALL_UP_TO};
 use crate::lent::Hardware;
-use crate::panel::{decided, finished, next_line, put_call, put_finish, without_pair, Panel, Record};
+use crate::panel::{decided, finished, next_line, put_call, put_finish, put_table, without_pair, Panel, Record};
 use std::collections::BTreeMap;
 use std::io::Write;
 use std::sync::mpsc::sync_channel;
@@ -25,6 +25,9 @@ const FRESH: &str = "new";
 
 /// An answer that is held to document 02.
 const FETCHED: &str = "INS C0, where the Rust says 6d00";
+
+/// An answer of the second reader.
+const BY_TABLE: &str = ", by a table";
 
 /// What a line of the panel's has to say.
 enum Expected {
@@ -50,7 +53,16 @@ impl Block {
         self.expected.push((Expected::Words(said), key));
     }
 
+    /// The second reader is compared with upstream too.
+    fn by_table(&mut self, frame: &[u8]) {
+        let answer = read(frame);
+        let key = reading_name(&answer) + BY_TABLE;
+        put_table(&mut self.lines, frame);
+        self.expected.push((Expected::Reading(frame.to_vec(), answer), key));
+    }
+
     fn frame(&mut self, frame: Vec<u8>) {
+        self.by_table(&frame);
         let answer = read(&frame);
         let key = reading_name(&answer);
         let mut device = Device::new();
@@ -287,7 +299,9 @@ type Tally = BTreeMap<String, u64>;
 /// The calls up to the one at `at`, from the last fresh record on; long lines are cut.
 fn story(lines: &[u8], at: usize) -> String {
     let lines: Vec<&str> = std::str::from_utf8(lines).unwrap().lines().take(at + 1).collect();
-    let is_history = !lines[at].starts_with("read ") && !lines[at].starts_with("command ");
+    let is_history = !["table ", "read ", "command "]
+        .iter()
+        .any(|call| lines[at].starts_with(call));
     let from = if is_history {
         lines.iter().rposition(|l| l.starts_with("new ")).unwrap_or(0)
     } else {
@@ -359,7 +373,16 @@ pub fn run(plan: &Plan) -> bool {
             .collect();
         handles.into_iter().map(|h| h.join().expect("a share")).collect()
     });
-    let mut tally: Tally = ANSWERS.iter().map(|key| (key.to_string(), 0)).collect();
+    let by_table = ANSWERS
+        .iter()
+        .filter(|key| key.starts_with("read "))
+        .map(|key| key.to_string() + BY_TABLE);
+    let mut tally: Tally = ANSWERS
+        .iter()
+        .map(|key| key.to_string())
+        .chain(by_table)
+        .map(|key| (key, 0))
+        .collect();
     let mut agreed = true;
     for share in shares {
         match share {

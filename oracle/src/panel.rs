@@ -128,6 +128,13 @@ pub fn put_strict(out: &mut Vec<u8>, frame: &[u8]) {
     out.push(b'\n');
 }
 
+/// The line for the second reading of the same frame.
+pub fn put_table(out: &mut Vec<u8>, frame: &[u8]) {
+    out.extend_from_slice(b"table");
+    then_hex(out, frame);
+    out.push(b'\n');
+}
+
 /// The line that finishes the order which the call came to.
 pub fn put_finish(out: &mut Vec<u8>, call: &Call) {
     let Call::Command(_, frame, hw) = call else { return };

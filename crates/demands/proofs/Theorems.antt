@@ -1,5 +1,6 @@
 -- The three demands are met: each field is the theorem of its claim's name.
 use Rattle.apdu_stated.proofs.Theorems as Frames
+use Rattle.table_stated.proofs.Theorems as Tables
 use Rattle.command_stated.proofs.Theorems as Commands
 use Rattle.response_stated.proofs.Theorems as Responses
 use Rattle.session_stated.proofs.Theorems as Sessions
@@ -13,6 +14,7 @@ pub answered : EveryInputIsAnswered
 answered =
     record {
       frames-determined = Frames.ResultsDetermined;
+      tables-determined = Tables.ResultsDetermined;
       commands-determined = Commands.ResultsDetermined;
       presence-determined = Presence.ResultsDetermined;
       responses-determined = Responses.ResultsDetermined;
@@ -27,6 +29,7 @@ answered =
       writing = Frames.WriteExactly;
       strict-writing = Frames.StrictWriteExactly;
       frames-as-claimed = Frames.ContractsAsClaimed;
+      tables-as-claimed = Tables.ContractsAsClaimed;
       commands = Commands.CommandExactly;
       responses-written = Responses.WritesExactly;
       responses-read = Responses.ReadsExactly;
@@ -60,6 +63,11 @@ documents =
       strict-iso = Frames.StrictIsIso;
       differences = Frames.DifferExactly;
       frames-to-try = Frames.ExamplesRead;
+      second-reader = Tables.SameReading;
+      readers-agree = Tables.ReadersAgree;
+      one-row = Tables.OneRowFits;
+      tables = Tables.TablesExactly;
+      any-table = Tables.AnswersExactly;
       places = Frames.PlacesExactly;
       carried-by-decisions = Decision.LengthsCarried;
       response-read-back = Responses.WrittenThenRead;

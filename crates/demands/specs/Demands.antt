@@ -7,6 +7,9 @@ use Rattle.apdu_stated.specs.Reading.{readOf, strictOf, dataOf}
 use Rattle.apdu_stated.specs.Terms.{InTable, Carries}
 use Rattle.apdu_stated.specs.Writing.{writingOf, strictWritingOf}
 use Rattle.apdu_stated.specs.declared.Entry.the-variants.{Ordinary, Strict}
+use Rattle.table_stated.specs.Claims as Tables
+use Rattle.table_stated.specs.Rows.{tableOf}
+use Rattle.table_stated.specs.Answers.{readRows}
 use Rattle.command_stated.specs.Claims as Commands
 use Rattle.command_stated.specs.Command.{commandOf, challengeOf, applicationOf, handleOf, challengePlaceOf, applicationPlaceOf, handlePlaceOf}
 use Rattle.response_stated.specs.Claims as Responses
@@ -32,6 +35,7 @@ use Rattle.panel_stated.specs.Exports.{madeNumbers, stepNumbers, saidBy, frameN
 pub record EveryInputIsAnswered : Type 0 where
   -- the contracts leave nothing open: two results, and two final contents of what was lent, that meet one are equal
   pub frames-determined : Frames.ResultsDetermined
+  pub tables-determined : Tables.ResultsDetermined
   pub commands-determined : Commands.ResultsDetermined
   pub presence-determined : Presence.ResultsDetermined
   pub responses-determined : Responses.ResultsDetermined
@@ -48,6 +52,7 @@ pub record EveryInputIsAnswered : Type 0 where
   pub writing : Frames.WriteExactly Carries InTable writingOf
   pub strict-writing : Frames.StrictWriteExactly strictWritingOf
   pub frames-as-claimed : Frames.ContractsAsClaimed
+  pub tables-as-claimed : Tables.ContractsAsClaimed
   -- every status of command reading
   pub commands : Commands.CommandExactly commandOf
   -- R2 of responses, written and read, and of the next part of a body: 02, E2
@@ -92,6 +97,13 @@ pub record AsTheDocumentsSay : Type 0 where
   pub strict-iso : Frames.StrictIsIso strictOf
   pub differences : Frames.DifferExactly readOf strictOf
   pub frames-to-try : Frames.ExamplesRead readOf
+  -- 02, E9: the second reader, by a table of rows, is "equal to the branching reader on every frame, E1's pairs included", by both tables; at most one row fits; and by
+  -- any other table it answers by that table's rows
+  pub second-reader : Tables.SameReading tableOf readRows
+  pub readers-agree : Tables.ReadersAgree
+  pub one-row : Tables.OneRowFits tableOf
+  pub tables : Tables.TablesExactly tableOf
+  pub any-table : Tables.AnswersExactly readRows
   -- 02, E1: "Tell us where the length went wrong": the places in the document's numbers (that they are the only ones, and when each
   -- comes, is in `reading`, `strict` and the demand above); "Command reading, strict reading and decision carry the pair upward"
   pub places : Frames.PlacesExactly readOf strictOf
