@@ -4,7 +4,7 @@ pub use Rattle.apdu_stated.proofs.Frames.{data-from, data-within, data-
 pub use Rattle.apdu_stated.proofs.Numbers.{shape-same, apduBack, apdu-back, says-same, reading-same, written-same}
 pub use Rattle.apdu_stated.proofs.Theorems.{ShortExactly as read-short, ReadPairsExactly as read-pairs, ReadExactly as read-exactly}
 pub use Rattle.apdu_stated.proofs.Ways.{TableOf, CarryOf}
-pub use Rattle.apdu_stated.proofs.Readings.{reading-exactly}
+pub use Rattle.apdu_stated.proofs.Readings.{reading-exactly, number-is, kind-is, place-is}
 pub use Rattle.apdu_stated.proofs.Writings.{write-exactly}
 pub use Rattle.apdu_stated.proofs.Agree.{same-reading, same-writing}
 pub use Rattle.apdu_stated.proofs.Fields.{strict-out, strict-out-kept, strict-same, strict-same-buffer}

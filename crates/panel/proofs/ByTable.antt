@@ -2,7 +2,7 @@
 use Prim.Native.Nat.{ℕ}
 use mathlib.Core.Path.{_≡_, ap, sym, _∙_}
 use mathlib.Core.List.{List}
-use Rattle.outcome.specs.Outcome.{Word, Gives, wordOf}
+use Rattle.outcome.specs.Outcome.{Word, wordOf}
 use Rattle.outcome.specs.declared.ApduStatusCode.{ApduStatusCode}
 use Rattle.apdu_stated.specs.declared.Entry.{Entry}
 use Rattle.table_stated.specs.Rows.{tableOf}

@@ -1,21 +1,20 @@
 -- The second reader, by either of the two tables, is the branching one.
 use Prim.Native.Nat.{ℕ, _<_, _≤_}
-use mathlib.Core.Path.{_≡_, refl, ap, sym, subst, _∙_}
-use mathlib.Core.Bool.{Bool, true, false, true≢false}
-use mathlib.Core.List.{List, [], _∷_}
+use mathlib.Core.Path.{_≡_, refl, ap, sym, _∙_}
+use mathlib.Core.Bool.{true, false, true≢false}
+use mathlib.Core.List.{List}
 use mathlib.Core.Logic.{_⊎_, inl, inr}
 use native.Mathlib.Omega.{arith}
 use native.Mathlib.Decide.{decLt}
 use borrow.Author.Tests.{lt-ltb, le-ltb}
 use lib.ListN.{length, drop}
-use Rattle.outcome.specs.Outcome.{SW, missingAt, surplusAt}
+use Rattle.outcome.specs.Outcome.{missingAt, surplusAt}
 use Rattle.apdu_stated.specs.Reading.{readBy, lengthsOf, sayOf}
 use Rattle.apdu_stated.specs.declared.Lengths.{Lengths}
-use Rattle.apdu_stated.specs.declared.Lengths.the-variants.{Found, Missing, Surplus}
 use Rattle.apdu_stated.proofs.Laws.{way, read-under, read-by, say-missing, say-surplus}
-use Rattle.table_stated.specs.Words.{Entry, Ordinary, Strict, Row, Tried, Short, ByRow, Early, Beyond}
+use Rattle.table_stated.specs.Words.{Entry, Ordinary, Strict, Row, Tried, Short}
 use Rattle.table_stated.specs.Rows.{tableOf}
-use Rattle.table_stated.specs.Trying.{fits, endsEarly, claimed, inTurn, tried}
+use Rattle.table_stated.specs.Trying.{endsEarly, claimed, inTurn, tried}
 use Rattle.table_stated.specs.Answers.{answerOf, readRows}
 use Rattle.table_stated.specs.Terms.{Has, here, behind}
 use Rattle.table_stated.proofs.Fitting.{RowIs, is-1, is-2, is-3, is-4, is-5, is-6, is-7, is-8, fit-reads}

@@ -2,35 +2,25 @@
 use Prim.Native.Nat.{ℕ, _<_, _≤_}
 use mathlib.Core.Path.{_≡_, refl, ap, sym, subst, _∙_}
 use mathlib.Core.Bool.{Bool, true, false, true≢false}
-use mathlib.Core.List.{List, [], _∷_}
+use mathlib.Core.List.{List}
 use mathlib.Core.Logic.{_↔_, _⊎_, inl, inr}
 use native.Mathlib.Omega.{arith}
 use native.Mathlib.Decide.{decLt, ℕ-discrete}
 use lib.ListN.{length, take}
-use lib.Seq.{take-length, length-take-le}
-use Rattle.outcome.specs.Outcome.{StatusWord, Outcome, Word, SW, Gives, wrongLength}
-use Rattle.outcome.proofs.Laws.{gives-same, word-same, word-gives}
+use lib.Seq.{length-take-le}
+use Rattle.outcome.specs.Outcome.{Outcome, SW, Gives, wrongLength}
+use Rattle.outcome.proofs.Laws.{gives-same, word-gives}
 use Rattle.octets.specs.Bytes.{AreBytes}
-use Rattle.apdu_stated.specs.Terms.{LongestFront}
+use Rattle.apdu_stated.proofs.Laws.{number-is, kind-is, place-is}
 use Rattle.table_stated.specs.Words.{Says, Row, Tried, Short, ByRow, Early, Beyond}
-use Rattle.table_stated.specs.Trying.{stands, fits, endsEarly, claimed, rowEnd, inTurn, tried}
+use Rattle.table_stated.specs.Trying.{stands, fits, claimed, rowEnd, inTurn, tried}
 use Rattle.table_stated.specs.Answers.{saysBy, answerOf, readRows}
-use Rattle.table_stated.specs.Terms.{OfRow, IsOf, OfTable, EarlyIn, Has, here, behind, First, this, later, MostClaimed, a-part, no-part}
+use Rattle.table_stated.specs.Terms.{OfRow, IsOf, OfTable, EarlyIn, Has, First, this, later, MostClaimed, a-part, no-part}
 use Rattle.table_stated.specs.Claims
 use Rattle.table_stated.proofs.Columns
 use Rattle.table_stated.proofs.Built.{fit-of, said-of, of-fit, claimed-of, front-of, front-four, early-in, in-early}
 use Rattle.table_stated.proofs.Turns.{Chosen, at-once, further, chosen-has, chosen-fits, Turn, chosen, short, past-all, turn}
 use Rattle.table_stated.proofs.Agreement.{tried-short, tried-turn}
-
--- two status words that are one: number, kind and place
-number-is : (v w : StatusWord) → _≡_ {A = Outcome Says} (Word v) (Word w) → v .number ≡ w .number
-number-is v w e = ap (λ (x : StatusWord). x .number) (word-same v w e)
-
-kind-is : (v w : StatusWord) → _≡_ {A = Outcome Says} (Word v) (Word w) → v .kind ≡ w .kind
-kind-is v w e = ap (λ (x : StatusWord). x .kind) (word-same v w e)
-
-place-is : (v w : StatusWord) → _≡_ {A = Outcome Says} (Word v) (Word w) → v .place ≡ w .place
-place-is v w e = ap (λ (x : StatusWord). x .place) (word-same v w e)
 
 is-of : (r : Row) (frame : List ℕ) → AreBytes frame → fits r frame ≡ true → IsOf r frame
 is-of r frame bytes e = let o = of-fit r frame bytes e in (saysBy r frame, o .0, o .1)

@@ -1,14 +1,14 @@
 -- A frame of a row, built from its fields (specs/Terms.antt), and the row's tests (specs/Trying.antt): each from the other. Over any row.
-use Prim.Native.Nat.{ℕ, zero, suc, _+_, _*_, _<_, _≤_}
+use Prim.Native.Nat.{ℕ, _+_, _*_, _<_, _≤_}
 use mathlib.Core.Path.{_≡_, refl, ap, ap₂, sym, subst, _∙_}
-use mathlib.Core.Bool.{Bool, true, false}
+use mathlib.Core.Bool.{true}
 use mathlib.Core.List.{List, [], _∷_, _++_, append-assoc, append-nil}
 use native.Mathlib.Omega.{arith}
 use native.Mathlib.Numerals.{add-one}
 use native.Mathlib.Decide.{ℕ-discrete, decLt}
 use borrow.Author.Tests.{ne-eqb}
 use lib.ListN.{length, take, drop, length-append, length-drop, take-append-drop}
-use lib.Seq.{length-take-le, take-length, take-add, drop-cons, getD-at, getD-append-add}
+use lib.Seq.{length-take-le, take-length, take-add, drop-cons, getD-append-add}
 use Rattle.octets.specs.Bytes.{AreBytes, byte, pairAt}
 use Rattle.apdu_stated.specs.Table.{leMost, leRead}
 use Rattle.apdu_stated.specs.Reading.{headerOf}

@@ -1,8 +1,8 @@
 -- Every way through the branching reading, by the rows of its table: what is found is of a row that fits; what misses bytes ends early in a row; what
 -- goes on too long ends early in no row, and its place is the most that a row claims.
-use Prim.Native.Nat.{ℕ, _+_, _-_, _*_, _<_, _≤_}
+use Prim.Native.Nat.{ℕ, _+_, _-_, _<_, _≤_}
 use mathlib.Core.Path.{_≡_, refl, ap, sym, subst, _∙_}
-use mathlib.Core.Bool.{Bool, true, false, true≢false}
+use mathlib.Core.Bool.{true, false, true≢false}
 use mathlib.Core.List.{List}
 use native.Mathlib.Omega.{arith}
 use borrow.Author.Tests.{ltb-true}
@@ -15,8 +15,8 @@ use Rattle.apdu_stated.specs.declared.Lengths.the-variants.{Found, Missing, Sur
 use Rattle.apdu_stated.proofs.Laws.{Way, none, le1, short, short-le, le3, wide, wide-le1, wide-le2, missing, short-surplus, le1-surplus, wide-surplus, zero-surplus, from-least, ordinary-has, least-one}
 use Rattle.table_stated.specs.Words.{Case, Lc3DataLe2, Entry, Ordinary, Strict, Row}
 use Rattle.table_stated.specs.Rows.{numbered}
-use Rattle.table_stated.specs.Trying.{begins, lcIn, dataEnd, rowEnd, fits, endsEarly, claimed}
-use Rattle.table_stated.proofs.Columns.{begins-other, begins-zero, begins-known, lc-none, lc-one, lc-three, IsLc, lc-0, lc-1, lc-3, row-lc, Opens, Stands, of-fits, early-of, of-early, of-stands, claimed-stands, claimed-most}
+use Rattle.table_stated.specs.Trying.{begins, lcIn, rowEnd, fits, endsEarly, claimed}
+use Rattle.table_stated.proofs.Columns.{begins-other, begins-zero, begins-known, lc-none, lc-one, lc-three, IsLc, lc-0, lc-1, lc-3, row-lc, Stands, of-fits, early-of, of-early, of-stands, claimed-stands, claimed-most}
 use Rattle.table_stated.proofs.Fitting.{RowIs, is-1, is-2, is-3, is-4, is-5, is-6, is-7, is-8, payload-long, payload-byte, payload-pair}
 
 pub data ByRows (entry : Entry) (frame : List ℕ) : Lengths → Type 0 where

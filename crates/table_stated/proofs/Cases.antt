@@ -1,5 +1,5 @@
 -- The definitions case by case, as the code meets them: the answer, from the facts that the tests showed. It mentions no function.
-use Prim.Native.Nat.{ℕ, suc, _+_, _*_, _<_, _≤_}
+use Prim.Native.Nat.{ℕ, _+_, _*_, _<_, _≤_}
 use mathlib.Core.Path.{_≡_, refl, ap, ap₂, sym, _∙_}
 use mathlib.Core.Bool.{Bool, true, false, not, _||_, true≢false}
 use mathlib.Core.List.{List, [], _∷_, map}
@@ -12,10 +12,10 @@ use lib.Seq.{drop-cons}
 use lib.Dec.{ltb, eqb}
 use Rattle.outcome.specs.Notation.{if_then_else_}
 use Rattle.outcome.specs.Outcome.{Outcome, SW, Gives, missingAt, surplusAt}
-use Rattle.octets.specs.Bytes.{byte, pairAt}
+use Rattle.octets.specs.Bytes.{byte}
 use Rattle.table_stated.specs.Words.{Says, Entry, Row, Tried, Short, ByRow, Early, Beyond}
 use Rattle.table_stated.specs.Rows.{numbered, tableOf, rowFrom, rowsOf, columnsOf}
-use Rattle.table_stated.specs.Trying.{isRow, begins, lcIn, leIn, dataEnd, rowEnd, opens, stands, fits, endsEarly, claimed, greater, inTurn, tried}
+use Rattle.table_stated.specs.Trying.{isRow, begins, lcIn, dataEnd, rowEnd, opens, stands, fits, endsEarly, claimed, greater, inTurn, tried}
 use Rattle.table_stated.specs.Answers.{saysBy, answerOf, readRows}
 use Rattle.table_stated.proofs.Columns
 use Rattle.table_stated.proofs.Turns.{Turn, chosen, short, past-all, turn, chosen-fits}

@@ -1,13 +1,13 @@
 -- A row's columns against a frame: each test of specs/Trying.antt from plain facts, and the facts back from it. The only file that opens these
 -- definitions; it mentions no function.
 use Prim.Native.Nat.{ℕ, _+_, _<_, _≤_}
-use mathlib.Core.Path.{_≡_, refl, ap, sym, _∙_}
+use mathlib.Core.Path.{_≡_, refl, sym, _∙_}
 use mathlib.Core.Bool.{Bool, true, false, not, _&&_, _||_, true≢false}
 use mathlib.Core.List.{List}
 use mathlib.Core.Logic.{_⊎_, inl, inr}
 use native.Mathlib.Omega.{arith}
-use native.Mathlib.Decide.{ℕ-discrete, decLt}
-use borrow.Author.Tests.{lt-ltb, le-ltb, ltb-true, ltb-false, le-leb, lt-leb, leb-true, eq-eqb, ne-eqb, eqb-true}
+use native.Mathlib.Decide.{ℕ-discrete}
+use borrow.Author.Tests.{lt-ltb, le-ltb, ltb-true, le-leb, lt-leb, leb-true, eq-eqb, ne-eqb, eqb-true}
 use lib.ListN.{length}
 use lib.Dec.{leb, ltb, eqb}
 use Rattle.outcome.specs.Notation.{if_then_else_}
@@ -21,16 +21,9 @@ use Rattle.table_stated.specs.Trying.{isRow, begins, lcIn, leIn, dataEnd
 pub join : (a b : Bool) → a ≡ true → b ≡ true → (a && b) ≡ true
 join a b e f = rw (e, f)
 
-pub left-true : (a b : Bool) → a ≡ true → (a || b) ≡ true
-left-true a b e = rw e
-
 pub either : (a b : Bool) → (a || b) ≡ true → (a ≡ true) ⊎ (b ≡ true)
 either true b e = inl refl
 either false b e = inr e
-
-pub not-both : (a b : Bool) → (a && b) ≡ false → a ≡ true → b ≡ false
-not-both true b e f = e
-not-both false b e f = absurd (true≢false (sym f))
 
 pub known : (a : Bool) → Dec (a ≡ true)
 known true = yes refl

@@ -1,8 +1,8 @@
 -- The rows of the two tables against the branching reading: a row that fits gives what is read, and what is read is of a row that fits.
-use Prim.Native.Nat.{ℕ, _+_, _-_, _*_, _<_, _≤_}
-use mathlib.Core.Path.{_≡_, refl, ap, ap₂, sym, subst, _∙_}
-use mathlib.Core.Bool.{Bool, true, false}
-use mathlib.Core.List.{List, [], _∷_}
+use Prim.Native.Nat.{ℕ, _+_, _-_, _*_, _≤_}
+use mathlib.Core.Path.{_≡_, refl, ap, ap₂, sym, _∙_}
+use mathlib.Core.Bool.{true, false}
+use mathlib.Core.List.{List}
 use native.Mathlib.Omega.{arith}
 use lib.ListN.{length, drop, length-drop}
 use lib.Seq.{getD-drop}
@@ -13,11 +13,11 @@ use Rattle.apdu_stated.specs.Reading.{readBy, lengthsOf, sayOf, afterData, lone
 use Rattle.apdu_stated.specs.declared.Lengths.{Lengths}
 use Rattle.apdu_stated.specs.declared.Lengths.the-variants.{Found}
 use Rattle.apdu_stated.proofs.Laws as Frames
-use Rattle.table_stated.specs.Words.{Case, Instruction, Le1, Lc1Data, Lc1DataLe1, Lc3Data, Lc3DataLe1, Lc3DataLe2, Le3, shapeNo, Entry, Ordinary, Strict, Row}
-use Rattle.table_stated.specs.Rows.{numbered, tableOf}
+use Rattle.table_stated.specs.Words.{Case, Instruction, Le1, Lc1Data, Lc1DataLe1, Lc3Data, Lc3DataLe1, Lc3DataLe2, Le3, shapeNo, Entry, Ordinary, Row}
+use Rattle.table_stated.specs.Rows.{numbered}
 use Rattle.table_stated.specs.Trying.{lcIn, leIn, dataEnd, rowEnd, fits}
 use Rattle.table_stated.specs.Answers.{saysBy}
-use Rattle.table_stated.proofs.Columns.{begins-known, lc-none, lc-one, lc-three, le-none, le-one, le-two, le-three, Stands, fits-of, of-fits}
+use Rattle.table_stated.proofs.Columns.{begins-known, lc-none, lc-one, lc-three, le-none, le-one, le-two, le-three, Stands, fits-of}
 
 -- a row of an entry's table
 pub data RowIs (entry : Entry) : Row → Type 0 where

@@ -1,11 +1,10 @@
 -- The way back from what is said to the answer that the code holds: so a contract that fixes what is said fixes the answer.
-use Prim.Native.Nat.{ℕ}
 use mathlib.Core.Path.{_≡_, refl, ap}
 use Rattle.outcome.specs.Outcome.{Outcome, R, Word, Gives}
 use Rattle.outcome.specs.declared.ApduStatusCode.the-variants.{Success}
 use Rattle.outcome.proofs.Laws.{one-to-one, statusOf, status-back}
 use Rattle.table_stated.specs.Words.{Says}
-use Rattle.table_stated.specs.Answers.{RowSays, rowSaysOf, TableReading, tableReadingOf}
+use Rattle.table_stated.specs.Answers.{RowSays, TableReading, tableReadingOf}
 use Rattle.table_stated.specs.declared.TableReading.the-variants
 
 saysBack : Says → RowSays

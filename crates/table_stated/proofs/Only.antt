@@ -7,7 +7,6 @@ use Rattle.outcome.specs.Outcome.{Outcome}
 use Rattle.octets.specs.Bytes.{AreBytes}
 use Rattle.table_stated.specs.Words.{Says, Entry, Row, Tried}
 use Rattle.table_stated.specs.Rows.{tableOf}
-use Rattle.table_stated.specs.Answers.{RowSays}
 use Rattle.table_stated.specs.Claims
 use Rattle.table_stated.proofs.AnyTable.{same-tries, same-answers}
 

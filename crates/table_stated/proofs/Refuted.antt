@@ -1,22 +1,23 @@
 -- The claim that is false of each wrong table and each wrong reader, at an input where it bites.
-use Prim.Native.Nat.{ℕ, _+_}
-use mathlib.Core.Path.{_≡_, refl, sym, ap, _∙_}
+use Prim.Native.Nat.{ℕ}
+use mathlib.Core.Path.{_≡_, refl, sym, ap}
 use mathlib.Core.List.{List, [], _∷_, map}
 use lib.ListN.{getD}
 use native.Mathlib.Omega.{arith}
-use Rattle.outcome.specs.Outcome.{StatusWord, Outcome, R, Word, Gives}
+use Rattle.outcome.specs.Outcome.{Outcome, R, Word, Gives}
 use Rattle.outcome.specs.declared.ApduStatusCode.the-variants as Status′
 use Rattle.outcome.specs.declared.LengthFault.the-variants as Fault′
-use Rattle.outcome.proofs.Laws.{gives-same, word-same, word-gives}
+use Rattle.outcome.proofs.Laws.{gives-same, word-gives}
 use Rattle.octets.proofs.Laws.{small, bytes-of}
+use Rattle.apdu_stated.proofs.Laws.{place-is}
 use Rattle.apdu_stated.specs.Reading.{readBy, sayOf, lengthsOf, shortOf, extendedOf, afterData}
 use Rattle.apdu_stated.specs.Terms.{whole, pair, frameWith, saying}
-use Rattle.table_stated.specs.Words.{ApduHeader, Says, Ordinary, Strict, Row, Tried, Short, ByRow, Early, Beyond}
+use Rattle.table_stated.specs.Words.{ApduHeader, Says, Ordinary, Strict, Row, ByRow}
 use Rattle.table_stated.specs.Rows.{numbered, tableOf, columnsOf}
 use Rattle.table_stated.specs.Trying.{begins, lcIn, leIn, opens, stands, tried}
 use Rattle.table_stated.specs.Answers.{TableReading, tableReadingOf, readRows}
 use Rattle.table_stated.specs.declared.TableReading.the-variants as TableReading′
-use Rattle.table_stated.specs.Terms.{OfRow, IsOf, no-lc, three-lc, no-le, one-le, three-le, First, this, here, behind}
+use Rattle.table_stated.specs.Terms.{OfRow, no-lc, three-lc, no-le, three-le, First, this, here, behind}
 use Rattle.table_stated.specs.Claims
 use Rattle.table_stated.specs.Wrong
 use Rattle.table_stated.proofs.Theorems
@@ -38,11 +39,8 @@ shape-is a b e = ap (λ (s : Says). s .shape) (gives-same a b e)
 lc-is : (a b : Says) → Gives a ≡ Gives b → a .lc ≡ b .lc
 lc-is a b e = ap (λ (s : Says). s .lc) (gives-same a b e)
 
-place-is : (v w : StatusWord) → _≡_ {A = Outcome Says} (Word v) (Word w) → v .place ≡ w .place
-place-is v w e = ap (λ (x : StatusWord). x .place) (word-same v w e)
-
-number-is : (a b : Row) → ByRow a ≡ ByRow b → a .number ≡ b .number
-number-is a b e = let same : a ≡ b = cc in ap (λ (r : Row). r .number) same
+row-number-is : (a b : Row) → ByRow a ≡ ByRow b → a .number ≡ b .number
+row-number-is a b e = let same : a ≡ b = cc in ap (λ (r : Row). r .number) same
 
 -- ---- tables
 -- 00 00 00 is read as shape 5 without data
@@ -124,7 +122,7 @@ bare = record { header = h0; lcBytes = []; leBytes = []; le = 0; lc-field = no-l
 pub lastThatFits : Claims.TriesExactly Wrong.lastThatFits → ⊥
 unfolding small tried stands opens begins lcIn
 lastThatFits claim =
-    omega (arith, number-is _ _ (claim .by-row (numbered 1 0 0 0 ∷ numbered 9 0 0 0 ∷ []) (try []) (bytes-of (try []) refl) (numbered 1 0 0 0) .1 (this (saying h0 1 4 0 0, [], bare))))
+    omega (arith, row-number-is _ _ (claim .by-row (numbered 1 0 0 0 ∷ numbered 9 0 0 0 ∷ []) (try []) (bytes-of (try []) refl) (numbered 1 0 0 0) .1 (this (saying h0 1 4 0 0, [], bare))))
 
 -- 00 FF FF is an extended Le, and no Lc of 65535
 is-extended-le : OfRow (numbered 8 0 0 3) (try (0 ∷ 0xFF ∷ 0xFF ∷ [])) (saying h0 8 4 0 65535) []

@@ -1,9 +1,7 @@
 -- The second reader meets what is claimed of it (specs/Claims.antt).
-use Prim.Native.Nat.{ℕ, _≤_}
+use Prim.Native.Nat.{ℕ}
 use mathlib.Core.Path.{_≡_, refl, ap, sym, subst, _∙_}
-use mathlib.Core.Bool.{true}
 use mathlib.Core.List.{List, [], _∷_, map}
-use lib.ListN.{length}
 use native.Mathlib.Omega.{arith}
 use lib.Dec.{eqb}
 use Rattle.outcome.specs.Notation.{if_then_else_}
@@ -12,7 +10,6 @@ use Rattle.table_stated.specs.Words.{Says, Entry, Ordinary, Strict, Row}
 use Rattle.table_stated.specs.Rows.{numbered, tableOf, rowFrom, rowsOf, columnsOf}
 use Rattle.table_stated.specs.Trying.{begins, lcIn, leIn, opens, stands, tried}
 use Rattle.table_stated.specs.Answers.{rowSaysOf, tableReadingOf, readRows}
-use Rattle.table_stated.specs.Terms.{Has}
 use Rattle.table_stated.specs.Claims
 use Rattle.table_stated.proofs.Fitting.{RowIs, is-1, is-2, is-3, is-4, is-5, is-6, is-7, is-8, fit-reads}
 use Rattle.table_stated.proofs.Built.{fit-of, front-four}
