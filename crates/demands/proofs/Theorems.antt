@@ -67,6 +67,7 @@ documents =
       readers-agree = Tables.ReadersAgree;
       one-row = Tables.OneRowFits;
       tables = Tables.TablesExactly;
+      rows-as-the-table = Tables.RowsAsTheTable;
       any-table = Tables.AnswersExactly;
       places = Frames.PlacesExactly;
       carried-by-decisions = Decision.LengthsCarried;

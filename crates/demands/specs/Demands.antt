@@ -9,7 +9,7 @@ use Rattle.apdu_stated.specs.Writing.{writingOf, strictWritingOf}
 use Rattle.apdu_stated.specs.declared.Entry.the-variants.{Ordinary, Strict}
 use Rattle.table_stated.specs.Claims as Tables
 use Rattle.table_stated.specs.Rows.{tableOf}
-use Rattle.table_stated.specs.Answers.{readRows}
+use Rattle.table_stated.specs.Answers.{readByRows}
 use Rattle.command_stated.specs.Claims as Commands
 use Rattle.command_stated.specs.Command.{commandOf, challengeOf, applicationOf, handleOf, challengePlaceOf, applicationPlaceOf, handlePlaceOf}
 use Rattle.response_stated.specs.Claims as Responses
@@ -99,11 +99,12 @@ pub record AsTheDocumentsSay : Type 0 where
   pub frames-to-try : Frames.ExamplesRead readOf
   -- 02, E9: the second reader, by a table of rows, is "equal to the branching reader on every frame, E1's pairs included", by both tables; at most one row fits; and by
   -- any other table it answers by that table's rows
-  pub second-reader : Tables.SameReading tableOf readRows
+  pub second-reader : Tables.SameReading tableOf readByRows
   pub readers-agree : Tables.ReadersAgree
   pub one-row : Tables.OneRowFits tableOf
   pub tables : Tables.TablesExactly tableOf
-  pub any-table : Tables.AnswersExactly readRows
+  pub rows-as-the-table : Tables.RowsAsTheTable tableOf
+  pub any-table : Tables.AnswersExactly readByRows
   -- 02, E1: "Tell us where the length went wrong": the places in the document's numbers (that they are the only ones, and when each
   -- comes, is in `reading`, `strict` and the demand above); "Command reading, strict reading and decision carry the pair upward"
   pub places : Frames.PlacesExactly readOf strictOf

@@ -6,7 +6,7 @@ use Rattle.outcome.specs.Outcome.{Word, wordOf}
 use Rattle.outcome.specs.declared.ApduStatusCode.{ApduStatusCode}
 use Rattle.apdu_stated.specs.declared.Entry.{Entry}
 use Rattle.table_stated.specs.Rows.{tableOf}
-use Rattle.table_stated.specs.Answers.{rowSaysOf, tableReadingOf, readRows}
+use Rattle.table_stated.specs.Answers.{rowSaysOf, tableReadingOf, readByRows}
 use Rattle.table_stated.specs.declared.RowSays.{RowSays}
 use Rattle.table_stated.specs.declared.TableReading.{TableReading}
 use Rattle.table_stated.specs.declared.TableReading.the-variants.{Frame, Status}
@@ -21,5 +21,5 @@ module _ (reading : TableReading) where
   pub by-status : (r : FrameSaid) (s : ApduStatusCode) → reading ≡ Status s → r ≡ frameNumbers (Word (wordOf s)) → r ≡ frameNumbers (tableReadingOf reading)
   by-status r s z is = is ∙ ap (λ (t : TableReading). frameNumbers (tableReadingOf t)) (sym z)
 
-  pub by-table : (entry : Entry) (frame : List ℕ) (r : FrameSaid) → tableReadingOf reading ≡ readRows (tableOf entry) frame → r ≡ frameNumbers (tableReadingOf reading) → r ≡ readsOf entry frame
+  pub by-table : (entry : Entry) (frame : List ℕ) (r : FrameSaid) → tableReadingOf reading ≡ readByRows (tableOf entry) frame → r ≡ frameNumbers (tableReadingOf reading) → r ≡ readsOf entry frame
   by-table entry frame r is e = e ∙ ap frameNumbers (is ∙ same-reading entry frame)

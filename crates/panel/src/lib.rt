@@ -22,7 +22,7 @@ use table::TableReading;
 ghost use mathlib.Core.Path.{_≡_};
 ghost use Rattle.table_stated.specs.Answers.{tableReadingOf};
 ghost use Rattle.panel_stated.specs.Exports.{frameNumbers};
-ghost use Rattle.panel_stated.specs.Contracts.{BrinecandleRead, BrinecandleReadStrict, BrinecandleWrite, BrinecandleWriteStrict, BrinecandleReadCommand, BrinecandleNew, BrinecandleGrantUp, BrinecandleConsumeUp, BrinecandleIsUpNeeded, BrinecandleDecide, BrinecandleFinish, BrinecandleWriteResponse, BrinecandleReadResponse, BrinecandleNextPart};
+ghost use Rattle.panel_stated.specs.Contracts.{BrinecandleRead, BrinecandleReadStrict, BrinecandleReadByTable, BrinecandleReadStrictByTable, BrinecandleWrite, BrinecandleWriteStrict, BrinecandleReadCommand, BrinecandleNew, BrinecandleGrantUp, BrinecandleConsumeUp, BrinecandleIsUpNeeded, BrinecandleDecide, BrinecandleFinish, BrinecandleWriteResponse, BrinecandleReadResponse, BrinecandleNextPart};
 
 // Reads any bytes as a frame; its data comes back as a place in the caller's frame. By cases, and each is a return of its own:
 // so each is written to the caller at once.
@@ -76,10 +76,10 @@ fn table_plain(reading: TableReading) -> FrameSaid
     }
 }
 
-// The second reader, by document 01's table as data. Its contract is brinecandle_read's own: the two answer the same.
+// The second reader, by document 01's table as data. It answers as brinecandle_read.
 #[no_mangle]
 pub extern "C" fn brinecandle_read_by_table(frame: &[u8]) -> FrameSaid
-    ensures { λ r. ⌜ BrinecandleRead (now (frame .entry)) r ⌝ }
+    ensures { λ r. ⌜ BrinecandleReadByTable (now (frame .entry)) r ⌝ }
 {
     table_plain(table::read(frame))
 }
@@ -87,7 +87,7 @@ pub extern "C" fn brinecandle_read_by_table(frame: &[u8]) -> FrameSaid
 // By ISO's table as data, as brinecandle_read_strict.
 #[no_mangle]
 pub extern "C" fn brinecandle_read_strict_by_table(frame: &[u8]) -> FrameSaid
-    ensures { λ r. ⌜ BrinecandleReadStrict (now (frame .entry)) r ⌝ }
+    ensures { λ r. ⌜ BrinecandleReadStrictByTable (now (frame .entry)) r ⌝ }
 {
     table_plain(table::read_strict(frame))
 }

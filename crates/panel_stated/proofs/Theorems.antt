@@ -402,6 +402,8 @@ ContractsAsClaimed =
     record {
       read = λ f is. subst Claims.ReadExported (λ d frame. sym (is frame) d) ReadExported;
       read-strict = λ f is. subst Claims.ReadStrictExported (λ d frame. sym (is frame) d) ReadStrictExported;
+      read-by-table = λ f is. subst Claims.ReadExported (λ d frame. sym (is frame) d) ReadExported;
+      read-strict-by-table = λ f is. subst Claims.ReadStrictExported (λ d frame. sym (is frame) d) ReadStrictExported;
       write = λ f is. subst Claims.WriteExported (λ d w. record { said = sym (is w .0) d; buffer = sym (is w .1) d }) WriteExported;
       write-strict = λ f is. subst Claims.WriteStrictExported (λ d w. record { said = sym (is w .0) d; buffer = sym (is w .1) d }) WriteStrictExported;
       decide = λ f is. subst Claims.DecideExported (λ d i. record { said = sym (is i .0) d; reply = sym (is i .1) d; block = sym (is i .2) d; part = sym (is i .3) d }) DecideExported;
@@ -445,6 +447,8 @@ ResultsDetermined =
       finished-plain = λ finished a b. both-are a b;
       brinecandle-read = λ frame a b. both-are a b;
       brinecandle-read-strict = λ frame a b. both-are a b;
+      brinecandle-read-by-table = λ frame a b. both-are a b;
+      brinecandle-read-strict-by-table = λ frame a b. both-are a b;
       brinecandle-write = λ w a b p q. written a b (both-are _ _ (p .0) (q .0)) (both-are _ _ (p .1) (q .1));
       brinecandle-write-strict = λ w a b p q. written a b (both-are _ _ (p .0) (q .0)) (both-are _ _ (p .1) (q .1));
       brinecandle-read-command = λ frame a b. both-are a b;

@@ -11,7 +11,7 @@ use Rattle.panel_stated.specs.Words.{FrameSaid, CommandSaid, Wrote, Made
 use Rattle.panel_stated.specs.Words.{Says, Entry, Case, Parts, partsOf, shapeNo, Command, Register, Authenticate, Version, GetResponse, Told, length, Remainder, Response, Sent, along, fetchPath, true, writeResponseOf, readResponseOf, nextPartOf, _+_, false, readOf, strictOf, commandOf, newOf, touchOf, checkOf, askOf, finishOf, Given, Body, Ordered, Part, Result}
 use Rattle.panel_stated.specs.Exports.{orderAfter, ToWrite, ToDecide, ToFinish, decidedBy, writeNumbered, finishNumbered}
 use Rattle.panel_stated.specs.Contracts.{ShapeNumbered, FramePlain, StrictPlain, WritePlain, CommandPlain, RecordLent, RecordPlain, MadePlain, AskedPlain, StepPlain, KindNumbered, RefusedPlain, StatusPlain, BodyPlain, PartPlain, OrderPlain, FinishedPlain, ResponsePlain, WroteResponsePlain, NextPlain, StatedPlain}
-use Rattle.panel_stated.specs.Contracts.{BrinecandleRead, BrinecandleReadStrict, BrinecandleWrite, BrinecandleWriteStrict, BrinecandleReadCommand, BrinecandleNew, BrinecandleGrantUp, BrinecandleConsumeUp, BrinecandleIsUpNeeded, BrinecandleDecide, BrinecandleFinish, BrinecandleWriteResponse, BrinecandleReadResponse, BrinecandleNextPart}
+use Rattle.panel_stated.specs.Contracts.{BrinecandleRead, BrinecandleReadStrict, BrinecandleReadByTable, BrinecandleReadStrictByTable, BrinecandleWrite, BrinecandleWriteStrict, BrinecandleReadCommand, BrinecandleNew, BrinecandleGrantUp, BrinecandleConsumeUp, BrinecandleIsUpNeeded, BrinecandleDecide, BrinecandleFinish, BrinecandleWriteResponse, BrinecandleReadResponse, BrinecandleNextPart}
 use Rattle.octets.specs.Bytes.{AreBytes, partOf}
 use Rattle.apdu_stated.specs.Reading.{dataOf}
 use Rattle.apdu_stated.specs.Claims as Frames
@@ -416,6 +416,8 @@ pub record PlacesCut (frames : Outcome Says → FrameSaid) (commands : Outcome C
 pub record ContractsAsClaimed : Type 0 where
   pub read : (f : List ℕ → FrameSaid) → ((frame : List ℕ) → BrinecandleRead frame (f frame)) → ReadExported f
   pub read-strict : (f : List ℕ → FrameSaid) → ((frame : List ℕ) → BrinecandleReadStrict frame (f frame)) → ReadStrictExported f
+  pub read-by-table : (f : List ℕ → FrameSaid) → ((frame : List ℕ) → BrinecandleReadByTable frame (f frame)) → ReadExported f
+  pub read-strict-by-table : (f : List ℕ → FrameSaid) → ((frame : List ℕ) → BrinecandleReadStrictByTable frame (f frame)) → ReadStrictExported f
   pub write : (f : ToWrite → AfterWriting) → ((w : ToWrite) → BrinecandleWrite w (f w .said) (f w .buffer)) → WriteExported f
   pub write-strict : (f : ToWrite → AfterWriting) → ((w : ToWrite) → BrinecandleWriteStrict w (f w .said) (f w .buffer)) → WriteStrictExported f
   pub decide : (f : ToDecide → AfterDeciding) → ((i : ToDecide) → BrinecandleDecide i (f i .said) (f i .reply) (f i .block) (f i .part)) → DecideExported f
@@ -446,6 +448,8 @@ pub record ResultsDetermined : Type 0 where
   pub finished-plain : (finished : Finished) → AtMostOne (FinishedPlain finished)
   pub brinecandle-read : (frame : List ℕ) → AtMostOne (BrinecandleRead frame)
   pub brinecandle-read-strict : (frame : List ℕ) → AtMostOne (BrinecandleReadStrict frame)
+  pub brinecandle-read-by-table : (frame : List ℕ) → AtMostOne (BrinecandleReadByTable frame)
+  pub brinecandle-read-strict-by-table : (frame : List ℕ) → AtMostOne (BrinecandleReadStrictByTable frame)
   pub brinecandle-write : (w : ToWrite) → AtMostOne (λ (r : AfterWriting). BrinecandleWrite w (r .said) (r .buffer))
   pub brinecandle-write-strict : (w : ToWrite) → AtMostOne (λ (r : AfterWriting). BrinecandleWriteStrict w (r .said) (r .buffer))
   pub brinecandle-read-command : (frame : List ℕ) → AtMostOne (BrinecandleReadCommand frame)

@@ -100,6 +100,13 @@ BrinecandleRead frame r = r ≡ readsOf Ordinary frame
 abbrev pub BrinecandleReadStrict : List ℕ → FrameSaid → Type 0
 BrinecandleReadStrict frame r = r ≡ readsOf Strict frame
 
+-- 02, E9: the second reader gives what the first one does
+abbrev pub BrinecandleReadByTable : List ℕ → FrameSaid → Type 0
+BrinecandleReadByTable frame r = r ≡ readsOf Ordinary frame
+
+abbrev pub BrinecandleReadStrictByTable : List ℕ → FrameSaid → Type 0
+BrinecandleReadStrictByTable frame r = r ≡ readsOf Strict frame
+
 abbrev pub BrinecandleWrite : ToWrite → Wrote → List ℕ → Type 0
 BrinecandleWrite w r after = WritePlain w r after
 

@@ -13,8 +13,7 @@ ghost use lib.ListN.{length, getD};
 ghost use Rattle.table_stated.specs.Rows.{rowFrom};
 ghost use Rattle.table_stated.specs.Trying.{begins, lcIn, opens, endsEarly, claimed, rowEnd};
 ghost use Rattle.table_stated.specs.Answers.{saysBy, rowSaysOf};
-ghost use Rattle.table_stated.specs.Contracts.{TryRows, ReadRows, ReadTable};
-ghost use Rattle.apdu_stated.specs.declared.Entry.the-variants.{Ordinary, Strict};
+ghost use Rattle.table_stated.specs.Contracts.{TryRows, ReadRows, ReadByTable, ReadStrictByTable};
 use apdu_stated::ApduHeader;
 use outcome::ApduStatusCode;
 use outcome::LengthFault;
@@ -194,7 +193,7 @@ pub fn read_rows(table: &[[u8; 4]], frame: &[u8]) -> TableReading
 
 // By document 01's table.
 pub fn read(frame: &[u8]) -> TableReading
-    ensures { λ r. ⌜ ReadTable Ordinary (now (frame .entry)) r ⌝ }
+    ensures { λ r. ⌜ ReadByTable (now (frame .entry)) r ⌝ }
 {
     let table = ordinary();
     read_rows(&table, frame)
@@ -202,7 +201,7 @@ pub fn read(frame: &[u8]) -> TableReading
 
 // By ISO's.
 pub fn read_strict(frame: &[u8]) -> TableReading
-    ensures { λ r. ⌜ ReadTable Strict (now (frame .entry)) r ⌝ }
+    ensures { λ r. ⌜ ReadStrictByTable (now (frame .entry)) r ⌝ }
 {
     let table = strict();
     read_rows(&table, frame)

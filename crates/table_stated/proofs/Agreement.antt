@@ -14,8 +14,8 @@ use Rattle.apdu_stated.specs.declared.Lengths.{Lengths}
 use Rattle.apdu_stated.proofs.Laws.{way, read-under, read-by, say-missing, say-surplus}
 use Rattle.table_stated.specs.Words.{Entry, Ordinary, Strict, Row, Tried, Short}
 use Rattle.table_stated.specs.Rows.{tableOf}
-use Rattle.table_stated.specs.Trying.{endsEarly, claimed, inTurn, tried}
-use Rattle.table_stated.specs.Answers.{answerOf, readRows}
+use Rattle.table_stated.specs.Trying.{endsEarly, claimed, inTurn, triedOf}
+use Rattle.table_stated.specs.Answers.{answerOf, readByRows}
 use Rattle.table_stated.specs.Terms.{Has, here, behind}
 use Rattle.table_stated.proofs.Fitting.{RowIs, is-1, is-2, is-3, is-4, is-5, is-6, is-7, is-8, fit-reads}
 use Rattle.table_stated.proofs.ByRows.{ByRows, fit, early, on, by-rows}
@@ -59,12 +59,12 @@ is-has Strict (is-6 o) = let z : _≡_ {A = ℕ} 0 1 = cc in absurd (omega arith
 is-has Strict is-7 = behind (behind (behind (behind (behind here))))
 is-has Strict is-8 = behind (behind (behind (behind (behind (behind here)))))
 
-pub tried-short : (rows : List Row) (frame : List ℕ) → length frame < 4 → tried rows frame ≡ Short
-unfolding tried
+pub tried-short : (rows : List Row) (frame : List ℕ) → length frame < 4 → triedOf rows frame ≡ Short
+unfolding triedOf
 tried-short rows frame h = rw (lt-ltb (length frame) 4 h)
 
-pub tried-turn : (rows : List Row) (frame : List ℕ) → 4 ≤ length frame → tried rows frame ≡ inTurn rows frame false 0
-unfolding tried
+pub tried-turn : (rows : List Row) (frame : List ℕ) → 4 ≤ length frame → triedOf rows frame ≡ inTurn rows frame false 0
+unfolding triedOf
 tried-turn rows frame h = rw (le-ltb (length frame) 4 h)
 
 module _ (entry : Entry) (frame : List ℕ) (long : 4 ≤ length frame) where
@@ -94,16 +94,16 @@ module _ (entry : Entry) (frame : List ℕ) (long : 4 ≤ length frame) where
           under (inl z) = omega arith
           under (inr x) = let b = most (x .0) (has-is entry (x .1)) in let c = x .2 in omega arith
 
-  pub same-long : readRows (tableOf entry) frame ≡ readBy entry frame
-  unfolding readRows
+  pub same-long : readByRows (tableOf entry) frame ≡ readBy entry frame
+  unfolding readByRows
   same-long =
       ap (answerOf frame) (tried-turn (tableOf entry) frame long)
       ∙ answered (turn (tableOf entry) frame false 0) (lengthsOf entry (drop 4 frame)) refl (by-rows entry frame long (way entry (drop 4 frame)))
 
-pub same : (entry : Entry) (frame : List ℕ) → readRows (tableOf entry) frame ≡ readBy entry frame
-unfolding readRows
+pub same : (entry : Entry) (frame : List ℕ) → readByRows (tableOf entry) frame ≡ readBy entry frame
+unfolding readByRows
 same entry frame = go (decLt (length frame) 4)
   where
-    go : Dec (length frame < 4) → readRows (tableOf entry) frame ≡ readBy entry frame
+    go : Dec (length frame < 4) → readByRows (tableOf entry) frame ≡ readBy entry frame
     go (yes h) = ap (answerOf frame) (tried-short (tableOf entry) frame h) ∙ read-under entry frame h
     go (no h) = same-long entry frame (omega arith)

@@ -13,9 +13,9 @@ use Rattle.outcome.proofs.Laws.{gives-same, word-gives}
 use Rattle.octets.specs.Bytes.{AreBytes}
 use Rattle.apdu_stated.proofs.Laws.{number-is, kind-is, place-is}
 use Rattle.table_stated.specs.Words.{Says, Row, Tried, Short, ByRow, Early, Beyond}
-use Rattle.table_stated.specs.Trying.{stands, fits, claimed, rowEnd, inTurn, tried}
-use Rattle.table_stated.specs.Answers.{saysBy, answerOf, readRows}
-use Rattle.table_stated.specs.Terms.{OfRow, IsOf, OfTable, EarlyIn, Has, First, this, later, MostClaimed, a-part, no-part}
+use Rattle.table_stated.specs.Trying.{stands, fits, claimed, rowEnd, inTurn, triedOf}
+use Rattle.table_stated.specs.Answers.{saysBy, answerOf, readByRows}
+use Rattle.table_stated.specs.Terms.{OfRow, IsOf, OfTable, EarlyIn, Has, here, behind, First, this, later, MostClaimed, a-part, no-part}
 use Rattle.table_stated.specs.Claims
 use Rattle.table_stated.proofs.Columns
 use Rattle.table_stated.proofs.Built.{fit-of, said-of, of-fit, claimed-of, front-of, front-four, early-in, in-early}
@@ -37,6 +37,10 @@ first-long (later n f) = first-long f
 pub first-row : {rows : List Row} {frame : List ℕ} {r : Row} → First rows frame r → IsOf r frame
 first-row (this o) = o
 first-row (later n f) = first-row f
+
+pub first-has : {rows : List Row} {frame : List ℕ} {r : Row} → First rows frame r → Has rows r
+first-has (this o) = here
+first-has (later n f) = behind (first-has f)
 
 of-first : {rows : List Row} {frame : List ℕ} {r : Row} → AreBytes frame → (early : Bool) (most : ℕ) → First rows frame r → inTurn rows frame early most ≡ ByRow r
 of-first bytes early most (this {r} {rows} {frame} o) = rw (fit-of r frame o)
@@ -100,15 +104,15 @@ module _ (rows : List Row) (frame : List ℕ) where
     under : length frame < 4 → Way Short
     by-turn : {t : Tried} → 4 ≤ length frame → Turn rows frame false 0 t → Way t
 
-  way : Way (tried rows frame)
+  way : Way (triedOf rows frame)
   way = go (decLt (length frame) 4)
     where
-      go : Dec (length frame < 4) → Way (tried rows frame)
+      go : Dec (length frame < 4) → Way (triedOf rows frame)
       go (yes h) = subst Way (sym (tried-short rows frame h)) (under h)
       go (no h) = subst Way (sym (tried-turn rows frame (omega arith))) (by-turn (omega arith) (turn rows frame false 0))
 
-  is-short : (tried rows frame ≡ Short) ↔ (length frame < 4)
-  is-short = (λ e. go (tried rows frame) way e, tried-short rows frame)
+  is-short : (triedOf rows frame ≡ Short) ↔ (length frame < 4)
+  is-short = (λ e. go (triedOf rows frame) way e, tried-short rows frame)
     where
       never : (t : Tried) → Turn rows frame false 0 t → t ≡ Short → length frame < 4
       never _ (chosen r c) e = let z : _≡_ {A = ℕ} 0 1 = cc in absurd (omega arith)
@@ -120,8 +124,8 @@ module _ (rows : List Row) (frame : List ℕ) where
       go _ (by-turn h t) e = never _ t e
 
   module _ (bytes : AreBytes frame) where
-    fits-exactly : (r : Row) → (tried rows frame ≡ ByRow r) ↔ First rows frame r
-    fits-exactly r = (λ e. go (tried rows frame) way e, λ f. tried-turn rows frame (first-long f) ∙ of-first bytes false 0 f)
+    fits-exactly : (r : Row) → (triedOf rows frame ≡ ByRow r) ↔ First rows frame r
+    fits-exactly r = (λ e. go (triedOf rows frame) way e, λ f. tried-turn rows frame (first-long f) ∙ of-first bytes false 0 f)
       where
         go : (t : Tried) → Way t → t ≡ ByRow r → First rows frame r
         go _ (under h) e = let z : _≡_ {A = ℕ} 0 1 = cc in absurd (omega arith)
@@ -129,8 +133,8 @@ module _ (rows : List Row) (frame : List ℕ) where
         go _ (by-turn h (short n s)) e = let z : _≡_ {A = ℕ} 0 1 = cc in absurd (omega arith)
         go _ (by-turn h (past-all k n s l b a c)) e = let z : _≡_ {A = ℕ} 0 1 = cc in absurd (omega arith)
 
-    early-exactly : (tried rows frame ≡ Early) ↔ ((4 ≤ length frame) × ((r : Row) → Has rows r → IsOf r frame → ⊥) × ((r : Row) × Has rows r × EarlyIn r frame))
-    early-exactly = (λ e. go (tried rows frame) way e, λ x. back (tried rows frame) way (x .0) (x .1) (x .2))
+    early-exactly : (triedOf rows frame ≡ Early) ↔ ((4 ≤ length frame) × ((r : Row) → Has rows r → IsOf r frame → ⊥) × ((r : Row) × Has rows r × EarlyIn r frame))
+    early-exactly = (λ e. go (triedOf rows frame) way e, λ x. back (triedOf rows frame) way (x .0) (x .1) (x .2))
       where
         go : (t : Tried) → Way t → t ≡ Early → (4 ≤ length frame) × ((r : Row) → Has rows r → IsOf r frame → ⊥) × ((r : Row) × Has rows r × EarlyIn r frame)
         go _ (under h) e = let z : _≡_ {A = ℕ} 0 1 = cc in absurd (omega arith)
@@ -145,8 +149,8 @@ module _ (rows : List Row) (frame : List ℕ) where
         back _ (by-turn h (short m s)) l n x = refl
         back _ (by-turn h (past-all k m s no-early b a c)) l n x = absurd (true≢false (sym (in-early (x .0) frame h (x .2)) ∙ no-early (x .0) (x .1)))
 
-    goes-on-exactly : (k : ℕ) → (tried rows frame ≡ Beyond k) ↔ ((4 ≤ length frame) × ((r : Row) → Has rows r → EarlyIn r frame → ⊥) × (k < length frame) × MostClaimed rows frame k)
-    goes-on-exactly k = (λ e. go (tried rows frame) way e, λ x. back (tried rows frame) way (x .0) (x .1) (x .2) (x .3))
+    goes-on-exactly : (k : ℕ) → (triedOf rows frame ≡ Beyond k) ↔ ((4 ≤ length frame) × ((r : Row) → Has rows r → EarlyIn r frame → ⊥) × (k < length frame) × MostClaimed rows frame k)
+    goes-on-exactly k = (λ e. go (triedOf rows frame) way e, λ x. back (triedOf rows frame) way (x .0) (x .1) (x .2) (x .3))
       where
         -- the most is not all: a row that claims all fits
         not-all : (m : ℕ) → 4 ≤ length frame → ((r : Row) → Has rows r → fits r frame ≡ false) → (m ≡ 0) ⊎ ((r : Row) × Has rows r × (claimed r frame ≡ m)) → m ≡ length frame → ⊥
@@ -189,14 +193,14 @@ module _ (rows : List Row) (frame : List ℕ) where
             same : (m ≡ 0) ⊎ ((r : Row) × Has rows r × (claimed r frame ≡ m)) → (k ≡ 0) ⊎ ((r : Row) × Has rows r × (claimed r frame ≡ k)) → m ≡ k
             same p q = let x = up m k (most-of rows frame k bytes most) p in let y = up k m bound q in omega arith
 
-pub tries-exactly : Claims.TriesExactly tried
+pub tries-exactly : Claims.TriesExactly triedOf
 tries-exactly = record { short = is-short; by-row = fits-exactly; early = early-exactly; beyond = goes-on-exactly }
 
--- whatever meets the claim is `tried`
-pub same-tries : (try : List Row → List ℕ → Tried) → Claims.TriesExactly try → (rows : List Row) (frame : List ℕ) → AreBytes frame → try rows frame ≡ tried rows frame
-same-tries try x rows frame bytes = go (tried rows frame) refl
+-- whatever meets the claim is `triedOf`
+pub same-tries : (try : List Row → List ℕ → Tried) → Claims.TriesExactly try → (rows : List Row) (frame : List ℕ) → AreBytes frame → try rows frame ≡ triedOf rows frame
+same-tries try x rows frame bytes = go (triedOf rows frame) refl
   where
-    go : (t : Tried) → tried rows frame ≡ t → try rows frame ≡ t
+    go : (t : Tried) → triedOf rows frame ≡ t → try rows frame ≡ t
     go Short e = x .short rows frame .1 (tries-exactly .short rows frame .0 e)
     go (ByRow r) e = x .by-row rows frame bytes r .1 (tries-exactly .by-row rows frame bytes r .0 e)
     go Early e = x .early rows frame bytes .1 (tries-exactly .early rows frame bytes .0 e)
@@ -204,24 +208,24 @@ same-tries try x rows frame bytes = go (tried rows frame) refl
 
 -- ---- what is answered, each exactly when
 module _ (rows : List Row) (frame : List ℕ) where
-  answer-of : (t : Tried) → tried rows frame ≡ t → answerOf frame t ≡ readRows rows frame
-  unfolding readRows
+  answer-of : (t : Tried) → triedOf rows frame ≡ t → answerOf frame t ≡ readByRows rows frame
+  unfolding readByRows
   answer-of t e = ap (answerOf frame) (sym e)
 
-  short-answer : (readRows rows frame ≡ SW 0x6a80) ↔ (length frame < 4)
-  short-answer = (λ e. go (tried rows frame) refl e, λ h. sym (answer-of Short (is-short rows frame .1 h)))
+  short-answer : (readByRows rows frame ≡ SW 0x6a80) ↔ (length frame < 4)
+  short-answer = (λ e. go (triedOf rows frame) refl e, λ h. sym (answer-of Short (is-short rows frame .1 h)))
     where
-      go : (t : Tried) → tried rows frame ≡ t → readRows rows frame ≡ SW 0x6a80 → length frame < 4
+      go : (t : Tried) → triedOf rows frame ≡ t → readByRows rows frame ≡ SW 0x6a80 → length frame < 4
       go Short t e = is-short rows frame .0 t
       go (ByRow r) t e = absurd (word-gives _ _ (sym (answer-of (ByRow r) t ∙ e)))
       go Early t e = let n = number-is _ _ (answer-of Early t ∙ e) in absurd (omega arith)
       go (Beyond k) t e = let n = number-is _ _ (answer-of (Beyond k) t ∙ e) in absurd (omega arith)
 
   module _ (bytes : AreBytes frame) where
-    reads-answer : (says : Says) → (readRows rows frame ≡ Gives says) ↔ ((r : Row) × (content : List ℕ) × First rows frame r × OfRow r frame says content)
-    reads-answer says = (λ e. go (tried rows frame) refl e, back)
+    reads-answer : (says : Says) → (readByRows rows frame ≡ Gives says) ↔ ((r : Row) × (content : List ℕ) × First rows frame r × OfRow r frame says content)
+    reads-answer says = (λ e. go (triedOf rows frame) refl e, back)
       where
-        go : (t : Tried) → tried rows frame ≡ t → readRows rows frame ≡ Gives says → (r : Row) × (content : List ℕ) × First rows frame r × OfRow r frame says content
+        go : (t : Tried) → triedOf rows frame ≡ t → readByRows rows frame ≡ Gives says → (r : Row) × (content : List ℕ) × First rows frame r × OfRow r frame says content
         go Short t e = absurd (word-gives _ _ (answer-of Short t ∙ e))
         go (ByRow r) t e =
             let f = fits-exactly rows frame bytes r .0 t in
@@ -231,40 +235,40 @@ module _ (rows : List Row) (frame : List ℕ) where
         go Early t e = absurd (word-gives _ _ (answer-of Early t ∙ e))
         go (Beyond k) t e = absurd (word-gives _ _ (answer-of (Beyond k) t ∙ e))
 
-        back : ((r : Row) × (content : List ℕ) × First rows frame r × OfRow r frame says content) → readRows rows frame ≡ Gives says
+        back : ((r : Row) × (content : List ℕ) × First rows frame r × OfRow r frame says content) → readByRows rows frame ≡ Gives says
         back (r, content, f, o) = sym (answer-of (ByRow r) (fits-exactly rows frame bytes r .1 f)) ∙ ap Gives (said-of r frame content says o)
 
-    missing-answer : (k : ℕ) → (readRows rows frame ≡ wrongLength 1 k)
+    missing-answer : (k : ℕ) → (readByRows rows frame ≡ wrongLength 1 k)
         ↔ ((4 ≤ length frame) × ((r : Row) → Has rows r → IsOf r frame → ⊥) × ((r : Row) × Has rows r × EarlyIn r frame) × (k ≡ length frame))
-    missing-answer k = (λ e. go (tried rows frame) refl e, back)
+    missing-answer k = (λ e. go (triedOf rows frame) refl e, back)
       where
-        go : (t : Tried) → tried rows frame ≡ t → readRows rows frame ≡ wrongLength 1 k
+        go : (t : Tried) → triedOf rows frame ≡ t → readByRows rows frame ≡ wrongLength 1 k
             → (4 ≤ length frame) × ((r : Row) → Has rows r → IsOf r frame → ⊥) × ((r : Row) × Has rows r × EarlyIn r frame) × (k ≡ length frame)
         go Short t e = let n = number-is _ _ (answer-of Short t ∙ e) in absurd (omega arith)
         go (ByRow r) t e = absurd (word-gives _ _ (sym (answer-of (ByRow r) t ∙ e)))
         go Early t e = let x = early-exactly rows frame bytes .0 t in (x .0, x .1, x .2, sym (place-is _ _ (answer-of Early t ∙ e)))
         go (Beyond m) t e = let n = kind-is _ _ (answer-of (Beyond m) t ∙ e) in absurd (omega arith)
 
-        back : ((4 ≤ length frame) × ((r : Row) → Has rows r → IsOf r frame → ⊥) × ((r : Row) × Has rows r × EarlyIn r frame) × (k ≡ length frame)) → readRows rows frame ≡ wrongLength 1 k
+        back : ((4 ≤ length frame) × ((r : Row) → Has rows r → IsOf r frame → ⊥) × ((r : Row) × Has rows r × EarlyIn r frame) × (k ≡ length frame)) → readByRows rows frame ≡ wrongLength 1 k
         back (h, n, x, e) = sym (answer-of Early (early-exactly rows frame bytes .1 (h, n, x))) ∙ ap (wrongLength 1) (sym e)
 
-    surplus-answer : (k : ℕ) → (readRows rows frame ≡ wrongLength 2 k) ↔ ((4 ≤ length frame) × ((r : Row) → Has rows r → EarlyIn r frame → ⊥) × (k < length frame) × MostClaimed rows frame k)
-    surplus-answer k = (λ e. go (tried rows frame) refl e, λ x. sym (answer-of (Beyond k) (goes-on-exactly rows frame bytes k .1 x)))
+    surplus-answer : (k : ℕ) → (readByRows rows frame ≡ wrongLength 2 k) ↔ ((4 ≤ length frame) × ((r : Row) → Has rows r → EarlyIn r frame → ⊥) × (k < length frame) × MostClaimed rows frame k)
+    surplus-answer k = (λ e. go (triedOf rows frame) refl e, λ x. sym (answer-of (Beyond k) (goes-on-exactly rows frame bytes k .1 x)))
       where
-        go : (t : Tried) → tried rows frame ≡ t → readRows rows frame ≡ wrongLength 2 k → (4 ≤ length frame) × ((r : Row) → Has rows r → EarlyIn r frame → ⊥) × (k < length frame) × MostClaimed rows frame k
+        go : (t : Tried) → triedOf rows frame ≡ t → readByRows rows frame ≡ wrongLength 2 k → (4 ≤ length frame) × ((r : Row) → Has rows r → EarlyIn r frame → ⊥) × (k < length frame) × MostClaimed rows frame k
         go Short t e = let n = number-is _ _ (answer-of Short t ∙ e) in absurd (omega arith)
         go (ByRow r) t e = absurd (word-gives _ _ (sym (answer-of (ByRow r) t ∙ e)))
         go Early t e = let n = kind-is _ _ (answer-of Early t ∙ e) in absurd (omega arith)
         go (Beyond m) t e = let same : m ≡ k = place-is _ _ (answer-of (Beyond m) t ∙ e) in goes-on-exactly rows frame bytes k .0 (t ∙ ap Beyond same)
 
-pub answers-exactly : Claims.AnswersExactly readRows
+pub answers-exactly : Claims.AnswersExactly readByRows
 answers-exactly = record { reads = reads-answer; short = short-answer; missing = missing-answer; surplus = surplus-answer }
 
--- whatever meets the claim is `readRows`
-pub same-answers : (read : List Row → List ℕ → Outcome Says) → Claims.AnswersExactly read → (rows : List Row) (frame : List ℕ) → AreBytes frame → read rows frame ≡ readRows rows frame
-same-answers read x rows frame bytes = go (tried rows frame) refl
+-- whatever meets the claim is `readByRows`
+pub same-answers : (read : List Row → List ℕ → Outcome Says) → Claims.AnswersExactly read → (rows : List Row) (frame : List ℕ) → AreBytes frame → read rows frame ≡ readByRows rows frame
+same-answers read x rows frame bytes = go (triedOf rows frame) refl
   where
-    go : (t : Tried) → tried rows frame ≡ t → read rows frame ≡ readRows rows frame
+    go : (t : Tried) → triedOf rows frame ≡ t → read rows frame ≡ readByRows rows frame
     go Short t = let e = sym (answer-of rows frame Short t) in x .short rows frame .1 (answers-exactly .short rows frame .0 e) ∙ sym e
     go (ByRow r) t = let e = sym (answer-of rows frame (ByRow r) t) in x .reads rows frame bytes _ .1 (answers-exactly .reads rows frame bytes _ .0 e) ∙ sym e
     go Early t = let e = sym (answer-of rows frame Early t) in x .missing rows frame bytes _ .1 (answers-exactly .missing rows frame bytes _ .0 e) ∙ sym e

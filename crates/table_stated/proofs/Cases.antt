@@ -15,8 +15,8 @@ use Rattle.outcome.specs.Outcome.{Outcome, SW, Gives, missingAt, surplusAt}
 use Rattle.octets.specs.Bytes.{byte}
 use Rattle.table_stated.specs.Words.{Says, Entry, Row, Tried, Short, ByRow, Early, Beyond}
 use Rattle.table_stated.specs.Rows.{numbered, tableOf, rowFrom, rowsOf, columnsOf}
-use Rattle.table_stated.specs.Trying.{isRow, begins, lcIn, dataEnd, rowEnd, opens, stands, fits, endsEarly, claimed, greater, inTurn, tried}
-use Rattle.table_stated.specs.Answers.{saysBy, answerOf, readRows}
+use Rattle.table_stated.specs.Trying.{isRow, begins, lcIn, dataEnd, rowEnd, opens, stands, fits, endsEarly, claimed, greater, inTurn, triedOf}
+use Rattle.table_stated.specs.Answers.{saysBy, answerOf, readByRows}
 use Rattle.table_stated.proofs.Columns
 use Rattle.table_stated.proofs.Turns.{Turn, chosen, short, past-all, turn, chosen-fits}
 use Rattle.table_stated.proofs.Agreement.{tried-short, tried-turn}
@@ -141,13 +141,13 @@ module _ (table : List (List ℕ)) (frame : List ℕ) (long : 4 ≤ length frame
   at-start = record { within = omega arith; same = refl }
 
   module _ (i : ℕ) (early : Bool) (most : ℕ) (at : At table frame i early most) where
-    pub at-end : length table ≤ i → (if early then Early else Beyond most) ≡ tried (rowsOf table) frame
+    pub at-end : length table ≤ i → (if early then Early else Beyond most) ≡ triedOf (rowsOf table) frame
     at-end h = ap (λ (t : List (List ℕ)). inTurn (rowsOf t) frame early most) (sym (drop-of-length-le table h)) ∙ at .same ∙ sym (tried-turn (rowsOf table) frame long)
 
-    pub ends-early : length table ≤ i → early ≡ true → Early ≡ tried (rowsOf table) frame
+    pub ends-early : length table ≤ i → early ≡ true → Early ≡ triedOf (rowsOf table) frame
     ends-early h e = ap (λ (b : Bool). if b then Early else Beyond most) (sym e) ∙ at-end h
 
-    pub goes-on : length table ≤ i → early ≡ false → Beyond most ≡ tried (rowsOf table) frame
+    pub goes-on : length table ≤ i → early ≡ false → Beyond most ≡ triedOf (rowsOf table) frame
     goes-on h e = ap (λ (b : Bool). if b then Early else Beyond most) (sym e) ∙ at-end h
 
     module _ (h : i < length table) (r : Row) (is-r : r ≡ rowFrom (getD table i [])) (n : ℕ) (is-n : n ≡ claimed r frame) where
@@ -157,7 +157,7 @@ module _ (table : List (List ℕ)) (frame : List ℕ) (long : 4 ≤ length frame
       turned : inTurn (r ∷ rowsOf (drop (i + 1) table)) frame early most ≡ inTurn (rowsOf table) frame false 0
       turned = ap (λ (rows : List Row). inTurn rows frame early most) (sym rows-from) ∙ at .same
 
-      pub fits-at : n ≡ length frame → ByRow r ≡ tried (rowsOf table) frame
+      pub fits-at : n ≡ length frame → ByRow r ≡ triedOf (rowsOf table) frame
       fits-at e =
           let f : fits r frame ≡ true = Columns.claimed-all r frame (omega arith) (sym is-n ∙ e) in
           ap (λ (b : Bool). if b then ByRow r else inTurn (rowsOf (drop (i + 1) table)) frame (early || endsEarly r frame) (greater most (claimed r frame))) (sym f)
@@ -182,25 +182,25 @@ module _ (table : List (List ℕ)) (frame : List ℕ) (long : 4 ≤ length frame
         pub next-same : (m : ℕ) → n ≤ most → m ≡ most → At table frame (i + 1) sooner m
         next-same m less e = next m (e ∙ rw (le-ltb most n less))
 
-pub is-short : (table : List (List ℕ)) (frame : List ℕ) → length frame < 4 → Short ≡ tried (rowsOf table) frame
+pub is-short : (table : List (List ℕ)) (frame : List ℕ) → length frame < 4 → Short ≡ triedOf (rowsOf table) frame
 is-short table frame h = sym (tried-short (rowsOf table) frame h)
 
 -- ---- the answers
-module _ (rows : List Row) (frame : List ℕ) (t : Tried) (is-t : t ≡ tried rows frame) where
-  read-is : (u : Tried) → t ≡ u → answerOf frame u ≡ readRows rows frame
-  unfolding readRows
+module _ (rows : List Row) (frame : List ℕ) (t : Tried) (is-t : t ≡ triedOf rows frame) where
+  read-is : (u : Tried) → t ≡ u → answerOf frame u ≡ readByRows rows frame
+  unfolding readByRows
   read-is u e = ap (answerOf frame) (sym e ∙ is-t)
 
-  pub read-short : t ≡ Short → SW 0x6a80 ≡ readRows rows frame
+  pub read-short : t ≡ Short → SW 0x6a80 ≡ readByRows rows frame
   read-short e = read-is Short e
 
-  pub read-fits : (r : Row) (said : Says) → said ≡ saysBy r frame → t ≡ ByRow r → Gives said ≡ readRows rows frame
+  pub read-fits : (r : Row) (said : Says) → said ≡ saysBy r frame → t ≡ ByRow r → Gives said ≡ readByRows rows frame
   read-fits r said is e = ap Gives is ∙ read-is (ByRow r) e
 
-  pub read-early : t ≡ Early → missingAt (length frame) ≡ readRows rows frame
+  pub read-early : t ≡ Early → missingAt (length frame) ≡ readByRows rows frame
   read-early e = read-is Early e
 
-  pub read-on : (place : ℕ) → t ≡ Beyond place → surplusAt place ≡ readRows rows frame
+  pub read-on : (place : ℕ) → t ≡ Beyond place → surplusAt place ≡ readByRows rows frame
   read-on place e = read-is (Beyond place) e
 
   -- the row that was found fits: its fields are small, and it ends where the frame does
@@ -231,5 +231,5 @@ module _ (rows : List Row) (frame : List ℕ) (t : Tried) (is-t : t ≡ tried ro
   found-end r e = Columns.fits-of r frame (found-fits r e) .1
 
 -- a table that is given as its rows, four numbers each
-pub by-table : (entry : Entry) (table : List (List ℕ)) (frame : List ℕ) (o : Outcome Says) → table ≡ map columnsOf (tableOf entry) → o ≡ readRows (rowsOf table) frame → o ≡ readRows (tableOf entry) frame
-by-table entry table frame o is e = e ∙ ap (λ (t : List (List ℕ)). readRows (rowsOf t) frame) is ∙ ap (λ (rows : List Row). readRows rows frame) (written-out (tableOf entry))
+pub by-table : (entry : Entry) (table : List (List ℕ)) (frame : List ℕ) (o : Outcome Says) → table ≡ map columnsOf (tableOf entry) → o ≡ readByRows (rowsOf table) frame → o ≡ readByRows (tableOf entry) frame
+by-table entry table frame o is e = e ∙ ap (λ (t : List (List ℕ)). readByRows (rowsOf t) frame) is ∙ ap (λ (rows : List Row). readByRows rows frame) (written-out (tableOf entry))

@@ -7,6 +7,7 @@ use Rattle.outcome.specs.Outcome.{Outcome}
 use Rattle.octets.specs.Bytes.{AreBytes}
 use Rattle.table_stated.specs.Words.{Says, Entry, Row, Tried}
 use Rattle.table_stated.specs.Rows.{tableOf}
+use Rattle.table_stated.specs.declared.TableReading.the-variants.{Frame, Status}
 use Rattle.table_stated.specs.Claims
 use Rattle.table_stated.proofs.AnyTable.{same-tries, same-answers}
 
@@ -31,5 +32,6 @@ ColumnsExactly f g k l p q = (
   λ r. p .back (r .number) (r .«lc_field») (r .«lc_least») (r .«le_field») ∙ sym (q .back (r .number) (r .«lc_field») (r .«lc_least») (r .«le_field»)),
 )
 
-pub RowSaysExactly : Determines Claims.RowSaysExactly
-RowSaysExactly f g p q s = p (s .header) (s .number) (s .start) (s .lc) (s .le) ∙ sym (q (s .header) (s .number) (s .start) (s .lc) (s .le))
+pub SaidExactly : Determines Claims.SaidExactly
+SaidExactly f g p q (Frame s) = p .frame (s .header) (s .number) (s .start) (s .lc) (s .le) ∙ sym (q .frame (s .header) (s .number) (s .start) (s .lc) (s .le))
+SaidExactly f g p q (Status s) = p .status s ∙ sym (q .status s)

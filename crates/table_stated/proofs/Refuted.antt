@@ -11,13 +11,13 @@ use Rattle.outcome.proofs.Laws.{gives-same, word-gives}
 use Rattle.octets.proofs.Laws.{small, bytes-of}
 use Rattle.apdu_stated.proofs.Laws.{place-is}
 use Rattle.apdu_stated.specs.Reading.{readBy, sayOf, lengthsOf, shortOf, extendedOf, afterData}
-use Rattle.apdu_stated.specs.Terms.{whole, pair, frameWith, saying}
+use Rattle.apdu_stated.specs.Terms.{plain, whole, pair, frameWith, saying}
 use Rattle.table_stated.specs.Words.{ApduHeader, Says, Ordinary, Strict, Row, ByRow}
 use Rattle.table_stated.specs.Rows.{numbered, tableOf, columnsOf}
-use Rattle.table_stated.specs.Trying.{begins, lcIn, leIn, opens, stands, tried}
-use Rattle.table_stated.specs.Answers.{TableReading, tableReadingOf, readRows}
+use Rattle.table_stated.specs.Trying.{begins, lcIn, leIn, opens, stands, triedOf}
+use Rattle.table_stated.specs.Answers.{TableReading, tableReadingOf, readByRows}
 use Rattle.table_stated.specs.declared.TableReading.the-variants as TableReading′
-use Rattle.table_stated.specs.Terms.{OfRow, no-lc, three-lc, no-le, three-le, First, this, here, behind}
+use Rattle.table_stated.specs.Terms.{OfRow, no-lc, three-lc, no-le, one-le, three-le, First, this, here, behind}
 use Rattle.table_stated.specs.Claims
 use Rattle.table_stated.specs.Wrong
 use Rattle.table_stated.proofs.Theorems
@@ -44,13 +44,13 @@ row-number-is a b e = let same : a ≡ b = cc in ap (λ (r : Row). r .number) sa
 
 -- ---- tables
 -- 00 00 00 is read as shape 5 without data
-pub row5FromLc0 : Claims.SameReading Wrong.row5FromLc0 readRows → ⊥
-unfolding readRows tried stands opens begins lcIn leIn readBy sayOf lengthsOf extendedOf
+pub row5FromLc0 : Claims.SameReading Wrong.row5FromLc0 readByRows → ⊥
+unfolding readByRows triedOf stands opens begins lcIn leIn readBy sayOf lengthsOf extendedOf
 row5FromLc0 claim = omega (arith, shape-is _ _ (claim Ordinary extended-le))
 
 -- which document 01's list has as shape 8
-pub row5FromLc0InExamples : Claims.ExamplesRead Wrong.row5FromLc0 readRows → ⊥
-unfolding readRows tried stands opens begins lcIn leIn
+pub row5FromLc0InExamples : Claims.ExamplesRead Wrong.row5FromLc0 readByRows → ⊥
+unfolding readByRows triedOf stands opens begins lcIn leIn
 row5FromLc0InExamples claim = omega (arith, shape-is _ _ (ap (λ (answers : List (Outcome Says)). getD answers 7 (Gives (saying h0 0 0 0 0))) claim))
 
 -- and two rows fit it
@@ -69,22 +69,44 @@ row5BesideRow8 claim =
     omega arith
 
 -- 00 00 01 AA 05 is read strictly
-pub row6InStrict : Claims.SameReading Wrong.row6InStrict readRows → ⊥
-unfolding readRows tried stands opens begins lcIn leIn readBy sayOf lengthsOf extendedOf afterData
+pub row6InStrict : Claims.SameReading Wrong.row6InStrict readByRows → ⊥
+unfolding readByRows triedOf stands opens begins lcIn leIn readBy sayOf lengthsOf extendedOf afterData
 row6InStrict claim = word-gives _ _ (sym (claim Strict (try (0 ∷ 0 ∷ 1 ∷ 0xAA ∷ 5 ∷ []))))
 
-pub row6AsIn01 : Claims.SameReading Wrong.row6AsIn01 readRows → ⊥
-unfolding readRows tried stands opens begins lcIn leIn readBy sayOf lengthsOf extendedOf afterData
+pub row6AsIn01 : Claims.SameReading Wrong.row6AsIn01 readByRows → ⊥
+unfolding readByRows triedOf stands opens begins lcIn leIn readBy sayOf lengthsOf extendedOf afterData
 row6AsIn01 claim = word-gives _ _ (sym (claim Strict (try (0 ∷ 0 ∷ 1 ∷ 0xAA ∷ 5 ∷ []))))
 
+-- and would be in the strict table
+is-six : OfRow (numbered 6 3 0 1) (try (0 ∷ 0 ∷ 1 ∷ 0xAA ∷ 5 ∷ [])) (saying h0 6 7 1 5) (0xAA ∷ [])
+is-six =
+    record {
+      header = h0;
+      lcBytes = 0 ∷ 0 ∷ 1 ∷ [];
+      leBytes = 5 ∷ [];
+      le = 5;
+      lc-field = three-lc {hi = 0} {lo = 1} (record { high = omega arith; low = omega arith; is = refl });
+      least = omega arith;
+      le-field = one-le (plain {b = 5} (omega arith) (omega arith));
+      frame-is = refl;
+      says-is = refl;
+    }
+
+pub row6InTheTable : Claims.RowsAsTheTable Wrong.row6AsIn01 → ⊥
+unfolding small
+row6InTheTable claim =
+    let x = claim .strict (try (0 ∷ 0 ∷ 1 ∷ 0xAA ∷ 5 ∷ [])) (bytes-of (try (0 ∷ 0 ∷ 1 ∷ 0xAA ∷ 5 ∷ [])) refl) (saying h0 6 7 1 5) .0
+    (0xAA ∷ [], (numbered 6 3 0 1, behind (behind (behind (behind (behind here)))), is-six)) in
+    x .1 .row .not-six refl
+
 -- 00 00 01 AA is read as shape 7
-pub leSwapped : Claims.SameReading Wrong.leSwapped readRows → ⊥
-unfolding readRows tried stands opens begins lcIn leIn readBy sayOf lengthsOf extendedOf afterData
+pub leSwapped : Claims.SameReading Wrong.leSwapped readByRows → ⊥
+unfolding readByRows triedOf stands opens begins lcIn leIn readBy sayOf lengthsOf extendedOf afterData
 leSwapped claim = omega (arith, shape-is _ _ (claim Ordinary (try (0 ∷ 0 ∷ 1 ∷ 0xAA ∷ []))))
 
 -- 00 00 00 is said to be shape 7
-pub numberedByPlace : Claims.SameReading Wrong.numberedByPlace readRows → ⊥
-unfolding readRows tried stands opens begins lcIn leIn readBy sayOf lengthsOf extendedOf
+pub numberedByPlace : Claims.SameReading Wrong.numberedByPlace readByRows → ⊥
+unfolding readByRows triedOf stands opens begins lcIn leIn readBy sayOf lengthsOf extendedOf
 numberedByPlace claim = omega (arith, shape-is _ _ (claim Strict extended-le))
 
 pub rowsNumberedByPlace : Claims.TablesExactly Wrong.numberedByPlace → ⊥
@@ -100,7 +122,7 @@ firstTooShort claim = omega (arith, shape-is _ _ (claim Ordinary (try (5 ∷ [])
 
 -- every surplus is at 4
 pub placeOfFirst : Claims.SameReading tableOf Wrong.placeOfFirst → ⊥
-unfolding tried stands opens begins lcIn leIn readBy sayOf lengthsOf shortOf
+unfolding triedOf stands opens begins lcIn leIn readBy sayOf lengthsOf shortOf
 placeOfFirst claim = omega (arith, place-is _ _ (claim Ordinary (try (1 ∷ 0xAA ∷ 0 ∷ 0 ∷ []))))
 
 -- a frame is found in an empty table
@@ -108,19 +130,24 @@ no-first : {frame : List ℕ} {r : Row} → First [] frame r → ⊥
 no-first f = elim f [ ]
 
 pub knowsItsRows : Claims.TriesExactly Wrong.knowsItsRows → ⊥
-unfolding small tried stands opens begins lcIn
+unfolding small triedOf stands opens begins lcIn
 knowsItsRows claim = no-first (claim .by-row [] (try []) (bytes-of (try []) refl) (numbered 1 0 0 0) .0 refl)
 
-pub readsByName : Claims.AnswersExactly Wrong.readsByName → ⊥
+-- though by the two tables it answers rightly
+asks-rightly : Claims.SameReading tableOf Wrong.asksWhichTable
+asks-rightly Ordinary frame = refl
+asks-rightly Strict frame = refl
+
+pub asksWhichTable : Claims.AnswersExactly Wrong.asksWhichTable → ⊥
 unfolding small readBy sayOf lengthsOf
-readsByName claim = no-first (claim .reads [] (try []) (bytes-of (try []) refl) (saying h0 1 4 0 0) .0 refl .2)
+asksWhichTable claim = no-first (claim .reads [] (try []) (bytes-of (try []) refl) (saying h0 1 4 0 0) .0 refl .2)
 
 -- two rows of one form: the first is the frame's
 bare : OfRow (numbered 1 0 0 0) (try []) (saying h0 1 4 0 0) []
 bare = record { header = h0; lcBytes = []; leBytes = []; le = 0; lc-field = no-lc; least = omega arith; le-field = no-le; frame-is = refl; says-is = refl }
 
 pub lastThatFits : Claims.TriesExactly Wrong.lastThatFits → ⊥
-unfolding small tried stands opens begins lcIn
+unfolding small triedOf stands opens begins lcIn
 lastThatFits claim =
     omega (arith, row-number-is _ _ (claim .by-row (numbered 1 0 0 0 ∷ numbered 9 0 0 0 ∷ []) (try []) (bytes-of (try []) refl) (numbered 1 0 0 0) .1 (this (saying h0 1 4 0 0, [], bare))))
 
@@ -140,25 +167,25 @@ is-extended-le =
     }
 
 pub earlyFirst : Claims.TriesExactly Wrong.earlyFirst → ⊥
-unfolding small tried stands opens begins lcIn
+unfolding small triedOf stands opens begins lcIn
 earlyFirst claim =
     let e = claim .early (tableOf Ordinary) (try (0 ∷ 0xFF ∷ 0xFF ∷ [])) (bytes-of (try (0 ∷ 0xFF ∷ 0xFF ∷ [])) refl) .0 refl in
     e .1 (numbered 8 0 0 3) (behind (behind (behind (behind (behind (behind (behind here))))))) (saying h0 8 4 0 65535, [], is-extended-le)
 
 -- 02 AA misses bytes at 6, its length
 pub missingAtThePayload : Claims.AnswersExactly Wrong.missingAtThePayload → ⊥
-unfolding small tried stands opens begins lcIn
+unfolding small triedOf stands opens begins lcIn
 missingAtThePayload claim =
     let x = claim .missing (tableOf Ordinary) (try (2 ∷ 0xAA ∷ [])) (bytes-of (try (2 ∷ 0xAA ∷ [])) refl) 4 .0 refl in
     omega (arith, x .3)
 
 -- 02 AA BB says Lc 2
 pub leastForLc : Claims.SameReading tableOf Wrong.leastForLc → ⊥
-unfolding tried stands opens begins lcIn leIn readBy sayOf lengthsOf shortOf
+unfolding triedOf stands opens begins lcIn leIn readBy sayOf lengthsOf shortOf
 leastForLc claim = omega (arith, lc-is _ _ (claim Ordinary (try (2 ∷ 0xAA ∷ 0xBB ∷ []))))
 
 pub leastSaidForLc : Claims.AnswersExactly Wrong.leastForLc → ⊥
-unfolding small tried stands opens begins lcIn leIn
+unfolding small triedOf stands opens begins lcIn leIn
 leastSaidForLc claim =
     let x = claim .reads (tableOf Ordinary) (try (2 ∷ 0xAA ∷ 0xBB ∷ [])) (bytes-of (try (2 ∷ 0xAA ∷ 0xBB ∷ [])) refl) (saying h0 3 5 1 0) .0 refl in
     let row : First (tableOf Ordinary) (try (2 ∷ 0xAA ∷ 0xBB ∷ [])) (x .0) = x .2 in
@@ -170,15 +197,18 @@ leastSaidForLc claim =
     omega arith
 
 -- ---- what the code holds
--- row 7 of document 01's table: no Lc field of two
+-- row 7 of document 01's table: its least Lc is 0, not 2
 pub leastLast : Claims.ColumnsExactly Wrong.leastLast columnsOf → ⊥
 leastLast claim = let z : _≡_ {A = ℕ} 2 0 = ap (λ (r : Row). r .«lc_least») (claim .forth 7 3 0 2) in omega arith
 
-pub startOneOn : Claims.RowSaysExactly Wrong.startOneOn → ⊥
-startOneOn claim = let z : _≡_ {A = ℕ} 5 4 = ap (λ (s : Says). s .dataAt) (claim h0 1 4 0 0) in omega arith
+pub startOneOn : Claims.SaidExactly Wrong.startOneOn → ⊥
+startOneOn claim = let z : _≡_ {A = ℕ} 5 4 = ap (λ (s : Says). s .dataAt) (gives-same _ _ (claim .frame h0 1 4 0 0)) in omega arith
 
 surplus-is : ℕ → TableReading
 surplus-is place = TableReading′.Status (Status′.WrongLength Fault′.Surplus place)
+
+pub pairUnsaidAtAll : Claims.SaidExactly Wrong.pairUnsaid → ⊥
+pairUnsaidAtAll claim = let z : _≡_ {A = ℕ} 0 7 = place-is _ _ (claim .status (Status′.WrongLength Fault′.Surplus 7)) in omega arith
 
 pub pairUnsaid : Claims.AnswersOneToOne Wrong.pairUnsaid → ⊥
 unfolding surplus-is

@@ -1,7 +1,7 @@
 -- What each answer says, in the documents' numbers: of a frame by its row, and of a reading.
 use Rattle.table_stated.specs.Words.{ℕ, _+_, List, length, Outcome, Word, SW, Gives, wordOf, missingAt, surplusAt, Says, Row, Tried, Short, ByRow, Early, Beyond}
 use Rattle.apdu_stated.specs.Reading.{headerOf}
-use Rattle.table_stated.specs.Trying.{lcIn, leIn, dataEnd, tried}
+use Rattle.table_stated.specs.Trying.{lcIn, leIn, dataEnd, triedOf}
 pub use Rattle.table_stated.specs.declared.RowSays.{RowSays}
 pub use Rattle.table_stated.specs.declared.TableReading.{TableReading}
 use Rattle.table_stated.specs.declared.TableReading.the-variants as TableReading′
@@ -26,8 +26,8 @@ answerOf frame Early = missingAt (length frame)
 answerOf frame (Beyond place) = surplusAt place
 
 -- the second reader, over the rows of whatever table it is given
-unfoldable pub readRows : List Row → List ℕ → Outcome Says
-readRows rows frame = answerOf frame (tried rows frame)
+unfoldable pub readByRows : List Row → List ℕ → Outcome Says
+readByRows rows frame = answerOf frame (triedOf rows frame)
 
 -- what the code holds of an answer
 abbrev pub rowSaysOf : RowSays → Says

@@ -1,20 +1,20 @@
 -- What is promised of the second reader: open this file first. Claims take the program, or the tables, as their argument; the definitions
--- (`tableOf` of Rows.antt, `tried` of Trying.antt, `readRows` of Answers.antt) meet them by proofs/Theorems.antt, and the programs and tables of
--- Wrong.antt do not by proofs/Refuted.antt. By proofs/Only.antt nothing else meets `TablesExactly`, `TriesExactly`, `AnswersExactly`, `ColumnsExactly` and
--- `RowSaysExactly`, and no other answer, by these two tables, `SameReading`; `OneRowFits` and `ExamplesRead` stand beside them. Words: Terms.antt.
+-- (`tableOf` of Rows.antt, `triedOf` of Trying.antt, `readByRows` of Answers.antt) meet them by proofs/Theorems.antt, and the programs and tables of
+-- Wrong.antt do not by proofs/Refuted.antt. By proofs/Only.antt nothing else meets `TablesExactly` and `SaidExactly`, on frames of bytes `TriesExactly` and
+-- `AnswersExactly`, on rows of four numbers `ColumnsExactly`, and no other answer by these two tables `SameReading`; `OneRowFits`, `ExamplesRead` and
+-- `RowsAsTheTable` stand beside them. Words: Terms.antt.
 use mathlib.Core.Logic.{_↔_}
-use Rattle.table_stated.specs.Words.{ℕ, _≤_, _<_, _≡_, List, [], _∷_, map, length, if_then_else_, AtMostOne, Outcome, Gives, SW, wrongLength, AreBytes, Says, Entry, Ordinary, Strict, ApduHeader, Case, Instruction, Le1, Lc1Data, Lc1DataLe1, Lc3Data, Lc3DataLe1, Lc3DataLe2, Le3, shapeNo, Row, Tried, Short, ByRow, Early, Beyond}
-use Rattle.apdu_stated.specs.Answers.{readingOf}
+use Rattle.table_stated.specs.Words.{ℕ, _≤_, _<_, _≡_, List, [], _∷_, map, length, drop, if_then_else_, AtMostOne, Outcome, Word, Gives, SW, wordOf, wrongLength, AreBytes, Says, saying, Reading, readingOf, ApduStatusCode, Entry, Ordinary, Strict, ApduHeader, Case, Instruction, Le1, Lc1Data, Lc1DataLe1, Lc3Data, Lc3DataLe1, Lc3DataLe2, Le3, shapeNo, Row, Tried, Short, ByRow, Early, Beyond}
 use Rattle.apdu_stated.specs.Contracts.{Read, ReadStrict}
 use Rattle.apdu_stated.specs.Table.{lcField, leField, hasRow, leastOf}
 use Rattle.apdu_stated.specs.Reading.{readBy}
 use Rattle.apdu_stated.specs.Examples.{Example, examples}
-use Rattle.apdu_stated.specs.declared.Reading.{Reading}
-use Rattle.apdu_stated.specs.Terms.{saying}
-use Rattle.table_stated.specs.Rows.{numbered, columnsOf}
-use Rattle.table_stated.specs.Terms.{OfRow, IsOf, EarlyIn, Has, First, MostClaimed}
-use Rattle.table_stated.specs.Contracts.{TableRows, TryRows, ReadRows, ReadTable}
-use Rattle.table_stated.specs.Answers.{RowSays, TableReading, tableReadingOf}
+use Rattle.apdu_stated.specs.Terms.{InTable, InStrictTable, EndsEarly}
+use Rattle.table_stated.specs.Rows.{numbered, columnsOf, rowsOf}
+use Rattle.table_stated.specs.Terms.{OfRow, IsOf, OfTable, EarlyIn, Has, First, MostClaimed}
+use Rattle.table_stated.specs.Contracts.{OrdinaryRows, StrictRows, TryRows, ReadRows, ReadByTable, ReadStrictByTable}
+use Rattle.table_stated.specs.Answers.{TableReading, tableReadingOf}
+use Rattle.table_stated.specs.declared.TableReading.the-variants as TableReading′
 
 -- ---- the two tables
 
@@ -56,9 +56,9 @@ ExamplesRead table read = map (λ (e : Example). read (table Ordinary) (e .frame
 
 -- ---- any table: nothing in the reader knows a shape by name
 
--- What comes of trying the rows of any table. Short exactly when the frame is under four bytes; ByRow r when r is the first row that the frame is
--- of; Early when it is of no row and ends early in at least one; Beyond k when it is of no row, ends early in none, and k bytes is the most that a
--- row claims from its front. Rejects a reader that knows document 01's rows whatever it is given (`knowsItsRows`), one that takes the last row that
+-- What comes of trying the rows of any table. Short exactly when the frame is under four bytes; ByRow r exactly when r is the first row that the
+-- frame is of; Early exactly when it is of no row and ends early in at least one; Beyond k exactly when it is of no row, ends early in none, and k bytes
+-- is the most that a row claims from its front. Rejects a reader that knows document 01's rows whatever it is given (`knowsItsRows`), one that takes the last row that
 -- fits (`lastThatFits`), and one that looks for missing bytes before it tries the rows (`earlyFirst`). Bites at an empty table, at two rows of equal
 -- columns and different numbers, and at 00 03 00 00 | 00 FF FF.
 pub record TriesExactly (try : List Row → List ℕ → Tried) : Type 0 where
@@ -72,7 +72,7 @@ pub record TriesExactly (try : List Row → List ℕ → Tried) : Type 0 where
       ↔ ((4 ≤ length frame) × ((r : Row) → Has rows r → EarlyIn r frame → ⊥) × (k < length frame) × MostClaimed rows frame k)
 
 -- What is answered by any table: what the frame says by its first row, 01's 6a80, 02's E1 kinds 1 and 2 with their places, each exactly when. Rejects
--- a reader of document 01's shapes whatever it is given (`readsByName`), missing bytes placed where the payload begins (`missingAtThePayload`), and a
+-- a reader that asks which of the two tables it holds, by their row 6, and then reads by document 01's shapes (`asksWhichTable`; it meets `SameReading`), missing bytes placed where the payload begins (`missingAtThePayload`), and a
 -- row's least said for the frame's Lc (`leastForLc`). Bites at an empty table, at 00 03 00 00 | 02 AA, and at 00 03 00 00 | 02 AA BB.
 pub record AnswersExactly (read : List Row → List ℕ → Outcome Says) : Type 0 where
   pub reads : (rows : List Row) (frame : List ℕ) → AreBytes frame → (says : Says)
@@ -85,6 +85,17 @@ pub record AnswersExactly (read : List Row → List ℕ → Outcome Says) : Type
       → (read rows frame ≡ wrongLength 2 k)
       ↔ ((4 ≤ length frame) × ((r : Row) → Has rows r → EarlyIn r frame → ⊥) × (k < length frame) × MostClaimed rows frame k)
 
+-- The rows of these words and the tables of apdu_stated's claims are one, on frames of bytes: a frame is of a row of the table exactly when it is in `InTable`, strictly
+-- in `InStrictTable`; and where it is of none, it ends early in a row exactly when its payload does (`EndsEarly`). Rejects a row 6 in the strict table
+-- (`row6AsIn01`). Bites at 00 03 00 00 | 00 00 01 AA 05.
+pub record RowsAsTheTable (table : Entry → List Row) : Type 0 where
+  pub ordinary : (frame : List ℕ) → AreBytes frame → (says : Says)
+      → ((content : List ℕ) × OfTable (table Ordinary) frame says content) ↔ ((content : List ℕ) × InTable frame says content)
+  pub strict : (frame : List ℕ) → AreBytes frame → (says : Says)
+      → ((content : List ℕ) × OfTable (table Strict) frame says content) ↔ ((content : List ℕ) × InStrictTable frame says content)
+  pub early : (entry : Entry) (frame : List ℕ) → AreBytes frame → 4 ≤ length frame → ((r : Row) → Has (table entry) r → IsOf r frame → ⊥)
+      → ((r : Row) × Has (table entry) r × EarlyIn r frame) ↔ EndsEarly (drop 4 frame)
+
 -- ---- what the code holds
 
 -- A row of four numbers, in E9's order behind the shape's number: "(length of Lc field, least Lc, length of Le field)"; and back. Rejects
@@ -95,10 +106,12 @@ pub record ColumnsExactly (from : List ℕ → Row) (to : Row → List ℕ) : Ty
   pub back : (number lcLong least leLong : ℕ)
       → to (record { number = number; «lc_field» = lcLong; «lc_least» = least; «le_field» = leLong }) ≡ number ∷ lcLong ∷ least ∷ leLong ∷ []
 
--- What the code holds of a frame, in the documents' numbers, each as it is. Rejects data that starts one byte on (`startOneOn`). Bites at every frame.
-abbrev pub RowSaysExactly : (RowSays → Says) → Type 0
-RowSaysExactly view =
-    (h : ApduHeader) (number start lc le : ℕ) → view (record { header = h; number = number; start = start; lc = lc; le = le }) ≡ saying h number start lc le
+-- What an answer that the code holds says, in the documents' numbers: of a frame each number as it is, of a status word its number and pair. Rejects data
+-- that starts one byte on (`startOneOn`), and a status word without its pair (`pairUnsaid`). Bites at every frame, and at 6700.
+pub record SaidExactly (said : TableReading → Outcome Says) : Type 0 where
+  pub frame : (h : ApduHeader) (number start lc le : ℕ)
+      → said (TableReading′.Frame (record { header = h; number = number; start = start; lc = lc; le = le })) ≡ Gives (saying h number start lc le)
+  pub status : (s : ApduStatusCode) → said (TableReading′.Status s) ≡ Word (wordOf s)
 
 -- Two answers that say the same are one: so a contract that fixes what is said fixes the answer. Rejects a view that drops the pair of a 6700
 -- (`pairUnsaid`). Bites at two places of surplus bytes.
@@ -107,24 +120,29 @@ AnswersOneToOne said = (a b : TableReading) → said a ≡ said b → a ≡ b
 
 -- ---- the contracts, and the two readers
 
--- Whatever meets a contract of `table` meets the claim on it, by rows written out as four numbers each.
+-- Whatever meets a contract of `table` meets the claim on it, by rows written out as four numbers each. A contract of `strict` that names the other table
+-- fails it, with code to match. Bites at row 6.
 pub record ContractsAsClaimed : Type 0 where
+  pub ordinary : (t : List (List ℕ)) → OrdinaryRows t → rowsOf t ≡ rowsIn Ordinary shapes
+  pub strict : (t : List (List ℕ)) → StrictRows t → rowsOf t ≡ rowsIn Strict shapes
   pub try-rows : (f : List (List ℕ) → List ℕ → Tried) → ((table : List (List ℕ)) (frame : List ℕ) → TryRows table frame (f table frame))
       → TriesExactly (λ (rows : List Row) (frame : List ℕ). f (map columnsOf rows) frame)
   pub read-rows : (f : List (List ℕ) → List ℕ → TableReading) → ((table : List (List ℕ)) (frame : List ℕ) → ReadRows table frame (f table frame))
       → AnswersExactly (λ (rows : List Row) (frame : List ℕ). tableReadingOf (f (map columnsOf rows) frame))
 
 -- E9 of the two programs: whatever meets the contract of `table`'s reader, and whatever meets that of apdu's, give the same on every frame; strictly too. A
--- contract of the strict one that names the other table fails it, with code to match.
+-- contract of the strict one that names the other table fails it, with code to match. Bites at 00 03 00 00 | 00 00 00 05.
 pub record ReadersAgree : Type 0 where
-  pub ordinary : (f : List ℕ → TableReading) (g : List ℕ → Reading) → ((frame : List ℕ) → ReadTable Ordinary frame (f frame)) → ((frame : List ℕ) → Read frame (g frame))
+  pub read : (f : List ℕ → TableReading) (g : List ℕ → Reading) → ((frame : List ℕ) → ReadByTable frame (f frame)) → ((frame : List ℕ) → Read frame (g frame))
       → (frame : List ℕ) → tableReadingOf (f frame) ≡ readingOf (g frame)
-  pub strict : (f : List ℕ → TableReading) (g : List ℕ → Reading) → ((frame : List ℕ) → ReadTable Strict frame (f frame)) → ((frame : List ℕ) → ReadStrict frame (g frame))
+  pub read-strict : (f : List ℕ → TableReading) (g : List ℕ → Reading) → ((frame : List ℕ) → ReadStrictByTable frame (f frame)) → ((frame : List ℕ) → ReadStrict frame (g frame))
       → (frame : List ℕ) → tableReadingOf (f frame) ≡ readingOf (g frame)
 
 -- ---- two results that satisfy a contract are equal
 pub record ResultsDetermined : Type 0 where
-  pub table-rows : (entry : Entry) → AtMostOne (TableRows entry)
+  pub ordinary : AtMostOne OrdinaryRows
+  pub strict : AtMostOne StrictRows
   pub try-rows : (table : List (List ℕ)) (frame : List ℕ) → AtMostOne (TryRows table frame)
   pub read-rows : (table : List (List ℕ)) (frame : List ℕ) → AtMostOne (ReadRows table frame)
-  pub read-table : (entry : Entry) (frame : List ℕ) → AtMostOne (ReadTable entry frame)
+  pub read : (frame : List ℕ) → AtMostOne (ReadByTable frame)
+  pub read-strict : (frame : List ℕ) → AtMostOne (ReadStrictByTable frame)

@@ -41,7 +41,7 @@ pub data EndsIn (frame : List ℕ) : ℕ → Type 0 where
   in-three : length frame < 7 → (4 < length frame → byte frame 4 ≡ 0x00) → EndsIn frame 3
   in-three-data : 7 ≤ length frame → byte frame 4 ≡ 0x00 → length frame < 7 + pairAt frame 5 → EndsIn frame 3
 
--- the frame ends early in the row. Ours: it does not where the row's Le field has more than three bytes, and the least Lc is not asked
+-- the frame ends early in the row; the least Lc is not asked. Ours: it does not where the row's Le field has more than three bytes
 pub record EarlyIn (r : Row) (frame : List ℕ) : Type 0 where
   pub le-field : r .«le_field» ≤ 3
   pub ends : EndsIn frame (r .«lc_field»)
@@ -61,7 +61,7 @@ abbrev pub OfTable : List Row → List ℕ → Says → List ℕ → Type 0
 OfTable rows frame says content = (r : Row) × Has rows r × OfRow r frame says content
 
 -- "the first byte that no field can claim", over any table: apdu_stated's longest part from the frame's front that is in the table; 0 where no
--- part is (ours). Both of document 01's tables have row 1, the header alone, so there it is at least 4
+-- part is (ours). Both tables have row 1, the header alone, so there it is at least 4
 pub data MostClaimed (rows : List Row) (frame : List ℕ) (k : ℕ) : Type 0 where
   a-part : LongestFront (OfTable rows) frame k → MostClaimed rows frame k
   no-part : k ≡ 0 → ((j : ℕ) (says : Says) (content : List ℕ) → j ≤ length frame → OfTable rows (take j frame) says content → ⊥) → MostClaimed rows frame k

@@ -52,7 +52,7 @@ stands r frame =
 abbrev pub fits : Row → List ℕ → Bool
 fits r frame = stands r frame && eqb (rowEnd r frame) (length frame)
 
--- 02, E1, "bytes are missing": the frame ends before the row's Lc field or its data does. Ours: the least Lc is not asked here
+-- 02, E1, "bytes are missing": the frame ends before the row's Lc field or its data does. The least Lc is not asked here: `00 x` misses bytes strictly too
 abbrev pub endsEarly : Row → List ℕ → Bool
 endsEarly r frame = opens r frame && ltb (length frame) (dataEnd r frame)
 
@@ -65,7 +65,7 @@ claimed r frame = if stands r frame then rowEnd r frame else 0
 abbrev pub greater : (a : ℕ) → (b : ℕ) → ℕ
 greater a b = if ltb a b then b else a
 
--- The rows in turn: the first that fits. Where none does: whether the frame ends early in one of them, which outweighs the rest (ours), else the
+-- The rows in turn: the first that fits. Where none does: whether the frame ends early in one of them, which outweighs the rest, else the
 -- most that one claims. `early` and `most` are what the rows before came to.
 abbrev pub inTurn : List Row → List ℕ → (early : Bool) → (most : ℕ) → Tried
 inTurn [] frame early most = if early then Early else Beyond most
@@ -74,5 +74,5 @@ inTurn (r ∷ rows) frame early most =
     else inTurn rows frame (early || endsEarly r frame) (greater most (claimed r frame))
 
 -- "A frame under 4 bytes gives 6a80"
-unfoldable pub tried : List Row → List ℕ → Tried
-tried rows frame = if ltb (length frame) 4 then Short else inTurn rows frame false 0
+unfoldable pub triedOf : List Row → List ℕ → Tried
+triedOf rows frame = if ltb (length frame) 4 then Short else inTurn rows frame false 0

@@ -1,10 +1,10 @@
 -- Tables and readers that are wrong: each fails a claim of Claims.antt, by proofs/Refuted.antt.
 use mathlib.Core.List.{reverse}
-use Rattle.table_stated.specs.Words.{ℕ, _+_, Bool, false, _||_, List, [], _∷_, length, ltb, if_then_else_, byte, Outcome, SW, Gives, wordOf, surplusAt, missingAt, Says, Entry, Ordinary, Strict, Row, Tried, Short, ByRow, Early, Beyond}
+use Rattle.table_stated.specs.Words.{ℕ, _+_, Bool, false, _||_, List, [], _∷_, length, eqb, ltb, if_then_else_, byte, Outcome, Word, SW, Gives, wordOf, surplusAt, missingAt, Says, Entry, Ordinary, Strict, Row, Tried, Short, ByRow, Early, Beyond}
 use Rattle.apdu_stated.specs.Reading.{readBy}
 use Rattle.table_stated.specs.Rows.{numbered, tableOf}
-use Rattle.table_stated.specs.Trying.{stands, rowEnd, endsEarly, tried}
-use Rattle.table_stated.specs.Answers.{RowSays, TableReading, saysBy, answerOf, rowSaysOf}
+use Rattle.table_stated.specs.Trying.{stands, rowEnd, endsEarly, triedOf}
+use Rattle.table_stated.specs.Answers.{TableReading, saysBy, answerOf, rowSaysOf}
 use Rattle.table_stated.specs.declared.TableReading.the-variants as TableReading′
 
 -- ---- tables
@@ -56,18 +56,23 @@ placedBy rows frame Early = Early
 placedBy rows frame (Beyond k) = Beyond (firstEnd rows frame)
 
 abbrev pub placeOfFirst : List Row → List ℕ → Outcome Says
-placeOfFirst rows frame = answerOf frame (placedBy rows frame (tried rows frame))
+placeOfFirst rows frame = answerOf frame (placedBy rows frame (triedOf rows frame))
 
--- E9's request: "the rows of whatever table it is given": here document 01's rows, and here its shapes
+-- E9's request: "the rows of whatever table it is given": here document 01's rows
 abbrev pub knowsItsRows : List Row → List ℕ → Tried
-knowsItsRows rows frame = tried (tableOf Ordinary) frame
+knowsItsRows rows frame = triedOf (tableOf Ordinary) frame
 
-abbrev pub readsByName : List Row → List ℕ → Outcome Says
-readsByName rows frame = readBy Ordinary frame
+-- and here its shapes, once it is known by a row 6 which of the two tables it is
+abbrev hasSix : List Row → Bool
+hasSix [] = false
+hasSix (r ∷ rows) = eqb (r .number) 6 || hasSix rows
+
+abbrev pub asksWhichTable : List Row → List ℕ → Outcome Says
+asksWhichTable rows frame = if hasSix rows then readBy Ordinary frame else readBy Strict frame
 
 -- the rows are tried from the last to the first
 abbrev pub lastThatFits : List Row → List ℕ → Tried
-lastThatFits rows frame = tried (reverse rows) frame
+lastThatFits rows frame = triedOf (reverse rows) frame
 
 -- missing bytes are looked for before a row is tried: an extended Le is taken for an Lc
 abbrev anyEarly : List Row → List ℕ → Bool
@@ -78,7 +83,7 @@ abbrev pub earlyFirst : List Row → List ℕ → Tried
 earlyFirst rows frame =
     if ltb (length frame) 4 then Short
     else if anyEarly rows frame then Early
-    else tried rows frame
+    else triedOf rows frame
 
 -- "for missing bytes the frame's length": here 4, where the payload begins
 abbrev missingAt4 : List ℕ → Tried → Outcome Says
@@ -88,7 +93,7 @@ missingAt4 frame Early = missingAt 4
 missingAt4 frame (Beyond k) = surplusAt k
 
 abbrev pub missingAtThePayload : List Row → List ℕ → Outcome Says
-missingAtThePayload rows frame = missingAt4 frame (tried rows frame)
+missingAtThePayload rows frame = missingAt4 frame (triedOf rows frame)
 
 -- a frame says its Lc: here its row's least
 abbrev leastSaid : List ℕ → Tried → Outcome Says
@@ -100,7 +105,7 @@ leastSaid frame Early = missingAt (length frame)
 leastSaid frame (Beyond k) = surplusAt k
 
 abbrev pub leastForLc : List Row → List ℕ → Outcome Says
-leastForLc rows frame = leastSaid frame (tried rows frame)
+leastForLc rows frame = leastSaid frame (triedOf rows frame)
 
 -- ---- what the code holds
 
@@ -109,8 +114,9 @@ abbrev pub leastLast : List ℕ → Row
 leastLast columns = numbered (byte columns 0) (byte columns 1) (byte columns 3) (byte columns 2)
 
 -- where the data starts: here one byte on
-abbrev pub startOneOn : RowSays → Says
-startOneOn s = record { header = s .header; shape = s .number; dataAt = s .start + 1; lc = s .lc; le = s .le }
+abbrev pub startOneOn : TableReading → Outcome Says
+startOneOn (TableReading′.Frame s) = Gives (record { header = s .header; shape = s .number; dataAt = s .start + 1; lc = s .lc; le = s .le })
+startOneOn (TableReading′.Status s) = Word (wordOf s)
 
 -- the number of a status word alone
 abbrev pub pairUnsaid : TableReading → Outcome Says
