@@ -54,14 +54,6 @@ fn asked() -> u8 {
     2
 }
 
-fn answer(way: u8, frame: &[u8]) {
-    if way == 1 {
-        rows::print_both(frame);
-        return;
-    }
-    print_reading(apdu::read(frame));
-}
-
 fn main() {
     let way = asked();
     if way == 2 {
@@ -81,5 +73,9 @@ fn main() {
         print(b"too long\n");
         return;
     }
-    answer(way, &buffer[..n]);
+    if way == 1 {
+        rows::print_both(&buffer[..n]);
+        return;
+    }
+    print_reading(apdu::read(&buffer[..n]));
 }

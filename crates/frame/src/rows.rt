@@ -4,30 +4,18 @@ use crate::out::print;
 use crate::out::print_number;
 use crate::out::print_word;
 use outcome::ApduStatusCode;
-use table::Row;
-use table::RowSays;
 use table::TableReading;
 use table::Tried;
 
-fn print_row(row: Row) {
+fn print_tried(tried: Tried) {
+    let Tried::ByRow(row) = tried else {
+        print(b": no row");
+        return;
+    };
     print_number(b": row ", row.number as usize);
     print_number(b", Lc field ", row.lc_field);
     print_number(b", least Lc ", row.lc_least);
     print_number(b", Le field ", row.le_field);
-}
-
-fn print_tried(tried: Tried) {
-    match tried {
-        Tried::Short => print(b": no row"),
-        Tried::ByRow(row) => print_row(row),
-        Tried::Early => print(b": no row"),
-        Tried::Beyond(_) => print(b": no row"),
-    }
-}
-
-fn print_says(says: RowSays) {
-    print_number(b": Lc ", says.lc as usize);
-    print_number(b", Le ", says.le as usize);
 }
 
 fn print_status(status: ApduStatusCode) {
@@ -43,7 +31,10 @@ fn print_status(status: ApduStatusCode) {
 
 fn print_reading(reading: TableReading) {
     match reading {
-        TableReading::Frame(says) => print_says(says),
+        TableReading::Frame(says) => {
+            print_number(b": Lc ", says.lc as usize);
+            print_number(b", Le ", says.le as usize);
+        }
         TableReading::Status(status) => print_status(status),
     }
     print(b"\n");
