@@ -27,8 +27,8 @@ use Rattle.table_stated.specs.declared.TableReading.the-variants as Tabl
 abbrev pub SameReading : (Entry → List Row) → (List Row → List ℕ → Outcome Says) → Type 0
 SameReading table read = (entry : Entry) (frame : List ℕ) → read (table entry) frame ≡ readBy entry frame
 
--- At most one row of a table fits a frame, in both tables: so "the row that fits" is one, in whatever order they are tried. Rejects a least Lc
--- of 0 in row 5 (`row5FromLc0`), which then fits an extended Le of 65536 beside row 8. Bites at 00 03 00 00 | 00 00 00.
+-- At most one row of a table fits a frame, in both tables: two that do are equal, so "the row that fits" is one, in whatever order they are tried.
+-- Rejects a least Lc of 0 in row 5 (`row5FromLc0`), which then fits an extended Le of 65536 beside row 8. Bites at 00 03 00 00 | 00 00 00.
 abbrev pub OneRowFits : (Entry → List Row) → Type 0
 OneRowFits table = (entry : Entry) (frame : List ℕ) → AtMostOne (λ (r : Row). Has (table entry) r × IsOf r frame)
 
@@ -72,8 +72,9 @@ pub record TriesExactly (try : List Row → List ℕ → Tried) : Type 0 where
       ↔ ((4 ≤ length frame) × ((r : Row) → Has rows r → EarlyIn r frame → ⊥) × (k < length frame) × MostClaimed rows frame k)
 
 -- What is answered by any table: what the frame says by its first row, 01's 6a80, 02's E1 kinds 1 and 2 with their places, each exactly when. Rejects
--- a reader that asks which of the two tables it holds, by their row 6, and then reads by document 01's shapes (`asksWhichTable`; it meets `SameReading`), missing bytes placed where the payload begins (`missingAtThePayload`), and a
--- row's least said for the frame's Lc (`leastForLc`). Bites at an empty table, at 00 03 00 00 | 02 AA, and at 00 03 00 00 | 02 AA BB.
+-- a reader that asks which of the two tables it holds, by their row 6, and then reads by document 01's shapes (`asksWhichTable`; it meets `SameReading`),
+-- missing bytes placed where the payload begins (`missingAtThePayload`), and a row's least said for the frame's Lc (`leastForLc`). Bites at an empty
+-- table, at 00 03 00 00 | 02 AA, and at 00 03 00 00 | 02 AA BB.
 pub record AnswersExactly (read : List Row → List ℕ → Outcome Says) : Type 0 where
   pub reads : (rows : List Row) (frame : List ℕ) → AreBytes frame → (says : Says)
       → (read rows frame ≡ Gives says) ↔ ((r : Row) × (content : List ℕ) × First rows frame r × OfRow r frame says content)

@@ -40,7 +40,7 @@ rowEnd r frame = dataEnd r frame + r .«le_field»
 unfoldable pub opens : Row → List ℕ → Bool
 opens r frame = isRow r && begins (r .«lc_field») 4 frame
 
--- the row stands at the frame's front: its fields, its least Lc, and no byte of it behind the frame's end
+-- the row stands at the frame's front, in this order: its Lc field, its "least Lc", no byte of it behind the frame's end, its Le field
 unfoldable pub stands : Row → List ℕ → Bool
 stands r frame =
     opens r frame
