@@ -7,7 +7,7 @@ use native.Mathlib.Decide.{ℕ-discrete}
 use borrow.Author.Tests.{le-ltb, le-leb, lt-leb, ne-eqb}
 use lib.Dec.{ltb, leb, eqb}
 use Rattle.apdu_stated.specs.Words.{Case}
-use Rattle.apdu_stated.specs.Table.{Entry, Ordinary, Strict, lcField, leField, lcLeast, lcMost, leLeast, leMost, lcFits, leFits, canCarry, hasRow, leastOf, inRow, lcUnder}
+use Rattle.apdu_stated.specs.Table.{Entry, Ordinary, Strict, lcField, leField, lcLeast, lcMost, leLeast, leMost, lcFits, leFits, canCarry, leastOf, inRow, lcUnder}
 use Rattle.apdu_stated.proofs.Cases.{ordinary-has}
 
 module _ (s : Case) (count le : ℕ) where
@@ -30,23 +30,20 @@ module _ (s : Case) (count le : ℕ) where
         let lcHigh : count ≤ lcMost (lcField s) = rw (← is-lc, ← is-up) high in
         e ∙ rw (is-le, le-leb (lcLeast s) count (omega arith), le-leb count (lcMost (lcField s)) lcHigh)
 
--- the strict table's rows: with no Lc field, with one, and row 6
+-- the strict table's rows: with no Lc field, and with one
 module _ (s t : Case) (n : ℕ) (same : s ≡ t) where
   row-at : (b : Bool) → b ≡ inRow Strict t n → b ≡ inRow Strict s n
   row-at b e = e ∙ ap (λ (x : Case). inRow Strict x n) (sym same)
 
-  pub strict-no-lc : true ≡ hasRow Strict t → 0 ≡ leastOf Strict t → true ≡ inRow Strict s n
-  strict-no-lc h l = row-at true (rw (← h, ← l, le-leb 0 n (omega arith)))
+  pub strict-no-lc : 0 ≡ leastOf Strict t → true ≡ inRow Strict s n
+  strict-no-lc l = row-at true (rw (← l, le-leb 0 n (omega arith)))
 
-  pub strict-lc : true ≡ hasRow Strict t → 1 ≡ leastOf Strict t → not (eqb n 0) ≡ inRow Strict s n
-  strict-lc h l = row-at (not (eqb n 0)) (rw (← h, ← l) (go (ℕ-discrete n 0)))
+  pub strict-lc : 1 ≡ leastOf Strict t → not (eqb n 0) ≡ inRow Strict s n
+  strict-lc l = row-at (not (eqb n 0)) (rw (← l) (go (ℕ-discrete n 0)))
     where
       go : Dec (n ≡ 0) → not (eqb n 0) ≡ leb 1 n
       go (yes e) = rw e
       go (no m) = rw (ne-eqb n 0 m, le-leb 1 n (omega arith))
-
-  pub strict-six : false ≡ hasRow Strict t → false ≡ inRow Strict s n
-  strict-six h = row-at false (rw (← h))
 
 -- an extended Lc under row 7's least
 module _ (entry : Entry) (lc : ℕ) where

@@ -2,20 +2,20 @@
 -- The only file that opens these definitions; it mentions no function.
 use Prim.Native.Nat.{ℕ, _+_, _-_, _*_, _<_, _≤_}
 use mathlib.Core.Path.{_≡_, refl, ap, sym, _∙_}
-use mathlib.Core.Bool.{Bool, true, false}
+use mathlib.Core.Bool.{Bool, true, false, true≢false}
 use mathlib.Core.List.{List}
 use native.Mathlib.Omega.{arith}
-use borrow.Author.Tests.{lt-ltb, le-ltb, ltb-false, eq-eqb, ne-eqb}
+use borrow.Author.Tests.{lt-ltb, le-ltb, ltb-true, ltb-false, eq-eqb, ne-eqb}
 use lib.ListN.{length, take, drop}
 use mir.Syntax.{w16}
 use mir.Val.{Fits}
 use Rattle.outcome.specs.Outcome.{Outcome, SW, Gives, missingAt, surplusAt}
 use Rattle.octets.proofs.Laws.{tail-is}
 use Rattle.octets.specs.Bytes.{byte, pairAt, partOf}
-use Rattle.apdu_stated.specs.Words.{Case, Instruction, Le1, Lc1Data, Lc1DataLe1, Lc3Data, Lc3DataLe1, Lc3DataLe2, Le3, shapeNo}
+use Rattle.apdu_stated.specs.Words.{Case, Instruction, Le1, Lc1Data, Lc1DataLe1, Lc3Data, Lc3DataLe2, Le3, shapeNo}
 use Rattle.apdu_stated.specs.Answers.{Apdu, Place, Says, saysOf}
 use Rattle.apdu_stated.specs.Table.{lcField, leRead, leMost, leLeast, byLength, leastOf, lcUnder}
-use Rattle.apdu_stated.specs.Reading.{Entry, Ordinary, Strict, shortOf, loneLe, afterData, extendedOf, lengthsOf, headerOf, sayOf, readBy, placeOf, dataOf}
+use Rattle.apdu_stated.specs.Reading.{Entry, Ordinary, Strict, shortOf, afterData, extendedOf, lengthsOf, headerOf, sayOf, readBy, placeOf, dataOf}
 use Rattle.apdu_stated.specs.Contracts.{lcFound}
 use Rattle.apdu_stated.specs.declared.Lengths.{Lengths}
 use Rattle.apdu_stated.specs.declared.Lengths.the-variants.{Found, Missing, Surplus}
@@ -61,26 +61,26 @@ module _ (p : List ℕ) (n lc : ℕ) (is-n : n ≡ lc) (is-lc : lc ≡ byte p 0)
   short-surplus h n1 n2 =
       rw (le-ltb (length p) (1 + byte p 0) (omega arith), ne-eqb (length p) (1 + byte p 0) (λ e. n1 (omega arith)), ne-eqb (length p) (2 + byte p 0) (λ e. n2 (omega arith)), is-n, is-lc)
 
-module _ (entry : Entry) (p : List ℕ) (lc : ℕ) where
-  pub after-missing : length p < 3 + lc → Missing ≡ afterData entry p lc
+module _ (p : List ℕ) (lc : ℕ) where
+  pub after-missing : length p < 3 + lc → Missing ≡ afterData p lc
   unfolding afterData
   after-missing h = rw (lt-ltb (length p) (3 + lc) h)
 
-  pub after-plain : length p ≡ 3 + lc → Found Lc3Data lc 0 ≡ afterData entry p lc
+  pub after-plain : length p ≡ 3 + lc → Found Lc3Data lc 0 ≡ afterData p lc
   unfolding afterData
   after-plain h = rw (le-ltb (length p) (3 + lc) (omega arith), eq-eqb (length p) (3 + lc) h)
 
-  pub after-one : (l : Lengths) → length p ≡ 4 + lc → l ≡ loneLe entry p lc → l ≡ afterData entry p lc
+  pub after-one : length p ≡ 4 + lc → Surplus (7 + lc) ≡ afterData p lc
   unfolding afterData
-  after-one l h e = rw (le-ltb (length p) (3 + lc) (omega arith), ne-eqb (length p) (3 + lc) (omega arith), eq-eqb (length p) (4 + lc) h, e)
+  after-one h = rw (le-ltb (length p) (3 + lc) (omega arith), ne-eqb (length p) (3 + lc) (omega arith), eq-eqb (length p) (4 + lc) h)
 
-  pub after-le2 : (le field : ℕ) → length p ≡ 5 + lc → field ≡ byte p (3 + lc) * 256 + byte p (4 + lc) → le ≡ leRead 2 field → Found Lc3DataLe2 lc le ≡ afterData entry p lc
+  pub after-le2 : (le field : ℕ) → length p ≡ 5 + lc → field ≡ byte p (3 + lc) * 256 + byte p (4 + lc) → le ≡ leRead 2 field → Found Lc3DataLe2 lc le ≡ afterData p lc
   unfolding afterData
   after-le2 le field h f e =
       let next : 4 + lc ≡ 3 + lc + 1 = omega arith in
       rw (le-ltb (length p) (3 + lc) (omega arith), ne-eqb (length p) (3 + lc) (omega arith), ne-eqb (length p) (4 + lc) (omega arith), eq-eqb (length p) (5 + lc) h, e, f, next)
 
-  pub after-surplus : 3 + lc ≤ length p → (length p ≡ 3 + lc → ⊥) → (length p ≡ 4 + lc → ⊥) → (length p ≡ 5 + lc → ⊥) → Surplus (9 + lc) ≡ afterData entry p lc
+  pub after-surplus : 3 + lc ≤ length p → (length p ≡ 3 + lc → ⊥) → (length p ≡ 4 + lc → ⊥) → (length p ≡ 5 + lc → ⊥) → Surplus (9 + lc) ≡ afterData p lc
   unfolding afterData
   after-surplus h n3 n4 n5 = rw (le-ltb (length p) (3 + lc) h, ne-eqb (length p) (3 + lc) n3, ne-eqb (length p) (4 + lc) n4, ne-eqb (length p) (5 + lc) n5)
 
@@ -94,17 +94,14 @@ from-least entry lc e = ltb-false lc (leastOf entry Lc3DataLe2) e
 pub ordinary-has : (lc : ℕ) → lcUnder Ordinary lc ≡ false
 ordinary-has lc = not-under Ordinary lc (omega arith)
 
+-- what is under it is 0
+pub under-zero : (entry : Entry) (lc : ℕ) → lcUnder entry lc ≡ true → lc ≡ 0
+under-zero Ordinary lc d = absurd (true≢false (sym d ∙ ordinary-has lc))
+under-zero Strict lc d = let h : lc < 1 = ltb-true lc 1 d in omega arith
+
 pub has-data : (entry : Entry) (lc : ℕ) → (lc ≡ 0 → ⊥) → lcUnder entry lc ≡ false
 has-data Ordinary lc n = ordinary-has lc
 has-data Strict lc n = not-under Strict lc (omega arith)
-
--- row 6, by entry
-module _ (p : List ℕ) (lc : ℕ) where
-  pub one-ordinary : (le : ℕ) → le ≡ leRead 1 (byte p (3 + lc)) → Found Lc3DataLe1 lc le ≡ loneLe Ordinary p lc
-  one-ordinary le e = rw e
-
-  pub one-strict : Surplus (7 + lc) ≡ loneLe Strict p lc
-  one-strict = refl
 
 module _ (entry : Entry) (p : List ℕ) where
   pub extended-missing : length p < 3 → Missing ≡ extendedOf entry p
@@ -124,7 +121,7 @@ module _ (entry : Entry) (p : List ℕ) where
           let zero-lc : lcUnder entry (pairAt p 1) ≡ true = rw (← is-field) (sym is-under ∙ z) in
           rw (le-ltb (length p) 3 h, ne-eqb (length p) 3 n3, zero-lc)
 
-      pub extended-after : (l : Lengths) → under ≡ false → l ≡ afterData entry p field → l ≡ extendedOf entry p
+      pub extended-after : (l : Lengths) → under ≡ false → l ≡ afterData p field → l ≡ extendedOf entry p
       unfolding extendedOf
       extended-after l z e =
           let some : lcUnder entry (pairAt p 1) ≡ false = rw (← is-field) (sym is-under ∙ z) in

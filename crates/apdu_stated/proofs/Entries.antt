@@ -7,11 +7,11 @@ use native.Mathlib.Omega.{arith}
 use native.Mathlib.Decide.{ℕ-discrete}
 use native.Mathlib.Nat.{not-suc-le-zero}
 use lib.ListN.{length}
-use Rattle.apdu_stated.specs.Words.{ApduHeader, Case, Instruction, Le1, Lc1Data, Lc1DataLe1, Lc3Data, Lc3DataLe1, Lc3DataLe2, Le3}
+use Rattle.apdu_stated.specs.Words.{ApduHeader, Case, Instruction, Le1, Lc1Data, Lc1DataLe1, Lc3Data, Lc3DataLe2, Le3}
 use Rattle.apdu_stated.specs.Answers.{Says}
 use Rattle.apdu_stated.specs.Table.{canCarry}
 use Rattle.apdu_stated.specs.Writing.{Parts, partsOf, payloadOf, frameOf}
-use Rattle.apdu_stated.specs.Terms.{IsPair, OneByteLe, full, plain, TwoByteLe, whole, pair, frameWith, InTable, row1, row2, row3, row4, row5, row6, row7, row8, IsFrameOf, Carries, shape1, shape2, shape3, shape4, shape5, shape6, shape7, shape8}
+use Rattle.apdu_stated.specs.Terms.{IsPair, OneByteLe, full, plain, TwoByteLe, whole, pair, frameWith, InTable, row1, row2, row3, row4, row5, row7, row8, IsFrameOf, Carries, shape1, shape2, shape3, shape4, shape5, shape7, shape8}
 use Rattle.apdu_stated.proofs.LaidOut.{Carried, carried}
 use Rattle.apdu_stated.proofs.Sound.{carry}
 use Rattle.apdu_stated.proofs.Frames.{Built, said}
@@ -77,7 +77,6 @@ module _ (h : ApduHeader) where
   entry Lc1Data d le k = let z : le ≡ 0 = omega arith in rw (append-nil d, z) (row3 (k .lc-low) (k .lc-high))
   entry Lc1DataLe1 d le k = row4 (k .lc-low) (k .lc-high) (one-le le (k .le-low) (k .le-high))
   entry Lc3Data d le k = let z : le ≡ 0 = omega arith in rw (append-nil d, z) (row5 (k .lc-low) (two-lc (length d) (k .lc-high)))
-  entry Lc3DataLe1 d le k = row6 (two-lc (length d) (k .lc-high)) (one-le le (k .le-low) (k .le-high))
   entry Lc3DataLe2 d le k = row7 (two-lc (length d) (k .lc-high)) (two-le le (k .le-low) (k .le-high))
   entry Le3 [] le k = row8 (two-le le (k .le-low) (k .le-high))
   entry Le3 (x ∷ d) le k = absurd (not-suc-le-zero (k .lc-high))
@@ -130,17 +129,6 @@ entry-built (row5 {h} {d} {hi} {lo} l p) =
       same = refl;
       holds = refl;
     }
-entry-built (row6 {h} {d} {hi} {lo} {b} {le} p o) =
-    let i = one-back o in
-    record {
-      parts = partsOf h Lc3DataLe1 d le;
-      built = record {
-        layout = ap₂ (λ (x y : ℕ). frameWith h (0 ∷ x ∷ y ∷ (d ++ b ∷ []))) (lc-high p) (lc-low p) ∙ ap (λ (x : ℕ). frameWith h (0 ∷ length d / 256 ∷ length d % 256 ∷ (d ++ x ∷ []))) (i .byte-is);
-        carried = carry Lc3DataLe1 (length d) le (omega (arith, lc-most p));
-      };
-      same = refl;
-      holds = refl;
-    }
 entry-built (row7 {h} {d} {hi} {lo} {a} {b} {le} p o) =
     let i = two-back o in
     record {
@@ -169,7 +157,6 @@ can _ _ _ (shape2 {le} a b) = carry Le1 0 le (omega arith)
 can _ _ _ (shape3 {n} a b) = carry Lc1Data n 0 (omega arith)
 can _ _ _ (shape4 {n} {le} a b c d) = carry Lc1DataLe1 n le (omega arith)
 can _ _ _ (shape5 {n} a b) = carry Lc3Data n 0 (omega arith)
-can _ _ _ (shape6 {n} {le} a b c) = carry Lc3DataLe1 n le (omega arith)
 can _ _ _ (shape7 {n} {le} a b c) = carry Lc3DataLe2 n le (omega arith)
 can _ _ _ (shape8 {le} a b) = carry Le3 0 le (omega arith)
 
@@ -179,6 +166,5 @@ carried-carries Le1 n le k = let a : n ≡ 0 = omega arith in rw a (shape2 (k .l
 carried-carries Lc1Data n le k = let b : le ≡ 0 = omega arith in rw b (shape3 (k .lc-low) (k .lc-high))
 carried-carries Lc1DataLe1 n le k = shape4 (k .lc-low) (k .lc-high) (k .le-low) (k .le-high)
 carried-carries Lc3Data n le k = let b : le ≡ 0 = omega arith in rw b (shape5 (k .lc-low) (k .lc-high))
-carried-carries Lc3DataLe1 n le k = shape6 (k .lc-high) (k .le-low) (k .le-high)
 carried-carries Lc3DataLe2 n le k = shape7 (k .lc-high) (k .le-low) (k .le-high)
 carried-carries Le3 n le k = let a : n ≡ 0 = omega arith in rw a (shape8 (k .le-low) (k .le-high))

@@ -11,7 +11,7 @@ use Rattle.outcome.specs.Notation.{if_then_else_}
 use Rattle.outcome.specs.Outcome.{Outcome, R, Gives}
 use Rattle.octets.specs.Bytes.{laid, bytes2}
 use Rattle.octets.proofs.Laws.{laid-then}
-use Rattle.apdu_stated.specs.Words.{Case, ApduHeader, Instruction, Le1, Lc1Data, Lc1DataLe1, Lc3Data, Lc3DataLe1, Lc3DataLe2, Le3}
+use Rattle.apdu_stated.specs.Words.{Case, ApduHeader, Instruction, Le1, Lc1Data, Lc1DataLe1, Lc3Data, Lc3DataLe2, Le3}
 use Rattle.apdu_stated.specs.Table.{Ordinary, Strict, lcField, leField, lcMost, canCarry, inRow, carriedBy, lcBytes, leBytes}
 use Rattle.apdu_stated.specs.Writing.{Parts, partsOf, headerBytes, payloadOf, frameOf, writeBy, leftBy, bufferBy}
 use Rattle.apdu_stated.proofs.LaidOut.{carried, carried-ordinary}
@@ -40,7 +40,6 @@ lc-long Le1 count = refl
 lc-long Lc1Data count = refl
 lc-long Lc1DataLe1 count = refl
 lc-long Lc3Data count = refl
-lc-long Lc3DataLe1 count = refl
 lc-long Lc3DataLe2 count = refl
 lc-long Le3 count = refl
 
@@ -50,7 +49,6 @@ le-long Le1 le = refl
 le-long Lc1Data le = refl
 le-long Lc1DataLe1 le = refl
 le-long Lc3Data le = refl
-le-long Lc3DataLe1 le = refl
 le-long Lc3DataLe2 le = refl
 le-long Le3 le = refl
 

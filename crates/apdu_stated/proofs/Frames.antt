@@ -12,7 +12,7 @@ use Rattle.outcome.specs.Outcome.{StatusWord, Outcome, R, Word, Gives}
 use Rattle.outcome.proofs.Laws.{gives-same, word-same, word-gives, r-word, r-gives}
 use Rattle.octets.specs.Bytes.{byte, pairAt, bytes2, AreBytes, partOf}
 use Rattle.octets.proofs.Laws.{part-within, part-length}
-use Rattle.apdu_stated.specs.Words.{Case, Instruction, Le1, Lc1Data, Lc1DataLe1, Lc3Data, Lc3DataLe1, Lc3DataLe2, Le3, shapeNo}
+use Rattle.apdu_stated.specs.Words.{Case, Instruction, Le1, Lc1Data, Lc1DataLe1, Lc3Data, Lc3DataLe2, Le3, shapeNo}
 use Rattle.apdu_stated.specs.Answers.{Says, saysOf}
 use Rattle.apdu_stated.specs.Table.{lcField, leField, canCarry, lcBytes, leBytes}
 use Rattle.apdu_stated.specs.Reading.{Entry, Ordinary, readBy, readOf, lengthsOf, headerOf, sayOf, dataOf}
@@ -23,7 +23,7 @@ use Rattle.apdu_stated.proofs.Cases
 use Rattle.apdu_stated.proofs.Fields.{lc-long, frame-long}
 use Rattle.apdu_stated.specs.Terms.{AreParts}
 use Rattle.apdu_stated.proofs.LaidOut.{Carried, carried, row-read}
-use Rattle.apdu_stated.proofs.Ways.{Way, way, none, le1, short, short-le, le3, wide, wide-le1, wide-le2, missing, short-surplus, le1-surplus, wide-surplus, zero-surplus, saidBy, FrameWay, frame-way}
+use Rattle.apdu_stated.proofs.Ways.{Way, way, none, le1, short, short-le, le3, wide, wide-le2, missing, short-surplus, le1-surplus, wide-surplus, zero-surplus, saidBy, FrameWay, frame-way}
 use Rattle.apdu_stated.proofs.Ways.{under, found, ends, goes-on}
 use Rattle.apdu_stated.proofs.Rows.{RowIn}
 use Rattle.apdu_stated.proofs.Sound.{Laid, LaidAs, sound}
@@ -75,7 +75,6 @@ lc-bytes Le1 n le k = bytes-none
 lc-bytes Lc1Data n le k = bytes-one n (omega (arith, k .lc-high))
 lc-bytes Lc1DataLe1 n le k = bytes-one n (omega (arith, k .lc-high))
 lc-bytes Lc3Data n le k = bytes-three n (k .lc-high)
-lc-bytes Lc3DataLe1 n le k = bytes-three n (k .lc-high)
 lc-bytes Lc3DataLe2 n le k = bytes-three n (k .lc-high)
 lc-bytes Le3 n le k = bytes-none
 
@@ -85,7 +84,6 @@ le-bytes Le1 le = bytes-one (le % 256) (omega arith)
 le-bytes Lc1Data le = bytes-none
 le-bytes Lc1DataLe1 le = bytes-one (le % 256) (omega arith)
 le-bytes Lc3Data le = bytes-none
-le-bytes Lc3DataLe1 le = bytes-one (le % 256) (omega arith)
 le-bytes Lc3DataLe2 le = bytes-pair (le % 65536) (omega arith)
 le-bytes Le3 le = bytes-three (le % 65536) (omega arith)
 
@@ -149,11 +147,10 @@ way-within p w s lc le e = go w s lc le e
     go (short-le z h) s lc le e = use-it s Lc1DataLe1 lc (byte p 0) le _ e (omega arith)
     go (le3 z h) s lc le e = use-it s Le3 lc 0 le _ e (omega arith)
     go (wide z n h) s lc le e = use-it s Lc3Data lc (pairAt p 1) le _ e (omega arith)
-    go (wide-le1 o z h) s lc le e = use-it s Lc3DataLe1 lc (pairAt p 1) le _ e (omega arith)
     go (wide-le2 d z h) s lc le e = use-it s Lc3DataLe2 lc (pairAt p 1) le _ e (omega arith)
     go (missing early) s lc le e = absurd (let z : _≡_ {A = ℕ} 0 1 = cc in omega arith)
     go (short-surplus n h) s lc le e = absurd (let z : _≡_ {A = ℕ} 0 1 = cc in omega arith)
-    go (le1-surplus o n z h) s lc le e = absurd (let z : _≡_ {A = ℕ} 0 1 = cc in omega arith)
+    go (le1-surplus d z h) s lc le e = absurd (let z : _≡_ {A = ℕ} 0 1 = cc in omega arith)
     go (wide-surplus d z h) s lc le e = absurd (let z : _≡_ {A = ℕ} 0 1 = cc in omega arith)
     go (zero-surplus d z h) s lc le e = absurd (let z : _≡_ {A = ℕ} 0 1 = cc in omega arith)
 

@@ -8,14 +8,14 @@ use borrow.Author.Tests.{le-leb, lt-leb, leb-true, eq-eqb, ne-eqb, eqb-true, eqb
 use lib.Dec.{leb, eqb}
 use lib.ListN.{length, drop}
 use Rattle.octets.specs.Bytes.{byte, pairAt}
-use Rattle.apdu_stated.specs.Words.{Case, Instruction, Le1, Lc1Data, Lc1DataLe1, Lc3Data, Lc3DataLe1, Lc3DataLe2, Le3, shapeNo}
+use Rattle.apdu_stated.specs.Words.{Case, Instruction, Le1, Lc1Data, Lc1DataLe1, Lc3Data, Lc3DataLe2, Le3, shapeNo}
 use Rattle.apdu_stated.specs.Table.{leRead}
 use Rattle.outcome.specs.Outcome.{Gives}
 use Rattle.apdu_stated.specs.Reading.{Entry, lengthsOf, sayOf, readBy}
 use Rattle.apdu_stated.specs.Iso.{IsoCase, Case1, Case2S, Case3S, Case4S, Case2E, Case3E, Case4E, isCase, shapeFor, isTolerated}
 use Rattle.apdu_stated.specs.declared.Lengths.the-variants.{Found}
 use Rattle.apdu_stated.proofs.Cases
-use Rattle.apdu_stated.proofs.Ways.{Way, none, le1, short, short-le, le3, wide, wide-le1, wide-le2, saidBy}
+use Rattle.apdu_stated.proofs.Ways.{Way, none, le1, short, short-le, le3, wide, wide-le2, saidBy}
 
 -- ---- a test that is a conjunction
 and-1 : (a b : Bool) → a && b ≡ true → a ≡ true
@@ -108,7 +108,7 @@ module _ (p : List ℕ) where
         lc = pairAt p 1;
         le = 0;
         is = λ entry. Cases.lengths-extended entry p _ (omega arith) (omega arith) (s .marker)
-            (Cases.extended-after entry p (pairAt p 1) refl false (sym (Cases.has-data entry (pairAt p 1) (s .not-zero))) (omega arith) (omega (arith, s .not-zero)) _ refl (Cases.after-plain entry p (pairAt p 1) (s .long)));
+            (Cases.extended-after entry p (pairAt p 1) refl false (sym (Cases.has-data entry (pairAt p 1) (s .not-zero))) (omega arith) (omega (arith, s .not-zero)) _ refl (Cases.after-plain p (pairAt p 1) (s .long)));
         iso = refl;
       }
 
@@ -120,7 +120,7 @@ module _ (p : List ℕ) where
         le = leRead 2 (pairAt p (3 + pairAt p 1));
         is = λ entry. Cases.lengths-extended entry p _ (omega arith) (omega arith) (s .marker)
             (Cases.extended-after entry p (pairAt p 1) refl false (sym (Cases.has-data entry (pairAt p 1) (s .not-zero))) (omega arith) (omega arith) _ refl
-            (Cases.after-le2 entry p (pairAt p 1) _ (pairAt p (3 + pairAt p 1)) (s .long) (rw next) refl));
+            (Cases.after-le2 p (pairAt p 1) _ (pairAt p (3 + pairAt p 1)) (s .long) (rw next) refl));
         iso = rw (ne-eqb (pairAt p 1) 0 (s .not-zero));
       }
 
@@ -157,6 +157,5 @@ case-for Le1 lc t = (Case2S, refl)
 case-for Lc1Data lc t = (Case3S, refl)
 case-for Lc1DataLe1 lc t = (Case4S, refl)
 case-for Lc3Data lc t = (Case3E, refl)
-case-for Lc3DataLe1 lc t = absurd (true≢false t)
 case-for Lc3DataLe2 lc t = (Case4E, refl)
 case-for Le3 lc t = (Case2E, refl)

@@ -11,7 +11,7 @@ use lib.Dec.{leb}
 use lib.ListN.{length, take, drop, getD, length-append}
 use lib.Seq.{getD-append-seam, getD-append-add}
 use Rattle.octets.specs.Bytes.{byte, pairAt, bytes2}
-use Rattle.apdu_stated.specs.Words.{Case, Instruction, Le1, Lc1Data, Lc1DataLe1, Lc3Data, Lc3DataLe1, Lc3DataLe2, Le3}
+use Rattle.apdu_stated.specs.Words.{Case, Instruction, Le1, Lc1Data, Lc1DataLe1, Lc3Data, Lc3DataLe2, Le3}
 use Rattle.apdu_stated.specs.Table.{lcField, leField, lcLeast, lcMost, leLeast, leMost, lcFits, leFits, canCarry, leRead, lcBytes, leBytes, lcUnder, carriedBy}
 use Rattle.apdu_stated.specs.Reading.{Entry, Ordinary, Strict, lengthsOf, afterData}
 use Rattle.apdu_stated.specs.Writing.{payloadOf}
@@ -46,7 +46,7 @@ unfolding carriedBy
 carried-ordinary s n le = go (canCarry s n le) refl
   where
     go : (b : Bool) → canCarry s n le ≡ b → carriedBy Ordinary s n le ≡ canCarry s n le
-    go true e = carried-by Ordinary s n le (record { has = refl; least = carried s n le e .lc-low }) e ∙ sym e
+    go true e = carried-by Ordinary s n le (record { least = carried s n le e .lc-low }) e ∙ sym e
     go false e = rw (e, and-false)
 
 -- an Le that is written and read again
@@ -98,7 +98,7 @@ module _ (content : List ℕ) (a : ℕ) (rest : List ℕ) where
 abbrev extendedP : List ℕ → List ℕ → List ℕ
 extendedP content rest = 0 ∷ length content / 256 ∷ length content % 256 ∷ (content ++ rest)
 
-extended-row : (entry : Entry) (content rest : List ℕ) (l : Lengths) → length content ≤ 65535 → 1 ≤ length content + length rest → lcUnder entry (length content) ≡ false → l ≡ afterData entry (extendedP content rest) (length content) → l ≡ lengthsOf entry (extendedP content rest)
+extended-row : (entry : Entry) (content rest : List ℕ) (l : Lengths) → length content ≤ 65535 → 1 ≤ length content + length rest → lcUnder entry (length content) ≡ false → l ≡ afterData (extendedP content rest) (length content) → l ≡ lengthsOf entry (extendedP content rest)
 extended-row entry content rest l high some d e =
     let p = extendedP content rest in
     let long = length-append content rest in
@@ -151,15 +151,7 @@ module _ (entry : Entry) (content : List ℕ) (le : ℕ) where
       let long : length (content ++ []) ≡ length content = ap length (append-nil content) in
       let absent : le ≡ 0 = omega arith in
       ap (Found Lc3Data (length content)) absent
-      ∙ extended-row entry content [] (Found Lc3Data (length content) 0) (k .lc-high) (omega arith) (Cases.has-data entry (length content) (omega arith)) (Cases.after-plain entry p (length content) (omega arith))
-
-  row-6 : Carried Lc3DataLe1 (length content) le → Found Lc3DataLe1 (length content) le ≡ lengthsOf Ordinary (payloadOf Lc3DataLe1 content le)
-  unfolding payloadOf
-  row-6 k =
-      let p = extendedP content (le % 256 ∷ []) in
-      let long : length (content ++ le % 256 ∷ []) ≡ length content + 1 = length-append content (le % 256 ∷ []) in
-      let is-le : le ≡ leRead 1 (byte p (3 + length content)) = rw (behind-3 content (le % 256) [] 0 (length content / 256) (length content % 256)) (back-1 le (k .le-low) (k .le-high)) in
-      extended-row Ordinary content (le % 256 ∷ []) (Found Lc3DataLe1 (length content) le) (k .lc-high) (omega arith) (Cases.ordinary-has (length content)) (Cases.after-one Ordinary p (length content) (Found Lc3DataLe1 (length content) le) (omega arith) (Cases.one-ordinary p (length content) le is-le))
+      ∙ extended-row entry content [] (Found Lc3Data (length content) 0) (k .lc-high) (omega arith) (Cases.has-data entry (length content) (omega arith)) (Cases.after-plain p (length content) (omega arith))
 
   row-7 : lcUnder entry (length content) ≡ false → Carried Lc3DataLe2 (length content) le → Found Lc3DataLe2 (length content) le ≡ lengthsOf entry (payloadOf Lc3DataLe2 content le)
   unfolding payloadOf
@@ -170,7 +162,7 @@ module _ (entry : Entry) (content : List ℕ) (le : ℕ) where
       let lo = behind-4 content (le % 65536 / 256) (le % 65536 % 256 ∷ []) 0 (length content / 256) (length content % 256) in
       let field : le % 65536 ≡ byte p (3 + length content) * 256 + byte p (4 + length content) = rw (hi, lo) (omega arith) in
       extended-row entry content (bytes2 (le % 65536)) (Found Lc3DataLe2 (length content) le) (k .lc-high) (omega arith) d
-      (Cases.after-le2 entry p (length content) le (le % 65536) (omega arith) field (back-2 le (k .le-low) (k .le-high)))
+      (Cases.after-le2 p (length content) le (le % 65536) (omega arith) field (back-2 le (k .le-low) (k .le-high)))
 
 pub row-read : (entry : Entry) (s : Case) (content : List ℕ) (le : ℕ) → RowIn entry s (length content) → Carried s (length content) le → Found s (length content) le ≡ lengthsOf entry (payloadOf s content le)
 row-read entry Instruction content le t = row-1 entry content le
@@ -178,7 +170,5 @@ row-read entry Le1 content le t = row-2 entry content le
 row-read entry Lc1Data content le t = row-3 entry content le
 row-read entry Lc1DataLe1 content le t = row-4 entry content le
 row-read entry Lc3Data content le t = row-5 entry content le
-row-read Ordinary Lc3DataLe1 content le t = row-6 Ordinary content le
-row-read Strict Lc3DataLe1 content le t = absurd (true≢false (sym (t .has)))
 row-read entry Lc3DataLe2 content le t = row-7 entry content le (Cases.not-under entry (length content) (t .least))
 row-read entry Le3 content le t = row-8 entry content le

@@ -8,7 +8,7 @@ pub use Rattle.apdu_stated.proofs.Readings.{reading-exactly, number-is,
 pub use Rattle.apdu_stated.proofs.Writings.{write-exactly}
 pub use Rattle.apdu_stated.proofs.Agree.{same-reading, same-writing}
 pub use Rattle.apdu_stated.proofs.Fields.{strict-out, strict-out-kept, strict-same, strict-same-buffer}
-pub use Rattle.apdu_stated.proofs.Ways.{Way, way, none, le1, short, short-le, le3, wide, wide-le1, wide-le2, missing, short-surplus, le1-surplus, wide-surplus, zero-surplus}
-pub use Rattle.apdu_stated.proofs.Cases.{read-under, read-by, say-found, say-missing, say-surplus, lengths-none, lengths-le1, lengths-short, lengths-extended, extended-le3, extended-after, after-plain, after-one, after-le2, one-ordinary, has-data, ordinary-has, not-under, from-least}
+pub use Rattle.apdu_stated.proofs.Ways.{Way, way, none, le1, short, short-le, le3, wide, wide-le2, missing, short-surplus, le1-surplus, wide-surplus, zero-surplus}
+pub use Rattle.apdu_stated.proofs.Cases.{read-under, read-by, say-found, say-missing, say-surplus, lengths-none, lengths-le1, lengths-short, lengths-extended, extended-le3, extended-after, after-plain, after-one, after-le2, has-data, ordinary-has, not-under, from-least}
 pub use Rattle.apdu_stated.proofs.Rows.{least-one}
 pub use Rattle.apdu_stated.proofs.Cases.{short-data as payload-short, short-le as payload-short-le}

@@ -7,7 +7,7 @@ use Rattle.outcome.specs.Outcome.{Outcome, R, Word, Gives}
 use Rattle.outcome.specs.declared.ApduStatusCode.the-variants.{Success}
 use Rattle.outcome.proofs.Laws.{one-to-one}
 use Rattle.outcome.proofs.Laws.{statusOf, status-back, refusalOf, refusal-back}
-use Rattle.apdu_stated.specs.Words.{Case, Instruction, Le1, Lc1Data, Lc1DataLe1, Lc3Data, Lc3DataLe1, Lc3DataLe2, Le3, shapeNo}
+use Rattle.apdu_stated.specs.Words.{Case, Instruction, Le1, Lc1Data, Lc1DataLe1, Lc3Data, Lc3DataLe2, Le3, shapeNo}
 use Rattle.apdu_stated.specs.Table.{TableRow, columns}
 use Rattle.apdu_stated.specs.Answers.{Apdu, Says, Reading, Written, saysOf, readingOf, writtenOf}
 use Rattle.apdu_stated.specs.declared.Reading.the-variants.{Frame, Status}
@@ -20,7 +20,6 @@ caseOf n =
     else if eqb n 3 then Lc1Data
     else if eqb n 4 then Lc1DataLe1
     else if eqb n 5 then Lc3Data
-    else if eqb n 6 then Lc3DataLe1
     else if eqb n 7 then Lc3DataLe2
     else Le3
 
@@ -31,7 +30,6 @@ case-back Le1 = refl
 case-back Lc1Data = refl
 case-back Lc1DataLe1 = refl
 case-back Lc3Data = refl
-case-back Lc3DataLe1 = refl
 case-back Lc3DataLe2 = refl
 case-back Le3 = refl
 

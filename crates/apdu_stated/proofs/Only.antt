@@ -12,7 +12,7 @@ use Rattle.outcome.specs.Outcome.{Outcome, R, Word, Gives}
 use Rattle.outcome.proofs.Laws.{gives-same, word-gives}
 use Rattle.octets.specs.Bytes.{AreBytes}
 use Rattle.octets.specs.Terms.{DeterminesOn}
-use Rattle.apdu_stated.specs.Words.{ApduHeader, Case, Instruction, Le1, Lc1Data, Lc1DataLe1, Lc3Data, Lc3DataLe1, Lc3DataLe2, Le3, shapeNo}
+use Rattle.apdu_stated.specs.Words.{ApduHeader, Case, Instruction, Le1, Lc1Data, Lc1DataLe1, Lc3Data, Lc3DataLe2, Le3, shapeNo}
 use Rattle.apdu_stated.specs.Answers.{Says}
 use Rattle.apdu_stated.specs.Reading.{Entry, Ordinary, Strict, lengthsOf}
 use Rattle.apdu_stated.specs.declared.Lengths.{Lengths}
@@ -53,20 +53,11 @@ StrictPayloadExactly f g p q l bytes = only-payload Strict f p l bytes ∙ sym (
 -- ---- strict reading
 -- beside one first reading, on every frame
 pub StrictOtherwise : (read : List ℕ → Outcome Says) → Determines (Claims.StrictOtherwise read)
-StrictOtherwise read f g p q frame = go (lc-zero-known frame) (read frame) refl
+StrictOtherwise read f g p q frame = go (lc-zero-known frame)
   where
-    as-read : (LcZero frame → ⊥) → ((says : Says) → read frame ≡ Gives says → says .shape ≡ 6 → ⊥) → f frame ≡ g frame
-    as-read m n = p .other frame n m ∙ sym (q .other frame n m)
-
-    by : (LcZero frame → ⊥) → (says : Says) → read frame ≡ Gives says → Dec (says .shape ≡ 6) → f frame ≡ g frame
-    by m says e (yes y) = p .six frame says e y ∙ sym (q .six frame says e y)
-    by m says e (no n) = as-read m (λ s d y. n (ap (λ (x : Says). x .shape) (gives-same _ _ (sym e ∙ d)) ∙ y))
-
-    go : Dec (LcZero frame) → (o : Outcome Says) → read frame ≡ o → f frame ≡ g frame
-    go (yes l) o e = p .lc-zero frame l ∙ sym (q .lc-zero frame l)
-    go (no m) (Gives says) e = by m says e (ℕ-discrete (says .shape) 6)
-    go (no m) (Word w) e = as-read m (λ s d y. word-gives _ _ (sym e ∙ d))
-    go (no m) (R n) e = as-read m (λ s d y. let z : _≡_ {A = ℕ} 0 1 = cc in omega arith)
+    go : Dec (LcZero frame) → f frame ≡ g frame
+    go (yes l) = p .lc-zero frame l ∙ sym (q .lc-zero frame l)
+    go (no m) = p .other frame m ∙ sym (q .other frame m)
 
 -- ---- the data and its place
 pub DataExactly : Determines2 Claims.DataExactly
@@ -89,7 +80,6 @@ PlaceExactly f g p q a = go (a .shape) (a .header) (a .lc) (a .le)
     go Lc1Data h lc le = p .lc1-data h lc le ∙ sym (q .lc1-data h lc le)
     go Lc1DataLe1 h lc le = p .lc1-data-le1 h lc le ∙ sym (q .lc1-data-le1 h lc le)
     go Lc3Data h lc le = p .lc3-data h lc le ∙ sym (q .lc3-data h lc le)
-    go Lc3DataLe1 h lc le = p .lc3-data-le1 h lc le ∙ sym (q .lc3-data-le1 h lc le)
     go Lc3DataLe2 h lc le = p .lc3-data-le2 h lc le ∙ sym (q .lc3-data-le2 h lc le)
     go Le3 h lc le = p .le3 h lc le ∙ sym (q .le3 h lc le)
 
@@ -102,7 +92,6 @@ SaysExactly f g p q a = go (a .shape) (a .header) (a .lc) (a .le)
     go Lc1Data h lc le = p .lc1-data h lc le ∙ sym (q .lc1-data h lc le)
     go Lc1DataLe1 h lc le = p .lc1-data-le1 h lc le ∙ sym (q .lc1-data-le1 h lc le)
     go Lc3Data h lc le = p .lc3-data h lc le ∙ sym (q .lc3-data h lc le)
-    go Lc3DataLe1 h lc le = p .lc3-data-le1 h lc le ∙ sym (q .lc3-data-le1 h lc le)
     go Lc3DataLe2 h lc le = p .lc3-data-le2 h lc le ∙ sym (q .lc3-data-le2 h lc le)
     go Le3 h lc le = p .le3 h lc le ∙ sym (q .le3 h lc le)
 
@@ -112,7 +101,6 @@ ShapeNumberExactly f g p q Le1 = p .le1 ∙ sym (q .le1)
 ShapeNumberExactly f g p q Lc1Data = p .lc1-data ∙ sym (q .lc1-data)
 ShapeNumberExactly f g p q Lc1DataLe1 = p .lc1-data-le1 ∙ sym (q .lc1-data-le1)
 ShapeNumberExactly f g p q Lc3Data = p .lc3-data ∙ sym (q .lc3-data)
-ShapeNumberExactly f g p q Lc3DataLe1 = p .lc3-data-le1 ∙ sym (q .lc3-data-le1)
 ShapeNumberExactly f g p q Lc3DataLe2 = p .lc3-data-le2 ∙ sym (q .lc3-data-le2)
 ShapeNumberExactly f g p q Le3 = p .le3 ∙ sym (q .le3)
 
@@ -122,7 +110,6 @@ RowExactly f g p q Le1 = p .le1 ∙ sym (q .le1)
 RowExactly f g p q Lc1Data = p .lc1-data ∙ sym (q .lc1-data)
 RowExactly f g p q Lc1DataLe1 = p .lc1-data-le1 ∙ sym (q .lc1-data-le1)
 RowExactly f g p q Lc3Data = p .lc3-data ∙ sym (q .lc3-data)
-RowExactly f g p q Lc3DataLe1 = p .lc3-data-le1 ∙ sym (q .lc3-data-le1)
 RowExactly f g p q Lc3DataLe2 = p .lc3-data-le2 ∙ sym (q .lc3-data-le2)
 RowExactly f g p q Le3 = p .le3 ∙ sym (q .le3)
 
@@ -157,10 +144,9 @@ StrictWriteExactly = same-writing Strict
 
 -- beside one writer
 pub StrictWriteOtherwise : (write : Parts → List ℕ → Outcome ℕ × List ℕ) → Determines2 (Claims.StrictWriteOtherwise write)
-StrictWriteOtherwise write f g p q w old = go (ℕ-discrete (shapeNo (w .shape)) 6) (ℕ-discrete (shapeNo (w .shape)) 7) (ℕ-discrete (length (w .content)) 0)
+StrictWriteOtherwise write f g p q w old = go (ℕ-discrete (shapeNo (w .shape)) 7) (ℕ-discrete (length (w .content)) 0)
   where
-    go : Dec (shapeNo (w .shape) ≡ 6) → Dec (shapeNo (w .shape) ≡ 7) → Dec (length (w .content) ≡ 0) → f w old ≡ g w old
-    go (yes e) d z = p .six w old e ∙ sym (q .six w old e)
-    go (no n) (yes e) (yes z) = p .seven w old e z ∙ sym (q .seven w old e z)
-    go (no n) (yes e) (no m) = p .other w old n (λ x. omega arith) ∙ sym (q .other w old n (λ x. omega arith))
-    go (no n) (no d) z = p .other w old n (λ x. absurd (d x)) ∙ sym (q .other w old n (λ x. absurd (d x)))
+    go : Dec (shapeNo (w .shape) ≡ 7) → Dec (length (w .content) ≡ 0) → f w old ≡ g w old
+    go (yes e) (yes z) = p .seven w old e z ∙ sym (q .seven w old e z)
+    go (yes e) (no m) = p .other w old (λ x. omega arith) ∙ sym (q .other w old (λ x. omega arith))
+    go (no d) z = p .other w old (λ x. absurd (d x)) ∙ sym (q .other w old (λ x. absurd (d x)))

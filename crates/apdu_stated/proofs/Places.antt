@@ -15,7 +15,7 @@ use Rattle.apdu_stated.specs.Reading.{Entry, shortOf, extendedOf, afterD
 use Rattle.apdu_stated.specs.declared.Lengths.{Lengths}
 use Rattle.apdu_stated.specs.declared.Lengths.the-variants.{Found, Missing, Surplus}
 use Rattle.apdu_stated.proofs.Cases
-use Rattle.apdu_stated.proofs.Ways.{Way, way, none, le1, short, short-le, le3, wide, wide-le1, wide-le2, missing, short-surplus, le1-surplus, wide-surplus, zero-surplus}
+use Rattle.apdu_stated.proofs.Ways.{Way, way, none, le1, short, short-le, le3, wide, wide-le2, missing, short-surplus, le1-surplus, wide-surplus, zero-surplus}
 
 -- ---- parts from the front
 
@@ -93,7 +93,7 @@ module _ (entry : Entry) (p : List ℕ) where
         let long = as-long j l in
         Cases.lengths-extended entry (take j p) x (omega arith) (omega arith) (sym (same j l 0 (omega arith)) ∙ z) e
 
-    by-after : lcUnder entry (pairAt p 1) ≡ false → 3 < j → (x : Lengths) → x ≡ afterData entry (take j p) (pairAt p 1) → x ≡ lengthsOf entry (take j p)
+    by-after : lcUnder entry (pairAt p 1) ≡ false → 3 < j → (x : Lengths) → x ≡ afterData (take j p) (pairAt p 1) → x ≡ lengthsOf entry (take j p)
     by-after d h x e =
         let long = as-long j l in
         by-extended (omega arith) x (Cases.extended-after entry (take j p) (pairAt p 1) (same-pair j l (omega arith)) false (sym d) (omega arith) (omega arith) x refl e)
@@ -109,14 +109,14 @@ module _ (entry : Entry) (p : List ℕ) where
         le = leRead 2 (byte (take (5 + pairAt p 1) p) (3 + pairAt p 1) * 256 + byte (take (5 + pairAt p 1) p) (4 + pairAt p 1));
         found =
             by-after z (5 + pairAt p 1) (omega arith) d (omega arith) _
-            (Cases.after-le2 entry (take (5 + pairAt p 1) p) (pairAt p 1) _ _ (as-long (5 + pairAt p 1) (omega arith)) refl refl);
+            (Cases.after-le2 (take (5 + pairAt p 1) p) (pairAt p 1) _ _ (as-long (5 + pairAt p 1) (omega arith)) refl refl);
         beyond = λ j h l. (9 + pairAt p 1, beyond j h l);
       }
     where
       beyond : (j : ℕ) → 5 + pairAt p 1 < j → j ≤ length p → Surplus (9 + pairAt p 1) ≡ lengthsOf entry (take j p)
       beyond j h l =
           let long = as-long j l in
-          by-after z j l d (omega arith) _ (Cases.after-surplus entry (take j p) (pairAt p 1) (omega arith) (omega arith) (omega arith) (omega arith))
+          by-after z j l d (omega arith) _ (Cases.after-surplus (take j p) (pairAt p 1) (omega arith) (omega arith) (omega arith) (omega arith))
 
   -- one byte behind the data: the front part is shape 5, or shape 8 where Lc is 0
   le1-front : lcUnder entry (pairAt p 1) ≡ false → byte p 0 ≡ 0 → length p ≡ 4 + pairAt p 1 → Surplus (7 + pairAt p 1) ≡ lengthsOf entry p → Front entry p (7 + pairAt p 1)
@@ -139,7 +139,7 @@ module _ (entry : Entry) (p : List ℕ) where
       go (no some) =
           let l : 3 + pairAt p 1 ≤ length p = omega arith in
           front Lc3Data (pairAt p 1) 0
-          (by-after z (3 + pairAt p 1) l d (omega arith) _ (Cases.after-plain entry (take (3 + pairAt p 1) p) (pairAt p 1) (as-long (3 + pairAt p 1) l)))
+          (by-after z (3 + pairAt p 1) l d (omega arith) _ (Cases.after-plain (take (3 + pairAt p 1) p) (pairAt p 1) (as-long (3 + pairAt p 1) l)))
 
   -- an Lc of 0 that is in no row: the front part is shape 8, and nothing longer is in the table
   zero-front : lcUnder entry (pairAt p 1) ≡ true → byte p 0 ≡ 0 → 3 < length p → Front entry p 7
@@ -176,10 +176,9 @@ module _ (entry : Entry) (p : List ℕ) where
       go _ (short-le nz h) e is = not-found _ _ _ e
       go _ (le3 z h) e is = not-found _ _ _ e
       go _ (wide z nz h) e is = not-found _ _ _ e
-      go _ (wide-le1 o z h) e is = not-found _ _ _ e
       go _ (wide-le2 d z h) e is = not-found _ _ _ e
       go _ (missing early) e is = let z : _≡_ {A = ℕ} 0 1 = cc in absurd (omega arith)
       go _ (short-surplus nz h) e is = at _ e (short-front nz h)
-      go _ (le1-surplus o n z h) e is = at _ e (le1-front n z h is)
+      go _ (le1-surplus d z h) e is = at _ e (le1-front d z h is)
       go _ (wide-surplus d z h) e is = at _ e (wide-front d z h)
       go _ (zero-surplus d z h) e is = at _ e (zero-front d z h)

@@ -22,7 +22,7 @@ use Rattle.apdu_stated.specs.Writing.{Parts}
 use Rattle.apdu_stated.specs.Terms.{frameWith, saying, InTable, IsoRow, LongestFront, EndsEarly, in-lc, in-short-data, in-extended-data}
 use Rattle.apdu_stated.specs.Claims
 use Rattle.apdu_stated.proofs.Cases
-use Rattle.apdu_stated.proofs.Ways.{TableOf, Way, way, none, le1, short, short-le, le3, wide, wide-le1, wide-le2, missing, short-surplus, le1-surplus, wide-surplus, zero-surplus, way-takes, saidBy, FrameWay, under, found, ends, goes-on, frame-way}
+use Rattle.apdu_stated.proofs.Ways.{TableOf, Way, way, none, le1, short, short-le, le3, wide, wide-le2, missing, short-surplus, le1-surplus, wide-surplus, zero-surplus, way-takes, saidBy, FrameWay, under, found, ends, goes-on, frame-way}
 use Rattle.apdu_stated.proofs.Places.{take-bytes, front-payload, Front, surplus-front}
 use Rattle.apdu_stated.proofs.LaidOut.{carried}
 use Rattle.apdu_stated.proofs.IsoCases.{iso-read, iso-said, iso-back, case-for}
@@ -55,7 +55,7 @@ module _ (entry : Entry) (frame content : List ℕ) (says : Says) where
   row-of = go entry
     where
       go : (entry : Entry) → TableOf entry frame says content → (s : Case) → shapeNo s ≡ says .shape → lcLeast s ≤ says .lc → RowIn entry s (says .lc)
-      go Ordinary i s e low = record { has = refl; least = low }
+      go Ordinary i s e low = record { least = low }
       go Strict i s e low = row-iso s (says .lc) (subst (λ (n : ℕ). IsoRow n (says .lc)) (sym e) (i .row))
 
   pub in-table-of : (s : Case) → says .shape ≡ shapeNo s → RowIn entry s (says .lc) → InTable frame says content → TableOf entry frame says content
@@ -145,7 +145,7 @@ early-missing entry p (in-lc two z h) = sym (Cases.lengths-extended entry p Miss
 early-missing entry p (in-short-data two nz h) = sym (Cases.lengths-short entry p Missing (omega arith) (omega arith) nz (Cases.short-missing p (byte p 0) (byte p 0) refl refl h))
 early-missing entry p (in-extended-data z more h) =
     sym (Cases.lengths-extended entry p Missing (omega arith) (omega arith) z
-    (Cases.extended-after entry p (pairAt p 1) refl false (sym (Cases.has-data entry (pairAt p 1) (omega arith))) (omega arith) (omega arith) Missing refl (Cases.after-missing entry p (pairAt p 1) h)))
+    (Cases.extended-after entry p (pairAt p 1) refl false (sym (Cases.has-data entry (pairAt p 1) (omega arith))) (omega arith) (omega arith) Missing refl (Cases.after-missing p (pairAt p 1) h)))
 
 pub missing-surplus : (k : ℕ) → Missing ≡ Surplus k → ⊥
 missing-surplus k e = let z : _≡_ {A = ℕ} 0 1 = cc in omega arith
@@ -163,11 +163,10 @@ missing-early entry p e = go (lengthsOf entry p) (way entry p) e
     go _ (short-le nz h) e = not-found _ _ _ e
     go _ (le3 z h) e = not-found _ _ _ e
     go _ (wide z nz h) e = not-found _ _ _ e
-    go _ (wide-le1 o z h) e = not-found _ _ _ e
     go _ (wide-le2 d z h) e = not-found _ _ _ e
     go _ (missing early) e = early
     go _ (short-surplus nz h) e = absurd (missing-surplus _ (sym e))
-    go _ (le1-surplus o n z h) e = absurd (missing-surplus _ (sym e))
+    go _ (le1-surplus d z h) e = absurd (missing-surplus _ (sym e))
     go _ (wide-surplus d z h) e = absurd (missing-surplus _ (sym e))
     go _ (zero-surplus d z h) e = absurd (missing-surplus _ (sym e))
 

@@ -9,13 +9,13 @@ use Rattle.outcome.specs.Outcome.{StatusWord, Outcome, R, Word, SW, Gives}
 use Rattle.outcome.proofs.Laws.{gives-same, word-same, sw-same, word-gives, r-gives}
 use Rattle.octets.specs.Bytes.{byte, AreBytes, partOf}
 use Rattle.octets.proofs.Laws.{small, bytes-of}
-use Rattle.apdu_stated.specs.Words.{ApduHeader, Case, Instruction, Le1, Lc3Data, Lc1DataLe1, Lc1Data, Lc3DataLe1, Lc3DataLe2}
+use Rattle.apdu_stated.specs.Words.{ApduHeader, Case, Instruction, Le1, Lc3Data, Lc1DataLe1, Lc1Data, Lc3DataLe2}
 use Rattle.apdu_stated.specs.Answers.{Apdu, Place, Says}
 use Rattle.apdu_stated.specs.Table.{TableRow, lcFits, leFits, carriedBy}
 use Rattle.apdu_stated.specs.Reading.{Ordinary, Strict, readBy, readOf, sayOf, lengthsOf, shortOf, extendedOf, afterData, strictOf, dataOf}
 use Rattle.apdu_stated.specs.Writing.{Parts, partsOf, frameOf, payloadOf, writeBy, bufferBy, writingOf}
 use Rattle.apdu_stated.specs.Iso.{IsoCase, Case1, Case2S, Case3S, Case4S, Case2E, Case3E, Case4E, isCase}
-use Rattle.apdu_stated.specs.Terms.{full, plain, whole, pair, frameWith, saying, InTable, InStrictTable, LcZero, LongestFront, EndsEarly, in-lc, in-short-data, in-extended-data, row1, row2, row4, row5, row6, row8, IsFrameOf, Carries, shape2, shape3, CarriesStrictly, AreParts, apduOf}
+use Rattle.apdu_stated.specs.Terms.{full, plain, whole, pair, frameWith, saying, InTable, InStrictTable, LcZero, OldForm, LongestFront, EndsEarly, in-lc, in-short-data, in-extended-data, row1, row2, row4, row5, row8, IsFrameOf, Carries, shape2, shape3, CarriesStrictly, AreParts, apduOf}
 use Rattle.apdu_stated.specs.declared.Lengths.the-variants.{Found, Missing, Surplus}
 use Rattle.apdu_stated.specs.Claims
 use Rattle.apdu_stated.specs.Wrong
@@ -129,21 +129,53 @@ pub surplusAtTheEnd : Claims.SurplusExactly InTable Wrong.surplusAtTheEnd → �
 unfolding small readBy sayOf lengthsOf shortOf
 surplusAtTheEnd exact = omega (arith, place-is _ _ (exact tooLong (bytes-of tooLong refl) 7 .1 front-7))
 
+-- ---- the old form, at 00 00 00 05: document 01's shape 6, with an Lc of 0
+abbrev old6 : List ℕ
+old6 = try (0 ∷ 0 ∷ 0 ∷ 5 ∷ [])
+
+is-old : OldForm old6
+is-old = record { extended = refl; one-behind = refl }
+
+of-no-row : (says : Says) (content : List ℕ) → InTable old6 says content → ⊥
+unfolding readBy sayOf lengthsOf extendedOf afterData
+of-no-row says content i = word-gives _ _ (reads-entry Ordinary old6 content says i)
+
+pub oldFormStillRead : Claims.ReadExactly InTable Wrong.oldFormStillRead → ⊥
+unfolding small
+oldFormStillRead exact = let t = exact old6 (bytes-of old6 refl) (saying h0 6 7 0 5) .0 refl in of-no-row _ (t .0) (t .1)
+
+pub oldFormStillReadPlaces : Claims.PlacesExactly Wrong.oldFormStillRead strictOf → ⊥
+oldFormStillReadPlaces exact = word-gives _ _ (sym (exact .old-form old6 is-old .0))
+
+pub oldFormStillReadBeside : Claims.DifferExactly Wrong.oldFormStillRead strictOf → ⊥
+oldFormStillReadBeside exact = word-gives _ _ (sym (exact .at-eight old6 (record { longer = omega arith; extended = refl; zero-lc = refl }) refl .0))
+
+pub oldFormOneLate : Claims.PlacesExactly Wrong.oldFormOneLate strictOf → ⊥
+oldFormOneLate exact = omega (arith, place-is _ _ (exact .old-form old6 is-old .0))
+
 pub strictSixAt9 : Claims.PlacesExactly readOf Wrong.strictSixAt9 → ⊥
-strictSixAt9 exact = omega (arith, place-is _ _ (exact .strict-six (try (0 ∷ 0 ∷ 0 ∷ 5 ∷ [])) refl refl))
+strictSixAt9 exact = omega (arith, place-is _ _ (exact .old-form old6 is-old .1))
+
+old-not-early : EndsEarly (0 ∷ 0 ∷ 0 ∷ 5 ∷ []) → ⊥
+old-not-early (in-lc a b c) = omega arith
+old-not-early (in-short-data a b c) = b refl
+old-not-early (in-extended-data a b c) = omega arith
+
+pub oldFormMissing : Claims.MissingExactly Wrong.oldFormMissing → ⊥
+oldFormMissing exact = old-not-early (exact old6 8 .0 refl .1)
 
 pub pairDropped : Claims.ReadPairsExactly Wrong.pairDropped strictOf → ⊥
 unfolding readBy sayOf lengthsOf extendedOf
 pairDropped exact = omega (arith, exact .0 .paired (try (0 ∷ 1 ∷ [])) _ refl refl .0)
 
--- ---- the strict entry, at 00 00 00 05: shape 6
+-- ---- the strict entry, at the old form
 pub strictTakesShape6 : Claims.StrictExactly Wrong.strictTakesShape6 → ⊥
-unfolding small readBy sayOf lengthsOf extendedOf afterData
-strictTakesShape6 exact = exact .reads (try (0 ∷ 0 ∷ 0 ∷ 5 ∷ [])) (bytes-of (try (0 ∷ 0 ∷ 0 ∷ 5 ∷ [])) refl) (saying h0 6 7 0 5) .0 refl .1 .row .not-six refl
+unfolding small
+strictTakesShape6 exact = let t = exact .reads old6 (bytes-of old6 refl) (saying h0 6 7 0 5) .0 refl in of-no-row _ (t .0) (t .1 .table)
 
 pub strictRefusesEverything : Claims.StrictExactly Wrong.strictRefusesEverything → ⊥
 unfolding small
-strictRefusesEverything exact = word-gives _ _ (exact .reads (try []) (bytes-of (try []) refl) (saying h0 1 4 0 0) .1 ([], record { table = row1; row = record { not-six = λ e. omega arith; some-data = λ a b. absurd (omega arith) } }))
+strictRefusesEverything exact = word-gives _ _ (exact .reads (try []) (bytes-of (try []) refl) (saying h0 1 4 0 0) .1 ([], record { table = row1; row = record { some-data = λ a b. absurd (omega arith) } }))
 
 -- the certification house's frame, 00 00 00 00 05: an extended Lc of 0 and an Le
 abbrev house : List ℕ
@@ -170,27 +202,25 @@ pub strictTakesLcZeroBeside : Claims.DifferExactly readOf Wrong.strictTakesLcZer
 unfolding readBy sayOf lengthsOf extendedOf afterData
 strictTakesLcZeroBeside exact = word-gives _ _ (sym (exact .at-nine h0 0 5 5 (pair (record { high = omega arith; low = omega arith; is = refl }) (omega arith)) .1))
 
--- shape 6, by ISO's table and by the number alone
-six-of-no-case : (c : IsoCase) → isCase c (0 ∷ 0 ∷ 0 ∷ 5 ∷ []) ≡ false
-six-of-no-case Case1 = refl
-six-of-no-case Case2S = refl
-six-of-no-case Case3S = refl
-six-of-no-case Case4S = refl
-six-of-no-case Case2E = refl
-six-of-no-case Case3E = refl
-six-of-no-case Case4E = refl
+-- the old form, by ISO's table and by the number alone
+old-of-no-case : (c : IsoCase) → isCase c (0 ∷ 0 ∷ 0 ∷ 5 ∷ []) ≡ false
+old-of-no-case Case1 = refl
+old-of-no-case Case2S = refl
+old-of-no-case Case3S = refl
+old-of-no-case Case4S = refl
+old-of-no-case Case2E = refl
+old-of-no-case Case3E = refl
+old-of-no-case Case4E = refl
 
 pub strictTakesShape6Iso : Claims.StrictIsIso Wrong.strictTakesShape6 → ⊥
-unfolding readBy sayOf lengthsOf extendedOf afterData
-strictTakesShape6Iso exact = let c = exact .no-other (try (0 ∷ 0 ∷ 0 ∷ 5 ∷ [])) (saying h0 6 7 0 5) refl .1 in true≢false (sym (c .1) ∙ six-of-no-case (c .0))
+strictTakesShape6Iso exact = let c = exact .no-other old6 (saying h0 6 7 0 5) refl .1 in true≢false (sym (c .1) ∙ old-of-no-case (c .0))
 
-no-strict-row : (says : Says) (content : List ℕ) → InStrictTable (try (0 ∷ 0 ∷ 0 ∷ 5 ∷ [])) says content → ⊥
-unfolding readBy sayOf lengthsOf extendedOf
-no-strict-row says content i = word-gives _ _ (reads-entry Strict (try (0 ∷ 0 ∷ 0 ∷ 5 ∷ [])) content says i)
+pub oldFormStillReadTolerated : Claims.ToleratedExactly Wrong.oldFormStillRead → ⊥
+oldFormStillReadTolerated exact = true≢false (sym (exact old6 (saying h0 6 7 0 5) refl .1 old-of-no-case))
 
 pub strictTakesShape6NoShape : Claims.StrictNoShapeExactly Wrong.strictTakesShape6 → ⊥
-unfolding small readBy sayOf lengthsOf extendedOf afterData
-strictTakesShape6NoShape exact = word-gives _ _ (sym (exact (try (0 ∷ 0 ∷ 0 ∷ 5 ∷ [])) (bytes-of (try (0 ∷ 0 ∷ 0 ∷ 5 ∷ [])) refl) .1 (omega arith, no-strict-row) .is))
+unfolding small
+strictTakesShape6NoShape exact = word-gives _ _ (sym (exact old6 (bytes-of old6 refl) .1 (omega arith, λ says content i. of-no-row says content (i .table)) .is))
 
 pub strictLcZeroAt9 : Claims.PlacesExactly readOf Wrong.strictLcZeroAt9 → ⊥
 strictLcZeroAt9 exact =
@@ -218,7 +248,7 @@ readRefusesLcZero exact = word-gives _ _ (exact .at-nine h0 0 5 5 (pair (record 
 
 pub strictShortGets6700 : Claims.StrictOtherwise readOf Wrong.strictShortGets6700 → ⊥
 unfolding readBy
-strictShortGets6700 exact = omega (arith, sw-same _ _ (exact .other (0x00 ∷ 0x03 ∷ 0x00 ∷ []) (λ says e y. word-gives _ _ e) (λ l. let long = l .longer in omega arith)))
+strictShortGets6700 exact = omega (arith, sw-same _ _ (exact .other (0x00 ∷ 0x03 ∷ 0x00 ∷ []) (λ l. let long = l .longer in omega arith)))
 
 -- ---- data, at 01 AA 00
 abbrev said4 : Says
@@ -250,8 +280,11 @@ shape8Numbered7 exact = omega (arith, exact .le3)
 pub numberedFrom0 : Claims.ShapeNumberExactly Wrong.numberedFrom0 → ⊥
 numberedFrom0 exact = omega (arith, exact .instruction)
 
-pub shape6FromLc1 : Claims.RowExactly Wrong.shape6FromLc1 → ⊥
-shape6FromLc1 exact = omega (arith, ap (λ (r : TableRow). r .«lc_least») (exact .lc3-data-le1))
+pub numbersMovedUp : Claims.ShapeNumberExactly Wrong.numbersMovedUp → ⊥
+numbersMovedUp exact = omega (arith, exact .lc3-data-le2)
+
+pub shape7FromLc1 : Claims.RowExactly Wrong.shape7FromLc1 → ⊥
+shape7FromLc1 exact = omega (arith, ap (λ (r : TableRow). r .«lc_least») (exact .lc3-data-le2))
 
 pub shape8OfTwoBytes : Claims.RowExactly Wrong.shape8OfTwoBytes → ⊥
 shape8OfTwoBytes exact = omega (arith, ap (λ (r : TableRow). r .«le_field») (exact .le3))
@@ -323,22 +356,15 @@ pub le257Taken : Claims.WrittenThenRead readOf dataOf Wrong.le257Taken → ⊥
 unfolding readBy sayOf lengthsOf frameOf payloadOf
 le257Taken back = omega (arith, le-is _ _ (back (le-of 257) five 5 refl .0))
 
--- ---- the strict writer: shapes 6 and 7 without data, in a buffer of nine bytes, and of none
+-- ---- the strict writer: shape 7 without data, in a buffer of nine bytes, and of none
 abbrev nine : List ℕ
 nine = 7 ∷ 7 ∷ 7 ∷ 7 ∷ five
 
 abbrev empty-7 : Parts
 empty-7 = partsOf h0 Lc3DataLe2 [] 5
 
-no-six : (n le : ℕ) → CarriesStrictly Lc3DataLe1 n le → ⊥
-no-six n le c = c .row .not-six refl
-
 no-empty-7 : (le : ℕ) → CarriesStrictly Lc3DataLe2 0 le → ⊥
 no-empty-7 le c = let some = c .row .some-data (omega arith) (omega arith) in omega arith
-
-pub strictWritesShape6 : Claims.StrictWriteExactly Wrong.strictWritesShape6 → ⊥
-unfolding writeBy carriedBy frameOf payloadOf lcFits leFits
-strictWritesShape6 exact = r-gives _ _ (sym (exact .r5 (partsOf h0 Lc3DataLe1 [] 5) nine .1 (no-six 0 5)))
 
 pub strictWritesNoData : Claims.StrictWriteExactly Wrong.strictWritesNoData → ⊥
 unfolding writeBy carriedBy frameOf payloadOf lcFits leFits
@@ -359,12 +385,6 @@ strictWritesNoDataAccepted exact =
     let some = Theorems.StrictExactly .reads (t .0) (t .1) _ .0 (t .4) .1 .row .some-data (omega arith) (omega arith) in
     omega arith
 
-pub strictWritesShape6Accepted : Claims.AcceptsWhatIsRead strictOf dataOf Wrong.strictWritesShape6 → ⊥
-unfolding writeBy carriedBy frameOf payloadOf lcFits leFits
-strictWritesShape6Accepted exact =
-    let t = exact (partsOf h0 Lc3DataLe1 [] 5) nine 8 (parts-of-bytes Lc3DataLe1) .0 refl in
-    Theorems.StrictExactly .reads (t .0) (t .1) _ .0 (t .4) .1 .row .not-six refl
-
 pub strictRowOfNoData : Claims.StrictRowExactly Wrong.strictRowOfNoData → ⊥
 strictRowOfNoData exact = let some = exact Lc3DataLe2 0 .0 refl .some-data (omega arith) (omega arith) in omega arith
 
@@ -378,4 +398,4 @@ strictR2BeforeR5 exact = omega (arith, r-is _ _ (exact .r5 empty-7 [] .1 (no-emp
 
 pub strictWantsData : Claims.StrictWriteOtherwise writingOf Wrong.strictWantsData → ⊥
 unfolding writeBy carriedBy frameOf payloadOf lcFits leFits
-strictWantsData exact = r-gives _ _ (ap (λ (o : Outcome ℕ × List ℕ). o .0) (exact .other (partsOf h0 Instruction [] 0) nine (λ e. omega arith) (λ e. omega arith)))
+strictWantsData exact = r-gives _ _ (ap (λ (o : Outcome ℕ × List ℕ). o .0) (exact .other (partsOf h0 Instruction [] 0) nine (λ e. omega arith)))

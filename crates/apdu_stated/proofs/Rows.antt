@@ -1,34 +1,25 @@
 -- The rows of the two tables, and what each can carry: as they are defined, and as the claims say ISO's.
 use Prim.Native.Nat.{ℕ, _-_, _≤_}
-use mathlib.Core.Path.{_≡_, refl, sym, _∙_}
+use mathlib.Core.Path.{_≡_, refl}
 use mathlib.Core.Bool.{Bool, true, false, and-eq-true-iff}
 use native.Mathlib.Omega.{arith}
 use borrow.Author.Tests.{le-leb, leb-true, eq-eqb, ne-eqb}
 use lib.Dec.{leb, eqb}
 use Rattle.outcome.specs.Notation.{if_then_else_}
-use Rattle.apdu_stated.specs.Words.{Case, Instruction, Le1, Lc1Data, Lc1DataLe1, Lc3Data, Lc3DataLe1, Lc3DataLe2, Le3, shapeNo}
-use Rattle.apdu_stated.specs.Table.{lcField, lcLeast, canCarry, hasRow, leastOf, inRow, carriedBy}
+use Rattle.apdu_stated.specs.Words.{Case, Instruction, Le1, Lc1Data, Lc1DataLe1, Lc3Data, Lc3DataLe2, Le3, shapeNo}
+use Rattle.apdu_stated.specs.Table.{lcField, lcLeast, canCarry, leastOf, inRow, carriedBy}
 use Rattle.apdu_stated.specs.Reading.{Entry, Ordinary, Strict}
-use mathlib.Core.Bool.{true≢false}
 use Rattle.apdu_stated.specs.Terms.{IsoRow}
 
 -- a row of the entry's table, for so much data
 pub record RowIn (entry : Entry) (s : Case) (lc : ℕ) : Type 0 where
-  pub has : hasRow entry s ≡ true
   pub least : leastOf entry s ≤ lc
 
 pub in-row : (entry : Entry) (s : Case) (lc : ℕ) → RowIn entry s lc → inRow entry s lc ≡ true
-in-row entry s lc r = and-eq-true-iff (hasRow entry s) (leb (leastOf entry s) lc) .1 (r .has, le-leb (leastOf entry s) lc (r .least))
+in-row entry s lc r = le-leb (leastOf entry s) lc (r .least)
 
 pub row-in : (entry : Entry) (s : Case) (lc : ℕ) → inRow entry s lc ≡ true → RowIn entry s lc
-row-in entry s lc e =
-    let t = and-eq-true-iff (hasRow entry s) (leb (leastOf entry s) lc) .0 e in
-    record { has = t .0; least = leb-true (leastOf entry s) lc (t .1) }
-
--- row 6 is the ordinary table's alone
-pub has-row : (entry : Entry) (s : Case) → (shapeNo s ≡ 6 → entry ≡ Ordinary) → hasRow entry s ≡ true
-has-row Ordinary s n = refl
-has-row Strict s n = rw (ne-eqb (shapeNo s) 6 (λ six. let e : Strict ≡ Ordinary = n six in let z : _≡_ {A = ℕ} 0 1 = cc in omega arith))
+row-in entry s lc e = record { least = leb-true (leastOf entry s) lc e }
 
 -- no least is over 1, and where there is no Lc field it is 0
 pub least-row : (s : Case) → lcLeast s ≤ 1
@@ -37,7 +28,6 @@ least-row Le1 = omega arith
 least-row Lc1Data = omega arith
 least-row Lc1DataLe1 = omega arith
 least-row Lc3Data = omega arith
-least-row Lc3DataLe1 = omega arith
 least-row Lc3DataLe2 = omega arith
 least-row Le3 = omega arith
 
@@ -64,20 +54,19 @@ carried-of entry s n le e = let t = and-eq-true-iff (inRow entry s n) (canCarry 
 
 -- the strict table's rows are ISO's, shape by shape
 pub iso-row : (s : Case) (lc : ℕ) → RowIn Strict s lc → IsoRow (shapeNo s) lc
-iso-row s lc r = record { not-six = λ six. true≢false (sym (r .has) ∙ rw (eq-eqb (shapeNo s) 6 six)); some-data = some s (r .has) (r .least) }
+iso-row s lc r = record { some-data = some s (r .least) }
   where
-    some : (s : Case) → hasRow Strict s ≡ true → leastOf Strict s ≤ lc → 3 ≤ shapeNo s → shapeNo s ≤ 7 → 1 ≤ lc
-    some Instruction h l a b = absurd (omega arith)
-    some Le1 h l a b = absurd (omega arith)
-    some Lc1Data h l a b = l
-    some Lc1DataLe1 h l a b = l
-    some Lc3Data h l a b = l
-    some Lc3DataLe1 h l a b = absurd (true≢false (sym h))
-    some Lc3DataLe2 h l a b = l
-    some Le3 h l a b = absurd (omega arith)
+    some : (s : Case) → leastOf Strict s ≤ lc → 3 ≤ shapeNo s → shapeNo s ≤ 7 → 1 ≤ lc
+    some Instruction l a b = absurd (omega arith)
+    some Le1 l a b = absurd (omega arith)
+    some Lc1Data l a b = l
+    some Lc1DataLe1 l a b = l
+    some Lc3Data l a b = l
+    some Lc3DataLe2 l a b = l
+    some Le3 l a b = absurd (omega arith)
 
 pub row-iso : (s : Case) (lc : ℕ) → IsoRow (shapeNo s) lc → RowIn Strict s lc
-row-iso s lc r = record { has = has-row Strict s (λ six. absurd (r .not-six six)); least = least s (r .some-data) }
+row-iso s lc r = record { least = least s (r .some-data) }
   where
     least : (s : Case) → (3 ≤ shapeNo s → shapeNo s ≤ 7 → 1 ≤ lc) → leastOf Strict s ≤ lc
     least Instruction d = omega arith
@@ -85,6 +74,5 @@ row-iso s lc r = record { has = has-row Strict s (λ six. absurd (r .not-six six
     least Lc1Data d = d (omega arith) (omega arith)
     least Lc1DataLe1 d = d (omega arith) (omega arith)
     least Lc3Data d = d (omega arith) (omega arith)
-    least Lc3DataLe1 d = d (omega arith) (omega arith)
     least Lc3DataLe2 d = d (omega arith) (omega arith)
     least Le3 d = omega arith

@@ -11,14 +11,14 @@ use borrow.Author.Tests.{le-leb, ne-eqb}
 use lib.ListN.{length, take, drop, take-append-drop, length-take, length-drop, drop-of-length-le}
 use lib.Seq.{drop-drop, drop-cons, take-all}
 use Rattle.octets.specs.Bytes.{byte, pairAt, bytes2, AreBytes}
-use Rattle.apdu_stated.specs.Words.{Case, Instruction, Le1, Lc1Data, Lc1DataLe1, Lc3Data, Lc3DataLe1, Lc3DataLe2, Le3}
+use Rattle.apdu_stated.specs.Words.{Case, Instruction, Le1, Lc1Data, Lc1DataLe1, Lc3Data, Lc3DataLe2, Le3}
 use Rattle.apdu_stated.specs.Table.{lcField, leField, lcLeast, lcMost, leLeast, leMost, lcFits, leFits, canCarry, leRead, lcBytes, leBytes}
 use Rattle.apdu_stated.specs.Reading.{Entry}
 use Rattle.apdu_stated.specs.Writing.{payloadOf}
 use Rattle.apdu_stated.specs.declared.Lengths.{Lengths}
 use Rattle.apdu_stated.specs.declared.Lengths.the-variants.{Found, Missing, Surplus}
 use Rattle.apdu_stated.proofs.LaidOut.{Carried}
-use Rattle.apdu_stated.proofs.Ways.{Way, none, le1, short, short-le, le3, wide, wide-le1, wide-le2, missing, short-surplus, le1-surplus, wide-surplus, zero-surplus}
+use Rattle.apdu_stated.proofs.Ways.{Way, none, le1, short, short-le, le3, wide, wide-le2, missing, short-surplus, le1-surplus, wide-surplus, zero-surplus}
 
 pub record LaidAs (p : List ℕ) (s : Case) (lc le : ℕ) : Type 0 where
   pub content : List ℕ
@@ -150,14 +150,6 @@ module _ (p : List ℕ) (bytes : AreBytes p) where
       let b = pair-below 1 in
       laid-as p Lc3Data (pairAt p 1) 0 (omega arith) (three z (omega arith)) (tail-0 p 3 (pairAt p 1) e) (omega arith)
 
-  is-wide-le1 : byte p 0 ≡ 0 → length p ≡ 4 + pairAt p 1 → LaidAs p Lc3DataLe1 (pairAt p 1) (leRead 1 (byte p (3 + pairAt p 1)))
-  is-wide-le1 z e =
-      let b = pair-below 1 in
-      let le = le-1 (byte p (3 + pairAt p 1)) (bytes (3 + pairAt p 1)) in
-      laid-as p Lc3DataLe1 (pairAt p 1) (leRead 1 (byte p (3 + pairAt p 1))) (omega arith) (three z (omega arith))
-      (tail-1 p 3 (pairAt p 1) (omega arith) ∙ ap (λ (x : ℕ). x ∷ []) (le .back))
-      (record { lc-low = omega arith; lc-high = omega arith; le-low = le .low; le-high = le .high })
-
   is-wide-le2 : byte p 0 ≡ 0 → length p ≡ 5 + pairAt p 1 → LaidAs p Lc3DataLe2 (pairAt p 1) (leRead 2 (pairAt p (3 + pairAt p 1)))
   is-wide-le2 z e =
       let b = pair-below 1 in
@@ -175,10 +167,9 @@ module _ (p : List ℕ) (bytes : AreBytes p) where
   sound (short-le nz e) = is-short-le nz e
   sound (le3 z e) = is-le3 z e
   sound (wide z nz e) = is-wide z nz e
-  sound (wide-le1 o z e) = is-wide-le1 z e
   sound (wide-le2 d z e) = is-wide-le2 z e
   sound (missing early) = tt
   sound (short-surplus nz h) = tt
-  sound (le1-surplus o n z h) = tt
+  sound (le1-surplus d z h) = tt
   sound (wide-surplus d z h) = tt
   sound (zero-surplus d z h) = tt

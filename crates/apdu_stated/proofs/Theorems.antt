@@ -17,7 +17,7 @@ use Rattle.apdu_stated.specs.Table.{rowOf, canCarry, inRow, carriedBy}
 use Rattle.apdu_stated.specs.Reading.{Entry, Ordinary, Strict, readBy, readOf, lengthsOf, shortOf, extendedOf, afterData, sayOf, strictOf, placeOf, dataOf}
 use Rattle.apdu_stated.specs.Iso.{IsoCase, isCase, isTolerated}
 use Rattle.apdu_stated.specs.Writing.{Parts, writingOf, strictWritingOf}
-use Rattle.apdu_stated.specs.Terms.{IsPair, row6, row7, frameWith, InTable, LcZero, Differ, at-six, at-lc-zero, Carries, CarriesStrictly}
+use Rattle.apdu_stated.specs.Terms.{IsPair, row7, frameWith, InTable, LcZero, Differ, Carries, CarriesStrictly}
 use Rattle.apdu_stated.specs.Contracts.{WriteBy}
 use Rattle.apdu_stated.specs.Claims
 use Rattle.apdu_stated.proofs.Cases
@@ -29,7 +29,7 @@ use Rattle.apdu_stated.proofs.Entries.{can, carried-carries}
 use Rattle.apdu_stated.proofs.Numbers.{shape-same, says-same, reading-same, written-same, row-same}
 use Rattle.apdu_stated.proofs.Rows.{in-row, row-in, iso-row, row-iso}
 use Rattle.apdu_stated.proofs.Readings.{place-is, reads-entry, read-exactly, short-exactly, no-shape-exactly, pairs-exactly, missing-exactly, given-long, surplus-exactly, payload-exactly, of-table, iso-exactly, of-case, reading-exactly}
-use Rattle.apdu_stated.proofs.Beside.{short-at, wide-at, strict-zero-at, read-six-at, strict-six-at, read-nine-at, alike, strict-row, six-at}
+use Rattle.apdu_stated.proofs.Beside.{short-at, wide-at, strict-zero-at, old-at, read-nine-at, otherwise-alike, eight-old, alike, strict-row}
 use Rattle.apdu_stated.proofs.Writings.{fits-exactly, write-r5, write-refused, write-exactly, same-carried, read-then-written, written-then-read, accepts-what-is-read}
 
 -- ---- reading
@@ -66,7 +66,7 @@ PlacesExactly =
       short-form = λ frame nz more. (short-at frame Ordinary nz more, short-at frame Strict nz more);
       extended-form = λ frame z more. wide-at frame Ordinary (Cases.ordinary-has (pairAt frame 5)) z more;
       strict-extended = λ frame z some more. wide-at frame Strict (Cases.has-data Strict (pairAt frame 5) (omega arith)) z more;
-      strict-six = strict-six-at;
+      old-form = λ frame o. (old-at frame Ordinary o, old-at frame Strict o);
       strict-lc-zero = strict-zero-at;
     }
 
@@ -104,18 +104,17 @@ PlaceExactly =
       lc1-data = λ h lc le. refl;
       lc1-data-le1 = λ h lc le. refl;
       lc3-data = λ h lc le. refl;
-      lc3-data-le1 = λ h lc le. refl;
       lc3-data-le2 = λ h lc le. refl;
       le3 = λ h lc le. refl;
     }
 
 pub ShapeNumberExactly : Claims.ShapeNumberExactly shapeNo
 ShapeNumberExactly =
-    record { instruction = refl; le1 = refl; lc1-data = refl; lc1-data-le1 = refl; lc3-data = refl; lc3-data-le1 = refl; lc3-data-le2 = refl; le3 = refl }
+    record { instruction = refl; le1 = refl; lc1-data = refl; lc1-data-le1 = refl; lc3-data = refl; lc3-data-le2 = refl; le3 = refl }
 
 pub RowExactly : Claims.RowExactly rowOf
 RowExactly =
-    record { instruction = refl; le1 = refl; lc1-data = refl; lc1-data-le1 = refl; lc3-data = refl; lc3-data-le1 = refl; lc3-data-le2 = refl; le3 = refl }
+    record { instruction = refl; le1 = refl; lc1-data = refl; lc1-data-le1 = refl; lc3-data = refl; lc3-data-le2 = refl; le3 = refl }
 
 pub SaysExactly : Claims.SaysExactly saysOf
 SaysExactly =
@@ -125,7 +124,6 @@ SaysExactly =
       lc1-data = λ h lc le. refl;
       lc1-data-le1 = λ h lc le. refl;
       lc3-data = λ h lc le. refl;
-      lc3-data-le1 = λ h lc le. refl;
       lc3-data-le2 = λ h lc le. refl;
       le3 = λ h lc le. refl;
     }
@@ -134,14 +132,9 @@ SaysExactly =
 pub StrictOtherwise : Claims.StrictOtherwise readOf strictOf
 StrictOtherwise =
     record {
-      six = λ frame says e six. let t = six-at frame says e six in strict-six-at frame (t .0) (t .1) ∙ ap (λ (n : ℕ). surplusAt (7 + n)) (sym (t .2));
       lc-zero = strict-zero-at;
-      other = λ frame n m. alike frame (neither frame n m);
+      other = otherwise-alike;
     }
-  where
-    neither : (frame : List ℕ) → ((says : Says) → readOf frame ≡ Gives says → says .shape ≡ 6 → ⊥) → (LcZero frame → ⊥) → Differ frame → ⊥
-    neither frame n m (at-six z e) = n _ (read-six-at frame z e) refl
-    neither frame n m (at-lc-zero l) = m l
 
 -- ---- writing
 pub FitsExactly : Claims.FitsExactly Carries canCarry
@@ -162,7 +155,6 @@ StrictWriteExactly = write-exactly Strict
 pub StrictWriteOtherwise : Claims.StrictWriteOtherwise writingOf strictWritingOf
 StrictWriteOtherwise =
     record {
-      six = λ w old e. refuses w old (λ c. c .row .not-six e);
       seven = λ w old e empty. refuses w old (λ c. let some = c .row .some-data (omega arith) (omega arith) in omega arith);
       other = same;
     }
@@ -172,9 +164,9 @@ StrictWriteOtherwise =
         let e : strictWritingOf w old .0 ≡ R 5 = write-r5 Strict w old .1 n in
         ap₂ (λ (x : Outcome ℕ) (y : List ℕ). (x, y)) e (write-refused Strict w old 5 e)
 
-    same : (w : Parts) (old : List ℕ) → (shapeNo (w .shape) ≡ 6 → ⊥) → (shapeNo (w .shape) ≡ 7 → 1 ≤ length (w .content)) → strictWritingOf w old ≡ writingOf w old
-    same w old n m =
-        let alike = same-carried (w .shape) (length (w .content)) (w .le) n m in
+    same : (w : Parts) (old : List ℕ) → (shapeNo (w .shape) ≡ 7 → 1 ≤ length (w .content)) → strictWritingOf w old ≡ writingOf w old
+    same w old m =
+        let alike = same-carried (w .shape) (length (w .content)) (w .le) m in
         ap₂ (λ (x : Outcome ℕ) (y : List ℕ). (x, y)) (sym (write-alike w alike (length old))) (sym (buffer-alike w alike old))
 
 -- ---- there and back
@@ -255,7 +247,7 @@ DifferExactly =
       on-iso = λ frame c long e. let r = iso-read (drop 4 frame) c e in iso-said frame c long r Strict ∙ sym (iso-said frame c long r Ordinary);
       agree = alike;
       differ = differs;
-      at-six = λ h d hi lo b le p o. (reads-entry Ordinary _ d _ (row6 p o), six-strictly h d hi lo b p);
+      at-eight = λ frame l e. let o = eight-old frame l e in let empty = l .zero-lc in (old-at frame Ordinary o ∙ ap surplusAt (omega arith), strict-zero-at frame l);
       at-nine = λ h a b le o. (reads-entry Ordinary _ [] _ (row7 no-lc o), strict-zero-at _ (record { longer = omega arith; extended = refl; zero-lc = refl }));
       from-ten = λ frame l more. (read-ten frame l more, strict-zero-at frame l);
     }
@@ -268,26 +260,14 @@ DifferExactly =
     no-lc : IsPair 0x00 0x00 0
     no-lc = record { high = omega arith; low = omega arith; is = refl }
 
-    six-strictly : (h : ApduHeader) (d : List ℕ) (hi lo b : ℕ) → IsPair hi lo (length d) → strictOf (frameWith h (0x00 ∷ hi ∷ lo ∷ (d ++ b ∷ []))) ≡ surplusAt (7 + length d)
-    six-strictly h d hi lo b p =
-        let frame = frameWith h (0x00 ∷ hi ∷ lo ∷ (d ++ b ∷ [])) in
-        let long = length-append d (b ∷ []) in
-        let same = p .is in
-        strict-six-at frame refl (omega arith) ∙ ap (λ (n : ℕ). surplusAt (7 + n)) (sym same)
-
-    zero-differs : (frame : List ℕ) → LcZero frame → Dec (length frame ≡ 8) → Dec (length frame ≡ 9) → strictOf frame ≡ readOf frame → ⊥
-    zero-differs frame l (yes h) d e =
-        let empty = l .zero-lc in
-        word-gives _ _ (sym (strict-zero-at frame l) ∙ e ∙ read-six-at frame (l .extended) (omega arith))
-    zero-differs frame l (no n) (yes h) e = word-gives _ _ (sym (strict-zero-at frame l) ∙ e ∙ read-nine-at frame (l .extended) (l .zero-lc) h .1)
-    zero-differs frame l (no n) (no m) e =
-        let longer = l .longer in
+    zero-differs : (frame : List ℕ) → LcZero frame → 9 ≤ length frame → Dec (length frame ≡ 9) → strictOf frame ≡ readOf frame → ⊥
+    zero-differs frame l more (yes h) e = word-gives _ _ (sym (strict-zero-at frame l) ∙ e ∙ read-nine-at frame (l .extended) (l .zero-lc) h .1)
+    zero-differs frame l more (no m) e =
         let z : _≡_ {A = ℕ} 7 9 = place-is _ _ (sym (strict-zero-at frame l) ∙ e ∙ read-ten frame l (omega arith)) in
         omega arith
 
     differs : (frame : List ℕ) → Differ frame → strictOf frame ≡ readOf frame → ⊥
-    differs frame (at-six z h) e = word-gives _ _ (sym (strict-six-at frame z h) ∙ e ∙ read-six-at frame z h)
-    differs frame (at-lc-zero l) e = zero-differs frame l (ℕ-discrete (length frame) 8) (ℕ-discrete (length frame) 9) e
+    differs frame d e = zero-differs frame (d .lc-zero) (d .nine) (ℕ-discrete (length frame) 9) e
 
 pub ToleratedExactly : Claims.ToleratedExactly readOf
 ToleratedExactly frame said e = (forth, back)

@@ -10,16 +10,16 @@ use lib.ListN.{length, drop}
 use Rattle.outcome.specs.Outcome.{Outcome, R, SW, Gives, missingAt, surplusAt}
 use Rattle.octets.specs.Bytes.{byte, pairAt}
 use Rattle.octets.proofs.Laws.{laid-fits}
-use Rattle.apdu_stated.specs.Words.{Case, Instruction, Le1, Lc1Data, Lc1DataLe1, Lc3Data, Lc3DataLe1, Lc3DataLe2, Le3, shapeNo}
+use Rattle.apdu_stated.specs.Words.{Case, Instruction, Le1, Lc1Data, Lc1DataLe1, Lc3Data, Lc3DataLe2, Le3, shapeNo}
 use Rattle.apdu_stated.specs.Answers.{Says}
 use Rattle.apdu_stated.specs.Table.{lcField, leRead, lcUnder, leastOf, carriedBy}
-use Rattle.apdu_stated.specs.Reading.{Entry, Ordinary, Strict, lengthsOf, shortOf, loneLe, extendedOf, afterData, headerOf, sayOf, readBy}
+use Rattle.apdu_stated.specs.Reading.{Entry, Ordinary, Strict, lengthsOf, shortOf, extendedOf, afterData, headerOf, sayOf, readBy}
 use Rattle.apdu_stated.specs.Writing.{Parts, frameOf, writeBy, bufferBy, writingBy}
 use Rattle.apdu_stated.specs.Terms.{InTable, InStrictTable, EndsEarly, in-lc, in-short-data, in-extended-data, Carries, CarriesStrictly}
 use Rattle.apdu_stated.specs.declared.Lengths.{Lengths}
 use Rattle.apdu_stated.specs.declared.Lengths.the-variants.{Found, Missing, Surplus}
 use Rattle.apdu_stated.proofs.Cases
-use Rattle.apdu_stated.proofs.Rows.{RowIn, has-row, least-one, least-none}
+use Rattle.apdu_stated.proofs.Rows.{RowIn, least-one, least-none}
 
 pub data Way (entry : Entry) (p : List ℕ) : Lengths → Type 0 where
   none : length p ≡ 0 → Way entry p (Found Instruction 0 0)
@@ -28,18 +28,12 @@ pub data Way (entry : Entry) (p : List ℕ) : Lengths → Type 0 where
   short-le : (byte p 0 ≡ 0 → ⊥) → length p ≡ 2 + byte p 0 → Way entry p (Found Lc1DataLe1 (byte p 0) (leRead 1 (byte p (1 + byte p 0))))
   le3 : byte p 0 ≡ 0 → length p ≡ 3 → Way entry p (Found Le3 0 (leRead 3 (pairAt p 1)))
   wide : byte p 0 ≡ 0 → (pairAt p 1 ≡ 0 → ⊥) → length p ≡ 3 + pairAt p 1 → Way entry p (Found Lc3Data (pairAt p 1) 0)
-  wide-le1 : entry ≡ Ordinary → byte p 0 ≡ 0 → length p ≡ 4 + pairAt p 1 → Way entry p (Found Lc3DataLe1 (pairAt p 1) (leRead 1 (byte p (3 + pairAt p 1))))
   wide-le2 : lcUnder entry (pairAt p 1) ≡ false → byte p 0 ≡ 0 → length p ≡ 5 + pairAt p 1 → Way entry p (Found Lc3DataLe2 (pairAt p 1) (leRead 2 (pairAt p (3 + pairAt p 1))))
   missing : EndsEarly p → Way entry p Missing
   short-surplus : (byte p 0 ≡ 0 → ⊥) → 2 + byte p 0 < length p → Way entry p (Surplus (6 + byte p 0))
-  le1-surplus : entry ≡ Strict → lcUnder entry (pairAt p 1) ≡ false → byte p 0 ≡ 0 → length p ≡ 4 + pairAt p 1 → Way entry p (Surplus (7 + pairAt p 1))
+  le1-surplus : lcUnder entry (pairAt p 1) ≡ false → byte p 0 ≡ 0 → length p ≡ 4 + pairAt p 1 → Way entry p (Surplus (7 + pairAt p 1))
   wide-surplus : lcUnder entry (pairAt p 1) ≡ false → byte p 0 ≡ 0 → 5 + pairAt p 1 < length p → Way entry p (Surplus (9 + pairAt p 1))
   zero-surplus : lcUnder entry (pairAt p 1) ≡ true → byte p 0 ≡ 0 → 3 < length p → Way entry p (Surplus 7)
-
--- row 6: found by the ordinary table, surplus by the strict one
-one-by : (entry : Entry) (p : List ℕ) → lcUnder entry (pairAt p 1) ≡ false → byte p 0 ≡ 0 → length p ≡ 4 + pairAt p 1 → Way entry p (loneLe entry p (pairAt p 1))
-one-by Ordinary p d z e = wide-le1 refl z e
-one-by Strict p d z e = le1-surplus refl d z e
 
 module _ (entry : Entry) (p : List ℕ) where
   short-way : 2 ≤ length p → (byte p 0 ≡ 0 → ⊥) → Way entry p (shortOf p)
@@ -54,17 +48,17 @@ module _ (entry : Entry) (p : List ℕ) where
       go (no h) (no e1) (yes e) = subst (Way entry p) (Cases.short-le p (byte p 0) (byte p 0) refl refl _ e refl) (short-le nz e)
       go (no h) (no e1) (no e2) = subst (Way entry p) (Cases.short-surplus p (byte p 0) (byte p 0) refl refl (omega arith) e1 e2) (short-surplus nz (omega arith))
 
-  after-way : lcUnder entry (pairAt p 1) ≡ false → byte p 0 ≡ 0 → 3 < length p → Way entry p (afterData entry p (pairAt p 1))
+  after-way : lcUnder entry (pairAt p 1) ≡ false → byte p 0 ≡ 0 → 3 < length p → Way entry p (afterData p (pairAt p 1))
   after-way d z more = go (decLt (length p) (3 + pairAt p 1)) (ℕ-discrete (length p) (3 + pairAt p 1)) (ℕ-discrete (length p) (4 + pairAt p 1)) (ℕ-discrete (length p) (5 + pairAt p 1))
     where
-      go : Dec (length p < 3 + pairAt p 1) → Dec (length p ≡ 3 + pairAt p 1) → Dec (length p ≡ 4 + pairAt p 1) → Dec (length p ≡ 5 + pairAt p 1) → Way entry p (afterData entry p (pairAt p 1))
-      go (yes h) e3 e4 e5 = subst (Way entry p) (Cases.after-missing entry p (pairAt p 1) h) (missing (in-extended-data z more h))
-      go (no h) (yes e) e4 e5 = subst (Way entry p) (Cases.after-plain entry p (pairAt p 1) e) (wide z (omega arith) e)
-      go (no h) (no e3) (yes e) e5 = subst (Way entry p) (Cases.after-one entry p (pairAt p 1) (loneLe entry p (pairAt p 1)) e refl) (one-by entry p d z e)
+      go : Dec (length p < 3 + pairAt p 1) → Dec (length p ≡ 3 + pairAt p 1) → Dec (length p ≡ 4 + pairAt p 1) → Dec (length p ≡ 5 + pairAt p 1) → Way entry p (afterData p (pairAt p 1))
+      go (yes h) e3 e4 e5 = subst (Way entry p) (Cases.after-missing p (pairAt p 1) h) (missing (in-extended-data z more h))
+      go (no h) (yes e) e4 e5 = subst (Way entry p) (Cases.after-plain p (pairAt p 1) e) (wide z (omega arith) e)
+      go (no h) (no e3) (yes e) e5 = subst (Way entry p) (Cases.after-one p (pairAt p 1) e) (le1-surplus d z e)
       go (no h) (no e3) (no e4) (yes e) =
           let next : 4 + pairAt p 1 ≡ 3 + pairAt p 1 + 1 = omega arith in
-          subst (Way entry p) (Cases.after-le2 entry p (pairAt p 1) _ (pairAt p (3 + pairAt p 1)) e (rw next) refl) (wide-le2 d z e)
-      go (no h) (no e3) (no e4) (no e5) = subst (Way entry p) (Cases.after-surplus entry p (pairAt p 1) (omega arith) e3 e4 e5) (wide-surplus d z (omega arith))
+          subst (Way entry p) (Cases.after-le2 p (pairAt p 1) _ (pairAt p (3 + pairAt p 1)) e (rw next) refl) (wide-le2 d z e)
+      go (no h) (no e3) (no e4) (no e5) = subst (Way entry p) (Cases.after-surplus p (pairAt p 1) (omega arith) e3 e4 e5) (wide-surplus d z (omega arith))
 
   extended-way : 2 ≤ length p → byte p 0 ≡ 0 → Way entry p (extendedOf entry p)
   extended-way two z = go (decLt (length p) 3) (ℕ-discrete (length p) 3)
@@ -73,7 +67,7 @@ module _ (entry : Entry) (p : List ℕ) where
       behind h n true d =
           subst (Way entry p) (Cases.extended-lc-zero entry p (pairAt p 1) refl true d (omega arith) n refl) (zero-surplus (sym d) z (omega arith))
       behind h n false d =
-          subst (Way entry p) (Cases.extended-after entry p (pairAt p 1) refl false d (omega arith) n (afterData entry p (pairAt p 1)) refl refl) (after-way (sym d) z (omega arith))
+          subst (Way entry p) (Cases.extended-after entry p (pairAt p 1) refl false d (omega arith) n (afterData p (pairAt p 1)) refl refl) (after-way (sym d) z (omega arith))
 
       go : Dec (length p < 3) → Dec (length p ≡ 3) → Way entry p (extendedOf entry p)
       go (yes h) e = subst (Way entry p) (Cases.extended-missing entry p h) (missing (in-lc two z h))
@@ -103,11 +97,11 @@ CarryOf Strict = CarriesStrictly
 pub way-takes : (entry : Entry) (p : List ℕ) {l : Lengths} → Way entry p l → (s : Case) (lc le : ℕ) → Found s lc le ≡ l → RowIn entry s lc
 way-takes entry p w = go w
   where
-    row : (s t : Case) (a b c d : ℕ) → Found s a c ≡ Found t b d → (shapeNo t ≡ 6 → entry ≡ Ordinary) → leastOf entry t ≤ b → RowIn entry s a
-    row s t a b c d e n m =
+    row : (s t : Case) (a b c d : ℕ) → Found s a c ≡ Found t b d → leastOf entry t ≤ b → RowIn entry s a
+    row s t a b c d e m =
         let same : s ≡ t = cc in
         let as-long : a ≡ b = cc in
-        rw (same, as-long) (record { has = has-row entry t n; least = m })
+        rw (same, as-long) (record { least = m })
 
     some : (t : Case) (b : ℕ) → (b ≡ 0 → ⊥) → leastOf entry t ≤ b
     some t b n = let most = least-one entry t in omega arith
@@ -116,17 +110,16 @@ way-takes entry p w = go w
     never s lc le place e = let z : _≡_ {A = ℕ} 0 1 = cc in absurd (omega arith)
 
     go : {l : Lengths} → Way entry p l → (s : Case) (lc le : ℕ) → Found s lc le ≡ l → RowIn entry s lc
-    go (none h) s lc le e = row s Instruction lc _ le _ e (λ six. absurd (omega arith)) (least-none entry Instruction _ refl refl)
-    go (le1 h) s lc le e = row s Le1 lc _ le _ e (λ six. absurd (omega arith)) (least-none entry Le1 _ refl refl)
-    go (short nz h) s lc le e = row s Lc1Data lc _ le _ e (λ six. absurd (omega arith)) (some Lc1Data _ nz)
-    go (short-le nz h) s lc le e = row s Lc1DataLe1 lc _ le _ e (λ six. absurd (omega arith)) (some Lc1DataLe1 _ nz)
-    go (le3 z h) s lc le e = row s Le3 lc _ le _ e (λ six. absurd (omega arith)) (least-none entry Le3 _ refl refl)
-    go (wide z nz h) s lc le e = row s Lc3Data lc _ le _ e (λ six. absurd (omega arith)) (some Lc3Data _ nz)
-    go (wide-le1 o z h) s lc le e = row s Lc3DataLe1 lc _ le _ e (λ six. o) (rw o (omega arith))
-    go (wide-le2 d z h) s lc le e = row s Lc3DataLe2 lc _ le _ e (λ six. absurd (omega arith)) (Cases.from-least entry _ d)
+    go (none h) s lc le e = row s Instruction lc _ le _ e (least-none entry Instruction _ refl refl)
+    go (le1 h) s lc le e = row s Le1 lc _ le _ e (least-none entry Le1 _ refl refl)
+    go (short nz h) s lc le e = row s Lc1Data lc _ le _ e (some Lc1Data _ nz)
+    go (short-le nz h) s lc le e = row s Lc1DataLe1 lc _ le _ e (some Lc1DataLe1 _ nz)
+    go (le3 z h) s lc le e = row s Le3 lc _ le _ e (least-none entry Le3 _ refl refl)
+    go (wide z nz h) s lc le e = row s Lc3Data lc _ le _ e (some Lc3Data _ nz)
+    go (wide-le2 d z h) s lc le e = row s Lc3DataLe2 lc _ le _ e (Cases.from-least entry _ d)
     go (missing early) s lc le e = let z : _≡_ {A = ℕ} 0 1 = cc in absurd (omega arith)
     go (short-surplus nz h) s lc le e = never s lc le _ e
-    go (le1-surplus o n z h) s lc le e = never s lc le _ e
+    go (le1-surplus d z h) s lc le e = never s lc le _ e
     go (wide-surplus d z h) s lc le e = never s lc le _ e
     go (zero-surplus d z h) s lc le e = never s lc le _ e
 

@@ -10,7 +10,7 @@ use lib.Seq.{take-at}
 use Rattle.outcome.specs.Outcome.{Outcome, R, Gives}
 use Rattle.outcome.proofs.Laws.{gives-same, r-gives}
 use Rattle.octets.specs.Bytes.{AreBytes}
-use Rattle.apdu_stated.specs.Words.{ApduHeader, Case, Instruction, Le1, Lc1Data, Lc1DataLe1, Lc3Data, Lc3DataLe1, Lc3DataLe2, Le3, shapeNo}
+use Rattle.apdu_stated.specs.Words.{ApduHeader, Case, Instruction, Le1, Lc1Data, Lc1DataLe1, Lc3Data, Lc3DataLe2, Le3, shapeNo}
 use Rattle.apdu_stated.specs.Answers.{Apdu, Says, saysOf}
 use Rattle.apdu_stated.specs.Table.{lcLeast, canCarry, leastOf, carriedBy}
 use Rattle.apdu_stated.specs.Reading.{Entry, Ordinary, Strict, readBy, dataOf}
@@ -22,7 +22,7 @@ use Rattle.apdu_stated.proofs.LaidOut.{carried, carried-ordinary}
 use Rattle.apdu_stated.proofs.Frames.{Built, said, frame-bytes, table-read, table-cut}
 use Rattle.apdu_stated.proofs.Entries.{built-entry, entry-built, can, carried-carries}
 use Rattle.apdu_stated.proofs.Numbers.{shape-same}
-use Rattle.apdu_stated.proofs.Rows.{RowIn, has-row, carried-by, carried-of, iso-row, row-iso}
+use Rattle.apdu_stated.proofs.Rows.{RowIn, carried-by, carried-of, iso-row, row-iso}
 use Rattle.apdu_stated.proofs.Readings.{table-of, row-of, in-table-of, low-of, read-exactly, of-table}
 
 -- ---- writing, by either table
@@ -121,20 +121,19 @@ module _ (entry : Entry) (w : Parts) (old : List ℕ) where
 pub write-exactly : (entry : Entry) → Claims.WriteExactly (CarryOf entry) (TableOf entry) (writingBy entry)
 write-exactly entry = record { r5 = write-r5 entry; r2 = write-r2 entry; writes = write-writes entry; refused = write-refused entry }
 
--- the strict writer beside the other: but for shape 6, and shape 7 without data, what a shape can carry is in a row of the strict table
-module _ (s : Case) (n le : ℕ) (not-six : shapeNo s ≡ 6 → ⊥) (some-data : shapeNo s ≡ 7 → 1 ≤ n) where
+-- the strict writer beside the other: but for shape 7 without data, what a shape can carry is in a row of the strict table
+module _ (s : Case) (n le : ℕ) (some-data : shapeNo s ≡ 7 → 1 ≤ n) where
   pub row-carried : canCarry s n le ≡ true → RowIn Strict s n
-  row-carried c = record { has = has-row Strict s (λ six. absurd (not-six six)); least = least s not-six some-data (carried s n le c .lc-low) }
+  row-carried c = record { least = least s some-data (carried s n le c .lc-low) }
     where
-      least : (s : Case) → (shapeNo s ≡ 6 → ⊥) → (shapeNo s ≡ 7 → 1 ≤ n) → lcLeast s ≤ n → leastOf Strict s ≤ n
-      least Instruction x y low = low
-      least Le1 x y low = low
-      least Lc1Data x y low = low
-      least Lc1DataLe1 x y low = low
-      least Lc3Data x y low = low
-      least Lc3DataLe1 x y low = absurd (x refl)
-      least Lc3DataLe2 x y low = y refl
-      least Le3 x y low = low
+      least : (s : Case) → (shapeNo s ≡ 7 → 1 ≤ n) → lcLeast s ≤ n → leastOf Strict s ≤ n
+      least Instruction y low = low
+      least Le1 y low = low
+      least Lc1Data y low = low
+      least Lc1DataLe1 y low = low
+      least Lc3Data y low = low
+      least Lc3DataLe2 y low = y refl
+      least Le3 y low = low
 
   pub same-carried : carriedBy Ordinary s n le ≡ carriedBy Strict s n le
   unfolding carriedBy

@@ -1,14 +1,14 @@
 -- What is promised of frames: open this file first. Each claim takes the program as its argument; the definitions (`readOf`,
 -- `strictOf`, `dataOf` of Reading.antt, `writingOf`, `strictWritingOf` of Writing.antt) meet it by proofs/Theorems.antt, nothing else does by
 -- proofs/Only.antt, and the programs of Wrong.antt do not by proofs/Refuted.antt. The words `InTable`, `InStrictTable`, `LongestFront`,
--- `Carries`, `CarriesStrictly`, `Differ`: Terms.antt. A claim that takes a table is made of both: of `readOf` and `writingOf` with `InTable`,
+-- `Carries`, `CarriesStrictly`, `OldForm`, `Differ`: Terms.antt. A claim that takes a table is made of both: of `readOf` and `writingOf` with `InTable`,
 -- of `strictOf` and `strictWritingOf` with `InStrictTable`.
 use mathlib.Core.Logic.{_↔_}
 use Rattle.outcome.specs.Notation.{AtMostOne}
 use Rattle.outcome.specs.Outcome.{Outcome, R, SW, Gives, wrongLength}
 use Rattle.outcome.specs.Terms.{PairsExactly, HasStatus}
 use Rattle.octets.specs.Bytes.{AreBytes, byte, pairAt}
-use Rattle.apdu_stated.specs.Words.{ℕ, _+_, _≤_, _<_, _≡_, Bool, true, false, List, [], _∷_, _++_, map, length, take, drop, ApduHeader, Case, Instruction, Le1, Lc1Data, Lc1DataLe1, Lc3Data, Lc3DataLe1, Lc3DataLe2, Le3, shapeNo}
+use Rattle.apdu_stated.specs.Words.{ℕ, _+_, _≤_, _<_, _≡_, Bool, true, false, List, [], _∷_, _++_, map, length, take, drop, ApduHeader, Case, Instruction, Le1, Lc1Data, Lc1DataLe1, Lc3Data, Lc3DataLe2, Le3, shapeNo}
 use Rattle.apdu_stated.specs.Answers.{Apdu, Place, Reading, Written, Says, saysOf, readingOf, writtenOf}
 use Rattle.apdu_stated.specs.Table.{TableRow, columns}
 use Rattle.apdu_stated.specs.Reading.{Entry}
@@ -18,15 +18,16 @@ use Rattle.apdu_stated.specs.Examples.{Example, examples}
 use Rattle.apdu_stated.specs.Contracts.{Row, Fits, StrictHas, Payload, ShapeNumber, Read, ReadStrict, DataPlace, Data, Write, WriteStrict}
 use Rattle.apdu_stated.specs.declared.Lengths.{Lengths}
 use Rattle.apdu_stated.specs.declared.Lengths.the-variants.{Found, Missing, Surplus}
-use Rattle.apdu_stated.specs.Terms.{IsPair, OneByteLe, TwoByteLe, frameWith, saying, InTable, IsoRow, InStrictTable, LcZero, Differ, EndsEarly, LongestFront, IsFrameOf, Carries, CarriesStrictly, AreParts, apduOf, span}
+use Rattle.apdu_stated.specs.Terms.{IsPair, OneByteLe, TwoByteLe, frameWith, saying, InTable, IsoRow, InStrictTable, LcZero, OldForm, Differ, EndsEarly, LongestFront, IsFrameOf, Carries, CarriesStrictly, AreParts, apduOf, span}
 
 -- ---- reading is the table
 
 -- A frame is read exactly when it is in the table, and then as its row says.
 -- 01: the table, "Data is exactly Lc bytes", the rule of Le. Rejects a reader that refuses everything, one that always says
--- Instruction, one that reads `00 00 00` as Lc 0, or Le 0 as 0. Bites at 00 03 00 00 | 00 00 00.
--- Of the strict entry, 01: "It accepts the ISO cases, that is the shapes above without shape 6"; 02, E4: "Strict shape 7 needs Lc
--- 1..65535": rejects one that takes shape 6, and one that takes an Lc of 0. Bites at 00 03 00 00 | 00 00 00 00 05.
+-- Instruction, one that reads `00 00 00` as Lc 0, or Le 0 as 0, and one that still reads shape 6 (02, E13). Bites at 00 03 00 00 | 00 00 00, and
+-- at 00 03 00 00 | 00 00 00 05.
+-- Of the strict entry, 01: "It accepts the ISO cases"; 02, E4: "Strict shape 7 needs Lc 1..65535": rejects one that takes shape 6, and one that
+-- takes an Lc of 0. Bites at 00 03 00 00 | 00 00 00 00 05.
 abbrev pub ReadExactly : (List ℕ → Says → List ℕ → Type 0) → (List ℕ → Outcome Says) → Type 0
 ReadExactly Table read =
     (frame : List ℕ) → AreBytes frame → (says : Says)
@@ -59,16 +60,18 @@ SurplusExactly Table read =
     (frame : List ℕ) → AreBytes frame → (k : ℕ)
     → (read frame ≡ wrongLength 2 k) ↔ ((EndsEarly (drop 4 frame) → ⊥) × (k < length frame) × LongestFront Table frame k)
 
--- The same in the document's numbers: "6 + Lc from the frame's start in the short form, 9 + Lc in the extended"; "shape 6 in the
--- strict reading is surplus at its Le byte, 7 + Lc"; E4: "every strict frame longer than 7 bytes with an extended Lc of 0 is surplus, at byte
--- 7". Rejects a strict entry that says 9 + Lc there. Bites at 00 03 00 00 | 00 00 00 05, and at an extended Lc of 0 with ten bytes.
+-- The same in the document's numbers: "6 + Lc from the frame's start in the short form, 9 + Lc in the extended"; E13: "E1's kind for the old
+-- form is surplus at its Le byte", 7 + Lc, in both readings; E4: "every strict frame longer than 7 bytes with an extended Lc of 0 is surplus, at
+-- byte 7". Rejects a reading that still takes the old form, or says 8 + Lc or 9 + Lc there. Bites at 00 03 00 00 | 00 00 00 05, and at an extended
+-- Lc of 0 with ten bytes.
 pub record PlacesExactly (read strict : List ℕ → Outcome Says) : Type 0 where
   pub short-form : (frame : List ℕ) → (byte frame 4 ≡ 0x00 → ⊥) → 6 + byte frame 4 < length frame
       → (read frame ≡ wrongLength 2 (6 + byte frame 4)) × (strict frame ≡ wrongLength 2 (6 + byte frame 4))
   pub extended-form : (frame : List ℕ) → byte frame 4 ≡ 0x00 → 9 + pairAt frame 5 < length frame → read frame ≡ wrongLength 2 (9 + pairAt frame 5)
   pub strict-extended : (frame : List ℕ) → byte frame 4 ≡ 0x00 → 1 ≤ pairAt frame 5 → 9 + pairAt frame 5 < length frame
       → strict frame ≡ wrongLength 2 (9 + pairAt frame 5)
-  pub strict-six : (frame : List ℕ) → byte frame 4 ≡ 0x00 → length frame ≡ 8 + pairAt frame 5 → strict frame ≡ wrongLength 2 (7 + pairAt frame 5)
+  pub old-form : (frame : List ℕ) → OldForm frame
+      → (read frame ≡ wrongLength 2 (7 + pairAt frame 5)) × (strict frame ≡ wrongLength 2 (7 + pairAt frame 5))
   pub strict-lc-zero : (frame : List ℕ) → LcZero frame → strict frame ≡ wrongLength 2 7
 
 -- In both readings a 6700 has a pair, and no other status word has one. Rejects a reader that drops the pair. Bites at 00 03 00 00 | 00 01.
@@ -119,30 +122,28 @@ pub record PlaceExactly (place : Apdu → Place) : Type 0 where
   pub lc1-data : (h : ApduHeader) (lc le : ℕ) → place (apduOf h Lc1Data lc le) ≡ span 5 (5 + lc)
   pub lc1-data-le1 : (h : ApduHeader) (lc le : ℕ) → place (apduOf h Lc1DataLe1 lc le) ≡ span 5 (5 + lc)
   pub lc3-data : (h : ApduHeader) (lc le : ℕ) → place (apduOf h Lc3Data lc le) ≡ span 7 (7 + lc)
-  pub lc3-data-le1 : (h : ApduHeader) (lc le : ℕ) → place (apduOf h Lc3DataLe1 lc le) ≡ span 7 (7 + lc)
   pub lc3-data-le2 : (h : ApduHeader) (lc le : ℕ) → place (apduOf h Lc3DataLe2 lc le) ≡ span 7 (7 + lc)
   pub le3 : (h : ApduHeader) (lc le : ℕ) → place (apduOf h Le3 lc le) ≡ span 4 (4 + lc)
 
--- 01, the table's column "no". Rejects two shapes with one number, and numbers from 0. Bites at every shape.
+-- 01, the table's column "no"; 02, E13: number 6 is no shape's. Rejects two shapes with one number, numbers from 0, and shapes 7 and 8 moved up
+-- to 6 and 7. Bites at every shape.
 pub record ShapeNumberExactly (number : Case → ℕ) : Type 0 where
   pub instruction : number Instruction ≡ 1
   pub le1 : number Le1 ≡ 2
   pub lc1-data : number Lc1Data ≡ 3
   pub lc1-data-le1 : number Lc1DataLe1 ≡ 4
   pub lc3-data : number Lc3Data ≡ 5
-  pub lc3-data-le1 : number Lc3DataLe1 ≡ 6
   pub lc3-data-le2 : number Lc3DataLe2 ≡ 7
   pub le3 : number Le3 ≡ 8
 
 -- 01, the table, as the lengths of its fields: how many bytes the Lc field has, the least Lc, how many bytes the Le field has. Rejects
--- shape 6 from Lc 1 on, and shape 8 with an Le field of two bytes. Bites at every shape.
+-- shape 7 from Lc 1 on, and shape 8 with an Le field of two bytes. Bites at every shape.
 pub record RowExactly (row : Case → TableRow) : Type 0 where
   pub instruction : row Instruction ≡ columns 0 0 0
   pub le1 : row Le1 ≡ columns 0 0 1
   pub lc1-data : row Lc1Data ≡ columns 1 1 0
   pub lc1-data-le1 : row Lc1DataLe1 ≡ columns 1 1 1
   pub lc3-data : row Lc3Data ≡ columns 3 1 0
-  pub lc3-data-le1 : row Lc3DataLe1 ≡ columns 3 0 1
   pub lc3-data-le2 : row Lc3DataLe2 ≡ columns 3 0 2
   pub le3 : row Le3 ≡ columns 0 0 3
 
@@ -150,7 +151,7 @@ pub record RowExactly (row : Case → TableRow) : Type 0 where
 abbrev pub FitsExactly : (Case → ℕ → ℕ → Type 0) → (Case → ℕ → ℕ → Bool) → Type 0
 FitsExactly Carry fits = (s : Case) (count le : ℕ) → (fits s count le ≡ true) ↔ Carry s count le
 
--- 02, E4: "refuses shape 6, and Lc 0 in shape 7": the strict table's rows, and what the strict writer can carry by them. Rejects Lc 0 in shape 7.
+-- 02, E4: "refuses .. Lc 0 in shape 7": the strict table's rows, and what the strict writer can carry by them. Rejects Lc 0 in shape 7.
 -- Bites at shape 7 without data.
 abbrev pub StrictRowExactly : (Case → ℕ → Bool) → Type 0
 StrictRowExactly has = (s : Case) (count : ℕ) → (has s count ≡ true) ↔ IsoRow (shapeNo s) count
@@ -166,11 +167,10 @@ pub record SaysExactly (view : Apdu → Says) : Type 0 where
   pub lc1-data : (h : ApduHeader) (lc le : ℕ) → view (apduOf h Lc1Data lc le) ≡ saying h 3 5 lc le
   pub lc1-data-le1 : (h : ApduHeader) (lc le : ℕ) → view (apduOf h Lc1DataLe1 lc le) ≡ saying h 4 5 lc le
   pub lc3-data : (h : ApduHeader) (lc le : ℕ) → view (apduOf h Lc3Data lc le) ≡ saying h 5 7 lc le
-  pub lc3-data-le1 : (h : ApduHeader) (lc le : ℕ) → view (apduOf h Lc3DataLe1 lc le) ≡ saying h 6 7 lc le
   pub lc3-data-le2 : (h : ApduHeader) (lc le : ℕ) → view (apduOf h Lc3DataLe2 lc le) ≡ saying h 7 7 lc le
   pub le3 : (h : ApduHeader) (lc le : ℕ) → view (apduOf h Le3 lc le) ≡ saying h 8 4 lc le
 
--- ---- the table is ISO's seven cases and the tolerated forms
+-- ---- the table is ISO's seven cases and the tolerated form
 
 -- A body is of an ISO case exactly when its frame is read in that case's shape and is no tolerated form.
 -- ISO 7816-3, 12.1.3. Rejects a table without one of ISO's rows. Bites at 00 03 00 00 | 00 00 01 AA.
@@ -180,8 +180,9 @@ IsoExactly read =
     → (isCase c (drop 4 frame) ≡ true)
     ↔ ((says : Says) × (read frame ≡ Gives says) × (says .shape ≡ shapeNo (shapeFor c)) × (isTolerated (says .shape) (says .lc) ≡ false))
 
--- What is read and is of no ISO case is one of the two tolerated forms, and they are of none.
--- Rejects a table with a row that ISO lacks, a ninth shape. Bites at 00 03 00 00 | 00 00 00 05, and at 00 03 00 00 | 00 01.
+-- What is read and is of no ISO case is the tolerated form, shape 7 with an Lc of 0, and it is of none.
+-- Rejects a table with a row that ISO lacks: a ninth shape, or the retired sixth. Bites at 00 03 00 00 | 00 00 00 00 05, at 00 03 00 00 | 00 01,
+-- and at 00 03 00 00 | 00 00 00 05.
 abbrev pub ToleratedExactly : (List ℕ → Outcome Says) → Type 0
 ToleratedExactly read =
     (frame : List ℕ) (says : Says) → read frame ≡ Gives says
@@ -205,7 +206,7 @@ pub record StrictIsIso (strict : List ℕ → Outcome Says) : Type 0 where
 abbrev pub StrictExactly : (List ℕ → Outcome Says) → Type 0
 StrictExactly strict = ReadingExactly InStrictTable strict
 
--- 01: "gives 6700 for shape 6", 02: "with Lc 0 it is 6700", and for what is in no shape, by the number. Rejects a strict entry that takes shape 6.
+-- 01: "gives 6700 for shape 6", 02, E4: "with Lc 0 it is 6700", and for what is in no shape, by the number. Rejects a strict entry that takes shape 6.
 abbrev pub StrictNoShapeExactly : (List ℕ → Outcome Says) → Type 0
 StrictNoShapeExactly strict = NoShapeExactly InStrictTable strict
 
@@ -213,25 +214,23 @@ StrictNoShapeExactly strict = NoShapeExactly InStrictTable strict
 abbrev pub StrictPayloadExactly : (List ℕ → Lengths) → Type 0
 StrictPayloadExactly payload = PayloadExactly InStrictTable payload
 
--- 01: "It accepts the ISO cases .. and gives 6700 for shape 6; otherwise it equals the first", amended by 02, E4, on any frame, beside any
--- first reading: of shape 6 and of an extended Lc of 0 the answer with its pair, of every other frame the first reading's.
+-- 01: "It accepts the ISO cases ..; otherwise it equals the first", amended by 02, E4, and with E13 on any frame, beside any first reading: of an
+-- extended Lc of 0 the answer with its pair, of every other frame the first reading's, the old form among them.
 -- Rejects a strict entry with a status of its own. Bites at 00 03 00.
 pub record StrictOtherwise (read strict : List ℕ → Outcome Says) : Type 0 where
-  pub six : (frame : List ℕ) (says : Says) → read frame ≡ Gives says → says .shape ≡ 6 → strict frame ≡ wrongLength 2 (7 + says .lc)
   pub lc-zero : (frame : List ℕ) → LcZero frame → strict frame ≡ wrongLength 2 7
-  pub other : (frame : List ℕ) → ((says : Says) → read frame ≡ Gives says → says .shape ≡ 6 → ⊥) → (LcZero frame → ⊥) → strict frame ≡ read frame
+  pub other : (frame : List ℕ) → (LcZero frame → ⊥) → strict frame ≡ read frame
 
 -- Where the two readings agree and differ, both answers said, pairs included. Every frame that ISO has, they read alike. They differ
--- exactly at shape 6 and at an extended Lc of 0 longer than 7 bytes: with 8 bytes that is shape 6, with 9 "The ordinary reading still takes it, as
--- the Rust does", with ten or more it is surplus at 9 and at 7. A frame of shape 6 and one of nine bytes are said as the table has them.
--- Rejects an ordinary reading that refuses an Lc of 0, and a strict one that takes it. Bites at 00 03 00 00 | 00 00 00 00 05.
+-- exactly at an extended Lc of 0 in nine bytes or more: with nine "The ordinary reading still takes it, as the Rust does", with ten or more it is
+-- surplus at 9 and at 7. With eight, the old form without data, both say surplus at 7 (02, E13). One of nine bytes is said as the table has it.
+-- Rejects an ordinary reading that refuses an Lc of 0, or still takes the old form, and a strict one that takes an Lc of 0. Bites at 00 03 00 00 |
+-- 00 00 00 00 05, and at 00 03 00 00 | 00 00 00 05.
 pub record DifferExactly (read strict : List ℕ → Outcome Says) : Type 0 where
   pub on-iso : (frame : List ℕ) (c : IsoCase) → 4 ≤ length frame → isCase c (drop 4 frame) ≡ true → strict frame ≡ read frame
   pub agree : (frame : List ℕ) → (Differ frame → ⊥) → strict frame ≡ read frame
   pub differ : (frame : List ℕ) → Differ frame → strict frame ≡ read frame → ⊥
-  pub at-six : (h : ApduHeader) (d : List ℕ) (hi lo b le : ℕ) → IsPair hi lo (length d) → OneByteLe b le
-      → let frame = frameWith h (0x00 ∷ hi ∷ lo ∷ (d ++ b ∷ [])) in
-      (read frame ≡ Gives (saying h 6 7 (length d) le)) × (strict frame ≡ wrongLength 2 (7 + length d))
+  pub at-eight : (frame : List ℕ) → LcZero frame → length frame ≡ 8 → (read frame ≡ wrongLength 2 7) × (strict frame ≡ wrongLength 2 7)
   pub at-nine : (h : ApduHeader) (a b le : ℕ) → TwoByteLe a b le
       → let frame = frameWith h (0x00 ∷ 0x00 ∷ 0x00 ∷ a ∷ b ∷ []) in
       (read frame ≡ Gives (saying h 7 7 0 le)) × (strict frame ≡ wrongLength 2 7)
@@ -252,16 +251,15 @@ pub record WriteExactly (Carry : Case → ℕ → ℕ → Type 0) (Table : List 
       → write w old ≡ (Gives (length frame), frame ++ drop (length frame) old)
   pub refused : (w : Parts) (old : List ℕ) (n : ℕ) → write w old .0 ≡ R n → write w old .1 ≡ old
 
--- 02, E4: "a strict writer is added that refuses shape 6, and Lc 0 in shape 7, with R5 and is otherwise the writer": R5, R2, the frame and the
--- buffer, by the strict table. Rejects a writer of shape 6, one of shape 7 without data, and R2 before R5. Bites at shape 6, in a buffer of none.
+-- 02, E4: "a strict writer is added that refuses .. Lc 0 in shape 7, with R5 and is otherwise the writer": R5, R2, the frame and the buffer, by
+-- the strict table. Rejects a writer of shape 7 without data, and R2 before R5. Bites at shape 7 without data, in a buffer of none.
 abbrev pub StrictWriteExactly : (Parts → List ℕ → Outcome ℕ × List ℕ) → Type 0
 StrictWriteExactly write = WriteExactly CarriesStrictly InStrictTable write
 
 -- The same sentence, beside any writer, with any parts and buffer. Rejects a strict writer that refuses every shape without data. Bites at shape 1.
 pub record StrictWriteOtherwise (write strict : Parts → List ℕ → Outcome ℕ × List ℕ) : Type 0 where
-  pub six : (w : Parts) (old : List ℕ) → shapeNo (w .shape) ≡ 6 → strict w old ≡ (R 5, old)
   pub seven : (w : Parts) (old : List ℕ) → shapeNo (w .shape) ≡ 7 → length (w .content) ≡ 0 → strict w old ≡ (R 5, old)
-  pub other : (w : Parts) (old : List ℕ) → (shapeNo (w .shape) ≡ 6 → ⊥) → (shapeNo (w .shape) ≡ 7 → 1 ≤ length (w .content)) → strict w old ≡ write w old
+  pub other : (w : Parts) (old : List ℕ) → (shapeNo (w .shape) ≡ 7 → 1 ≤ length (w .content)) → strict w old ≡ write w old
 
 -- ---- there and back
 
@@ -281,8 +279,8 @@ WrittenThenRead read cut write =
     (read (take n (write w old .1)) ≡ Gives says) × (cut (take n (write w old .1)) says ≡ w .content)
 
 -- A writer accepts exactly what a reader reads, and has room for: parts that are bytes are written in n bytes exactly when there is a frame of n
--- bytes, no longer than the buffer, that is read as these parts. Rejects a strict writer that takes shape 6, or shape 7 without data, beside the
--- strict reading, which has neither. Bites at each without data.
+-- bytes, no longer than the buffer, that is read as these parts. Rejects a strict writer that takes shape 7 without data, beside the strict reading,
+-- which has none. Bites there.
 abbrev pub AcceptsWhatIsRead : (List ℕ → Outcome Says) → (List ℕ → Says → List ℕ) → (Parts → List ℕ → Outcome ℕ × List ℕ) → Type 0
 AcceptsWhatIsRead read cut write =
     (w : Parts) (old : List ℕ) (n : ℕ) → AreParts w

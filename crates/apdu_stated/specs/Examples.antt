@@ -31,7 +31,7 @@ examples =
     ∷ payload (0x01 ∷ 0xAA ∷ 0x00 ∷ []) (shape 4 5 1 256)  -- P `01 AA 00`: shape 4, Le 256
     ∷ payload (0x02 ∷ 0xAA ∷ []) (wrongLength 1 6)  -- P `02 AA`: 6700; missing, at the frame's length
     ∷ payload (0x00 ∷ 0x00 ∷ 0x00 ∷ []) (shape 8 4 0 65536)  -- P `00 00 00`: shape 8, Le 65536
-    ∷ payload (0x00 ∷ 0x00 ∷ 0x00 ∷ 0x05 ∷ []) (shape 6 7 0 5)  -- P `00 00 00 05`: shape 6, Lc 0, Le 5
+    ∷ payload (0x00 ∷ 0x00 ∷ 0x00 ∷ 0x05 ∷ []) (wrongLength 2 7)  -- P `00 00 00 05`: 02, E13: "01's case `00 00 00 05` becomes 6700"; surplus at its Le byte
     ∷ payload (0x00 ∷ 0x00 ∷ 0x01 ∷ 0xAA ∷ []) (shape 5 7 1 0)  -- P `00 00 01 AA`: shape 5
     ∷ payload (0x00 ∷ 0x00 ∷ 0x01 ∷ 0xAA ∷ 0x00 ∷ 0x00 ∷ []) (shape 7 7 1 65536)  -- P `00 00 01 AA 00 00`: shape 7, Le 65536
     ∷ payload (0x00 ∷ 0x00 ∷ 0x01 ∷ 0xAA ∷ 0x00 ∷ 0x00 ∷ 0x00 ∷ []) (wrongLength 2 10)  -- P `00 00 01 AA 00 00 00`: 6700; surplus, at 9 + Lc

@@ -1,7 +1,7 @@
 -- ISO/IEC 7816-3:2006, section 12.1.3: the seven cases of a command, by its body b of L bytes B1 .. BL; and the forms beyond
 -- them that document 01 tolerates. Written from the public table, apart from document 01's.
 use Prim.Native.Nat.{ℕ, _+_}
-use mathlib.Core.Bool.{Bool, not, _&&_, _||_}
+use mathlib.Core.Bool.{Bool, not, _&&_}
 use mathlib.Core.List.{List}
 use lib.ListN.{length}
 use lib.Dec.{leb, eqb}
@@ -31,7 +31,7 @@ shapeFor Case2E = Le3
 shapeFor Case3E = Lc3Data
 shapeFor Case4E = Lc3DataLe2
 
--- ours: what the Rust, and so document 01's ordinary reading, takes beyond ISO's table: an extended Lc with a one-byte Le (shape 6),
--- and an extended Lc of 0 before an Le (shapes 6 and 7)
+-- ours: what the ordinary reading, as the Rust does, takes beyond ISO's table: an extended Lc of 0 before an Le (shape 7). The Rust's other
+-- form, an extended Lc with a one-byte Le, is retired (02, E13)
 abbrev pub isTolerated : ℕ → ℕ → Bool
-isTolerated shape lc = eqb shape 6 || (eqb shape 7 && eqb lc 0)
+isTolerated shape lc = eqb shape 7 && eqb lc 0

@@ -1,6 +1,6 @@
 -- Document 01, 'Eight frame shapes': reading. "A frame under 4 bytes gives 6a80. A frame of 4 or more in no shape gives
 -- 6700"; the payload from byte 4 on; where the data stands; "The strict reading is a second entry". Document 02, E1: where the
--- length of a frame in no shape went wrong; E4: the strict entry reads ISO's seven cases. That this is the table, and nothing else, is
+-- length of a frame in no shape went wrong; E4: the strict entry reads ISO's seven cases; E13: shape 6 is retired. That this is the table, and nothing else, is
 -- claimed in Claims.antt.
 use Prim.Native.Nat.{ℕ, _+_}
 use mathlib.Core.List.{List}
@@ -9,9 +9,9 @@ use lib.Dec.{ltb, eqb}
 use Rattle.outcome.specs.Notation.{if_then_else_}
 use Rattle.outcome.specs.Outcome.{Outcome, SW, Gives, missingAt, surplusAt}
 use Rattle.octets.specs.Bytes.{byte, pairAt, partOf}
-use Rattle.apdu_stated.specs.Words.{Case, Instruction, Le1, Lc1Data, Lc1DataLe1, Lc3Data, Lc3DataLe1, Lc3DataLe2, Le3, shapeNo, ApduHeader}
+use Rattle.apdu_stated.specs.Words.{Case, Instruction, Le1, Lc1Data, Lc1DataLe1, Lc3Data, Lc3DataLe2, Le3, shapeNo, ApduHeader}
 use Rattle.apdu_stated.specs.Answers.{Says, Place}
-use Rattle.apdu_stated.specs.Table.{lcField, leRead, hasRow, lcUnder}
+use Rattle.apdu_stated.specs.Table.{lcField, leRead, lcUnder}
 pub use Rattle.apdu_stated.specs.Table.{Entry, Ordinary, Strict}
 use Rattle.apdu_stated.specs.declared.Lengths.{Lengths}
 use Rattle.apdu_stated.specs.declared.Lengths.the-variants.{Found, Missing, Surplus}
@@ -25,28 +25,24 @@ shortOf p =
     else if eqb (length p) (2 + byte p 0) then Found Lc1DataLe1 (byte p 0) (leRead 1 (byte p (1 + byte p 0)))
     else Surplus (6 + byte p 0)
 
--- row 6, an extended Lc with one byte of Le, in a table that has it; 02, E1: "shape 6 in the strict reading is surplus at its Le byte, 7 +
--- Lc"
-abbrev pub loneLe : Entry → List ℕ → ℕ → Lengths
-loneLe entry p lc = if hasRow entry Lc3DataLe1 then Found Lc3DataLe1 lc (leRead 1 (byte p (3 + lc))) else Surplus (7 + lc)
-
--- rows 5, 6 and 7, of a payload p of more than three bytes that begins with 00 and Lc: data, and perhaps Le; "9 + Lc in the extended"
-unfoldable pub afterData : Entry → List ℕ → ℕ → Lengths
-afterData entry p lc =
+-- rows 5 and 7, of a payload p of more than three bytes that begins with 00 and Lc: data, and perhaps Le; "9 + Lc in the extended". A lone
+-- byte behind the data was shape 6's Le; 02, E13: "E1's kind for the old form is surplus at its Le byte", 7 + Lc from the frame's start
+unfoldable pub afterData : List ℕ → ℕ → Lengths
+afterData p lc =
     if ltb (length p) (3 + lc) then Missing
     else if eqb (length p) (3 + lc) then Found Lc3Data lc 0
-    else if eqb (length p) (4 + lc) then loneLe entry p lc
+    else if eqb (length p) (4 + lc) then Surplus (7 + lc)
     else if eqb (length p) (5 + lc) then Found Lc3DataLe2 lc (leRead 2 (pairAt p (3 + lc)))
     else Surplus (9 + lc)
 
--- row 8, and rows 5 to 7, of a payload p of two bytes or more whose first byte is 00; 02, E4: "every strict frame longer than 7 bytes with
+-- row 8, and rows 5 and 7, of a payload p of two bytes or more whose first byte is 00; 02, E4: "every strict frame longer than 7 bytes with
 -- an extended Lc of 0 is surplus, at byte 7"
 unfoldable pub extendedOf : Entry → List ℕ → Lengths
 extendedOf entry p =
     if ltb (length p) 3 then Missing
     else if eqb (length p) 3 then Found Le3 0 (leRead 3 (pairAt p 1))
     else if lcUnder entry (pairAt p 1) then Surplus 7
-    else afterData entry p (pairAt p 1)
+    else afterData p (pairAt p 1)
 
 -- the payload: the bytes after the header
 unfoldable pub lengthsOf : Entry → List ℕ → Lengths

@@ -1,8 +1,8 @@
--- Document 01, 'Eight frame shapes': the table, its columns, and what follows from them.
+-- Document 01, 'Eight frame shapes': the table, its columns, and what follows from them; document 02, E13: it "loses its row 6".
 -- Covered: the payload and condition of each row; "Data is exactly Lc bytes"; "A written Le of 0 means 256 in one byte and
 -- 65536 in two; an absent Le reads as 0"; which data length and Le a shape can carry. Document 02, E4: what of it the strict table has.
 use Prim.Native.Nat.{ℕ, _%_}
-use mathlib.Core.Bool.{Bool, true, not, _&&_}
+use mathlib.Core.Bool.{Bool, _&&_}
 use mathlib.Core.List.{List, [], _∷_}
 use lib.Dec.{leb, ltb, eqb}
 use Rattle.outcome.specs.Notation.{if_then_else_}
@@ -10,7 +10,7 @@ use Rattle.octets.specs.Bytes.{bytes2}
 pub use Rattle.apdu_stated.specs.declared.TableRow.{TableRow}
 pub use Rattle.apdu_stated.specs.declared.Entry.{Entry}
 pub use Rattle.apdu_stated.specs.declared.Entry.the-variants.{Ordinary, Strict}
-use Rattle.apdu_stated.specs.Words.{Case, Instruction, Le1, Lc1Data, Lc1DataLe1, Lc3Data, Lc3DataLe1, Lc3DataLe2, Le3, shapeNo}
+use Rattle.apdu_stated.specs.Words.{Case, Instruction, Le1, Lc1Data, Lc1DataLe1, Lc3Data, Lc3DataLe2, Le3}
 
 -- a row: the Lc field's bytes, the least Lc, the Le field's bytes
 abbrev pub columns : ℕ → ℕ → ℕ → TableRow
@@ -22,7 +22,6 @@ rowOf Le1 = columns 0 0 1  -- 2 | Le (1 byte) |
 rowOf Lc1Data = columns 1 1 0  -- 3 | Lc, data | Lc 1..255
 rowOf Lc1DataLe1 = columns 1 1 1  -- 4 | Lc, data, Le (1) | Lc 1..255
 rowOf Lc3Data = columns 3 1 0  -- 5 | 00, Lc (2), data | Lc 1..65535
-rowOf Lc3DataLe1 = columns 3 0 1  -- 6 | 00, Lc (2), data, Le (1) | Lc 0..65535
 rowOf Lc3DataLe2 = columns 3 0 2  -- 7 | 00, Lc (2), data, Le (2) | Lc 0..65535
 rowOf Le3 = columns 0 0 3  -- 8 | 00, Le (2) |
 
@@ -63,11 +62,7 @@ leFits s le = leb (leLeast (leField s)) le && leb le (leMost (leField s))
 abbrev pub canCarry : Case → ℕ → ℕ → Bool
 canCarry s dataLength le = lcFits s dataLength && leFits s le
 
--- ---- the two tables. 02, E9, of E4's: "The strict reading is the same table with other least Lc and without row 6"
-abbrev pub hasRow : Entry → Case → Bool
-hasRow Ordinary s = true
-hasRow Strict s = not (eqb (shapeNo s) 6)
-
+-- ---- the two tables. 02, E9, of E4's: "The strict reading is the same table with other least Lc"; since E13 the rows are the same.
 -- 02, E4: "In ISO 7816-3 a case with an Lc field carries at least one byte of data": so row 7 begins at Lc 1, as rows 3, 4 and 5 do in both
 abbrev pub leastOf : Entry → Case → ℕ
 leastOf Ordinary s = lcLeast s
@@ -75,7 +70,7 @@ leastOf Strict s = if eqb (lcField s) 0 then 0 else 1
 
 -- whether a table has its row for so much data: from the row's least on
 abbrev pub inRow : Entry → Case → ℕ → Bool
-inRow entry s lc = hasRow entry s && leb (leastOf entry s) lc
+inRow entry s lc = leb (leastOf entry s) lc
 
 -- what each table can carry
 unfoldable pub carriedBy : Entry → Case → ℕ → ℕ → Bool

@@ -3,7 +3,7 @@
 -- which data length and Le a shape can carry, once more, and what the strict writer takes of it.
 use Prim.Native.Nat.{ℕ, _+_, _*_, _≤_, _<_}
 use Rattle.octets.specs.Bytes.{AreBytes, byte, pairAt}
-use Rattle.apdu_stated.specs.Words.{_≡_, List, [], _∷_, _++_, length, take, ApduHeader, Case, Instruction, Le1, Lc1Data, Lc1DataLe1, Lc3Data, Lc3DataLe1, Lc3DataLe2, Le3, shapeNo}
+use Rattle.apdu_stated.specs.Words.{_≡_, List, [], _∷_, _++_, length, take, ApduHeader, Case, Instruction, Le1, Lc1Data, Lc1DataLe1, Lc3Data, Lc3DataLe2, Le3, shapeNo}
 use Rattle.apdu_stated.specs.Answers.{Says, Apdu, Place}
 use Rattle.apdu_stated.specs.Writing.{Parts}
 
@@ -45,9 +45,7 @@ pub data InTable : List ℕ → Says → List ℕ → Type 0 where
   -- 5 | Lc3Data | 00, Lc (2), data | Lc 1..65535
   row5 : {h : ApduHeader} {d : List ℕ} {hi lo : ℕ} → 1 ≤ length d → IsPair hi lo (length d)
       → InTable (frameWith h (0x00 ∷ hi ∷ lo ∷ d)) (saying h 5 7 (length d) 0) d
-  -- 6 | Lc3DataLe1 | 00, Lc (2), data, Le (1) | Lc 0..65535
-  row6 : {h : ApduHeader} {d : List ℕ} {hi lo b le : ℕ} → IsPair hi lo (length d) → OneByteLe b le
-      → InTable (frameWith h (0x00 ∷ hi ∷ lo ∷ (d ++ b ∷ []))) (saying h 6 7 (length d) le) d
+  -- no row 6: 02, E13, "Shape 6 is retired"
   -- 7 | Lc3DataLe2 | 00, Lc (2), data, Le (2) | Lc 0..65535
   row7 : {h : ApduHeader} {d : List ℕ} {hi lo a b le : ℕ} → IsPair hi lo (length d) → TwoByteLe a b le
       → InTable (frameWith h (0x00 ∷ hi ∷ lo ∷ (d ++ a ∷ b ∷ []))) (saying h 7 7 (length d) le) d
@@ -60,10 +58,9 @@ pub data EndsEarly (p : List ℕ) : Type 0 where
   in-short-data : 2 ≤ length p → (byte p 0 ≡ 0x00 → ⊥) → length p < 1 + byte p 0 → EndsEarly p
   in-extended-data : byte p 0 ≡ 0x00 → 3 < length p → length p < 3 + (byte p 1 * 256 + byte p 2) → EndsEarly p
 
--- `IsoRow shape lc`: a row of ISO's. 01: the strict entry "accepts the ISO cases, that is the shapes above without shape 6"; 02, E4: "In ISO
--- 7816-3 a case with an Lc field carries at least one byte of data", and that is shapes 3 to 7: "Strict shape 7 needs Lc 1..65535"
+-- `IsoRow shape lc`: a row of the table that is ISO's. 02, E4: "In ISO 7816-3 a case with an Lc field carries at least one byte of data", and
+-- that is shapes 3 to 7: "Strict shape 7 needs Lc 1..65535"
 pub record IsoRow (shape lc : ℕ) : Type 0 where
-  pub not-six : shape ≡ 6 → ⊥
   pub some-data : 3 ≤ shape → shape ≤ 7 → 1 ≤ lc
 
 -- the strict table: the rows above that are ISO's
@@ -77,10 +74,15 @@ pub record LcZero (frame : List ℕ) : Type 0 where
   pub extended : byte frame 4 ≡ 0x00
   pub zero-lc : pairAt frame 5 ≡ 0
 
--- `Differ frame`: what the two readings differ on. A frame of shape 6, by its length; an extended Lc of 0 with more behind it
-pub data Differ (frame : List ℕ) : Type 0 where
-  at-six : byte frame 4 ≡ 0x00 → length frame ≡ 8 + pairAt frame 5 → Differ frame
-  at-lc-zero : LcZero frame → Differ frame
+-- `OldForm frame`: 02, E13, "an extended Lc with a one-byte Le", by its own length: shape 6, while there was one
+pub record OldForm (frame : List ℕ) : Type 0 where
+  pub extended : byte frame 4 ≡ 0x00
+  pub one-behind : length frame ≡ 8 + pairAt frame 5
+
+-- `Differ frame`: what the two readings differ on since E13: an extended Lc of 0, in nine bytes or more
+pub record Differ (frame : List ℕ) : Type 0 where
+  pub lc-zero : LcZero frame
+  pub nine : 9 ≤ length frame
 
 -- `LongestFront Table frame k`: of the parts that begin at the frame's front and are themselves in the table, the longest has k bytes
 pub record LongestFront (Table : List ℕ → Says → List ℕ → Type 0) (frame : List ℕ) (k : ℕ) : Type 0 where
@@ -103,11 +105,10 @@ pub data Carries : Case → ℕ → ℕ → Type 0 where
   shape3 : {n : ℕ} → 1 ≤ n → n ≤ 255 → Carries Lc1Data n 0
   shape4 : {n le : ℕ} → 1 ≤ n → n ≤ 255 → 1 ≤ le → le ≤ 256 → Carries Lc1DataLe1 n le
   shape5 : {n : ℕ} → 1 ≤ n → n ≤ 65535 → Carries Lc3Data n 0
-  shape6 : {n le : ℕ} → n ≤ 65535 → 1 ≤ le → le ≤ 256 → Carries Lc3DataLe1 n le
   shape7 : {n le : ℕ} → n ≤ 65535 → 1 ≤ le → le ≤ 65536 → Carries Lc3DataLe2 n le
   shape8 : {le : ℕ} → 1 ≤ le → le ≤ 65536 → Carries Le3 0 le
 
--- 02, E4: the strict writer "refuses shape 6, and Lc 0 in shape 7 .. and is otherwise the writer"
+-- 02, E4: the strict writer "refuses .. Lc 0 in shape 7 .. and is otherwise the writer"
 pub record CarriesStrictly (s : Case) (count le : ℕ) : Type 0 where
   pub carries : Carries s count le
   pub row : IsoRow (shapeNo s) count

@@ -4,9 +4,9 @@ use lib.ListN.{replicate}
 use Rattle.outcome.specs.Notation.{if_then_else_}
 use Rattle.outcome.specs.Outcome.{StatusWord, Outcome, R, Word, SW, Gives, missingAt, surplusAt}
 use Rattle.octets.specs.Bytes.{byte, pairAt, partOf, laid}
-use Rattle.apdu_stated.specs.Words.{Bool, not, _&&_, List, [], _∷_, _++_, length, drop, leb, ltb, eqb, Case, Instruction, Le1, Lc1Data, Lc1DataLe1, Lc3Data, Lc3DataLe1, Lc3DataLe2, Le3, shapeNo}
+use Rattle.apdu_stated.specs.Words.{Bool, not, _&&_, List, [], _∷_, _++_, length, drop, leb, ltb, eqb, Case, Instruction, Le1, Lc1Data, Lc1DataLe1, Lc3Data, Lc3DataLe2, Le3, shapeNo}
 use Rattle.apdu_stated.specs.Answers.{Apdu, Place, Says, saysOf}
-use Rattle.apdu_stated.specs.Table.{TableRow, columns, rowOf, lcFits, canCarry, carriedBy}
+use Rattle.apdu_stated.specs.Table.{TableRow, columns, rowOf, lcLeast, lcFits, leRead, canCarry, carriedBy}
 use Rattle.apdu_stated.specs.Reading.{Ordinary, Strict, lengthsOf, readOf, strictOf, headerOf, placeOf}
 use Rattle.apdu_stated.specs.Writing.{Parts, partsOf, frameOf, writeBy, bufferBy, writingOf, strictWritingOf}
 use Rattle.apdu_stated.specs.declared.Lengths.{Lengths}
@@ -96,9 +96,31 @@ surplusAtTheEnd frame = withPair 2 (λ place. surplusAt (length frame)) (readOf 
 abbrev pub short00AsSurplus : List ℕ → Outcome Says
 short00AsSurplus frame = if eqb (length frame) 6 && eqb (byte frame 4) 0x00 then surplusAt 5 else readOf frame
 
--- "shape 6 in the strict reading is surplus at its Le byte, 7 + Lc": here at 9 + Lc, as for every other extended frame
+-- ---- the old form: "surplus at its Le byte", 7 + Lc
+-- an extended Lc with one byte behind the data
+abbrev isOld : List ℕ → Bool
+isOld frame = eqb (byte frame 4) 0x00 && eqb (length frame) (8 + pairAt frame 5)
+
+-- here it is still read, by the ordinary reading, and here by the strict one
+abbrev oldSaid : List ℕ → Outcome Says
+oldSaid frame = Gives (saying (headerOf frame) 6 7 (pairAt frame 5) (leRead 1 (byte frame (7 + pairAt frame 5))))
+
+abbrev pub oldFormStillRead : List ℕ → Outcome Says
+oldFormStillRead frame = if isOld frame then oldSaid frame else readOf frame
+
+abbrev pub strictTakesShape6 : List ℕ → Outcome Says
+strictTakesShape6 frame = if isOld frame then oldSaid frame else strictOf frame
+
+-- here the place is one byte late, behind the Le byte; and here it is 9 + Lc, as for every other extended frame
+abbrev pub oldFormOneLate : List ℕ → Outcome Says
+oldFormOneLate frame = if isOld frame then surplusAt (8 + pairAt frame 5) else readOf frame
+
 abbrev pub strictSixAt9 : List ℕ → Outcome Says
-strictSixAt9 frame = if eqb (byte frame 4) 0x00 && eqb (length frame) (8 + pairAt frame 5) then surplusAt (9 + pairAt frame 5) else strictOf frame
+strictSixAt9 frame = if isOld frame then surplusAt (9 + pairAt frame 5) else strictOf frame
+
+-- here the old form counts as a frame that misses its second byte of Le
+abbrev pub oldFormMissing : List ℕ → Outcome Says
+oldFormMissing frame = if isOld frame then missingAt (length frame) else readOf frame
 
 -- the number alone
 abbrev withoutPair : Outcome Says → Outcome Says
@@ -110,10 +132,6 @@ abbrev pub pairDropped : List ℕ → Outcome Says
 pairDropped frame = withoutPair (readOf frame)
 
 -- ---- the strict entry
-
--- "the shapes above without shape 6"
-abbrev pub strictTakesShape6 : List ℕ → Outcome Says
-strictTakesShape6 frame = readOf frame
 
 abbrev pub strictRefusesEverything : List ℕ → Outcome Says
 strictRefusesEverything frame = SW 0x6700
@@ -161,9 +179,13 @@ shape8Numbered7 s = if eqb (shapeNo s) 8 then 7 else shapeNo s
 abbrev pub numberedFrom0 : Case → ℕ
 numberedFrom0 s = shapeNo s - 1
 
--- row 6: "Lc 0..65535"; row 8: "00, Le (2)"
-abbrev pub shape6FromLc1 : Case → TableRow
-shape6FromLc1 s = if eqb (shapeNo s) 6 then columns 3 1 1 else rowOf s
+-- "7 and 8 keep their numbers": here they move up, where 6 was
+abbrev pub numbersMovedUp : Case → ℕ
+numbersMovedUp s = if ltb 6 (shapeNo s) then shapeNo s - 1 else shapeNo s
+
+-- row 7: "Lc 0..65535"; row 8: "00, Le (2)"
+abbrev pub shape7FromLc1 : Case → TableRow
+shape7FromLc1 s = if eqb (shapeNo s) 7 then columns 3 1 2 else rowOf s
 
 abbrev pub shape8OfTwoBytes : Case → TableRow
 shape8OfTwoBytes s = if eqb (shapeNo s) 8 then columns 0 0 2 else rowOf s
@@ -220,15 +242,12 @@ le257Taken w old = if eqb (w .le) 257 then (Gives (length (frameOf w)), laid (fr
 
 -- ---- the strict writer
 
--- "refuses shape 6, and Lc 0 in shape 7": here it writes the one, here the other, and here a table says that the other can be carried
-abbrev pub strictWritesShape6 : Parts → List ℕ → Outcome ℕ × List ℕ
-strictWritesShape6 w old = if eqb (shapeNo (w .shape)) 6 then writingOf w old else strictWritingOf w old
-
+-- "refuses .. Lc 0 in shape 7": here it writes that, and here a table says that it can be carried
 abbrev pub strictWritesNoData : Parts → List ℕ → Outcome ℕ × List ℕ
 strictWritesNoData w old = if eqb (shapeNo (w .shape)) 7 && eqb (length (w .content)) 0 then writingOf w old else strictWritingOf w old
 
 abbrev pub strictRowOfNoData : Case → ℕ → Bool
-strictRowOfNoData s count = not (eqb (shapeNo s) 6)
+strictRowOfNoData s count = leb (lcLeast s) count
 
 abbrev pub strictCarriesNoData : Case → ℕ → ℕ → Bool
 strictCarriesNoData s count le = if eqb (shapeNo s) 7 then canCarry s count le else carriedBy Strict s count le

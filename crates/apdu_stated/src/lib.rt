@@ -9,15 +9,13 @@ pub struct ApduHeader {
     pub p2: u8,
 }
 
-// The eight shapes. The names say the fields after the header: Lc3DataLe2 has three bytes of Lc, data and two of Le.
+// The seven shapes; the sixth of document 01 is retired. The names say the fields after the header: Lc3DataLe2 has three bytes of Lc, data and two of Le.
 pub enum Case {
     Instruction,
     Le1,
     Lc1Data,
     Lc1DataLe1,
     Lc3Data,
-    // No case of ISO 7816-3: some clients put a short Le behind an extended Lc.
-    Lc3DataLe1,
     Lc3DataLe2,
     Le3,
 }
@@ -42,7 +40,7 @@ pub enum Reading {
     Status(ApduStatusCode),
 }
 
-// Which table a frame is read by: document 01's eight shapes, or ISO 7816-3's seven cases (no shape 6, no Lc of 0).
+// Which table a frame is read by: the seven shapes, or ISO 7816-3's seven cases, which have no Lc of 0.
 pub enum Entry {
     Ordinary,
     Strict,
