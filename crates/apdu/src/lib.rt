@@ -36,7 +36,6 @@ pub fn shape_number(shape: Case) -> u8
         Case::Lc1Data => 3,
         Case::Lc1DataLe1 => 4,
         Case::Lc3Data => 5,
-        Case::Lc3DataLe1 => 6,
         Case::Lc3DataLe2 => 7,
         Case::Le3 => 8,
     }

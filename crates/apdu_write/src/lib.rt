@@ -78,7 +78,7 @@ pub fn write(header: ApduHeader, shape: Case, content: &[u8], le: u32, out: &mut
     Written::Frame(n)
 }
 
-// The strict writer, by ISO's seven cases: R5 for shape 6 and for shape 7 without data, then as the writer.
+// The strict writer, by ISO's seven cases: R5 for shape 7 without data, then as the writer.
 pub fn write_strict(
     header: ApduHeader,
     shape: Case,

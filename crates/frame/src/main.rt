@@ -19,7 +19,6 @@ fn print_shape(shape: Case) {
         Case::Lc1Data => print(b"Lc1Data"),
         Case::Lc1DataLe1 => print(b"Lc1DataLe1"),
         Case::Lc3Data => print(b"Lc3Data"),
-        Case::Lc3DataLe1 => print(b"Lc3DataLe1"),
         Case::Lc3DataLe2 => print(b"Lc3DataLe2"),
         Case::Le3 => print(b"Le3"),
     }

@@ -29,7 +29,6 @@ pub fn shape_numbered(number: u32) -> Shaped
         3 => Shaped::As(Case::Lc1Data),
         4 => Shaped::As(Case::Lc1DataLe1),
         5 => Shaped::As(Case::Lc3Data),
-        6 => Shaped::As(Case::Lc3DataLe1),
         7 => Shaped::As(Case::Lc3DataLe2),
         8 => Shaped::As(Case::Le3),
         _ => Shaped::Nothing,

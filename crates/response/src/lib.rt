@@ -47,7 +47,6 @@ pub fn limit(says: Apdu) -> u32
         Case::Lc1Data => short_limit(le),
         Case::Lc1DataLe1 => short_limit(le),
         Case::Lc3Data => WHOLE,
-        Case::Lc3DataLe1 => WHOLE,
         Case::Lc3DataLe2 => WHOLE,
         Case::Le3 => WHOLE,
     }

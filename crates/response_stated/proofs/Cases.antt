@@ -15,7 +15,7 @@ use Rattle.outcome.specs.declared.Refusal.{Refusal}
 use Rattle.outcome.proofs.Laws.{gives-same, r-gives}
 use Rattle.octets.specs.Bytes.{byte, bytes2, laid, partOf}
 use Rattle.octets.proofs.Laws.{laid-then, part-within, length-part}
-use Rattle.apdu_stated.specs.declared.Case.the-variants.{Instruction, Le1, Lc1Data, Lc1DataLe1, Lc3Data, Lc3DataLe1, Lc3DataLe2, Le3}
+use Rattle.apdu_stated.specs.declared.Case.the-variants.{Instruction, Le1, Lc1Data, Lc1DataLe1, Lc3Data, Lc3DataLe2, Le3}
 use Rattle.response_stated.specs.Words.{Apdu, Says, saysOf, Remainder, WroteResponse, rest, Response, Sent, responseWritten}
 use Rattle.response_stated.specs.Responses.{responseOf, writeResponseOf, responseLaid, readResponseOf, responseBodyOf}
 use Rattle.response_stated.specs.Parts.{limitOf, partLength, leftStatus, restAfter, nextPartOf, partBytes, partResponse, partLaid}
@@ -52,10 +52,6 @@ module _ (says : Apdu) where
   pub limit-5 : says .shape ≡ Lc3Data → 0 ≡ limitOf (saysOf says)
   unfolding limitOf
   limit-5 s = rw s
-
-  pub limit-6 : says .shape ≡ Lc3DataLe1 → 0 ≡ limitOf (saysOf says)
-  unfolding limitOf
-  limit-6 s = rw s
 
   pub limit-7 : says .shape ≡ Lc3DataLe2 → 0 ≡ limitOf (saysOf says)
   unfolding limitOf

@@ -76,8 +76,8 @@ saying shape le = record { header = record { cla = 0x00; ins = 0x03; p1 = 0x00; 
 pub extendedCut : Claims.LimitExactly Wrong.extendedCut → ⊥
 extendedCut p = omega (arith, p .extended (saying 8 1) (omega arith))
 
-pub sixIsShort : Claims.LimitExactly Wrong.sixIsShort → ⊥
-sixIsShort p = omega (arith, p .extended (saying 6 5) (omega arith))
+pub smallLeIsShort : Claims.LimitExactly Wrong.smallLeIsShort → ⊥
+smallLeIsShort p = omega (arith, p .extended (saying 7 5) (omega arith))
 
 pub absentIsNone : Claims.LimitExactly Wrong.absentIsNone → ⊥
 absentIsNone p = omega (arith, p .absent (saying 1 0) (omega arith) refl)
@@ -94,11 +94,11 @@ extendedCutRead p =
     let frame : List ℕ = 0x00 ∷ 0x03 ∷ 0x00 ∷ 0x00 ∷ 0x00 ∷ 0x00 ∷ 0x01 ∷ [] in
     omega (arith, p .none frame (saying 8 1) (bytes-of frame refl) refl .1 (omega arith))
 
-pub sixIsShortRead : Claims.LimitOfFrames readOf Wrong.sixIsShort → ⊥
+pub smallLeIsShortRead : Claims.LimitOfFrames readOf Wrong.smallLeIsShort → ⊥
 unfolding small readBy sayOf lengthsOf extendedOf afterData
-sixIsShortRead p =
-    let frame : List ℕ = 0x00 ∷ 0x03 ∷ 0x00 ∷ 0x00 ∷ 0x00 ∷ 0x00 ∷ 0x00 ∷ 0x05 ∷ [] in
-    let said : Says = record { header = saying 6 5 .header; shape = 6; dataAt = 7; lc = 0; le = 5 } in
+smallLeIsShortRead p =
+    let frame : List ℕ = 0x00 ∷ 0x03 ∷ 0x00 ∷ 0x00 ∷ 0x00 ∷ 0x00 ∷ 0x00 ∷ 0x00 ∷ 0x05 ∷ [] in
+    let said : Says = record { header = saying 7 5 .header; shape = 7; dataAt = 7; lc = 0; le = 5 } in
     omega (arith, p .none frame said (bytes-of frame refl) refl .1 (omega arith))
 
 -- ---- nothing left

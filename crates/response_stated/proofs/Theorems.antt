@@ -11,7 +11,7 @@ use Rattle.outcome.specs.Outcome.{Outcome, R, Gives}
 use Rattle.outcome.proofs.Laws.{gives-same, r-gives, both-are}
 use Rattle.octets.specs.Bytes.{byte, AreBytes}
 use Rattle.octets.proofs.Laws.{field-at}
-use Rattle.apdu_stated.specs.Terms.{InTable, OneByteLe, full, plain, row1, row2, row3, row4, row5, row6, row7, row8}
+use Rattle.apdu_stated.specs.Terms.{InTable, OneByteLe, full, plain, row1, row2, row3, row4, row5, row7, row8}
 use Rattle.apdu_stated.specs.Reading.{readOf, readBy, sayOf, lengthsOf}
 use Rattle.apdu_stated.proofs.Laws.{read-exactly}
 use Rattle.response_stated.specs.Words.{Says, Remainder, rest, Response, Sent}
@@ -132,7 +132,6 @@ short-le frame says content table h = go table h
     go (row3 low high) g = omega arith
     go (row4 low high le) g = one-byte le
     go (row5 some pair) g = absurd (omega arith)
-    go (row6 pair le) g = absurd (omega arith)
     go (row7 pair le) g = absurd (omega arith)
     go (row8 le) g = absurd (omega arith)
 

@@ -50,15 +50,15 @@ ReadThenWritten read cut write =
 -- ---- how much a frame takes
 
 -- 02, E2: "For shapes 1 to 4, a body longer than Le (256 where absent) is cut"; "Extended shapes get the whole body": no limit, said as 0 (ours).
--- An absent Le is read as 0. Rejects a limit of 256 for extended shapes (`extendedCut`), shape 6 taken for a short one (`sixIsShort`), and an absent
--- Le taken for no limit (`absentIsNone`). Bites at shapes 1, 6 and 8.
+-- An absent Le is read as 0. Rejects a limit of 256 for extended shapes (`extendedCut`), an extended shape with a small Le taken for a short
+-- one (`smallLeIsShort`), and an absent Le taken for no limit (`absentIsNone`). Bites at shapes 1, 7 and 8.
 pub record LimitExactly (limit : Says → ℕ) : Type 0 where
   pub said : (says : Says) → says .shape ≤ 4 → 1 ≤ says .le → limit says ≡ says .le
   pub absent : (says : Says) → says .shape ≤ 4 → says .le ≡ 0 → limit says ≡ 256
   pub extended : (says : Says) → 5 ≤ says .shape → limit says ≡ 0
 
--- E2's request: "the limit is 1 to 256, or 0 for none": of every frame that is read, and none exactly in shapes 5 to 8.
--- Rejects `absentIsNone` at a frame of four bytes, `extendedCut` at shape 8 and `sixIsShort` at shape 6.
+-- E2's request: "the limit is 1 to 256, or 0 for none": of every frame that is read, and none exactly in shapes 5, 7 and 8.
+-- Rejects `absentIsNone` at a frame of four bytes, `extendedCut` at shape 8 and `smallLeIsShort` at shape 7.
 pub record LimitOfFrames (read : List ℕ → Outcome Says) (limit : Says → ℕ) : Type 0 where
   pub most : (frame : List ℕ) (says : Says) → AreBytes frame → read frame ≡ Gives says → limit says ≤ 256
   pub none : (frame : List ℕ) (says : Says) → AreBytes frame → read frame ≡ Gives says → (limit says ≡ 0) ↔ (5 ≤ says .shape)

@@ -1,5 +1,5 @@
 -- Wrong programs, one fault each. proofs/Refuted.antt shows the claim that is false of each.
-use mathlib.Core.Bool.{_||_}
+use mathlib.Core.Bool.{_&&_}
 use lib.ListN.{replicate}
 use Rattle.response_stated.specs.Words.{ℕ, _+_, _-_, _*_, _/_, _%_, List, [], _∷_, _++_, ltb, leb, eqb, if_then_else_, length, take, drop, Outcome, R, Gives, byte, bytes2, pairAt, laid, Says, Remainder, rest, Response, Sent}
 use Rattle.response_stated.specs.Responses.{responseOf}
@@ -71,11 +71,9 @@ cutOneShort bytes = take (length bytes - 3) bytes
 abbrev pub extendedCut : Says → ℕ
 extendedCut said = if leb (said .shape) 4 then limitOf said else 256
 
--- shape 6 has an Le of one byte, and is taken for a short one
-abbrev pub sixIsShort : Says → ℕ
-sixIsShort said =
-    if leb (said .shape) 4 || eqb (said .shape) 6 then (if eqb (said .le) 0 then 256 else said .le)
-    else 0
+-- "Extended shapes get the whole body": here one whose Le a single byte could say is taken for a short one
+abbrev pub smallLeIsShort : Says → ℕ
+smallLeIsShort said = if leb 5 (said .shape) && leb 1 (said .le) && leb (said .le) 256 then said .le else limitOf said
 
 -- "256 where absent": here an absent Le is no limit
 abbrev pub absentIsNone : Says → ℕ

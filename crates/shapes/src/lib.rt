@@ -1,4 +1,4 @@
-// The eight shapes in code: a shape's row of the table, what a shape can carry, which rows the strict table has, and which shape a
+// The seven shapes in code: a shape's row of the table, what a shape can carry, which rows the strict table has, and which shape a
 // payload is in by either table. Reading and writing of whole frames stand on it (apdu, apdu_write). The tables themselves are
 // apdu_stated's specs/Table.antt.
 ghost use Prim.Native.Nat.{_+_, _<_, _≤_};
@@ -6,7 +6,7 @@ ghost use mathlib.Core.Path.{_≡_};
 ghost use lib.ListN.{length};
 ghost use Rattle.octets.specs.Bytes.{byte};
 ghost use Rattle.apdu_stated.specs.Table.{lcMost, lcUnder};
-ghost use Rattle.apdu_stated.specs.Reading.{shortOf, loneLe, extendedOf, afterData};
+ghost use Rattle.apdu_stated.specs.Reading.{shortOf, extendedOf, afterData};
 ghost use Rattle.apdu_stated.specs.Contracts.{Row, StrictHas, Fits, Payload, lcFound};
 use apdu_stated::Case;
 use apdu_stated::Entry;
@@ -33,7 +33,6 @@ pub fn row(shape: Case) -> TableRow
         Case::Lc1Data => columns(1, 1, 0),
         Case::Lc1DataLe1 => columns(1, 1, 1),
         Case::Lc3Data => columns(3, 1, 0),
-        Case::Lc3DataLe1 => columns(3, 0, 1),
         Case::Lc3DataLe2 => columns(3, 0, 2),
         Case::Le3 => columns(0, 0, 3),
     }
@@ -49,8 +48,7 @@ fn lc_most(long: usize) -> usize
     if long == 1 { 255 } else { 65535 }
 }
 
-// Whether the strict table has a row for so many bytes of data in this shape: ISO has no case with a one-byte Le behind an extended Lc,
-// and none with an Lc field that says 0.
+// Whether the strict table has a row for so many bytes of data in this shape: ISO has no case with an Lc field that says 0.
 pub fn strict_has(shape: Case, count: usize) -> bool
     ensures { λ r. ⌜ StrictHas shape count r ⌝ }
 {
@@ -60,7 +58,6 @@ pub fn strict_has(shape: Case, count: usize) -> bool
         Case::Lc1Data => count != 0,
         Case::Lc1DataLe1 => count != 0,
         Case::Lc3Data => count != 0,
-        Case::Lc3DataLe1 => false,
         Case::Lc3DataLe2 => count != 0,
         Case::Le3 => true,
     }
@@ -98,21 +95,10 @@ fn short(p: &[u8], lc: u8) -> Lengths
     Lengths::Surplus(6 + n)
 }
 
-// An extended Lc, data, and one byte of Le: ISO has no such case.
-fn lone_le(p: &[u8], n: usize, entry: Entry) -> Lengths
-    requires { ⌜ (length (now p) ≡ 4 + n) × (n ≤ 65535) ⌝ }
-    ensures { λ r. ⌜ (r ≡ loneLe entry (now (p .entry)) n) × (lcFound r ≤ 65535) ⌝ }
-{
-    match entry {
-        Entry::Ordinary => Lengths::Found(Case::Lc3DataLe1, n, le::read(&p[3 + n..4 + n])),
-        Entry::Strict => Lengths::Surplus(7 + n),
-    }
-}
-
-// Data of lc bytes after an extended Lc, and perhaps Le.
-fn after_data(p: &[u8], lc: u16, entry: Entry) -> Lengths
+// Data of lc bytes after an extended Lc, and perhaps Le. One byte behind the data was shape 6's Le, and no field claims it any more.
+fn after_data(p: &[u8], lc: u16) -> Lengths
     requires { ⌜ 3 < length (now p) ⌝ }
-    ensures { λ r. ⌜ (r ≡ afterData entry (now (p .entry)) lc) × (lcFound r ≤ 65535) ⌝ }
+    ensures { λ r. ⌜ (r ≡ afterData (now (p .entry)) lc) × (lcFound r ≤ 65535) ⌝ }
 {
     let n = lc as usize;
     if p.len() < 3 + n {
@@ -122,7 +108,7 @@ fn after_data(p: &[u8], lc: u16, entry: Entry) -> Lengths
         return Lengths::Found(Case::Lc3Data, n, 0);
     }
     if p.len() == 4 + n {
-        return lone_le(p, n, entry);
+        return Lengths::Surplus(7 + n);
     }
     if p.len() == 5 + n {
         return Lengths::Found(Case::Lc3DataLe2, n, le::read(&p[3 + n..5 + n]));
@@ -155,7 +141,7 @@ fn extended(p: &[u8], entry: Entry) -> Lengths
     if lc_under(lc, entry) {
         return Lengths::Surplus(7);
     }
-    after_data(p, lc, entry)
+    after_data(p, lc)
 }
 
 // What a payload, the bytes after the header, says.

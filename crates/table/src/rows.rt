@@ -3,18 +3,17 @@
 // specs/Rows.antt, in their order, is what `ordinary` and `strict` ensure.
 ghost use Rattle.table_stated.specs.Contracts.{OrdinaryRows, StrictRows};
 
-const ORDINARY: [[u8; 4]; 8] = [
+const ORDINARY: [[u8; 4]; 7] = [
     [1, 0, 0, 0], // 1 | Instruction | empty |
     [2, 0, 0, 1], // 2 | Le1 | Le (1 byte) |
     [3, 1, 1, 0], // 3 | Lc1Data | Lc, data | Lc 1..255
     [4, 1, 1, 1], // 4 | Lc1DataLe1 | Lc, data, Le (1) | Lc 1..255
     [5, 3, 1, 0], // 5 | Lc3Data | 00, Lc (2), data | Lc 1..65535
-    [6, 3, 0, 1], // 6 | Lc3DataLe1 | 00, Lc (2), data, Le (1) | Lc 0..65535
     [7, 3, 0, 2], // 7 | Lc3DataLe2 | 00, Lc (2), data, Le (2) | Lc 0..65535
     [8, 0, 0, 3], // 8 | Le3 | 00, Le (2) |
 ];
 
-// The same with another least Lc in row 7, and without row 6.
+// The same with another least Lc in row 7.
 const STRICT: [[u8; 4]; 7] = [
     [1, 0, 0, 0], // 1 | Instruction | empty |
     [2, 0, 0, 1], // 2 | Le1 | Le (1 byte) |
@@ -25,8 +24,8 @@ const STRICT: [[u8; 4]; 7] = [
     [8, 0, 0, 3], // 8 | Le3 | 00, Le (2) |
 ];
 
-// Document 01's eight shapes.
-pub fn ordinary() -> [[u8; 4]; 8]
+// Document 01's shapes, without the retired sixth.
+pub fn ordinary() -> [[u8; 4]; 7]
     ensures { λ r. ⌜ OrdinaryRows r ⌝ }
 {
     ORDINARY

@@ -17,7 +17,7 @@ use Rattle.table_stated.specs.Rows.{tableOf}
 use Rattle.table_stated.specs.Trying.{endsEarly, claimed, inTurn, triedOf}
 use Rattle.table_stated.specs.Answers.{answerOf, readByRows}
 use Rattle.table_stated.specs.Terms.{Has, here, behind}
-use Rattle.table_stated.proofs.Fitting.{RowIs, is-1, is-2, is-3, is-4, is-5, is-6, is-7, is-8, fit-reads}
+use Rattle.table_stated.proofs.Fitting.{RowIs, is-1, is-2, is-3, is-4, is-5, is-7, is-8, fit-reads}
 use Rattle.table_stated.proofs.ByRows.{ByRows, fit, early, on, by-rows}
 use Rattle.table_stated.proofs.Turns.{Turn, chosen, short, past-all, turn, chosen-has, chosen-fits, no-row}
 
@@ -28,10 +28,9 @@ has-is Ordinary (behind here) = is-2
 has-is Ordinary (behind (behind here)) = is-3
 has-is Ordinary (behind (behind (behind here))) = is-4
 has-is Ordinary (behind (behind (behind (behind here)))) = is-5
-has-is Ordinary (behind (behind (behind (behind (behind here))))) = is-6 refl
-has-is Ordinary (behind (behind (behind (behind (behind (behind here)))))) = is-7
-has-is Ordinary (behind (behind (behind (behind (behind (behind (behind here))))))) = is-8
-has-is Ordinary (behind (behind (behind (behind (behind (behind (behind (behind h)))))))) = absurd (no-row h)
+has-is Ordinary (behind (behind (behind (behind (behind here))))) = is-7
+has-is Ordinary (behind (behind (behind (behind (behind (behind here)))))) = is-8
+has-is Ordinary (behind (behind (behind (behind (behind (behind (behind h))))))) = absurd (no-row h)
 has-is Strict here = is-1
 has-is Strict (behind here) = is-2
 has-is Strict (behind (behind here)) = is-3
@@ -47,15 +46,13 @@ is-has Ordinary is-2 = behind here
 is-has Ordinary is-3 = behind (behind here)
 is-has Ordinary is-4 = behind (behind (behind here))
 is-has Ordinary is-5 = behind (behind (behind (behind here)))
-is-has Ordinary (is-6 o) = behind (behind (behind (behind (behind here))))
-is-has Ordinary is-7 = behind (behind (behind (behind (behind (behind here)))))
-is-has Ordinary is-8 = behind (behind (behind (behind (behind (behind (behind here))))))
+is-has Ordinary is-7 = behind (behind (behind (behind (behind here))))
+is-has Ordinary is-8 = behind (behind (behind (behind (behind (behind here)))))
 is-has Strict is-1 = here
 is-has Strict is-2 = behind here
 is-has Strict is-3 = behind (behind here)
 is-has Strict is-4 = behind (behind (behind here))
 is-has Strict is-5 = behind (behind (behind (behind here)))
-is-has Strict (is-6 o) = let z : _≡_ {A = ℕ} 0 1 = cc in absurd (omega arith)
 is-has Strict is-7 = behind (behind (behind (behind (behind here))))
 is-has Strict is-8 = behind (behind (behind (behind (behind (behind here)))))
 

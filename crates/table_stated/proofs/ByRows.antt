@@ -5,6 +5,7 @@ use mathlib.Core.Path.{_≡_, refl, ap, sym, subst, _∙_}
 use mathlib.Core.Bool.{true, false, true≢false}
 use mathlib.Core.List.{List}
 use native.Mathlib.Omega.{arith}
+use native.Mathlib.Decide.{ℕ-discrete}
 use borrow.Author.Tests.{ltb-true}
 use lib.ListN.{length, drop}
 use Rattle.octets.specs.Bytes.{byte, pairAt}
@@ -12,21 +13,18 @@ use Rattle.apdu_stated.specs.Table.{leastOf, lcUnder}
 use Rattle.apdu_stated.specs.Terms.{EndsEarly, in-lc, in-short-data, in-extended-data}
 use Rattle.apdu_stated.specs.declared.Lengths.{Lengths}
 use Rattle.apdu_stated.specs.declared.Lengths.the-variants.{Found, Missing, Surplus}
-use Rattle.apdu_stated.proofs.Laws.{Way, none, le1, short, short-le, le3, wide, wide-le1, wide-le2, missing, short-surplus, le1-surplus, wide-surplus, zero-surplus, from-least, ordinary-has, least-one}
-use Rattle.table_stated.specs.Words.{Case, Lc3DataLe2, Entry, Ordinary, Strict, Row}
+use Rattle.apdu_stated.proofs.Laws.{Way, none, le1, short, short-le, le3, wide, wide-le2, missing, short-surplus, le1-surplus, wide-surplus, zero-surplus, from-least, least-one}
+use Rattle.table_stated.specs.Words.{Case, Lc3DataLe2, Entry, Row}
 use Rattle.table_stated.specs.Rows.{numbered}
 use Rattle.table_stated.specs.Trying.{begins, lcIn, rowEnd, fits, endsEarly, claimed}
 use Rattle.table_stated.proofs.Columns.{begins-other, begins-zero, begins-known, lc-none, lc-one, lc-three, IsLc, lc-0, lc-1, lc-3, row-lc, Stands, of-fits, early-of, of-early, of-stands, claimed-stands, claimed-most}
-use Rattle.table_stated.proofs.Fitting.{RowIs, is-1, is-2, is-3, is-4, is-5, is-6, is-7, is-8, payload-long, payload-byte, payload-pair}
+use Rattle.table_stated.proofs.Fitting.{RowIs, is-1, is-2, is-3, is-4, is-5, is-7, is-8, payload-long, payload-byte, payload-pair}
 
 pub data ByRows (entry : Entry) (frame : List ℕ) : Lengths → Type 0 where
   fit : {s : Case} {lc le : ℕ} → (r : Row) → RowIs entry r → fits r frame ≡ true → ByRows entry frame (Found s lc le)
   early : (r : Row) → RowIs entry r → endsEarly r frame ≡ true → ByRows entry frame Missing
   on : (k : ℕ) → ((r : Row) → endsEarly r frame ≡ true → ⊥) → ((r : Row) → RowIs entry r → claimed r frame ≤ k)
       → (r : Row) → RowIs entry r → claimed r frame ≡ k → ByRows entry frame (Surplus k)
-
-not-ordinary : Strict ≡ Ordinary → ⊥
-not-ordinary e = let z : _≡_ {A = ℕ} 0 1 = cc in omega arith
 
 -- no row's Lc field or data ends behind the frame
 none-early : (frame : List ℕ) → 4 ≤ length frame → (5 ≤ length frame → 5 + byte frame 4 ≤ length frame) → 5 ≤ length frame
@@ -88,15 +86,14 @@ module _ (entry : Entry) (frame : List ℕ) (long : 4 ≤ length frame) where
       go is-3 t = omega (arith, one)
       go is-4 t = omega (arith, one)
       go is-5 t = absurd (never refl t)
-      go (is-6 o) t = absurd (never refl t)
       go is-7 t = absurd (never refl t)
       go is-8 t = omega (arith, z0)
 
-  -- and where it does: by the least Lc of rows 5 and 7, and by row 6
+  -- and where it does: by the least Lc of rows 5 and 7
   most-extended : (k : ℕ) → byte frame 4 ≡ 0 → 7 ≤ length frame → 7 ≤ k → (1 ≤ pairAt frame 5 → 7 + pairAt frame 5 ≤ k)
-      → (entry ≡ Ordinary → 8 + pairAt frame 5 ≤ k) → (leastOf entry Lc3DataLe2 ≤ pairAt frame 5 → 9 + pairAt frame 5 ≤ length frame → 9 + pairAt frame 5 ≤ k)
+      → (leastOf entry Lc3DataLe2 ≤ pairAt frame 5 → 9 + pairAt frame 5 ≤ length frame → 9 + pairAt frame 5 ≤ k)
       → (r : Row) → RowIs entry r → claimed r frame ≤ k
-  most-extended k z h seven five six last r is = claimed-most r frame k (go is)
+  most-extended k z h seven five last r is = claimed-most r frame k (go is)
     where
       one : byte frame 4 ≡ lcIn 1 frame
       one = lc-one frame (omega arith)
@@ -110,12 +107,23 @@ module _ (entry : Entry) (frame : List ℕ) (long : 4 ≤ length frame) where
       go is-3 t = absurd (omega (arith, one))
       go is-4 t = absurd (omega (arith, one))
       go is-5 t = let a = five (omega (arith, three)) in omega (arith, three)
-      go (is-6 o) t = let a = six o in omega (arith, three)
       go is-7 t = let a = last (rw three (t .least)) (omega (arith, three)) in omega (arith, three)
       go is-8 t = omega (arith, z0)
 
   attained : (r : Row) (k : ℕ) → Stands r frame → rowEnd r frame ≡ k → claimed r frame ≡ k
   attained r k t e = claimed-stands r frame (of-stands r frame t) ∙ e
+
+  -- one byte behind the data: the most is row 5's, or row 8's where there is none
+  one-behind : byte frame 4 ≡ 0 → length frame ≡ 8 + pairAt frame 5 → Dec (pairAt frame 5 ≡ 0) → ByRows entry frame (Surplus (7 + pairAt frame 5))
+  one-behind z h d =
+      on (7 + pairAt frame 5)
+      (none-early frame long (λ q. omega arith) (omega arith) (λ q. (omega arith, omega arith)))
+      (most-extended (7 + pairAt frame 5) z (omega arith) (omega arith) (λ q. omega arith) (λ a b. absurd (omega arith)))
+      (top d .0) (top d .1) (top d .2)
+    where
+      top : Dec (pairAt frame 5 ≡ 0) → (r : Row) × RowIs entry r × (claimed r frame ≡ 7 + pairAt frame 5)
+      top (yes empty) = (numbered 8 0 0 3, is-8, attained _ _ (fits-8 z (omega arith)) (omega (arith, z0)))
+      top (no some) = let l = lc-three frame (omega arith) in (numbered 5 3 1 0, is-5, attained _ _ (fits-5 z some (omega arith)) (omega arith))
 
   at-missing : EndsEarly (drop 4 frame) → ByRows entry frame Missing
   at-missing (in-lc two z h) =
@@ -145,10 +153,6 @@ module _ (entry : Entry) (frame : List ℕ) (long : 4 ≤ length frame) where
   by-rows (wide z nz e) =
       let l = lc-three frame (omega (arith, n)) in
       fit (numbered 5 3 1 0) is-5 (of-fits _ frame (fits-5 (sym p0 ∙ z) (λ q. nz (pp ∙ q)) (omega (arith, n, pp))) (omega (arith, n, pp)))
-  by-rows (wide-le1 o z e) =
-      let l = lc-three frame (omega (arith, n)) in
-      let t : Stands (numbered 6 3 0 1) frame = record { is-row = refl; begin = begins-zero 3 4 frame (sym p0 ∙ z); least = omega arith; within = omega (arith, n, pp); le-begin = begins-other 1 _ frame (omega arith) } in
-      fit (numbered 6 3 0 1) (is-6 o) (of-fits _ frame t (omega (arith, n, pp)))
   by-rows (wide-le2 d z e) =
       let l = lc-three frame (omega (arith, n)) in
       fit _ is-7 (of-fits _ frame (fits-7 d (sym p0 ∙ z) (omega (arith, n, pp))) (omega (arith, n, pp)))
@@ -161,29 +165,20 @@ module _ (entry : Entry) (frame : List ℕ) (long : 4 ≤ length frame) where
       (none-early frame long (λ q. omega (arith, n, p0)) (omega (arith, n)) (λ q. absurd (some q)))
       (most-short some (omega (arith, n)))
       (numbered 4 1 1 1) is-4 (attained _ _ (fits-4 some (omega (arith, n, p0))) (omega arith)))
-  by-rows (le1-surplus o d z h) =
-      let zero : byte frame 4 ≡ 0 = sym p0 ∙ z in
-      let low : leastOf Strict Lc3DataLe2 ≤ pairAt (drop 4 frame) 1 = subst (λ (e : Entry). leastOf e Lc3DataLe2 ≤ pairAt (drop 4 frame) 1) o (from-least entry _ d) in
-      let l = lc-three frame (omega (arith, n)) in
-      rw pp
-      (on (7 + pairAt frame 5)
-      (none-early frame long (λ q. omega (arith, n)) (omega (arith, n)) (λ q. (omega (arith, n), omega (arith, n, pp))))
-      (most-extended (7 + pairAt frame 5) zero (omega (arith, n)) (omega arith) (λ q. omega arith) (λ q. absurd (not-ordinary (sym o ∙ q))) (λ a b. absurd (omega (arith, n, pp))))
-      (numbered 5 3 1 0) is-5 (attained _ _ (fits-5 zero (omega (arith, pp)) (omega (arith, n, pp))) (omega arith)))
+  by-rows (le1-surplus d z h) = rw pp (one-behind (sym p0 ∙ z) (omega (arith, n, pp)) (ℕ-discrete (pairAt frame 5) 0))
   by-rows (wide-surplus d z h) =
       let zero : byte frame 4 ≡ 0 = sym p0 ∙ z in
       let l = lc-three frame (omega (arith, n)) in
       rw pp
       (on (9 + pairAt frame 5)
       (none-early frame long (λ q. omega (arith, n)) (omega (arith, n)) (λ q. (omega (arith, n), omega (arith, n, pp))))
-      (most-extended (9 + pairAt frame 5) zero (omega (arith, n)) (omega arith) (λ q. omega arith) (λ q. omega arith) (λ a b. omega arith))
+      (most-extended (9 + pairAt frame 5) zero (omega (arith, n)) (omega arith) (λ q. omega arith) (λ a b. omega arith))
       _ is-7 (attained _ _ (fits-7 d zero (omega (arith, n, pp))) (omega arith)))
   by-rows (zero-surplus d z h) =
       let zero : byte frame 4 ≡ 0 = sym p0 ∙ z in
       let under : pairAt (drop 4 frame) 1 < leastOf entry Lc3DataLe2 = ltb-true (pairAt (drop 4 frame) 1) (leastOf entry Lc3DataLe2) d in
       let most = least-one entry Lc3DataLe2 in
-      let ordinary : entry ≡ Ordinary → ⊥ = λ q. true≢false (sym d ∙ rw q (ordinary-has (pairAt (drop 4 frame) 1))) in
       on 7
       (none-early frame long (λ q. omega (arith, n)) (omega (arith, n)) (λ q. (omega (arith, n), omega (arith, n, pp))))
-      (most-extended 7 zero (omega (arith, n)) (omega arith) (λ q. absurd (omega (arith, pp))) (λ q. absurd (ordinary q)) (λ a b. absurd (omega (arith, pp))))
+      (most-extended 7 zero (omega (arith, n)) (omega arith) (λ q. absurd (omega (arith, pp))) (λ a b. absurd (omega (arith, pp))))
       (numbered 8 0 0 3) is-8 (attained _ _ (fits-8 zero (omega (arith, n))) (omega (arith, z0)))

@@ -9,11 +9,11 @@ use lib.Seq.{getD-drop}
 use Rattle.outcome.specs.Outcome.{Gives}
 use Rattle.octets.specs.Bytes.{byte, pairAt}
 use Rattle.apdu_stated.specs.Table.{lcField, leRead, leastOf, lcUnder}
-use Rattle.apdu_stated.specs.Reading.{readBy, lengthsOf, sayOf, afterData, loneLe}
+use Rattle.apdu_stated.specs.Reading.{readBy, lengthsOf, sayOf, afterData}
 use Rattle.apdu_stated.specs.declared.Lengths.{Lengths}
 use Rattle.apdu_stated.specs.declared.Lengths.the-variants.{Found}
 use Rattle.apdu_stated.proofs.Laws as Frames
-use Rattle.table_stated.specs.Words.{Case, Instruction, Le1, Lc1Data, Lc1DataLe1, Lc3Data, Lc3DataLe1, Lc3DataLe2, Le3, shapeNo, Entry, Ordinary, Row}
+use Rattle.table_stated.specs.Words.{Case, Instruction, Le1, Lc1Data, Lc1DataLe1, Lc3Data, Lc3DataLe2, Le3, shapeNo, Entry, Row}
 use Rattle.table_stated.specs.Rows.{numbered}
 use Rattle.table_stated.specs.Trying.{lcIn, leIn, dataEnd, rowEnd, fits}
 use Rattle.table_stated.specs.Answers.{saysBy}
@@ -26,7 +26,6 @@ pub data RowIs (entry : Entry) : Row → Type 0 where
   is-3 : RowIs entry (numbered 3 1 1 0)
   is-4 : RowIs entry (numbered 4 1 1 1)
   is-5 : RowIs entry (numbered 5 3 1 0)
-  is-6 : entry ≡ Ordinary → RowIs entry (numbered 6 3 0 1)
   is-7 : RowIs entry (numbered 7 3 (leastOf entry Lc3DataLe2) 2)
   is-8 : RowIs entry (numbered 8 0 0 3)
 
@@ -47,7 +46,7 @@ module _ (entry : Entry) (frame : List ℕ) (long : 4 ≤ length frame) where
 
   -- behind an extended Lc that the table has
   extended : byte frame 4 ≡ 0 → 8 ≤ length frame → lcUnder entry (pairAt (drop 4 frame) 1) ≡ false
-      → (l : Lengths) → l ≡ afterData entry (drop 4 frame) (pairAt (drop 4 frame) 1) → l ≡ lengthsOf entry (drop 4 frame)
+      → (l : Lengths) → l ≡ afterData (drop 4 frame) (pairAt (drop 4 frame) 1) → l ≡ lengthsOf entry (drop 4 frame)
   extended z more u l e =
       let n = payload-long in
       Frames.lengths-extended entry (drop 4 frame) l (omega arith) (omega arith) (payload-byte 0 ∙ z)
@@ -101,23 +100,15 @@ module _ (entry : Entry) (frame : List ℕ) (long : 4 ≤ length frame) where
           let l = three (omega (arith, n, z, p0)) in
           by-row (numbered 5 3 1 0) Lc3Data (pairAt (drop 4 frame) 1) 0
           (extended (begins-known 3 4 frame (t .begin) refl (omega (arith, n, z, p0))) (omega (arith, n, z, p0)) (Frames.has-data entry _ (omega (arith, n, z, p0))) _
-          (Frames.after-plain entry (drop 4 frame) _ (omega (arith, n, z, p0))))
+          (Frames.after-plain (drop 4 frame) _ (omega (arith, n, z, p0))))
           refl refl l (le-none frame _)
-      go (is-6 o) t e =
-          let l = three (omega (arith, n, z, p0)) in
-          let le : ℕ = leRead 1 (byte (drop 4 frame) (3 + pairAt (drop 4 frame) 1)) in
-          let lone : Found Lc3DataLe1 (pairAt (drop 4 frame) 1) le ≡ loneLe entry (drop 4 frame) (pairAt (drop 4 frame) 1) = rw o (Frames.one-ordinary (drop 4 frame) (pairAt (drop 4 frame) 1) le refl) in
-          by-row (numbered 6 3 0 1) Lc3DataLe1 (pairAt (drop 4 frame) 1) le
-          (extended (begins-known 3 4 frame (t .begin) refl (omega (arith, n, z, p0))) (omega (arith, n, z, p0)) (rw o (Frames.ordinary-has (pairAt (drop 4 frame) 1))) _
-          (Frames.after-one entry (drop 4 frame) (pairAt (drop 4 frame) 1) _ (omega (arith, n, z, p0)) lone))
-          refl refl l (le1-at (3 + pairAt (drop 4 frame) 1) _ (omega (arith, n, z, p0)))
       go is-7 t e =
           let l = three (omega (arith, n, z, p0)) in
           let least : leastOf entry Lc3DataLe2 ≤ pairAt (drop 4 frame) 1 = rw l (t .least) in
           let next : 4 + pairAt (drop 4 frame) 1 ≡ 3 + pairAt (drop 4 frame) 1 + 1 = omega (arith, n, z, p0) in
           by-row (numbered 7 3 (leastOf entry Lc3DataLe2) 2) Lc3DataLe2 (pairAt (drop 4 frame) 1) _
           (extended (begins-known 3 4 frame (t .begin) refl (omega (arith, n, z, p0))) (omega (arith, n, z, p0)) (Frames.not-under entry _ least) _
-          (Frames.after-le2 entry (drop 4 frame) _ _ (pairAt (drop 4 frame) (3 + pairAt (drop 4 frame) 1)) (omega (arith, n, z, p0)) (rw next) refl))
+          (Frames.after-le2 (drop 4 frame) _ _ (pairAt (drop 4 frame) (3 + pairAt (drop 4 frame) 1)) (omega (arith, n, z, p0)) (rw next) refl))
           refl refl l (le2-at (3 + pairAt (drop 4 frame) 1) _ (omega (arith, n, z, p0)))
       go is-8 t e =
           let b : byte frame 4 ≡ 0 = ap (byte frame) (omega (arith, n, z, p0)) ∙ begins-known 3 (4 + 0 + lcIn 0 frame) frame (t .le-begin) refl (omega (arith, n, z, p0)) in

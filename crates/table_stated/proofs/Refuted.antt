@@ -2,14 +2,14 @@
 use Prim.Native.Nat.{ℕ}
 use mathlib.Core.Path.{_≡_, refl, sym, ap}
 use mathlib.Core.List.{List, [], _∷_, map}
-use lib.ListN.{getD}
+use lib.ListN.{getD, length}
 use native.Mathlib.Omega.{arith}
 use Rattle.outcome.specs.Outcome.{Outcome, R, Word, Gives}
 use Rattle.outcome.specs.declared.ApduStatusCode.the-variants as Status′
 use Rattle.outcome.specs.declared.LengthFault.the-variants as Fault′
 use Rattle.outcome.proofs.Laws.{gives-same, word-gives}
 use Rattle.octets.proofs.Laws.{small, bytes-of}
-use Rattle.apdu_stated.proofs.Laws.{place-is}
+use Rattle.apdu_stated.proofs.Laws.{place-is, read-exactly}
 use Rattle.apdu_stated.specs.Reading.{readBy, sayOf, lengthsOf, shortOf, extendedOf, afterData}
 use Rattle.apdu_stated.specs.Terms.{plain, whole, pair, frameWith, saying}
 use Rattle.table_stated.specs.Words.{ApduHeader, Says, Ordinary, Strict, Row, ByRow}
@@ -32,6 +32,9 @@ try payload = frameWith h0 payload
 
 abbrev extended-le : List ℕ
 extended-le = try (0 ∷ 0 ∷ 0 ∷ [])
+
+abbrev old6 : List ℕ
+old6 = try (0 ∷ 0 ∷ 1 ∷ 0xAA ∷ 5 ∷ [])
 
 shape-is : (a b : Says) → Gives a ≡ Gives b → a .shape ≡ b .shape
 shape-is a b e = ap (λ (s : Says). s .shape) (gives-same a b e)
@@ -64,21 +67,24 @@ pub row5BesideRow8 : Claims.OneRowFits Wrong.row5FromLc0 → ⊥
 row5BesideRow8 claim =
     let e = claim Ordinary extended-le (numbered 5 3 0 0) (numbered 8 0 0 3)
     (behind (behind (behind (behind here))), (saying h0 5 7 0 0, [], is-five))
-    (behind (behind (behind (behind (behind (behind (behind here)))))), (saying h0 8 4 0 65536, [], is-eight)) in
+    (behind (behind (behind (behind (behind (behind here))))), (saying h0 8 4 0 65536, [], is-eight)) in
     let z : _≡_ {A = ℕ} 5 8 = ap (λ (r : Row). r .number) e in
     omega arith
 
--- 00 00 01 AA 05 is read strictly
+-- 00 00 01 AA 05, the old form, is read, and strictly
+pub row6Kept : Claims.SameReading Wrong.row6Kept readByRows → ⊥
+unfolding readByRows triedOf stands opens begins lcIn leIn readBy sayOf lengthsOf extendedOf afterData
+row6Kept claim = word-gives _ _ (sym (claim Ordinary old6))
+
 pub row6InStrict : Claims.SameReading Wrong.row6InStrict readByRows → ⊥
 unfolding readByRows triedOf stands opens begins lcIn leIn readBy sayOf lengthsOf extendedOf afterData
-row6InStrict claim = word-gives _ _ (sym (claim Strict (try (0 ∷ 0 ∷ 1 ∷ 0xAA ∷ 5 ∷ []))))
+row6InStrict claim = word-gives _ _ (sym (claim Strict old6))
 
-pub row6AsIn01 : Claims.SameReading Wrong.row6AsIn01 readByRows → ⊥
-unfolding readByRows triedOf stands opens begins lcIn leIn readBy sayOf lengthsOf extendedOf afterData
-row6AsIn01 claim = word-gives _ _ (sym (claim Strict (try (0 ∷ 0 ∷ 1 ∷ 0xAA ∷ 5 ∷ []))))
+pub row6KeptAsRow : Claims.TablesExactly Wrong.row6Kept → ⊥
+row6KeptAsRow claim = let z : _≡_ {A = ℕ} 8 7 = ap (length {A = Row}) (claim Ordinary) in omega arith
 
--- and would be in the strict table
-is-six : OfRow (numbered 6 3 0 1) (try (0 ∷ 0 ∷ 1 ∷ 0xAA ∷ 5 ∷ [])) (saying h0 6 7 1 5) (0xAA ∷ [])
+-- and would be in the table
+is-six : OfRow (numbered 6 3 0 1) old6 (saying h0 6 7 1 5) (0xAA ∷ [])
 is-six =
     record {
       header = h0;
@@ -92,12 +98,16 @@ is-six =
       says-is = refl;
     }
 
-pub row6InTheTable : Claims.RowsAsTheTable Wrong.row6AsIn01 → ⊥
+not-read : {says : Says} → Gives says ≡ readBy Ordinary old6 → ⊥
+unfolding readBy sayOf lengthsOf extendedOf afterData
+not-read e = word-gives _ _ (sym e)
+
+pub row6InTheTable : Claims.RowsAsTheTable Wrong.row6Kept → ⊥
 unfolding small
 row6InTheTable claim =
-    let x = claim .strict (try (0 ∷ 0 ∷ 1 ∷ 0xAA ∷ 5 ∷ [])) (bytes-of (try (0 ∷ 0 ∷ 1 ∷ 0xAA ∷ 5 ∷ [])) refl) (saying h0 6 7 1 5) .0
-    (0xAA ∷ [], (numbered 6 3 0 1, behind (behind (behind (behind (behind here)))), is-six)) in
-    x .1 .row .not-six refl
+    let six = saying h0 6 7 1 5 in
+    let x = claim .ordinary old6 (bytes-of old6 refl) six .0 (0xAA ∷ [], (numbered 6 3 0 1, behind (behind (behind (behind (behind here)))), is-six)) in
+    not-read (sym (read-exactly old6 (bytes-of old6 refl) six .1 x))
 
 -- 00 00 01 AA is read as shape 7
 pub leSwapped : Claims.SameReading Wrong.leSwapped readByRows → ⊥
@@ -170,7 +180,7 @@ pub earlyFirst : Claims.TriesExactly Wrong.earlyFirst → ⊥
 unfolding small triedOf stands opens begins lcIn
 earlyFirst claim =
     let e = claim .early (tableOf Ordinary) (try (0 ∷ 0xFF ∷ 0xFF ∷ [])) (bytes-of (try (0 ∷ 0xFF ∷ 0xFF ∷ [])) refl) .0 refl in
-    e .1 (numbered 8 0 0 3) (behind (behind (behind (behind (behind (behind (behind here))))))) (saying h0 8 4 0 65535, [], is-extended-le)
+    e .1 (numbered 8 0 0 3) (behind (behind (behind (behind (behind (behind here)))))) (saying h0 8 4 0 65535, [], is-extended-le)
 
 -- 02 AA misses bytes at 6, its length
 pub missingAtThePayload : Claims.AnswersExactly Wrong.missingAtThePayload → ⊥

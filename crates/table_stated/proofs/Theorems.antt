@@ -18,7 +18,7 @@ use Rattle.table_stated.specs.Rows.{numbered, tableOf, rowFrom, rowsOf, 
 use Rattle.table_stated.specs.Trying.{begins, lcIn, leIn, opens, stands, triedOf}
 use Rattle.table_stated.specs.Answers.{tableReadingOf, readByRows}
 use Rattle.table_stated.specs.Claims
-use Rattle.table_stated.proofs.Fitting.{RowIs, is-1, is-2, is-3, is-4, is-5, is-6, is-7, is-8, fit-reads}
+use Rattle.table_stated.proofs.Fitting.{RowIs, is-1, is-2, is-3, is-4, is-5, is-7, is-8, fit-reads}
 use Rattle.table_stated.proofs.Built.{fit-of, said-of, front-four}
 use Rattle.table_stated.proofs.Agreement.{has-is, same}
 use Rattle.table_stated.proofs.AnyTable.{tries-exactly, answers-exactly, first-has}
@@ -49,7 +49,6 @@ by-number Ordinary is-2 = refl
 by-number Ordinary is-3 = refl
 by-number Ordinary is-4 = refl
 by-number Ordinary is-5 = refl
-by-number Ordinary (is-6 o) = refl
 by-number Ordinary is-7 = refl
 by-number Ordinary is-8 = refl
 by-number Strict is-1 = refl
@@ -57,7 +56,6 @@ by-number Strict is-2 = refl
 by-number Strict is-3 = refl
 by-number Strict is-4 = refl
 by-number Strict is-5 = refl
-by-number Strict (is-6 o) = let z : _≡_ {A = ℕ} 0 1 = cc in absurd (omega arith)
 by-number Strict is-7 = refl
 by-number Strict is-8 = refl
 

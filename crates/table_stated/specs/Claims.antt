@@ -4,9 +4,9 @@
 -- `AnswersExactly`, on rows of four numbers `ColumnsExactly`, and no other answer by these two tables `SameReading`; `OneRowFits`, `ExamplesRead` and
 -- `RowsAsTheTable` stand beside them. Words: Terms.antt.
 use mathlib.Core.Logic.{_↔_}
-use Rattle.table_stated.specs.Words.{ℕ, _≤_, _<_, _≡_, List, [], _∷_, map, length, drop, if_then_else_, AtMostOne, Outcome, Word, Gives, SW, wordOf, wrongLength, AreBytes, Says, saying, Reading, readingOf, ApduStatusCode, Entry, Ordinary, Strict, ApduHeader, Case, Instruction, Le1, Lc1Data, Lc1DataLe1, Lc3Data, Lc3DataLe1, Lc3DataLe2, Le3, shapeNo, Row, Tried, Short, ByRow, Early, Beyond}
+use Rattle.table_stated.specs.Words.{ℕ, _≤_, _<_, _≡_, List, [], _∷_, map, length, drop, if_then_else_, AtMostOne, Outcome, Word, Gives, SW, wordOf, wrongLength, AreBytes, Says, saying, Reading, readingOf, ApduStatusCode, Entry, Ordinary, Strict, ApduHeader, Case, Instruction, Le1, Lc1Data, Lc1DataLe1, Lc3Data, Lc3DataLe2, Le3, shapeNo, Row, Tried, Short, ByRow, Early, Beyond}
 use Rattle.apdu_stated.specs.Contracts.{Read, ReadStrict}
-use Rattle.apdu_stated.specs.Table.{lcField, leField, hasRow, leastOf}
+use Rattle.apdu_stated.specs.Table.{lcField, leField, leastOf}
 use Rattle.apdu_stated.specs.Reading.{readBy}
 use Rattle.apdu_stated.specs.Examples.{Example, examples}
 use Rattle.apdu_stated.specs.Terms.{InTable, InStrictTable, EndsEarly}
@@ -21,9 +21,9 @@ use Rattle.table_stated.specs.declared.TableReading.the-variants as Tabl
 -- 02, E9: "Prove it equal to the branching reader on every frame, E1's pairs included. .. state the agreement once for both tables.": by each
 -- table, on every frame, the table's reader and the branching reader of apdu_stated's Reading.antt give the same: what the frame says, 6a80, or
 -- 6700 with its pair. Rejects a least Lc of 0 in row 5 (`row5FromLc0`), rows 5 and 7 with each other's Le (`leSwapped`), rows numbered by their place
--- (`numberedByPlace`), a row 6 in the strict table, with ISO's least Lc or with document 01's (`row6InStrict`, `row6AsIn01`), a reader that takes the first
--- row that is too short (`firstTooShort`), or says surplus where that one ends (`placeOfFirst`). Bites at 00 03 00 00 | 00 00 00, of row 6 strictly at
--- 00 03 00 00 | 00 00 01 AA 05, of the place at 00 03 00 00 | 01 AA 00 00.
+-- (`numberedByPlace`), the retired row 6 in the ordinary table or in the strict one (`row6Kept`, `row6InStrict`), a reader that takes the first row that
+-- is too short (`firstTooShort`), or says surplus where that one ends (`placeOfFirst`). Bites at 00 03 00 00 | 00 00 00, of row 6 at 00 03 00 00 |
+-- 00 00 01 AA 05, of the place at 00 03 00 00 | 01 AA 00 00.
 abbrev pub SameReading : (Entry → List Row) → (List Row → List ℕ → Outcome Says) → Type 0
 SameReading table read = (entry : Entry) (frame : List ℕ) → read (table entry) frame ≡ readBy entry frame
 
@@ -32,20 +32,17 @@ SameReading table read = (entry : Entry) (frame : List ℕ) → read (table entr
 abbrev pub OneRowFits : (Entry → List Row) → Type 0
 OneRowFits table = (entry : Entry) (frame : List ℕ) → AtMostOne (λ (r : Row). Has (table entry) r × IsOf r frame)
 
--- document 01's shapes, in the order of its table
+-- document 01's shapes, in the order of its table, without the retired sixth
 abbrev pub shapes : List Case
-shapes = Instruction ∷ Le1 ∷ Lc1Data ∷ Lc1DataLe1 ∷ Lc3Data ∷ Lc3DataLe1 ∷ Lc3DataLe2 ∷ Le3 ∷ []
+shapes = Instruction ∷ Le1 ∷ Lc1Data ∷ Lc1DataLe1 ∷ Lc3Data ∷ Lc3DataLe2 ∷ Le3 ∷ []
 
--- those of them that a table has, each with its number, its fields and its least Lc
+-- each with its number, its fields and the table's least Lc
 abbrev pub rowsIn : Entry → List Case → List Row
-rowsIn entry [] = []
-rowsIn entry (s ∷ more) =
-    if hasRow entry s then numbered (shapeNo s) (lcField s) (leastOf entry s) (leField s) ∷ rowsIn entry more
-    else rowsIn entry more
+rowsIn entry shapes = map (λ (s : Case). numbered (shapeNo s) (lcField s) (leastOf entry s) (leField s)) shapes
 
--- The rows are those of apdu_stated's table, and of its strict one: "The strict reading is the same table with other least Lc and without
--- row 6". Each carries its shape's number; it is not its place. Rejects a strict table whose rows are numbered from 1 to 7 (`numberedByPlace`).
--- Bites at rows 7 and 8 of the strict table.
+-- The rows are those of apdu_stated's table, and of its strict one: "The strict reading is the same table with other least Lc". Each carries its
+-- shape's number; it is not its place. Rejects tables whose rows are numbered from 1 to 7 (`numberedByPlace`), and one that keeps row 6 (`row6Kept`).
+-- Bites at the last two rows, and at the row count.
 abbrev pub TablesExactly : (Entry → List Row) → Type 0
 TablesExactly table = (entry : Entry) → table entry ≡ rowsIn entry shapes
 
@@ -72,7 +69,7 @@ pub record TriesExactly (try : List Row → List ℕ → Tried) : Type 0 where
       ↔ ((4 ≤ length frame) × ((r : Row) → Has rows r → EarlyIn r frame → ⊥) × (k < length frame) × MostClaimed rows frame k)
 
 -- What is answered by any table: what the frame says by its first row, 01's 6a80, 02's E1 kinds 1 and 2 with their places, each exactly when. Rejects
--- a reader that asks which of the two tables it holds, by their row 6, and then reads by document 01's shapes (`asksWhichTable`; it meets `SameReading`),
+-- a reader that asks which of the two tables it holds, by their row 7, and then reads by document 01's shapes (`asksWhichTable`; it meets `SameReading`),
 -- missing bytes placed where the payload begins (`missingAtThePayload`), and a row's least said for the frame's Lc (`leastForLc`). Bites at an empty
 -- table, at 00 03 00 00 | 02 AA, and at 00 03 00 00 | 02 AA BB.
 pub record AnswersExactly (read : List Row → List ℕ → Outcome Says) : Type 0 where
@@ -87,8 +84,8 @@ pub record AnswersExactly (read : List Row → List ℕ → Outcome Says) : Type
       ↔ ((4 ≤ length frame) × ((r : Row) → Has rows r → EarlyIn r frame → ⊥) × (k < length frame) × MostClaimed rows frame k)
 
 -- The rows of these words and the tables of apdu_stated's claims are one, on frames of bytes: a frame is of a row of the table exactly when it is in `InTable`, strictly
--- in `InStrictTable`; and where it is of none, it ends early in a row exactly when its payload does (`EndsEarly`). Rejects a row 6 in the strict table
--- (`row6AsIn01`). Bites at 00 03 00 00 | 00 00 01 AA 05.
+-- in `InStrictTable`; and where it is of none, it ends early in a row exactly when its payload does (`EndsEarly`). Rejects a row 6 in the ordinary table
+-- (`row6Kept`). Bites at 00 03 00 00 | 00 00 01 AA 05.
 pub record RowsAsTheTable (table : Entry → List Row) : Type 0 where
   pub ordinary : (frame : List ℕ) → AreBytes frame → (says : Says)
       → ((content : List ℕ) × OfTable (table Ordinary) frame says content) ↔ ((content : List ℕ) × InTable frame says content)
@@ -122,7 +119,7 @@ AnswersOneToOne said = (a b : TableReading) → said a ≡ said b → a ≡ b
 -- ---- the contracts, and the two readers
 
 -- Whatever meets a contract of `table` meets the claim on it, by rows written out as four numbers each. A contract of `strict` that names the other table
--- fails it, with code to match. Bites at row 6.
+-- fails it, with code to match. Bites at row 7.
 pub record ContractsAsClaimed : Type 0 where
   pub ordinary : (t : List (List ℕ)) → OrdinaryRows t → rowsOf t ≡ rowsIn Ordinary shapes
   pub strict : (t : List (List ℕ)) → StrictRows t → rowsOf t ≡ rowsIn Strict shapes
@@ -132,7 +129,7 @@ pub record ContractsAsClaimed : Type 0 where
       → AnswersExactly (λ (rows : List Row) (frame : List ℕ). tableReadingOf (f (map columnsOf rows) frame))
 
 -- E9 of the two programs: whatever meets the contract of `table`'s reader, and whatever meets that of apdu's, give the same on every frame; strictly too. A
--- contract of the strict one that names the other table fails it, with code to match. Bites at 00 03 00 00 | 00 00 00 05.
+-- contract of the strict one that names the other table fails it, with code to match. Bites at 00 03 00 00 | 00 00 00 00 05.
 pub record ReadersAgree : Type 0 where
   pub read : (f : List ℕ → TableReading) (g : List ℕ → Reading) → ((frame : List ℕ) → ReadByTable frame (f frame)) → ((frame : List ℕ) → Read frame (g frame))
       → (frame : List ℕ) → tableReadingOf (f frame) ≡ readingOf (g frame)

@@ -1,6 +1,6 @@
--- Document 02, E9: "the eight shapes as rows (length of Lc field, least Lc, length of Le field)", which are those of document 01, 'Eight
--- frame shapes'; and "The strict reading is the same table with other least Lc and without row 6". The two tables, one under the other. A row's
--- number is its shape's in document 01, and not its place.
+-- Document 02, E9: the shapes of document 01, 'Eight frame shapes', "as rows (length of Lc field, least Lc, length of Le field)"; E13: "E9's
+-- ordinary table loses its row 6"; and "The strict reading is the same table with other least Lc". The two tables, one under the other. A row's
+-- number is its shape's in document 01, and not its place: none has number 6.
 use Rattle.table_stated.specs.Words.{ℕ, List, [], _∷_, map, byte, Entry, Ordinary, Strict, Row}
 
 -- a row: its shape's number, the length of its Lc field, the least Lc, the length of its Le field
@@ -15,7 +15,6 @@ tableOf Ordinary =
     ∷ numbered 3 1 1 0  -- 3 | Lc1Data | Lc, data | Lc 1..255
     ∷ numbered 4 1 1 1  -- 4 | Lc1DataLe1 | Lc, data, Le (1) | Lc 1..255
     ∷ numbered 5 3 1 0  -- 5 | Lc3Data | 00, Lc (2), data | Lc 1..65535
-    ∷ numbered 6 3 0 1  -- 6 | Lc3DataLe1 | 00, Lc (2), data, Le (1) | Lc 0..65535
     ∷ numbered 7 3 0 2  -- 7 | Lc3DataLe2 | 00, Lc (2), data, Le (2) | Lc 0..65535
     ∷ numbered 8 0 0 3  -- 8 | Le3 | 00, Le (2) |
     ∷ []

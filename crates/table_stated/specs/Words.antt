@@ -10,7 +10,7 @@ pub use Rattle.outcome.specs.Outcome.{Outcome, Word, SW, Gives, wordOf, missing
 pub use Rattle.octets.specs.Bytes.{AreBytes, byte, pairAt}
 pub use Rattle.apdu_stated.specs.declared.ApduHeader.{ApduHeader}
 pub use Rattle.apdu_stated.specs.declared.Case.{Case}
-pub use Rattle.apdu_stated.specs.declared.Case.the-variants.{Instruction, Le1, Lc1Data, Lc1DataLe1, Lc3Data, Lc3DataLe1, Lc3DataLe2, Le3}
+pub use Rattle.apdu_stated.specs.declared.Case.the-variants.{Instruction, Le1, Lc1Data, Lc1DataLe1, Lc3Data, Lc3DataLe2, Le3}
 pub use Rattle.apdu_stated.specs.Words.{shapeNo}
 pub use Rattle.apdu_stated.specs.Answers.{Says, readingOf}
 pub use Rattle.apdu_stated.specs.Terms.{saying}

@@ -1,6 +1,6 @@
 -- Tables and readers that are wrong: each fails a claim of Claims.antt, by proofs/Refuted.antt.
 use mathlib.Core.List.{reverse}
-use Rattle.table_stated.specs.Words.{ℕ, _+_, Bool, false, _||_, List, [], _∷_, length, eqb, ltb, if_then_else_, byte, Outcome, Word, SW, Gives, wordOf, surplusAt, missingAt, Says, Entry, Ordinary, Strict, Row, Tried, Short, ByRow, Early, Beyond}
+use Rattle.table_stated.specs.Words.{ℕ, _+_, Bool, false, _&&_, _||_, List, [], _∷_, length, eqb, ltb, if_then_else_, byte, Outcome, Word, SW, Gives, wordOf, surplusAt, missingAt, Says, Entry, Ordinary, Strict, Row, Tried, Short, ByRow, Early, Beyond}
 use Rattle.apdu_stated.specs.Reading.{readBy}
 use Rattle.table_stated.specs.Rows.{numbered, tableOf}
 use Rattle.table_stated.specs.Trying.{stands, rowEnd, endsEarly, triedOf}
@@ -11,27 +11,27 @@ use Rattle.table_stated.specs.declared.TableReading.the-variants as Tabl
 
 -- row 5, "Lc 1..65535": here from Lc 0 on
 abbrev pub row5FromLc0 : Entry → List Row
-row5FromLc0 Ordinary = numbered 1 0 0 0 ∷ numbered 2 0 0 1 ∷ numbered 3 1 1 0 ∷ numbered 4 1 1 1 ∷ numbered 5 3 0 0 ∷ numbered 6 3 0 1 ∷ numbered 7 3 0 2 ∷ numbered 8 0 0 3 ∷ []
+row5FromLc0 Ordinary = numbered 1 0 0 0 ∷ numbered 2 0 0 1 ∷ numbered 3 1 1 0 ∷ numbered 4 1 1 1 ∷ numbered 5 3 0 0 ∷ numbered 7 3 0 2 ∷ numbered 8 0 0 3 ∷ []
 row5FromLc0 Strict = tableOf Strict
 
--- "without row 6": here with it
+-- "E9's ordinary table loses its row 6": here it keeps it, as document 01 has it
+abbrev pub row6Kept : Entry → List Row
+row6Kept Ordinary = numbered 1 0 0 0 ∷ numbered 2 0 0 1 ∷ numbered 3 1 1 0 ∷ numbered 4 1 1 1 ∷ numbered 5 3 1 0 ∷ numbered 6 3 0 1 ∷ numbered 7 3 0 2 ∷ numbered 8 0 0 3 ∷ []
+row6Kept Strict = tableOf Strict
+
+-- and here the strict one has it, with ISO's least Lc
 abbrev pub row6InStrict : Entry → List Row
 row6InStrict Ordinary = tableOf Ordinary
 row6InStrict Strict = numbered 1 0 0 0 ∷ numbered 2 0 0 1 ∷ numbered 3 1 1 0 ∷ numbered 4 1 1 1 ∷ numbered 5 3 1 0 ∷ numbered 6 3 1 1 ∷ numbered 7 3 1 2 ∷ numbered 8 0 0 3 ∷ []
 
--- and here as document 01 has it, from Lc 0 on
-abbrev pub row6AsIn01 : Entry → List Row
-row6AsIn01 Ordinary = tableOf Ordinary
-row6AsIn01 Strict = numbered 1 0 0 0 ∷ numbered 2 0 0 1 ∷ numbered 3 1 1 0 ∷ numbered 4 1 1 1 ∷ numbered 5 3 1 0 ∷ numbered 6 3 0 1 ∷ numbered 7 3 1 2 ∷ numbered 8 0 0 3 ∷ []
-
 -- rows 5 and 7, each with the other's Le
 abbrev pub leSwapped : Entry → List Row
-leSwapped Ordinary = numbered 1 0 0 0 ∷ numbered 2 0 0 1 ∷ numbered 3 1 1 0 ∷ numbered 4 1 1 1 ∷ numbered 5 3 1 2 ∷ numbered 6 3 0 1 ∷ numbered 7 3 0 0 ∷ numbered 8 0 0 3 ∷ []
+leSwapped Ordinary = numbered 1 0 0 0 ∷ numbered 2 0 0 1 ∷ numbered 3 1 1 0 ∷ numbered 4 1 1 1 ∷ numbered 5 3 1 2 ∷ numbered 7 3 0 0 ∷ numbered 8 0 0 3 ∷ []
 leSwapped Strict = numbered 1 0 0 0 ∷ numbered 2 0 0 1 ∷ numbered 3 1 1 0 ∷ numbered 4 1 1 1 ∷ numbered 5 3 1 2 ∷ numbered 7 3 1 0 ∷ numbered 8 0 0 3 ∷ []
 
 -- a row's number is its shape's: here its place in the table
 abbrev pub numberedByPlace : Entry → List Row
-numberedByPlace Ordinary = tableOf Ordinary
+numberedByPlace Ordinary = numbered 1 0 0 0 ∷ numbered 2 0 0 1 ∷ numbered 3 1 1 0 ∷ numbered 4 1 1 1 ∷ numbered 5 3 1 0 ∷ numbered 6 3 0 2 ∷ numbered 7 0 0 3 ∷ []
 numberedByPlace Strict = numbered 1 0 0 0 ∷ numbered 2 0 0 1 ∷ numbered 3 1 1 0 ∷ numbered 4 1 1 1 ∷ numbered 5 3 1 0 ∷ numbered 6 3 1 2 ∷ numbered 7 0 0 3 ∷ []
 
 -- ---- readers of any table
@@ -62,13 +62,13 @@ placeOfFirst rows frame = answerOf frame (placedBy rows frame (triedOf rows fram
 abbrev pub knowsItsRows : List Row → List ℕ → Tried
 knowsItsRows rows frame = triedOf (tableOf Ordinary) frame
 
--- and here its shapes, once it is known by a row 6 which of the two tables it is
-abbrev hasSix : List Row → Bool
-hasSix [] = false
-hasSix (r ∷ rows) = eqb (r .number) 6 || hasSix rows
+-- and here its shapes, once it is known by the least Lc of row 7 which of the two tables it is
+abbrev sevenFrom0 : List Row → Bool
+sevenFrom0 [] = false
+sevenFrom0 (r ∷ rows) = (eqb (r .number) 7 && eqb (r .«lc_least») 0) || sevenFrom0 rows
 
 abbrev pub asksWhichTable : List Row → List ℕ → Outcome Says
-asksWhichTable rows frame = if hasSix rows then readBy Ordinary frame else readBy Strict frame
+asksWhichTable rows frame = if sevenFrom0 rows then readBy Ordinary frame else readBy Strict frame
 
 -- the rows are tried from the last to the first
 abbrev pub lastThatFits : List Row → List ℕ → Tried

@@ -1,5 +1,5 @@
 -- `shape_numbered` meets its contract: by the number.
-use Rattle.apdu_stated.specs.declared.Case.the-variants.{Instruction, Le1, Lc1Data, Lc1DataLe1, Lc3Data, Lc3DataLe1, Lc3DataLe2, Le3}
+use Rattle.apdu_stated.specs.declared.Case.the-variants.{Instruction, Le1, Lc1Data, Lc1DataLe1, Lc3Data, Lc3DataLe2, Le3}
 use Rattle.panel_stated.proofs.Cases
 use Rattle.plain_frames.proofs.shape_numbered.Statement.{statement}
 use Rattle.plain_frames.proofs.shape_numbered.Tie as tie
@@ -20,16 +20,13 @@ returns-5 : tie.Need-returns-5
 returns-5 c = Cases.shaped Lc3Data _ (c .match .keys5)
 
 returns-6 : tie.Need-returns-6
-returns-6 c = Cases.shaped Lc3DataLe1 _ (c .match .keys6)
+returns-6 c = Cases.shaped Lc3DataLe2 _ (c .match .keys7)
 
 returns-7 : tie.Need-returns-7
-returns-7 c = Cases.shaped Lc3DataLe2 _ (c .match .keys7)
+returns-7 c = Cases.shaped Le3 _ (c .match .keys8)
 
 returns-8 : tie.Need-returns-8
-returns-8 c = Cases.shaped Le3 _ (c .match .keys8)
-
-returns-9 : tie.Need-returns-9
-returns-9 c = Cases.no-shape _ (c .match .rest .0 .0 .0 .0 .0 .0 .0 .1) (c .match .rest .0 .0 .0 .0 .0 .0 .1) (c .match .rest .0 .0 .0 .0 .0 .1) (c .match .rest .0 .0 .0 .0 .1) (c .match .rest .0 .0 .0 .1) (c .match .rest .0 .0 .1) (c .match .rest .0 .1) (c .match .rest .1)
+returns-8 c = Cases.no-shape _ (c .match .rest .0 .0 .0 .0 .0 .0 .1) (c .match .rest .0 .0 .0 .0 .0 .1) (c .match .rest .0 .0 .0 .0 .1) (c .match .rest .0 .0 .0 .1) (c .match .rest .0 .0 .1) (c .match .rest .0 .1) (c .match .rest .1)
 
 pub shape-numbered-spec : {M : Type 1} → statement M
 shape-numbered-spec =
@@ -42,5 +39,4 @@ shape-numbered-spec =
     returns-5
     returns-6
     returns-7
-    returns-8
-    returns-9)
+    returns-8)

@@ -20,13 +20,10 @@ returns-5 : tie.Need-returns-5
 returns-5 c = search (needs, Cases.limit-5)
 
 returns-6 : tie.Need-returns-6
-returns-6 c = search (needs, Cases.limit-6)
+returns-6 c = search (needs, Cases.limit-7)
 
 returns-7 : tie.Need-returns-7
-returns-7 c = search (needs, Cases.limit-7)
-
-returns-8 : tie.Need-returns-8
-returns-8 c = search (needs, Cases.limit-8)
+returns-7 c = search (needs, Cases.limit-8)
 
 pub limit-spec : {M : Type 1} → statement M
 limit-spec =
@@ -43,12 +40,10 @@ limit-spec =
     (λ c. search needs)
     (λ c. search needs)
     (λ c. search needs)
-    (λ c. search needs)
     returns
     returns-2
     returns-3
     returns-4
     returns-5
     returns-6
-    returns-7
-    returns-8)
+    returns-7)

@@ -20,19 +20,15 @@ returns-5 : tie.Need-returns-5
 returns-5 c = search (needs, Carries.strict-lc)
 
 returns-6 : tie.Need-returns-6
-returns-6 c = search (needs, Carries.strict-six)
+returns-6 c = search (needs, Carries.strict-lc)
 
 returns-7 : tie.Need-returns-7
-returns-7 c = search (needs, Carries.strict-lc)
-
-returns-8 : tie.Need-returns-8
-returns-8 c = search (needs, Carries.strict-no-lc)
+returns-7 c = search (needs, Carries.strict-no-lc)
 
 pub strict-has-spec : {M : Type 1} → statement M
 strict-has-spec =
     tie.close
     (tie.spec
-    (λ c. search needs)
     (λ c. search needs)
     (λ c. search needs)
     (λ c. search needs)
@@ -46,5 +42,4 @@ strict-has-spec =
     returns-4
     returns-5
     returns-6
-    returns-7
-    returns-8)
+    returns-7)
