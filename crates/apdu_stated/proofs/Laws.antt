@@ -1,4 +1,4 @@
--- The laws that other crates cite: every way through reading; the data of a frame that is read; ways back from what is said.
+-- The laws that other crates cite: every way through reading; the data of a frame that is read; the old form; ways back from what is said.
 pub use Rattle.apdu_stated.proofs.Ways.{saidBy, FrameWay, under, found, ends, goes-on, frame-way, WriteWay, unfit, no-room, written, write-way}
 pub use Rattle.apdu_stated.proofs.Frames.{data-from, data-within, data-long, read-status, never-third, read-refuses-not}
 pub use Rattle.apdu_stated.proofs.Numbers.{shape-same, apduBack, apdu-back, says-same, reading-same, written-same}
@@ -11,4 +11,5 @@ pub use Rattle.apdu_stated.proofs.Fields.{strict-out, strict-out-kept, 
 pub use Rattle.apdu_stated.proofs.Ways.{Way, way, none, le1, short, short-le, le3, wide, wide-le2, missing, short-surplus, le1-surplus, wide-surplus, zero-surplus}
 pub use Rattle.apdu_stated.proofs.Cases.{read-under, read-by, say-found, say-missing, say-surplus, lengths-none, lengths-le1, lengths-short, lengths-extended, extended-le3, extended-after, after-plain, after-one, after-le2, has-data, ordinary-has, not-under, from-least}
 pub use Rattle.apdu_stated.proofs.Rows.{least-one}
+pub use Rattle.apdu_stated.proofs.Beside.{old-at}
 pub use Rattle.apdu_stated.proofs.Cases.{short-data as payload-short, short-le as payload-short-le}

@@ -1,18 +1,24 @@
 -- The laws that other crates cite: what a command says of its frame; its parts; every way through command reading.
 use Prim.Native.Nat.{ℕ}
-use mathlib.Core.Path.{_≡_, sym}
+use mathlib.Core.Path.{_≡_, ap, sym}
 use mathlib.Core.List.{List}
 use native.Mathlib.Omega.{arith}
 use Rattle.outcome.specs.Outcome.{StatusWord, Outcome, R, Word, Gives}
 use Rattle.outcome.proofs.Laws.{r-word, r-gives}
 use Rattle.apdu_stated.specs.Answers.{Says}
 use Rattle.apdu_stated.proofs.Laws.{read-status}
-use Rattle.command_stated.specs.Command.{Command, commandOf}
+use Rattle.apdu_stated.specs.Reading.{readOf}
+use Rattle.command_stated.specs.Command.{Command, onReading, commandOf}
 use Rattle.command_stated.proofs.Theorems.{Told, own, because, told}
 pub use Rattle.command_stated.proofs.Theorems.{RegisterExactly, AuthenticateExactly, VersionExactly, GetResponseExactly, CommandPairsExactly, RegisterParts, AuthenticateParts, CutAtPlaces}
 pub use Rattle.command_stated.proofs.Ways.{Why, class, instruction, parameters, lengths, control, Way, register, authenticate, version, fetch, status, Read, read, unread, reading}
 pub use Rattle.command_stated.proofs.Numbers.{flags-same, command-same}
 pub use Rattle.command_stated.proofs.Cases.{on-frame, on-status, of-reading}
+
+-- a frame's own status is the command's
+pub frame-status : (frame : List ℕ) (w : StatusWord) → readOf frame ≡ Word w → commandOf frame ≡ Word w
+unfolding commandOf onReading
+frame-status frame w e = ap (onReading frame) e
 
 -- command reading refuses nothing
 pub never-refused : (frame : List ℕ) (n : ℕ) → commandOf frame ≡ R n → ⊥

@@ -10,6 +10,7 @@ use Rattle.outcome.specs.Outcome.{StatusWord, Outcome, R, Word, SW, Gives, plai
 use Rattle.outcome.proofs.Laws.{sw-same, gives-same, word-same, word-gives, r-gives, r-word}
 use Rattle.octets.specs.Bytes.{partOf, byte}
 use Rattle.apdu_stated.specs.Answers.{Says}
+use Rattle.apdu_stated.specs.Terms.{OldForm}
 use Rattle.apdu_stated.specs.Reading.{readBy, sayOf, lengthsOf, shortOf, extendedOf, afterData, dataOf}
 use Rattle.command_stated.specs.Command.{Register, Authenticate, Version, GetResponse, commandOf, onReading, byInstruction, registerOf, authenticateOf, versionOf, getResponseOf, applicationOf, challengeOf}
 use Rattle.response_stated.specs.Parts.{limitOf, partLength, leftStatus, nextPartOf}
@@ -25,6 +26,7 @@ use Rattle.signing_stated.specs.Orders.{kindNo, certificateLength, isOfLayout, 
 use Rattle.signing_stated.specs.Finishing.{finishOf, roomAsked}
 use Rattle.ctap1_stated.specs.Decision.{decisionOf, replyLeft}
 use Rattle.ctap1_stated.specs.Calls.{TouchAt, CheckAt, DecideAt}
+use Rattle.ctap1_stated.specs.Session.{remainderLeft}
 use Rattle.ctap1_stated.specs.Terms.{Decider, SaysPresent}
 use Rattle.ctap1_stated.specs.Claims
 use Rattle.ctap1_stated.specs.Wrong
@@ -280,16 +282,16 @@ fetchSkips d =
     let z : _≡_ {A = ℕ} 3 4 = ap (λ (r : Remainder). r .place) (part-rest 4 4 (rest 3 0) (rest 4 0) (differ Wrong.fetchSkips d (fresh 1000) 0 (fetching (rest 1 2) 4))) in
     omega arith
 
--- shape 1; and shape 6 without data, its Le 1
+-- shape 1; and shape 7 without data, its Le 1
 pub absentIsWhole : Claims.LimitsExactly Wrong.absentIsWhole → ⊥
 unfolding readBy sayOf lengthsOf shortOf extendedOf afterData
 absentIsWhole exact = omega (arith, exact .absent fetchFrame (saidOf 0xC0 0x00 1 0 4) refl (omega arith) refl)
 
-pub shape6Short : Claims.LimitsExactly Wrong.shape6Short → ⊥
+pub smallLeShort : Claims.LimitsExactly Wrong.smallLeShort → ⊥
 unfolding readBy sayOf lengthsOf shortOf extendedOf afterData limitOf
-shape6Short exact =
-    let said : Says = record { header = record { cla = 0x00; ins = 0xC0; p1 = 0x00; p2 = 0x00 }; shape = 6; lc = 0; le = 1; dataAt = 7 } in
-    omega (arith, exact .extended (0x00 ∷ 0xC0 ∷ 0x00 ∷ 0x00 ∷ 0x00 ∷ 0x00 ∷ 0x00 ∷ 0x01 ∷ []) said refl (omega arith))
+smallLeShort exact =
+    let said : Says = record { header = record { cla = 0x00; ins = 0xC0; p1 = 0x00; p2 = 0x00 }; shape = 7; lc = 0; le = 1; dataAt = 7 } in
+    omega (arith, exact .extended (0x00 ∷ 0xC0 ∷ 0x00 ∷ 0x00 ∷ 0x00 ∷ 0x00 ∷ 0x00 ∷ 0x00 ∷ 0x01 ∷ []) said refl (omega arith))
 
 -- of a remainder of two bytes: what is left of it
 two-left : rest 1 2 ≡ rest 0 0 → ⊥
@@ -328,6 +330,24 @@ unfolding decisionOf pathOf allowedPath commandPath versionPath registerPath log
 damagedKeeps exact =
     two-left (exact .dropped (fresh 1000) 0 (between (0x00 ∷ 0xC0 ∷ 0x00 ∷ []))
     (λ asks. word-gives _ _ (asks .1)) (λ n e. r-word _ _ (sym e)))
+
+passes : (w t : ℕ) → 0 < w → w ≤ 60000 → t < 2 ^ 48 → Passes (fresh w) t
+passes w t a b c = (⊎-elim (λ z. omega arith) (λ z. omega arith), ⊎-elim (λ z. omega arith) (λ z. omega arith))
+
+-- a C0 in the old form, its Le 1
+abbrev oldFetch : Inputs
+oldFetch = between (0x00 ∷ 0xC0 ∷ 0x00 ∷ 0x00 ∷ 0x00 ∷ 0x00 ∷ 0x00 ∷ 0x01 ∷ [])
+
+old-fetch : OldForm (oldFetch .frame)
+old-fetch = record { extended = refl; one-behind = refl }
+
+pub oldFormServed : Claims.OldFormRefused Wrong.oldFormServed remainderLeft → ⊥
+unfolding decisionOf pathOf allowedPath commandPath versionPath registerPath loginPath registerEnding countedEnding settleOf checkedOf fetchPath nextPartOf frameLimit limitOf partLength commandOf onReading byInstruction getResponseOf readBy sayOf lengthsOf shortOf extendedOf afterData
+oldFormServed exact = word-gives _ _ (sym (exact .answer (fresh 1000) 0 oldFetch old-fetch (passes 1000 0 (omega arith) (omega arith) (omega arith)) refl))
+
+pub oldFormKeeps : Claims.OldFormRefused decisionOf Wrong.oldFormKeeps → ⊥
+unfolding decisionOf pathOf allowedPath commandPath versionPath registerPath loginPath registerEnding countedEnding settleOf checkedOf fetchPath nextPartOf frameLimit limitOf partLength commandOf onReading byInstruction getResponseOf readBy sayOf lengthsOf shortOf extendedOf afterData
+oldFormKeeps exact = two-left (exact .drops (fresh 1000) 0 oldFetch old-fetch (passes 1000 0 (omega arith) (omega arith) (omega arith)))
 
 -- no room for part and status
 pub refusalDrops : Claims.RemainderExactly decisionOf Wrong.refusalDrops → ⊥
@@ -391,9 +411,6 @@ room138 d =
     .2 (short-finish o (ap isOfLayout is ∙ register-of-layout a (refl, refl) said register-read (omega arith)) certificate (ap roomAsked is ∙ register-room a (refl, refl) said register-read (omega arith)))
 
 -- ---- check-only
-passes : (w t : ℕ) → 0 < w → w ≤ 60000 → t < 2 ^ 48 → Passes (fresh w) t
-passes w t a b c = (⊎-elim (λ z. omega arith) (λ z. omega arith), ⊎-elim (λ z. omega arith) (λ z. omega arith))
-
 pub checkOnlyPrompts : Claims.CheckOnlyLooksAtNoTouch Wrong.checkOnlyPrompts → ⊥
 unfolding decisionOf pathOf allowedPath commandPath versionPath registerPath loginPath registerEnding countedEnding settleOf checkedOf
 checkOnlyPrompts d =

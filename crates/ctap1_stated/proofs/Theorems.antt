@@ -11,13 +11,16 @@ use lib.ListN.{length, drop}
 use Rattle.outcome.specs.Notation.{if_then_else_}
 use Rattle.outcome.specs.Outcome.{StatusWord, Outcome, R, Word, Gives, plainWord, wrongLength}
 use Rattle.outcome.proofs.Laws.{gives-same, word-same, word-gives, r-gives, r-word, both-are}
-use Rattle.octets.specs.Bytes.{byte}
+use Rattle.octets.specs.Bytes.{byte, pairAt}
 use Rattle.octets.proofs.Laws.{laid-fits}
 use Rattle.apdu_stated.specs.Answers.{Says}
 use Rattle.apdu_stated.specs.Reading.{readOf}
+use Rattle.apdu_stated.specs.declared.Entry.the-variants.{Ordinary}
+use Rattle.apdu_stated.specs.Terms.{OldForm}
+use Rattle.apdu_stated.proofs.Laws.{old-at}
 use Rattle.response_stated.specs.Parts.{limitOf}
 use Rattle.command_stated.specs.Command.{Command, Register, Authenticate, commandOf}
-use Rattle.command_stated.proofs.Laws.{RegisterExactly, AuthenticateExactly, VersionExactly, GetResponseExactly, CommandPairsExactly}
+use Rattle.command_stated.proofs.Laws.{RegisterExactly, AuthenticateExactly, VersionExactly, GetResponseExactly, CommandPairsExactly, frame-status}
 use Rattle.u2f_up_stated.specs.Moments.{movedTo, touchClosed}
 use Rattle.u2f_up_stated.specs.History.{Role, Mark, Checking, TouchFound, isTouchFound, isNamed, heldAt, serverOf, servers}
 use Rattle.u2f_up_stated.specs.Runs.{after, comesTo, cameOf, history}
@@ -289,6 +292,26 @@ RemainderExactly =
       dropped = λ p t a n x. drops p t a n (decisionOf p t a) (way p t a) x;
       exactly = λ p t a more x. (was-dropped p t a more (decisionOf p t a) (way p t a) x, λ y. drops p t a (y .0) (decisionOf p t a) (way p t a) (y .1));
     }
+
+-- the old form is in no shape
+module _ (p : Presence) (t : ℕ) (a : Inputs) (old : OldForm (a .frame)) (passes : Passes p t) where
+  old-read : readOf (a .frame) ≡ wrongLength 2 (7 + pairAt (a .frame) 5)
+  old-read = old-at (a .frame) Ordinary old
+
+  old-said : a .hardware .allowed ≡ Allowed′.Yes → decisionOf p t a .answer ≡ wrongLength 2 (7 + pairAt (a .frame) 5)
+  old-said allowed = ap (λ (r : Result). r .answer) (sound p t a _ (Table.frame passes allowed _ (frame-status (a .frame) _ old-read)))
+
+  -- a status word, whatever 'allowed' is
+  old-word : (k : Allowed) → a .hardware .allowed ≡ k → (w : StatusWord) × (decisionOf p t a .answer ≡ Word w)
+  old-word Allowed′.Yes e = (_, old-said e)
+  old-word Allowed′.No e = (_, ap (λ (r : Result). r .answer) (sound p t a _ (Table.forbidden passes e)))
+  old-word Allowed′.Failed e = (_, ap (λ (r : Result). r .answer) (sound p t a _ (Table.failed passes e)))
+
+pub OldFormRefused : Claims.OldFormRefused decisionOf remainderLeft
+OldFormRefused = record { answer = old-said; drops = dropped }
+  where
+    dropped : (p : Presence) (t : ℕ) (a : Inputs) → OldForm (a .frame) → Passes p t → remainderLeft a (decisionOf p t a) ≡ rest 0 0
+    dropped p t a old ok = let w = old-word p t a old ok (a .hardware .allowed) refl in rw (w .1, old-read p t a old ok)
 
 -- and whatever meets the claim is that
 pub only-remainder : (left : Inputs → Result → Remainder) → Claims.RemainderExactly decisionOf left → (p : Presence) (t : ℕ) (a : Inputs) → remainderLeft a (decisionOf p t a) ≡ left a (decisionOf p t a)

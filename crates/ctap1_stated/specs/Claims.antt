@@ -13,9 +13,10 @@ use Rattle.ctap1_stated.specs.declared.Allowed.the-variants as Allowed�
 use Rattle.ctap1_stated.specs.declared.Attestation.the-variants as Attestation′
 use Rattle.ctap1_stated.specs.declared.Counter.the-variants as Counter′
 use Rattle.outcome.specs.Terms.{PairsExactly}
-use Rattle.octets.specs.Bytes.{byte, laid}
+use Rattle.octets.specs.Bytes.{byte, pairAt, laid}
 use Rattle.apdu_stated.specs.Answers.{Says}
 use Rattle.apdu_stated.specs.Reading.{readOf}
+use Rattle.apdu_stated.specs.Terms.{OldForm}
 use Rattle.response_stated.specs.Parts.{partResponse}
 use Rattle.command_stated.specs.Command.{Authenticate, commandOf}
 use Rattle.u2f_up_stated.specs.History.{Mark, heldAt, serverOf}
@@ -132,8 +133,8 @@ DecisionPairsExactly decide = (p : Presence) (t : ℕ) → PairsExactly (λ (a :
 -- ---- a body in parts: 02, E2
 
 -- How much a frame takes at a time: "For shapes 1 to 4, a body longer than Le (256 where absent) is cut"; "Extended shapes get the whole body
--- as now", which is said as 0, and so are bytes in no shape. One that knows no absent Le (`absentIsWhole`) fails it, and one that counts
--- shape 6 as short (`shape6Short`).
+-- as now", which is said as 0, and so are bytes in no shape. One that knows no absent Le (`absentIsWhole`) fails it, and one that counts an
+-- extended shape with a small Le as short (`smallLeShort`).
 pub record LimitsExactly (limit : List ℕ → ℕ) : Type 0 where
   pub given : (frame : List ℕ) (said : Says) → readOf frame ≡ Gives said → said .shape ≤ 4 → (said .le ≡ 0 → ⊥) → limit frame ≡ said .le
   pub absent : (frame : List ℕ) (said : Says) → readOf frame ≡ Gives said → said .shape ≤ 4 → said .le ≡ 0 → limit frame ≡ 256
@@ -151,6 +152,14 @@ pub record RemainderExactly (decide : Decider) (left : Inputs → Result → Rem
   pub dropped : (p : Presence) (t : ℕ) (a : Inputs) → (AsksOn a → ⊥) → ((n : ℕ) → decide p t a .answer ≡ R n → ⊥) → left a (decide p t a) ≡ rest 0 0
   pub exactly : (p : Presence) (t : ℕ) (a : Inputs) → 0 < a .remainder .count → ((n : ℕ) (after : Remainder) → decide p t a .answer ≡ Gives (Part n after) → ⊥)
       → (left a (decide p t a) ≡ rest 0 0) ↔ ((AsksOn a → ⊥) × ((n : ℕ) → decide p t a .answer ≡ R n → ⊥))
+
+-- 02, E13: the old form, an extended Lc with a one-byte Le, is in no shape from now on, whatever its INS: where R6, R1 and 'allowed' are passed a
+-- decision gives 6700, surplus at its Le byte, and once R6 and R1 are passed "it drops a remainder". A decision that still serves it (`oldFormServed`)
+-- fails it, and one where a C0 in the old form keeps what remains (`oldFormKeeps`). Bites at 00 C0 00 00 | 00 00 00 01.
+pub record OldFormRefused (decide : Decider) (left : Inputs → Result → Remainder) : Type 0 where
+  pub answer : (p : Presence) (t : ℕ) (a : Inputs) → OldForm (a .frame) → Passes p t → a .hardware .allowed ≡ Allowed′.Yes
+      → decide p t a .answer ≡ wrongLength 2 (7 + pairAt (a .frame) 5)
+  pub drops : (p : Presence) (t : ℕ) (a : Inputs) → OldForm (a .frame) → Passes p t → left a (decide p t a) ≡ rest 0 0
 
 -- The buffer for part and status: E2's request: "61 XX goes out with its part", the next one of the body that is lent, and no other answer changes it.
 -- This amends 01's "a status word other than 9000 change[s] no reply buffer": the reply buffer, which holds the uncut body, stays

@@ -1,6 +1,8 @@
 -- Wrong programs, each with one fault. proofs/Refuted.antt shows of each that a claim is false of it.
 use Prim.Native.Nat.{_-_, _%_}
 use lib.Dec.{leb}
+use mathlib.Core.List.{_++_}
+use lib.ListN.{take, drop}
 use Rattle.ctap1_stated.specs.Words.{ℕ, _+_, Bool, true, false, not, List, [], _∷_, ltb, eqb, length, if_then_else_, StatusWord, Outcome, R, Word, SW, Gives, plainWord}
 use Rattle.ctap1_stated.specs.Words.{Presence, Order, Inputs, Hardware, HardwareSaid, Allowed, Attestation, Counter, Remainder, rest, Given, Body, Ordered, Part, Result, isPresent}
 use Rattle.ctap1_stated.specs.Numbers.{allowedOf, attestationOf, hardwareOf}
@@ -12,7 +14,7 @@ use Rattle.ctap1_stated.specs.Terms.{Decider}
 use Rattle.ctap1_stated.specs.declared.Allowed.the-variants as Allowed′
 use Rattle.ctap1_stated.specs.declared.Attestation.the-variants as Attestation′
 use Rattle.ctap1_stated.specs.declared.Counter.the-variants as Counter′
-use Rattle.octets.specs.Bytes.{laid, bytes4}
+use Rattle.octets.specs.Bytes.{byte, pairAt, laid, bytes4}
 use Rattle.apdu_stated.specs.Answers.{Says}
 use Rattle.apdu_stated.specs.Reading.{readOf}
 use Rattle.response_stated.specs.Parts.{limitOf, restAfter, partResponse}
@@ -328,9 +330,22 @@ limitBy limit (Gives said) = limit said
 abbrev pub absentIsWhole : List ℕ → ℕ
 absentIsWhole frame = limitBy (λ said. if leb (said .shape) 4 then said .le else 0) (readOf frame)
 
--- "shape 6 counts as extended": as short, by its Le of one byte
-abbrev pub shape6Short : List ℕ → ℕ
-shape6Short frame = limitBy (λ said. if eqb (said .shape) 6 then said .le else limitOf said) (readOf frame)
+-- "Extended shapes get the whole body": one with an Le that a single byte could say is taken for a short one
+abbrev pub smallLeShort : List ℕ → ℕ
+smallLeShort frame = limitBy (λ said. if ltb (said .le) 257 then said .le else limitOf said) (readOf frame)
+
+-- ---- the old form: 02, E13, "The ordinary reading gives 6700 for shape 6"
+abbrev isOld : List ℕ → Bool
+isOld frame = if eqb (byte frame 4) 0x00 then eqb (length frame) (8 + pairAt frame 5) else false
+
+-- here it is served as the shape 7 that its Le makes
+abbrev widened : List ℕ → List ℕ
+widened frame = if isOld frame then take (7 + pairAt frame 5) frame ++ 0x00 ∷ drop (7 + pairAt frame 5) frame else frame
+
+abbrev pub oldFormServed : Decider
+oldFormServed p t a =
+    decisionOf p t
+    (record { frame = widened (a .frame); hardware = a .hardware; newHandle = a .newHandle; certificate = a .certificate; x = a .x; y = a .y; room = a .room; remainder = a .remainder; partRoom = a .partRoom })
 
 -- "A frame with another INS or in no shape drops the remainder; a refused C0 or any R refusal keeps it": one word of it turned each
 abbrev leftBy : (refused : Remainder → Remainder) → (status : Bool → Remainder → Remainder) → (other : Remainder → Remainder) → Outcome Given → Bool → Remainder → Remainder
@@ -339,6 +354,12 @@ leftBy refused status other (Word s) asks r = status asks r
 leftBy refused status other (Gives (Body n)) asks r = other r
 leftBy refused status other (Gives Ordered) asks r = other r
 leftBy refused status other (Gives (Part n after)) asks r = after
+
+-- here a C0 in the old form counts as a frame that asks on
+abbrev pub oldFormKeeps : Inputs → Result → Remainder
+oldFormKeeps a r =
+    leftBy (λ k. k) (λ asks k. if asks then k else rest 0 0) (λ k. rest 0 0) (r .answer)
+    (if isOld (a .frame) then eqb (byte (a .frame) 1) 0xC0 else asksOn (readOf (a .frame))) (a .remainder)
 
 abbrev pub refusedFetchDrops : Inputs → Result → Remainder
 refusedFetchDrops a r = leftBy (λ k. k) (λ asks k. rest 0 0) (λ k. rest 0 0) (r .answer) (asksOn (readOf (a .frame))) (a .remainder)

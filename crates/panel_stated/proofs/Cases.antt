@@ -22,7 +22,7 @@ use Rattle.apdu_stated.specs.Writing.{partsOf, writeBy, bufferBy}
 use Rattle.apdu_stated.specs.declared.Apdu.{Apdu}
 use Rattle.apdu_stated.specs.declared.ApduHeader.{ApduHeader}
 use Rattle.apdu_stated.specs.declared.Case.{Case}
-use Rattle.apdu_stated.specs.declared.Case.the-variants.{Instruction, Le1, Lc1Data, Lc1DataLe1, Lc3Data, Lc3DataLe1, Lc3DataLe2, Le3}
+use Rattle.apdu_stated.specs.declared.Case.the-variants.{Instruction, Le1, Lc1Data, Lc1DataLe1, Lc3Data, Lc3DataLe2, Le3}
 use Rattle.apdu_stated.specs.declared.Place.{Place}
 use Rattle.apdu_stated.specs.declared.Reading.{Reading}
 use Rattle.apdu_stated.specs.declared.Reading.the-variants as Reading′
@@ -150,14 +150,13 @@ shaped Le1 number e = rw e
 shaped Lc1Data number e = rw e
 shaped Lc1DataLe1 number e = rw e
 shaped Lc3Data number e = rw e
-shaped Lc3DataLe1 number e = rw e
 shaped Lc3DataLe2 number e = rw e
 shaped Le3 number e = rw e
 
-pub no-shape : (number : ℕ) → (number ≡ 1 → ⊥) → (number ≡ 2 → ⊥) → (number ≡ 3 → ⊥) → (number ≡ 4 → ⊥) → (number ≡ 5 → ⊥) → (number ≡ 6 → ⊥) → (number ≡ 7 → ⊥) → (number ≡ 8 → ⊥) → Shaped′.Nothing ≡ shapeOf number
+pub no-shape : (number : ℕ) → (number ≡ 1 → ⊥) → (number ≡ 2 → ⊥) → (number ≡ 3 → ⊥) → (number ≡ 4 → ⊥) → (number ≡ 5 → ⊥) → (number ≡ 7 → ⊥) → (number ≡ 8 → ⊥) → Shaped′.Nothing ≡ shapeOf number
 unfolding shapeOf
-no-shape number a b c d e f g h =
-    rw (ne-eqb number 1 a, ne-eqb number 2 b, ne-eqb number 3 c, ne-eqb number 4 d, ne-eqb number 5 e, ne-eqb number 6 f, ne-eqb number 7 g, ne-eqb number 8 h)
+no-shape number a b c d e g h =
+    rw (ne-eqb number 1 a, ne-eqb number 2 b, ne-eqb number 3 c, ne-eqb number 4 d, ne-eqb number 5 e, ne-eqb number 7 g, ne-eqb number 8 h)
 
 abbrev toWrite : ApduHeader → ℕ → List ℕ → ℕ → List ℕ → ToWrite
 toWrite header shape content le out = record { header = header; shape = shape; content = content; le = le; out = out }

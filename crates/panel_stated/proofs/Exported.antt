@@ -27,7 +27,7 @@ use Rattle.panel_stated.specs.Numbers.{decidedNo, presenceOf, shapeOf}
 use Rattle.panel_stated.specs.declared.Shaped.{Shaped}
 use Rattle.panel_stated.specs.declared.Shaped.the-variants as Shaped′
 use Rattle.panel_stated.specs.Exports.{ToWrite, frameNumbers, readsOf, writeAs, bufferAs, writesOf, ToDecide, partNumbers, lengthNumbers, respondsOf, nextsOf, inputsOf, decidedBy, decidesOf}
-use Rattle.panel_stated.specs.Terms.{IsNumbered}
+use Rattle.panel_stated.specs.Terms.{NoShape, IsNumbered}
 use Rattle.panel_stated.specs.Claims
 use Rattle.panel_stated.proofs.Cases
 use Rattle.panel_stated.proofs.Outcomes
@@ -133,7 +133,7 @@ reader-exported entry =
       status = λ reader x frame bytes w e. ap frameNumbers (sym (same-reading entry reader x frame bytes) ∙ e);
     }
 
-pub writer-exported : (entry : Entry) → ((w : ToWrite) → (w .shape ≡ 0) ⊎ (9 ≤ w .shape) → shapeOf (w .shape) ≡ Shaped′.Nothing) → Claims.WriterExported (Frames.WriteExactly (CarryOf entry) (TableOf entry)) (writesOf entry)
+pub writer-exported : (entry : Entry) → ((w : ToWrite) → NoShape (w .shape) → shapeOf (w .shape) ≡ Shaped′.Nothing) → Claims.WriterExported (Frames.WriteExactly (CarryOf entry) (TableOf entry)) (writesOf entry)
 writer-exported entry none =
     record {
       given = λ writer x w s n e g. let same = by-shape writer x w s e in

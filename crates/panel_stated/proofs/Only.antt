@@ -32,8 +32,8 @@ use Rattle.response_stated.proofs.Laws.{next-exactly, writes-exactly, write-sho
 use Rattle.response_stated.specs.declared.Remainder.{Remainder}
 use Rattle.signing_stated.specs.declared.Kind.{Kind}
 use Rattle.signing_stated.specs.declared.Kind.the-variants as Kind′
-use Rattle.panel_stated.specs.Words.{DecisionSaid, PresenceRecord, Entry, Ordinary, Strict, Case, Instruction, Le1, Lc1Data, Lc1DataLe1, Lc3Data, Lc3DataLe1, Lc3DataLe2, Le3, shapeNo}
-use Rattle.panel_stated.specs.Terms.{IsNumbered, AreOf64Bits, AfterWriting, AfterPart, AfterDeciding, Reports}
+use Rattle.panel_stated.specs.Words.{DecisionSaid, PresenceRecord, Entry, Ordinary, Strict, Case, Instruction, Le1, Lc1Data, Lc1DataLe1, Lc3Data, Lc3DataLe2, Le3, shapeNo}
+use Rattle.panel_stated.specs.Terms.{NoShape, nought, retired, above, IsNumbered, AreOf64Bits, AfterWriting, AfterPart, AfterDeciding, Reports}
 use Rattle.panel_stated.specs.Numbers.{decidedNo, presenceOf}
 use Rattle.panel_stated.specs.Exports.{ToDecide, inputsOf, decidedBy}
 use Rattle.panel_stated.proofs.Outcomes
@@ -41,16 +41,16 @@ use Rattle.panel_stated.specs.Claims
 
 -- ---- numbers that stand for cases
 pub ShapeNumbers : Determines Claims.ShapeNumbers
-ShapeNumbers f g p q zero = p .none 0 (inl refl) ∙ sym (q .none 0 (inl refl))
+ShapeNumbers f g p q zero = p .none 0 (nought refl) ∙ sym (q .none 0 (nought refl))
 ShapeNumbers f g p q (suc zero) = p .instruction ∙ sym (q .instruction)
 ShapeNumbers f g p q (suc (suc zero)) = p .le1 ∙ sym (q .le1)
 ShapeNumbers f g p q (suc (suc (suc zero))) = p .lc1-data ∙ sym (q .lc1-data)
 ShapeNumbers f g p q (suc (suc (suc (suc zero)))) = p .lc1-data-le1 ∙ sym (q .lc1-data-le1)
 ShapeNumbers f g p q (suc (suc (suc (suc (suc zero))))) = p .lc3-data ∙ sym (q .lc3-data)
-ShapeNumbers f g p q (suc (suc (suc (suc (suc (suc zero)))))) = p .lc3-data-le1 ∙ sym (q .lc3-data-le1)
+ShapeNumbers f g p q (suc (suc (suc (suc (suc (suc zero)))))) = p .none 6 (retired refl) ∙ sym (q .none 6 (retired refl))
 ShapeNumbers f g p q (suc (suc (suc (suc (suc (suc (suc zero))))))) = p .lc3-data-le2 ∙ sym (q .lc3-data-le2)
 ShapeNumbers f g p q (suc (suc (suc (suc (suc (suc (suc (suc zero)))))))) = p .le3 ∙ sym (q .le3)
-ShapeNumbers f g p q (suc (suc (suc (suc (suc (suc (suc (suc (suc n))))))))) = p .none (suc (suc (suc (suc (suc (suc (suc (suc (suc n))))))))) (inr (omega arith)) ∙ sym (q .none (suc (suc (suc (suc (suc (suc (suc (suc (suc n))))))))) (inr (omega arith)))
+ShapeNumbers f g p q (suc (suc (suc (suc (suc (suc (suc (suc (suc n))))))))) = p .none (suc (suc (suc (suc (suc (suc (suc (suc (suc n))))))))) (above (omega arith)) ∙ sym (q .none (suc (suc (suc (suc (suc (suc (suc (suc (suc n))))))))) (above (omega arith)))
 
 pub KindNumbers : Determines Claims.KindNumbers
 KindNumbers f g p q zero = p .none 0 (inl refl) ∙ sym (q .none 0 (inl refl))
@@ -355,7 +355,7 @@ ReadStrictExported = reader-exported Strict
 writer-exported : (entry : Entry) → Determines (Claims.WriterExported (Frames.WriteExactly (CarryOf entry) (TableOf entry)))
 writer-exported entry f g p q w = go (w .shape) refl
   where
-    none : (w .shape ≡ 0) ⊎ (9 ≤ w .shape) → f w ≡ g w
+    none : NoShape (w .shape) → f w ≡ g w
     none out =
         let x = p .no-shape w out in
         let y = q .no-shape w out in
@@ -382,16 +382,16 @@ writer-exported entry f g p q w = go (w .shape) refl
             after-writing _ _ (x .0 ∙ sym (y .0)) (x .1 ∙ sym (y .1))
 
     go : (n : ℕ) → w .shape ≡ n → f w ≡ g w
-    go zero e = none (inl e)
+    go zero e = none (nought e)
     go (suc zero) e = by-shape Instruction e
     go (suc (suc zero)) e = by-shape Le1 e
     go (suc (suc (suc zero))) e = by-shape Lc1Data e
     go (suc (suc (suc (suc zero)))) e = by-shape Lc1DataLe1 e
     go (suc (suc (suc (suc (suc zero))))) e = by-shape Lc3Data e
-    go (suc (suc (suc (suc (suc (suc zero)))))) e = by-shape Lc3DataLe1 e
+    go (suc (suc (suc (suc (suc (suc zero)))))) e = none (retired e)
     go (suc (suc (suc (suc (suc (suc (suc zero))))))) e = by-shape Lc3DataLe2 e
     go (suc (suc (suc (suc (suc (suc (suc (suc zero)))))))) e = by-shape Le3 e
-    go (suc (suc (suc (suc (suc (suc (suc (suc (suc n))))))))) e = none (inr (omega arith))
+    go (suc (suc (suc (suc (suc (suc (suc (suc (suc n))))))))) e = none (above (omega arith))
 
 pub WriteExported : Determines Claims.WriteExported
 WriteExported = writer-exported Ordinary

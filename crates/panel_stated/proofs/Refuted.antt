@@ -15,7 +15,7 @@ use Rattle.octets.proofs.Laws.{small, bytes-of}
 use Rattle.apdu_stated.specs.Reading.{readBy, lengthsOf, sayOf, shortOf, extendedOf, afterData, dataOf}
 use Rattle.u2f_up_stated.specs.History.{Call, Checking}
 use Rattle.u2f_up_stated.specs.Runs.{own, after, doneBy}
-use Rattle.panel_stated.specs.Terms.{numbersAfter}
+use Rattle.panel_stated.specs.Terms.{numbersAfter, nought, retired, above}
 use Rattle.u2f_up_stated.specs.Moments.{checkOf, settleOf, checkedOf, fresh, movedTo}
 use Rattle.u2f_up_stated.specs.declared.Window.the-variants.{Closed, Opened}
 use Rattle.u2f_up_stated.specs.declared.Presence.{Presence}
@@ -35,7 +35,7 @@ use Rattle.octets.specs.Bytes.{AreBytes, partOf, byte}
 use Rattle.signing_stated.specs.Orders.{isAuthenticateLayout, registerOrderOf, block}
 use Rattle.signing_stated.specs.Finishing.{finishOf}
 use Rattle.signing_stated.specs.declared.Kind.the-variants as Kind′
-use Rattle.panel_stated.specs.Words.{Ordinary, Strict, Instruction, Lc3DataLe1, Window, Made, PresenceRecord, OrderNumbers, FrameSaid, CommandSaid, Wrote, Stepped, Asked, Order, ResponseSaid, PartSaid, HardwareSaid, Remainder}
+use Rattle.panel_stated.specs.Words.{Ordinary, Strict, Instruction, Lc3DataLe2, Window, Made, PresenceRecord, OrderNumbers, FrameSaid, CommandSaid, Wrote, Stepped, Asked, Order, ResponseSaid, PartSaid, HardwareSaid, Remainder}
 use Rattle.panel_stated.specs.Numbers.{answerNo, decidedNo, presenceNumbers, shapeOf, kindOf}
 use Rattle.panel_stated.specs.Exports.{ToWrite, ToDecide, writeNumbered, saidBy, statedOf, commandNumbers}
 use Rattle.panel_stated.specs.Claims
@@ -99,7 +99,10 @@ refusedMoves p = let e : _≡_ {A = ℕ} 8 9 = ap (λ (n : PresenceRecord). n .l
 
 -- ---- numbers that stand for cases
 pub shape0Accepted : Claims.ShapeNumbers Wrong.shape0Accepted → ⊥
-shape0Accepted p = let e = p .none 0 (inl refl) in let z : _≡_ {A = ℕ} 0 1 = cc e in omega arith
+shape0Accepted p = let e = p .none 0 (nought refl) in let z : _≡_ {A = ℕ} 0 1 = cc e in omega arith
+
+pub shape6Accepted : Claims.ShapeNumbers Wrong.shape6Accepted → ⊥
+shape6Accepted p = let e = p .none 6 (retired refl) in let z : _≡_ {A = ℕ} 0 1 = cc e in omega arith
 
 pub kindsAlike : Claims.KindNumbers Wrong.kindsAlike → ⊥
 kindsAlike p =
@@ -356,17 +359,25 @@ dataWithLe p =
 abbrev toWrite : (shape : ℕ) → (out : List ℕ) → ToWrite
 toWrite shape out = record { header = record { cla = 0x00; ins = 0x03; p1 = 0x01; p2 = 0x02 }; shape = shape; content = []; le = 0; out = out }
 
--- shape 6, in a buffer of none
+-- shape 7 without data, in a buffer of none
 pub strictExportWrites : Claims.WriteStrictExported Wrong.strictExportWrites → ⊥
 unfolding writeBy bufferBy carriedBy lcFits leFits frameOf payloadOf shapeOf
 strictExportWrites p =
-    let w : ToWrite = record { header = record { cla = 0x00; ins = 0x03; p1 = 0x01; p2 = 0x02 }; shape = 6; content = []; le = 5; out = [] } in
-    let e : _≡_ {A = ℕ} 2 5 = ap (λ (s : Wrote). s .answer) (p .refused (writingBy Strict) (write-exactly Strict) w Lc3DataLe1 5 refl refl .0) in
+    let w : ToWrite = record { header = record { cla = 0x00; ins = 0x03; p1 = 0x01; p2 = 0x02 }; shape = 7; content = []; le = 5; out = [] } in
+    let e : _≡_ {A = ℕ} 2 5 = ap (λ (s : Wrote). s .answer) (p .refused (writingBy Strict) (write-exactly Strict) w Lc3DataLe2 5 refl refl .0) in
     omega arith
 
 -- shape 9
 pub noShapeClears : Claims.WriteExported Wrong.noShapeClears → ⊥
-noShapeClears p = let e : _≡_ {A = ℕ} 0 7 = ap (λ (l : List ℕ). byte l 0) (p .no-shape (toWrite 9 (7 ∷ [])) (inr (omega arith)) .1) in omega arith
+noShapeClears p = let e : _≡_ {A = ℕ} 0 7 = ap (λ (l : List ℕ). byte l 0) (p .no-shape (toWrite 9 (7 ∷ [])) (above (omega arith)) .1) in omega arith
+
+-- shape 6, in a buffer of nine bytes
+pub sixWritten : Claims.WriteExported Wrong.sixWritten → ⊥
+unfolding writeBy bufferBy carriedBy lcFits leFits frameOf payloadOf shapeOf
+sixWritten p =
+    let w : ToWrite = record { header = record { cla = 0x00; ins = 0x03; p1 = 0x01; p2 = 0x02 }; shape = 6; content = []; le = 5; out = replicate 9 0 } in
+    let e : _≡_ {A = ℕ} 0x9000 5 = ap (λ (s : Wrote). s .answer) (p .no-shape w (retired refl) .0) in
+    omega arith
 
 -- shape 1: the third byte
 pub parametersSwapped : Claims.WriteStrictExported Wrong.parametersSwapped → ⊥

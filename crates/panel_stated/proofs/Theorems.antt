@@ -17,7 +17,7 @@ use Rattle.panel_stated.specs.Numbers.{answerNo, decidedNo, faultNo, pla
 use Rattle.ctap1_stated.specs.Decision.{blockAfter}
 use Rattle.panel_stated.specs.Exports.{ToWrite, ToFinish, inputsOf, writeAs, finishAs, writeNumbered, readsOf, writesOf, finishNumbered, orderAfter, frameNumbers, commandNumbers, lengthNumbers, askedNumbers, stepNumbers, madeNumbers, decisionNumbers, decidedBy, saidBy, responseNumbers, partNumbers, statedOf, respondsOf, nextsOf, decidesOf, bodyLength}
 use Rattle.panel_stated.specs.Claims
-use Rattle.panel_stated.specs.Terms.{IsNumbered, IsOfMoment, AfterWriting, AfterDeciding, AfterPart, AfterFetching, Carries, register, authenticate}
+use Rattle.panel_stated.specs.Terms.{NoShape, nought, retired, above, IsNumbered, IsOfMoment, AfterWriting, AfterDeciding, AfterPart, AfterFetching, Carries, register, authenticate}
 use Rattle.panel_stated.specs.declared.Shaped.{Shaped}
 use Rattle.panel_stated.specs.declared.Shaped.the-variants as Shaped′
 use Rattle.panel_stated.specs.declared.Kinded.{Kinded}
@@ -192,9 +192,10 @@ RecordNumbers =
     }
 
 -- ---- numbers that stand for cases
-no-shape-at : (n : ℕ) → (n ≡ 0) ⊎ (9 ≤ n) → Shaped′.Nothing ≡ shapeOf n
-no-shape-at n (inl z) = Cases.no-shape n (λ y. omega arith) (λ y. omega arith) (λ y. omega arith) (λ y. omega arith) (λ y. omega arith) (λ y. omega arith) (λ y. omega arith) (λ y. omega arith)
-no-shape-at n (inr h) = Cases.no-shape n (λ y. omega arith) (λ y. omega arith) (λ y. omega arith) (λ y. omega arith) (λ y. omega arith) (λ y. omega arith) (λ y. omega arith) (λ y. omega arith)
+no-shape-at : (n : ℕ) → NoShape n → Shaped′.Nothing ≡ shapeOf n
+no-shape-at n (nought z) = Cases.no-shape n (λ y. omega arith) (λ y. omega arith) (λ y. omega arith) (λ y. omega arith) (λ y. omega arith) (λ y. omega arith) (λ y. omega arith)
+no-shape-at n (retired z) = Cases.no-shape n (λ y. omega arith) (λ y. omega arith) (λ y. omega arith) (λ y. omega arith) (λ y. omega arith) (λ y. omega arith) (λ y. omega arith)
+no-shape-at n (above h) = Cases.no-shape n (λ y. omega arith) (λ y. omega arith) (λ y. omega arith) (λ y. omega arith) (λ y. omega arith) (λ y. omega arith) (λ y. omega arith)
 
 no-kind-at : (n : ℕ) → (n ≡ 0) ⊎ (3 ≤ n) → Kinded′.Nothing ≡ kindOf n
 no-kind-at n (inl z) = Cases.no-kind n (λ y. omega arith) (λ y. omega arith)
@@ -209,7 +210,6 @@ ShapeNumbers =
       lc1-data = refl;
       lc1-data-le1 = refl;
       lc3-data = refl;
-      lc3-data-le1 = refl;
       lc3-data-le2 = refl;
       le3 = refl;
       none = λ n out. sym (no-shape-at n out);

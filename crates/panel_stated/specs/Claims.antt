@@ -5,7 +5,7 @@ use mathlib.Core.Logic.{_↔_, _⊎_}
 use mathlib.Core.List.{_∷_}
 use lib.ListN.{drop}
 use Rattle.panel_stated.specs.Words.{ℕ, _≡_, _≤_, _<_, Bool, List, AtMostOne, StatusWord, Outcome, R, Word, Gives, HasStatus, lastRefusal, Closed, Opened, Presence, Order, Head}
-use Rattle.panel_stated.specs.Words.{Instruction, Le1, Lc1Data, Lc1DataLe1, Lc3Data, Lc3DataLe1, Lc3DataLe2, Le3}
+use Rattle.panel_stated.specs.Words.{Instruction, Le1, Lc1Data, Lc1DataLe1, Lc3Data, Lc3DataLe2, Le3}
 use Rattle.panel_stated.specs.Words.{PresenceRecord, OrderNumbers, Shaped, Kinded}
 use Rattle.panel_stated.specs.Words.{FrameSaid, CommandSaid, Wrote, Made, Stepped, Asked, DecisionSaid, ResponseSaid, PartSaid}
 use Rattle.panel_stated.specs.Words.{Says, Entry, Case, Parts, partsOf, shapeNo, Command, Register, Authenticate, Version, GetResponse, Told, length, Remainder, Response, Sent, along, fetchPath, true, writeResponseOf, readResponseOf, nextPartOf, _+_, false, readOf, strictOf, commandOf, newOf, touchOf, checkOf, askOf, finishOf, Given, Body, Ordered, Part, Result}
@@ -24,7 +24,7 @@ use Rattle.response_stated.specs.Claims as Responses
 use Rattle.response_stated.specs.Terms.{Sender, Writer, sending}
 use Rattle.signing_stated.specs.Orders.{blankOrder}
 use Rattle.u2f_up_stated.specs.Runs.{Caller, Keeps, after, next}
-use Rattle.panel_stated.specs.Terms.{numbersAfter, IsNumbered, IsOfMoment, AreOf64Bits, Carries, AfterWriting, AfterDeciding, AfterPart, AfterFetching, Reports}
+use Rattle.panel_stated.specs.Terms.{numbersAfter, NoShape, IsNumbered, IsOfMoment, AreOf64Bits, Carries, AfterWriting, AfterDeciding, AfterPart, AfterFetching, Reports}
 use Rattle.outcome.specs.declared.ApduStatusCode.{ApduStatusCode}
 use Rattle.outcome.specs.declared.Refusal.{Refusal}
 use Rattle.apdu_stated.specs.declared.Apdu.{Apdu}
@@ -129,18 +129,17 @@ pub record RefusalHandsBack (touch check : PresenceRecord → ℕ → Stepped) (
 
 -- ---- numbers that stand for cases
 
--- 01, 'Eight frame shapes', the column "no"; ours: OPEN POINTS, "a shape number outside 1..8 is R5". A table that takes 0 for
--- Instruction (`shape0Accepted`) fails it.
+-- 01, 'Eight frame shapes', the column "no"; ours: OPEN POINTS, "a shape number outside 1..8 is R5"; 02, E13: number 6 is no shape's, 7 and 8 keep
+-- theirs. A table that takes 0 for Instruction (`shape0Accepted`) fails it, and one that takes the retired 6 for shape 7 (`shape6Accepted`).
 pub record ShapeNumbers (shape : ℕ → Shaped) : Type 0 where
   pub instruction : shape 1 ≡ Shaped′.As Instruction
   pub le1 : shape 2 ≡ Shaped′.As Le1
   pub lc1-data : shape 3 ≡ Shaped′.As Lc1Data
   pub lc1-data-le1 : shape 4 ≡ Shaped′.As Lc1DataLe1
   pub lc3-data : shape 5 ≡ Shaped′.As Lc3Data
-  pub lc3-data-le1 : shape 6 ≡ Shaped′.As Lc3DataLe1
   pub lc3-data-le2 : shape 7 ≡ Shaped′.As Lc3DataLe2
   pub le3 : shape 8 ≡ Shaped′.As Le3
-  pub none : (n : ℕ) → (n ≡ 0) ⊎ (9 ≤ n) → shape n ≡ Shaped′.Nothing
+  pub none : (n : ℕ) → NoShape n → shape n ≡ Shaped′.Nothing
 
 -- Ours: OPEN POINTS, "Over plain numbers any other kind is R7". A table that takes 2 for a Register (`kindsAlike`) fails it, and
 -- one that takes 3 and above for an Authenticate (`unknownIsAuthenticate`).
@@ -149,10 +148,10 @@ pub record KindNumbers (kind : ℕ → Kinded) : Type 0 where
   pub authenticate : kind 2 ≡ Kinded′.As Kind′.Authenticate
   pub none : (n : ℕ) → (n ≡ 0) ⊎ (3 ≤ n) → kind n ≡ Kinded′.Nothing
 
--- Ours: OPEN POINTS, "a shape number outside 1..8 is R5", "Over plain numbers any other kind is R7". A finisher that refuses an order of
+-- Ours: OPEN POINTS, "a shape number outside 1..8 is R5", "Over plain numbers any other kind is R7"; 02, E13: for shape 6 "the writer R5". A finisher that refuses an order of
 -- no kind for its room (`noKindIsR2`) fails it.
 pub record OthersRefused (write : Entry → ToWrite → Outcome ℕ) (finish : ToFinish → Outcome (List ℕ)) : Type 0 where
-  pub shape : (entry : Entry) (w : ToWrite) → (w .shape ≡ 0) ⊎ (9 ≤ w .shape) → write entry w ≡ R 5
+  pub shape : (entry : Entry) (w : ToWrite) → NoShape (w .shape) → write entry w ≡ R 5
   pub kind : (i : ToFinish) → (i .order .kind ≡ 0) ⊎ (3 ≤ i .order .kind) → finish i ≡ R 7
 
 -- An order that went out as numbers and block is finished as that order, its signer's answer by `YesNumbers`. A certificate length that goes out as the number of
@@ -365,9 +364,10 @@ abbrev pub ReadStrictExported : (List ℕ → FrameSaid) → Type 0
 ReadStrictExported read = ReaderExported Frames.StrictExactly read
 
 -- The exported writers of frames as a whole, by whatever writer meets apdu_stated's `WriteExactly`, of the strict one `StrictWriteExactly`: of a shape's
--- number that writer's answer in numbers and its buffer, on the header, data and Le that are lent under these names; of any other number R5. 02, E4: the strict
--- writer "refuses shape 6, and Lc 0 in shape 7, with R5 and is otherwise the writer". A strict export that is the other one (`strictExportWrites`) fails it, one
--- that gives R5 for no shape a written buffer (`noShapeClears`), and one that takes P2 for P1 (`parametersSwapped`).
+-- number that writer's answer in numbers and its buffer, on the header, data and Le that are lent under these names; of any other number R5, of the retired 6 too (02, E13). E4: the strict
+-- writer "refuses .. Lc 0 in shape 7, with R5 and is otherwise the writer". A strict export that is the other one (`strictExportWrites`) fails it, one
+-- that gives R5 for no shape a written buffer (`noShapeClears`), one that still writes for number 6 (`sixWritten`), and one that takes P2 for P1
+-- (`parametersSwapped`).
 pub record WriterExported (Writes : (Parts → List ℕ → Outcome ℕ × List ℕ) → Type 0) (write : ToWrite → AfterWriting) : Type 0 where
   pub given : (writer : Parts → List ℕ → Outcome ℕ × List ℕ) → Writes writer → (w : ToWrite) (s : Case) (n : ℕ) → w .shape ≡ shapeNo s
       → writer (partsOf (w .header) s (w .content) (w .le)) (w .out) .0 ≡ Gives n
@@ -375,7 +375,7 @@ pub record WriterExported (Writes : (Parts → List ℕ → Outcome ℕ × List 
   pub refused : (writer : Parts → List ℕ → Outcome ℕ × List ℕ) → Writes writer → (w : ToWrite) (s : Case) (m : ℕ) → w .shape ≡ shapeNo s
       → writer (partsOf (w .header) s (w .content) (w .le)) (w .out) .0 ≡ R m
       → (write w .said ≡ record { answer = m; length = 0 }) × (write w .buffer ≡ w .out)
-  pub no-shape : (w : ToWrite) → (w .shape ≡ 0) ⊎ (9 ≤ w .shape) → (write w .said ≡ record { answer = 5; length = 0 }) × (write w .buffer ≡ w .out)
+  pub no-shape : (w : ToWrite) → NoShape (w .shape) → (write w .said ≡ record { answer = 5; length = 0 }) × (write w .buffer ≡ w .out)
 
 abbrev pub WriteExported : (ToWrite → AfterWriting) → Type 0
 WriteExported write = WriterExported (Frames.WriteExactly Carried InTable) write

@@ -68,7 +68,7 @@ abbrev pub bufferAs : Entry → Shaped → ToWrite → List ℕ
 bufferAs entry (Shaped′.As s) w = bufferBy entry (partsOf (w .header) s (w .content) (w .le)) (w .out)
 bufferAs entry Shaped′.Nothing w = w .out
 
--- whether the strict table has a row for so many bytes of data in a shape: 02, E4, "refuses shape 6, and Lc 0 in shape 7"
+-- whether the strict table has a row for so many bytes of data in a shape: 02, E4, "refuses .. Lc 0 in shape 7"
 abbrev pub strictAs : Shaped → ℕ → Bool
 strictAs (Shaped′.As s) count = inRow Strict s count
 strictAs Shaped′.Nothing count = false

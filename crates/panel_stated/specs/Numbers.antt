@@ -1,7 +1,7 @@
 -- Document 01, 'Forms that change': "exported to it over plain numbers and byte slices". Which number stands for what:
 -- answers, windows and records, shapes and kinds. The hardware's answers are ctap1_stated's, which takes them as numbers.
 use Rattle.panel_stated.specs.Words.{ℕ, zero, suc, _+_, eqb, if_then_else_, Outcome, R, Word, Gives}
-use Rattle.panel_stated.specs.Words.{Instruction, Le1, Lc1Data, Lc1DataLe1, Lc3Data, Lc3DataLe1, Lc3DataLe2, Le3}
+use Rattle.panel_stated.specs.Words.{Instruction, Le1, Lc1Data, Lc1DataLe1, Lc3Data, Lc3DataLe2, Le3}
 use Rattle.panel_stated.specs.Words.{Window, Closed, Opened, Presence}
 pub use Rattle.ctap1_stated.specs.Numbers.{allowedOf, attestationOf, isYes, counterOf, hardwareOf}
 use Rattle.panel_stated.specs.Words.{PresenceRecord, OrderNumbers, Shaped, Kinded, Given, Body, Ordered, Part}
@@ -57,7 +57,8 @@ presenceOf n = record { w = n .w; prompt = windowOf (n .prompt); touch = windowO
 abbrev pub presenceNumbers : Presence → PresenceRecord
 presenceNumbers p = record { w = p .w; prompt = windowNo (p .prompt); touch = windowNo (p .touch); last = p .last }
 
--- 01, 'Eight frame shapes', the column "no"; ours: OPEN POINTS, "a shape number outside 1..8 is R5"
+-- 01, 'Eight frame shapes', the column "no"; ours: OPEN POINTS, "a shape number outside 1..8 is R5"; 02, E13: shape 6 is retired, "the writer
+-- R5", and 7 and 8 keep their numbers
 unfoldable pub shapeOf : ℕ → Shaped
 shapeOf n =
     if eqb n 1 then Shaped′.As Instruction
@@ -65,7 +66,6 @@ shapeOf n =
     else if eqb n 3 then Shaped′.As Lc1Data
     else if eqb n 4 then Shaped′.As Lc1DataLe1
     else if eqb n 5 then Shaped′.As Lc3Data
-    else if eqb n 6 then Shaped′.As Lc3DataLe1
     else if eqb n 7 then Shaped′.As Lc3DataLe2
     else if eqb n 8 then Shaped′.As Le3
     else Shaped′.Nothing

@@ -10,7 +10,7 @@ pub use Rattle.outcome.specs.Notation.{if_then_else_, AtMostOne}
 pub use Rattle.outcome.specs.Outcome.{StatusWord, Outcome, R, Word, SW, Gives, plainWord, lastRefusal}
 pub use Rattle.outcome.specs.Terms.{HasStatus}
 pub use Rattle.apdu_stated.specs.declared.Case.{Case}
-pub use Rattle.apdu_stated.specs.declared.Case.the-variants.{Instruction, Le1, Lc1Data, Lc1DataLe1, Lc3Data, Lc3DataLe1, Lc3DataLe2, Le3}
+pub use Rattle.apdu_stated.specs.declared.Case.the-variants.{Instruction, Le1, Lc1Data, Lc1DataLe1, Lc3Data, Lc3DataLe2, Le3}
 pub use Rattle.apdu_stated.specs.declared.ApduHeader.{ApduHeader}
 pub use Rattle.u2f_up_stated.specs.declared.Window.{Window}
 pub use Rattle.u2f_up_stated.specs.declared.Window.the-variants.{Closed, Opened}

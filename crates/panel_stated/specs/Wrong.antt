@@ -79,6 +79,10 @@ refusedMoves n t = record { answer = 1; yes = false; presence = record { w = n .
 abbrev pub shape0Accepted : ℕ → Shaped
 shape0Accepted n = if eqb n 0 then Shaped′.As Instruction else shapeOf n
 
+-- 02, E13, for shape 6 "the writer R5": 6 taken for the shape that the converter writes
+abbrev pub shape6Accepted : ℕ → Shaped
+shape6Accepted n = if eqb n 6 then Shaped′.As Lc3DataLe2 else shapeOf n
+
 -- an Authenticate order finished as a Register
 abbrev pub kindsAlike : ℕ → Kinded
 kindsAlike n = if eqb n 2 then Kinded′.As Kind′.Register else kindOf n
@@ -346,13 +350,18 @@ dataWithLe frame =
     record { answer = a .answer; fault = a .fault; cla = a .cla; ins = a .ins; p1 = a .p1; p2 = a .p2; shape = a .shape; lc = a .lc; le = a .le; start = a .start; end = a .end + 1; place = a .place }
 
 -- ---- the exported writers of frames
--- "refuses shape 6, and Lc 0 in shape 7": the strict export is the other one
+-- "refuses .. Lc 0 in shape 7": the strict export is the other one
 abbrev pub strictExportWrites : ToWrite → AfterWriting
 strictExportWrites w = writesOf Ordinary w
 
 -- "An R refusal changes no buffer": a number that is no shape's sets every byte of it to 0
 abbrev pub noShapeClears : ToWrite → AfterWriting
 noShapeClears w = let a = writesOf Ordinary w in record { said = a .said; buffer = if leb 9 (w .shape) then replicate (length (w .out)) 0 else a .buffer }
+
+-- for shape 6 "the writer R5": it writes shape 7
+abbrev pub sixWritten : ToWrite → AfterWriting
+sixWritten w =
+    writesOf Ordinary (record { header = w .header; shape = if eqb (w .shape) 6 then 7 else w .shape; content = w .content; le = w .le; out = w .out })
 
 -- "CLA INS P1 P2": P2 for P1
 abbrev pub parametersSwapped : ToWrite → AfterWriting
