@@ -1,6 +1,6 @@
 -- Wrong programs, one fault each, said as what they do otherwise than the definition. proofs/Refuted.antt has that each fails
 -- its claim.
-use Rattle.panel_stated.specs.Words.{ℕ, _+_, Bool, true, false, eqb, List, if_then_else_, StatusWord, Outcome, R, Word, Gives, Window, Closed, Opened, Presence, Order, Instruction}
+use Rattle.panel_stated.specs.Words.{ℕ, _+_, Bool, true, false, eqb, List, if_then_else_, StatusWord, Outcome, R, Word, Gives, Window, Closed, Opened, Presence, Order, Instruction, Lc3DataLe2}
 use Rattle.panel_stated.specs.Words.{DecisionSaid, PresenceRecord, OrderNumbers, FrameSaid, CommandSaid, Wrote, Made, Stepped, Asked, ResponseSaid, PartSaid, Shaped, Kinded}
 use Rattle.panel_stated.specs.Words.{Says, Command, Register, Authenticate, Version, GetResponse, Told, Result, Given, Body, Ordered, Part, toSign, certificateLength, Remainder, rest, Response, Sent}
 use Rattle.panel_stated.specs.Numbers.{greatestNo, presenceOf, presenceNumbers, shapeOf, kindOf}
