@@ -20,10 +20,10 @@ returns-5 : tie.Need-returns-5
 returns-5 c = Cases.shaped Lc3Data _ (c .match .keys5)
 
 returns-6 : tie.Need-returns-6
-returns-6 c = Cases.shaped Lc3DataLe2 _ (c .match .keys7)
+returns-6 c = Cases.shaped Lc3DataLe2 _ (c .match .keys6)
 
 returns-7 : tie.Need-returns-7
-returns-7 c = Cases.shaped Le3 _ (c .match .keys8)
+returns-7 c = Cases.shaped Le3 _ (c .match .keys7)
 
 returns-8 : tie.Need-returns-8
 returns-8 c = Cases.no-shape _ (c .match .rest .0 .0 .0 .0 .0 .0 .1) (c .match .rest .0 .0 .0 .0 .0 .1) (c .match .rest .0 .0 .0 .0 .1) (c .match .rest .0 .0 .0 .1) (c .match .rest .0 .0 .1) (c .match .rest .0 .1) (c .match .rest .1)
