@@ -3,6 +3,7 @@ pub mod Fitting
 pub mod ByRows
 pub mod Turns
 pub mod Agreement
+pub mod OneRow
 pub mod Built
 pub mod AnyTable
 pub mod Numbers
