@@ -1,0 +1,9 @@
+pub mod OldForms
+pub mod Becoming
+pub mod Ways
+pub mod Cases
+pub mod Numbers
+pub mod Theorems
+pub mod Only
+pub mod Refuted
+pub mod Laws

@@ -1,0 +1,10 @@
+// What a conversion of a frame comes to. No function: convert has them.
+use outcome::ApduStatusCode;
+use outcome::Refusal;
+
+// The length of what was written; or a refusal; or the reader's status word for a frame in no shape.
+pub enum Converted {
+    Frame(usize),
+    Refused(Refusal),
+    Status(ApduStatusCode),
+}
