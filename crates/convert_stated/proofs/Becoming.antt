@@ -33,8 +33,7 @@ made i = record { says = i .says; table = i .table; header = i .header; same-le 
 -- two frames of the same old form have its header, data and Le
 old-one : {frame : List ℕ} {h k : ApduHeader} {d e : List ℕ} {le me : ℕ} → AreBytes frame → Old frame h d le → Old frame k e me → (h ≡ k) × (d ≡ e) × (le ≡ me)
 old-one {frame} {h} {k} {d} {e} {le} {me} bytes o p =
-    let same = gives-same _ _ (sym (old-says bytes o) ∙ old-says bytes p) in
-    (
+    let same = gives-same _ _ (sym (old-says bytes o) ∙ old-says bytes p) in (
       ap (λ (s : Says). s .header) same,
       sym (old-data o) ∙ ap (dataOf frame) same ∙ old-data p,
       ap (λ (s : Says). s .le) same,
