@@ -1,0 +1,43 @@
+-- `bytes` is safe and ends.
+use Prim.Native.Nat.{ℕ, _-_, _≤_, _<_}
+use mathlib.Core.Path.{_≡_}
+use borrow.Author.Needs.{needs}
+use lib.ListN.{length}
+use Rattle.recording.proofs.hex.bytes.Statement.{statement}
+use Rattle.recording.proofs.hex.bytes.Tie as tie
+
+abbrev Inv-loop : tie.InvT-loop
+Inv-loop line frame₀ n₀ i₀ frame n i = length frame ≡ length frame₀
+
+abbrev μ-loop : tie.MeasureT-loop
+μ-loop line frame₀ n₀ i₀ frame n i = length line - i
+
+pub bytes-spec : {M : Type 1} → statement M
+bytes-spec =
+    tie.close
+    (tie.spec
+    Inv-loop
+    μ-loop
+    (λ c κs. search needs)
+    (λ c. search needs)
+    (λ c. search needs)
+    (λ c. search needs)
+    (λ c. search needs)
+    (λ c κs. search needs)
+    (λ c κs. search needs)
+    (λ c. search needs)
+    (λ c. search needs)
+    (λ c. search needs)
+    (λ c. search needs)
+    (λ c. search needs)
+    (λ c. search needs)
+    (λ c. search needs)
+    (λ c. search needs)
+    (λ c κs. search needs)
+    (λ c. search needs)
+    (λ c. search needs)
+    (λ c κs. search needs)
+    (λ c. search needs)
+    (λ c. search needs)
+    (λ c. search needs)
+    (λ c. search needs))

@@ -1,0 +1,89 @@
+// Converts a recording on standard input to standard output: frames of the old form, an extended Lc with a one-byte Le, become shape 7, or
+// shape 8 where Lc is 0. A line is a frame in hex, a comment (#) or empty. Every line goes out as it came, but for those that are converted, and
+// those that could not be read, which go out behind a comment that says why; so nothing is lost, and what goes out is a recording again. The
+// last line counts.
+mod hex;
+mod line;
+mod out;
+mod tally;
+
+use libc::STDERR_FILENO;
+use libc::STDIN_FILENO;
+use tally::Tally;
+
+// The longest frame that has a shape is 65,544 bytes, which in hex, with a space behind each, are 196,632.
+fn text_space() -> [u8; 262144] {
+    [0; 262144]
+}
+
+// Handles the whole lines of the text, and says where the rest begins, which has no line end yet.
+fn lines(text: &[u8], tally: &mut Tally) -> usize {
+    let mut at = 0;
+    let mut end = text::find(text, at, b'\n');
+    while end < text.len() {
+        line::whole(octets::part(text, at, end), tally);
+        at = end + 1;
+        end = text::find(text, at, b'\n');
+    }
+    at
+}
+
+// Moves the bytes from `at` up to `end` to the front, and says how many they are.
+fn forward(text: &mut [u8], at: usize, end: usize) -> usize {
+    let mut i = 0;
+    let mut from = at;
+    while from < end {
+        if text.len() <= from {
+            return i;
+        }
+        if text.len() <= i {
+            return i;
+        }
+        let b = text[from];
+        text[i] = b;
+        i += 1;
+        from += 1;
+    }
+    i
+}
+
+// One filling of the text, of which `have` bytes stand there: how many are left at its front; the text's length where the input has ended.
+fn filled(text: &mut [u8], have: usize, tally: &mut Tally) -> usize {
+    if text.len() <= have {
+        return have;
+    }
+    let got = io::read_full(STDIN_FILENO, &mut text[have..]);
+    let all = have + got;
+    let rest = lines(octets::part(text, 0, all), tally);
+    if all < text.len() {
+        line::last(octets::part(text, rest, all), tally);
+        return text.len();
+    }
+    if rest == 0 {
+        line::too_long(text, tally);
+        return 0;
+    }
+    forward(text, rest, all)
+}
+
+// A proved loop has to end, and nothing says that the input does: the turns count down from a number that no run uses up.
+fn all(text: &mut [u8], tally: &mut Tally) {
+    let mut turns = u64::MAX;
+    let mut have = 0;
+    while turns > 0 && have < text.len() {
+        have = filled(text, have, tally);
+        turns -= 1;
+    }
+}
+
+fn main() {
+    let mut text = text_space();
+    let mut tally = [0u64; 6];
+    all(&mut text, &mut tally);
+    // The input's end and a failed read look alike so far: one read more tells them apart.
+    let mut more = [0u8; 1];
+    if libc::read(STDIN_FILENO, &mut more) < 0 {
+        io::write_all(STDERR_FILENO, b"cannot read standard input\n");
+    }
+    tally::close(&mut tally);
+}
