@@ -1,4 +1,4 @@
-// One line of a recording.
+// One line of a recording. What a line needs room for is lent: its frame, what that becomes, and the result in hex.
 use crate::hex;
 use crate::out::print;
 use crate::out::print_number;
@@ -13,15 +13,6 @@ use crate::tally::next;
 use convert::Converted;
 use outcome::ApduStatusCode;
 use text::Said;
-
-fn frame_space() -> [u8; 131072] {
-    [0; 131072]
-}
-
-// The longest frame in hex, and its line end.
-fn words_space() -> [u8; 262146] {
-    [0; 262146]
-}
 
 // As it came.
 fn as_it_is(line: &[u8], tally: &mut Tally) {
@@ -50,23 +41,19 @@ fn put_status(status: ApduStatusCode, tally: &mut Tally) {
     }
 }
 
-fn put_frame(frame: &[u8], tally: &mut Tally) {
-    let mut space = words_space();
-    let words: &mut [u8] = &mut space;
+fn put_frame(frame: &[u8], words: &mut [u8], tally: &mut Tally) {
     let end = spell::bytes(words, 0, b"", frame);
     as_it_is(octets::part(words, 0, end), tally);
 }
 
 // A frame: converted, as it came, or behind its status.
-fn put_converted(line: &[u8], frame: &[u8], tally: &mut Tally) {
-    let mut space = frame_space();
-    let out: &mut [u8] = &mut space;
+fn put_converted(line: &[u8], frame: &[u8], out: &mut [u8], words: &mut [u8], tally: &mut Tally) {
     let converted = convert::convert(frame, out);
     match converted {
         Converted::Frame(n) => {
             if convert::is_old(frame) {
                 tally[CONVERTED] = next(tally[CONVERTED]);
-                put_frame(octets::part(out, 0, n), tally);
+                put_frame(octets::part(out, 0, n), words, tally);
             } else {
                 tally[KEPT] = next(tally[KEPT]);
                 as_it_is(line, tally);
@@ -95,39 +82,37 @@ fn is_frame(line: &[u8]) -> bool {
 }
 
 // A line with its end, or the last one without.
-fn one(line: &[u8], tally: &mut Tally) {
+fn one(line: &[u8], frame: &mut [u8], out: &mut [u8], words: &mut [u8], tally: &mut Tally) {
     tally[LINE] = next(tally[LINE]);
     if !is_frame(line) {
         as_it_is(line, tally);
         return;
     }
-    let mut space = frame_space();
-    let frame: &mut [u8] = &mut space;
     let Said::Is(n) = hex::bytes(line, frame) else {
         unread(tally);
         print(b"no bytes in hex: ", tally);
         as_it_is(line, tally);
         return;
     };
-    put_converted(line, octets::part(frame, 0, n as usize), tally);
+    put_converted(line, octets::part(frame, 0, n as usize), out, words, tally);
 }
 
 // The rest of a line that was too long ends here; any other is a line.
-pub fn whole(line: &[u8], tally: &mut Tally) {
+pub fn whole(line: &[u8], frame: &mut [u8], out: &mut [u8], words: &mut [u8], tally: &mut Tally) {
     if tally[WITHIN] != 0 {
         tally[WITHIN] = 0;
         as_it_is(line, tally);
         return;
     }
-    one(line, tally);
+    one(line, frame, out, words, tally);
 }
 
 // What stands behind the last line end, if anything does.
-pub fn last(line: &[u8], tally: &mut Tally) {
+pub fn last(line: &[u8], frame: &mut [u8], out: &mut [u8], words: &mut [u8], tally: &mut Tally) {
     if line.len() == 0 && tally[WITHIN] == 0 {
         return;
     }
-    whole(line, tally);
+    whole(line, frame, out, words, tally);
 }
 
 // A part of a line that is longer than the text, at its start or further on: it goes out as it came, behind a comment.

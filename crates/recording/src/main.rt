@@ -16,12 +16,23 @@ fn text_space() -> [u8; 262144] {
     [0; 262144]
 }
 
+// For as many bytes as the text can say.
+fn frame_space() -> [u8; 131072] {
+    [0; 131072]
+}
+
 // Handles the whole lines of the text, and says where the rest begins, which has no line end yet.
-fn lines(text: &[u8], tally: &mut Tally) -> usize {
+fn lines(
+    text: &[u8],
+    frame: &mut [u8],
+    out: &mut [u8],
+    words: &mut [u8],
+    tally: &mut Tally,
+) -> usize {
     let mut at = 0;
     let mut end = text::find(text, at, b'\n');
     while end < text.len() {
-        line::whole(octets::part(text, at, end), tally);
+        line::whole(octets::part(text, at, end), frame, out, words, tally);
         at = end + 1;
         end = text::find(text, at, b'\n');
     }
@@ -48,15 +59,22 @@ fn forward(text: &mut [u8], at: usize, end: usize) -> usize {
 }
 
 // One filling of the text, of which `have` bytes stand there: how many are left at its front; the text's length where the input has ended.
-fn filled(text: &mut [u8], have: usize, tally: &mut Tally) -> usize {
+fn filled(
+    text: &mut [u8],
+    have: usize,
+    frame: &mut [u8],
+    out: &mut [u8],
+    words: &mut [u8],
+    tally: &mut Tally,
+) -> usize {
     if text.len() <= have {
         return have;
     }
     let got = io::read_full(STDIN_FILENO, &mut text[have..]);
     let all = have + got;
-    let rest = lines(octets::part(text, 0, all), tally);
+    let rest = lines(octets::part(text, 0, all), frame, out, words, tally);
     if all < text.len() {
-        line::last(octets::part(text, rest, all), tally);
+        line::last(octets::part(text, rest, all), frame, out, words, tally);
         return text.len();
     }
     if rest == 0 {
@@ -67,19 +85,22 @@ fn filled(text: &mut [u8], have: usize, tally: &mut Tally) -> usize {
 }
 
 // A proved loop has to end, and nothing says that the input does: the turns count down from a number that no run uses up.
-fn all(text: &mut [u8], tally: &mut Tally) {
+fn all(text: &mut [u8], frame: &mut [u8], out: &mut [u8], words: &mut [u8], tally: &mut Tally) {
     let mut turns = u64::MAX;
     let mut have = 0;
     while turns > 0 && have < text.len() {
-        have = filled(text, have, tally);
+        have = filled(text, have, frame, out, words, tally);
         turns -= 1;
     }
 }
 
 fn main() {
     let mut text = text_space();
+    let mut words = text_space();
+    let mut frame = frame_space();
+    let mut out = frame_space();
     let mut tally = [0u64; 6];
-    all(&mut text, &mut tally);
+    all(&mut text, &mut frame, &mut out, &mut words, &mut tally);
     // The input's end and a failed read look alike so far: one read more tells them apart.
     let mut more = [0u8; 1];
     if libc::read(STDIN_FILENO, &mut more) < 0 {
