@@ -1,11 +1,11 @@
-# For firmware/test: frames for the panel on a pipe, read and read strictly by both readers, written and written strictly, and what document 02, E4 and E1, and
+# For firmware/test: frames for the panel on a pipe, read and read strictly by both readers, written and written strictly, and what document 02, E4, E13 and E1, and
 # ISO 7816-3's table of seven cases have them answered, worked out here from their sentences and from nothing that the panel says.
 #
 #   awk -v calls=FILE -v answers=FILE -f firmware/iso.awk
 #
 # "The strict frames are then ISO's seven cases; a strict writer is added that refuses shape 6, and Lc 0 in shape 7, with R5 and is otherwise
 # the writer. The ordinary reading still takes it .. E1's kind for every strict frame longer than 7 bytes with an extended Lc of 0 is surplus,
-# at byte 7."
+# at byte 7." And since E13: "The ordinary reading gives 6700 for shape 6, the writer R5 .. E1's kind for the old form is surplus at its Le byte."
 
 function ask(call, answer) {
     print call > calls
@@ -59,14 +59,10 @@ function iso(body,    L, n) {
     return ""
 }
 
-# and of the two forms that document 01 tolerates beside them
-function tolerated(body,    L, n) {
-    L = length(body) / 2
-    if (L < 4 || B(body, 1) != 0) return ""
-    n = extended(body)
-    if (L == 4 + n) return "6 " n " " le(B(body, L), 256) " 7 " 7 + n
-    if (n == 0 && L == 5) return "7 0 " le(256 * B(body, 4) + B(body, 5), 65536) " 7 7"
-    return ""
+# and of the form that document 01 tolerates beside them, which E13 has left
+function tolerated(body) {
+    if (length(body) / 2 != 5 || B(body, 1) != 0 || extended(body) != 0) return ""
+    return "7 0 " le(256 * B(body, 4) + B(body, 5), 65536) " 7 7"
 }
 
 function said(body, strictly,    s) {
@@ -99,18 +95,18 @@ function read(body) {
     ask("tablestrict a0a1a2a3" body, reading(body, 1))
 }
 
-# document 01's table: the bytes of the Lc field, the least and the most data, the bytes of the Le field and the most it says
+# document 01's table: the bytes of the Lc field, the least and the most data, the bytes of the Le field and the most it says. Row 6 is retired
 function row(shape) {
-    split("1 0 0 0 0 0|2 0 0 0 1 256|3 1 1 255 0 0|4 1 1 255 1 256|5 3 1 65535 0 0|6 3 0 65535 1 256|7 3 0 65535 2 65536|8 0 0 0 3 65536", rows, "|")
+    split("1 0 0 0 0 0|2 0 0 0 1 256|3 1 1 255 0 0|4 1 1 255 1 256|5 3 1 65535 0 0||7 3 0 65535 2 65536|8 0 0 0 3 65536", rows, "|")
     split(rows[shape], column, " ")
 }
 
 # a frame's body, or R5: there is no such shape, it cannot carry so much data or this Le, or ISO has no such case
 function body_of(shape, n, says, strictly,    lc, last) {
-    if (shape < 1 || shape > 8) return "R5"
+    if (shape < 1 || shape > 8 || shape == 6) return "R5"
     row(shape)
     if (n < column[3] || n > column[4] || says > column[6] || (column[5] ? says < 1 : says != 0)) return "R5"
-    if (strictly && (shape == 6 || (shape == 7 && n == 0))) return "R5"
+    if (strictly && shape == 7 && n == 0) return "R5"
     lc = column[2] == 0 ? "" : column[2] == 1 ? hex(n, 2) : "00" hex(n, 4)
     last = column[5] == 0 ? "" : column[5] == 1 ? hex(says % 256, 2) : hex(says % 65536, 4)
     return lc repeated("5c", n) (column[5] == 3 ? "00" : "") last

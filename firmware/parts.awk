@@ -209,6 +209,25 @@ BEGIN {
         decided(frame_of[i], answer_of[i])
         dropped()
     }
+    # E13: the old form, an extended Lc and an Le of one byte, is in no shape any more: of C0 with Lc 0 and 1, also where P1 or CLA is
+    # wrong, of Version and of Register. A byte more makes it shape 7, in which C0 fetches all, and is refused with data
+    olds = split("00c0000000000005 00c00000000001aa00 00c0010000000005 80c0000000000005 0003000000000005 0001000000003f" repeated("03", 63) "00", frame_of, " ")
+    split("7 8 7 7 7 70", place_of, " ")
+    for (i = 1; i <= olds; i++) {
+        started()
+        decided(frame_of[i], "6700 surplus " place_of[i])
+        ask("limit", 0)
+        dropped()
+    }
+    started()
+    decide("0 00c0000000000005", "6986")
+    dropped()
+    started()
+    ask("decide 0 1 00c0000000000005 - 0 - 0 " x " " y " 0 0 0", "R1")
+    decided("00c00000000001aa0000", "6700 lc 4")
+    kept()
+    part("part", EXTENDED, "decide " ++moment " 1 00c000000000000005 - 0 - 0 " x " " y " 0 0 0")
+    nothing_left()
     started()
     decide("0 " frame("03", ABSENT), "6986")
     dropped()
@@ -320,6 +339,8 @@ BEGIN {
     ask("command 00c00000", "getresponse")
     ask("command 00c0000005", "getresponse")
     ask("command 00c00000000000", "getresponse")
+    ask("command 00c0000000000005", "6700 surplus 7")
+    ask("command 00c000000000000005", "getresponse")
     ask("command 00c00001", "6a86")
     ask("command 00c00100" "01aa", "6a86")
     ask("command 00c00000" "01aa", "6700 lc 4")

@@ -54,12 +54,20 @@ static bool same_record(struct brinecandle_presence a, struct brinecandle_presen
 
 typedef struct brinecandle_frame reading(const uint8_t *frame, size_t length);
 
-/* With 6700 a kind, and the place that goes with it: cut there, a frame with bytes too many is one that is read. With any other answer
- * neither. */
+/* An extended Lc and one byte behind the data: shape 6 once. No reading has it any more. */
+static bool is_old_form(const uint8_t *frame, size_t length)
+{
+    return length >= 8 && !frame[4] && length == 8 + 256 * (size_t)frame[5] + frame[6];
+}
+
+/* With 6700 a kind, and the place that goes with it: cut there, a frame with bytes too many is one that is read; in the old form it is
+ * the last byte. With any other answer neither. */
 static void watched_fault(uint16_t answer, uint16_t fault, size_t place, const uint8_t *frame, size_t length, reading *by)
 {
     if (answer != BRINECANDLE_WRONG_LENGTH) {
         held(fault == BRINECANDLE_NO_FAULT && !place, "fault: beside another answer");
+    } else if (is_old_form(frame, length)) {
+        held(fault == BRINECANDLE_SURPLUS && place == length - 1, "fault: the old form, and not at its last byte");
     } else if (fault == BRINECANDLE_MISSING) {
         held(place == length, "fault: missing, and not at the end");
     } else if (fault == BRINECANDLE_SURPLUS) {
@@ -74,6 +82,7 @@ static struct brinecandle_frame watched_frame(struct brinecandle_frame said, con
 {
     watched_fault(said.answer, said.fault, said.place, frame, length, by);
     held(said.fault != BRINECANDLE_LC_AGAINST_INS, "read: a command's fault");
+    held(!is_old_form(frame, length) || said.answer != BRINECANDLE_OK, "read: the old form");
     if (said.answer != BRINECANDLE_OK) {
         held(said.answer == (length < 4 ? BRINECANDLE_WRONG_DATA : BRINECANDLE_WRONG_LENGTH), "read: another answer");
         held(!said.cla && !said.ins && !said.p1 && !said.p2 && !said.shape && !said.lc && !said.le && !said.start && !said.end,
@@ -81,7 +90,7 @@ static struct brinecandle_frame watched_frame(struct brinecandle_frame said, con
         return said;
     }
     held(said.cla == frame[0] && said.ins == frame[1] && said.p1 == frame[2] && said.p2 == frame[3], "read: header");
-    held(1 <= said.shape && said.shape <= 8 && said.le <= 65536, "read: shape or Le");
+    held(1 <= said.shape && said.shape <= 8 && said.shape != 6 && said.le <= 65536, "read: shape or Le");
     held(said.start <= said.end && said.end <= length && said.end - said.start == said.lc, "read: places");
     return said;
 }
@@ -94,7 +103,6 @@ static struct brinecandle_frame watched_read(const uint8_t *frame, size_t length
 static struct brinecandle_frame watched_read_strict(const uint8_t *frame, size_t length)
 {
     struct brinecandle_frame said = brinecandle_read_strict(frame, length);
-    held(said.shape != 6, "strict: shape 6");
     held(said.shape != 7 || said.lc, "strict: shape 7 without data");
     return watched_frame(said, frame, length, brinecandle_read_strict);
 }
@@ -133,7 +141,9 @@ static struct brinecandle_wrote watched_write(uint8_t cla, uint8_t ins, uint8_t 
                                               size_t room)
 {
     keep(watched_buffer, out, room);
-    return watched_wrote(brinecandle_write(cla, ins, p1, p2, shape, content, content_length, le, out, room), out, room);
+    struct brinecandle_wrote said = brinecandle_write(cla, ins, p1, p2, shape, content, content_length, le, out, room);
+    held(shape != 6 || said.answer == BRINECANDLE_R5, "write: number 6, and not R5");
+    return watched_wrote(said, out, room);
 }
 
 /* what the strict writer takes is read strictly, as it was meant; what it does not take, and the writer does, is no case of ISO's */
@@ -161,6 +171,7 @@ static struct brinecandle_command watched_read_command(const uint8_t *frame, siz
 {
     struct brinecandle_command said = brinecandle_read_command(frame, length);
     watched_fault(said.answer, said.fault, said.place, frame, length, brinecandle_read);
+    held(!is_old_form(frame, length) || said.answer != BRINECANDLE_OK, "command: the old form");
     if (said.answer != BRINECANDLE_OK)
         held(!said.command, "command: a command beside a status word");
     if (said.command != BRINECANDLE_U2F_REGISTER && said.command != BRINECANDLE_U2F_AUTHENTICATE)
@@ -305,6 +316,8 @@ static struct brinecandle_decision watched_decide(const uint8_t *frame, size_t f
     size_t written = said.answer == BRINECANDLE_OK ? 6 : 0;
     held(said.answer, "decide: 0");
     watched_fault(said.answer, said.fault, said.place, frame, frame_length, brinecandle_read);
+    if (is_old_form(frame, frame_length))
+        held(said.answer != BRINECANDLE_OK && said.answer != BRINECANDLE_ORDER && said.answer != BRINECANDLE_PART, "decide: the old form");
     held(said.answer == BRINECANDLE_PART || said.length == written, "decide: a length");
     held(written <= room && same_from(written, reply, watched_buffer, room), "decide: the reply");
     watched_session(said, frame, frame_length, remainder, reply, part, part_room);

@@ -104,6 +104,7 @@ pub type Reader = unsafe extern "C" fn(*const u8, usize) -> Frame;
 pub const ORDER: u16 = 0x0100;
 pub const PART: u16 = 0x0200;
 pub const OK: u16 = 0x9000;
+pub const WRONG_LENGTH: u16 = 0x6700;
 pub const BLOCK: usize = 385;
 
 extern "C" {

@@ -18,6 +18,8 @@ const NOW: u64 = 1000;
 #[derive(Clone, Copy, PartialEq)]
 enum Kind {
     Read,
+    /// A reading of the old form: an extended Lc with an Le of one byte. The Rust reads it; the core says 6700 (document 02, E13).
+    ReadOld,
     /// The row's frame is what has to be written. The Rust has no writer.
     Write,
     /// The last part of a body, of so many bytes; the row's frame is the body. The Rust cuts nothing.
@@ -48,7 +50,7 @@ pub struct Row {
     frame: &'static [u8],
 }
 
-/// A frame of the shape; the data's bytes count up.
+/// A frame of the shape, or of the old form, which the Rust has as its sixth; the data's bytes count up.
 fn frame(shape: u8, header: [u8; 4], data: &[u8]) -> Vec<u8> {
     let [hi, lo] = (data.len() as u16).to_be_bytes();
     let short = [lo];
@@ -59,7 +61,7 @@ fn frame(shape: u8, header: [u8; 4], data: &[u8]) -> Vec<u8> {
         3 => (&short, &[]),
         4 => (&short, &[7]),
         5 => (&extended, &[]),
-        6 => (&extended, &[7]),
+        OLD_FORM => (&extended, &[7]),
         7 => (&extended, &[0, 7]),
         _ => (&[], &[0, 0, 7]),
     };
@@ -70,6 +72,8 @@ fn data(length: usize) -> Vec<u8> {
     (0..length).map(|i| i as u8).collect()
 }
 
+const SHAPES: [u8; 7] = [1, 2, 3, 4, 5, 7, 8];
+const OLD_FORM: u8 = 6;
 const LENGTHS: [usize; 7] = [0, 1, 10, 255, 256, 4096, 65535];
 const PARTS: [usize; 3] = [1, 32, 256];
 const BODIES: [usize; 3] = [256, 1024, 60000];
@@ -100,10 +104,10 @@ impl Row {
         .collect()
     }
 
-    /// Each shape with each length that it can carry, and a frame under four bytes and one in no shape.
+    /// Each shape with each length that it can carry, the old form with each length, and a frame under four bytes and one in no shape.
     fn readings() -> Vec<Row> {
         let mut rows = Vec::new();
-        for shape in 1..=8 {
+        for shape in SHAPES {
             for length in LENGTHS {
                 let carried = match shape {
                     1 | 2 | 8 => length == 0,
@@ -117,6 +121,15 @@ impl Row {
                     rows.push(Row::new(&name, Kind::Read, Before::Nothing, frame));
                 }
             }
+        }
+        for length in LENGTHS {
+            let frame = frame(OLD_FORM, [0, 3, 0, 0], &data(length));
+            rows.push(Row::new(
+                &format!("read-old-{length}"),
+                Kind::ReadOld,
+                Before::Nothing,
+                frame,
+            ));
         }
         rows.push(Row::new("read-6a80", Kind::Read, Before::Nothing, vec![0, 3, 0]));
         let mut cut = frame(5, [0, 3, 0, 0], &data(10));
@@ -162,7 +175,7 @@ impl Row {
     /// Each shape, with little data and with much.
     fn writings() -> Vec<Row> {
         let mut rows = Vec::new();
-        for shape in 1..=8 {
+        for shape in SHAPES {
             let lengths: &[usize] = match shape {
                 1 | 2 | 8 => &[0],
                 7 => &[0, 10, 4096, 65535],
@@ -285,11 +298,13 @@ impl World {
     pub fn side(&mut self, name: &str) -> Option<Side> {
         match (name, self.row.kind) {
             ("nothing", _) => Some(|_| ()),
-            ("core", Kind::Read) => Some(|w| drop(w.said())),
-            ("rust", Kind::Read) => Some(|w| drop((w.read)(w.row.frame))),
-            ("strict", Kind::Read) => Some(|w| drop(w.said_by(panel::brinecandle_read_strict))),
-            ("table", Kind::Read) => Some(|w| drop(w.said_by(panel::brinecandle_read_by_table))),
-            ("strict-table", Kind::Read) => Some(|w| drop(w.said_by(panel::brinecandle_read_strict_by_table))),
+            ("core", Kind::Read | Kind::ReadOld) => Some(|w| drop(w.said())),
+            ("rust", Kind::Read | Kind::ReadOld) => Some(|w| drop((w.read)(w.row.frame))),
+            ("strict", Kind::Read | Kind::ReadOld) => Some(|w| drop(w.said_by(panel::brinecandle_read_strict))),
+            ("table", Kind::Read | Kind::ReadOld) => Some(|w| drop(w.said_by(panel::brinecandle_read_by_table))),
+            ("strict-table", Kind::Read | Kind::ReadOld) => {
+                Some(|w| drop(w.said_by(panel::brinecandle_read_strict_by_table)))
+            }
             ("core", Kind::Write) => Some(|w| drop(w.wrote())),
             ("core", Kind::Next(_)) => Some(|w| drop(w.next())),
             ("core", Kind::Fetch) => Some(|w| drop(w.decided())),
@@ -441,10 +456,11 @@ impl World {
         (self.process)(&mut self.env, self.row.frame, &mut state)
     }
 
-    /// Both sides say the same of the row's frame; the process ends where they do not.
+    /// Both sides say the same of the row's frame, but for the old form, where the core has to say 6700; the process ends where they do not.
     pub fn compare(&mut self) {
         let (core, rust) = match self.row.kind {
             Kind::Read => (self.core_reading(), self.rust_reading()),
+            Kind::ReadOld => (self.core_reading(), (panel::WRONG_LENGTH, Vec::new(), [0, 0])),
             Kind::Write => (self.core_writing(), (panel::OK, self.row.frame.to_vec(), [0, 0])),
             Kind::Next(_) | Kind::Fetch => (self.core_part(), self.whole_part()),
             Kind::Touch | Kind::Check | Kind::Ask => (self.core_presence(), self.rust_presence()),

@@ -1,8 +1,11 @@
 //! The comparison: the same calls to the panel and to upstream, answer by answer. Of a 6700 the status alone is compared: upstream
 //! does not say what is wrong with the length, or where. Bodies are compared uncut, and where upstream says 6d00 to INS C0 the panel is
-//! held to document 02 instead, and counted apart; what the call leaves is compared with upstream's there too.
+//! held to document 02 instead, and counted apart; what the call leaves is compared with upstream's there too. So it is with the old
+//! form, which upstream reads as shape 6 and serves: the panel is held to document 02's E13, 6700 with its pair. Were upstream to decide
+//! on such a frame it could spend a touch or count where the panel does not, so in a history it gets that frame with two bytes more,
+//! which it refuses for the length as well, and at the same point: both sides stay in step.
 
-use crate::device::{amended, read, reading_name, yes_name, Answer, Call, Device, Outcome, Touch, ANSWERS};
+use crate::device::{amended, old_form, read, reading_name, yes_name, Answer, Call, Device, Outcome, Touch, ANSWERS};
 use crate::generate::{all, all_count, boundary, damaged, Aimed, Dice, History, ALL_UP_TO};
 use crate::lent::Hardware;
 use crate::panel::{decided, finished, next_line, put_call, put_finish, put_table, without_pair, Panel, Record};
@@ -23,8 +26,9 @@ const ENOUGH_CALLS: usize = 1_000;
 const RECORD: &str = "record";
 const FRESH: &str = "new";
 
-/// An answer that is held to document 02.
+/// Answers that are held to document 02.
 const FETCHED: &str = "INS C0, where the Rust says 6d00";
+const OLD_FORM: &str = "the old form, where the Rust reads shape 6";
 
 /// An answer of the second reader.
 const BY_TABLE: &str = ", by a table";
@@ -33,6 +37,8 @@ const BY_TABLE: &str = ", by a table";
 enum Expected {
     /// These words; a word `*` may be any.
     Words(Vec<u8>),
+    /// 6700, surplus at this place: the pair is compared too.
+    Surplus(usize),
     /// What upstream reads, and the same data as a part of the frame.
     Reading(Vec<u8>, Answer),
     /// What upstream does with the frame when the hardware has good answers and there is no touch.
@@ -53,6 +59,20 @@ impl Block {
         self.expected.push((Expected::Words(said), key));
     }
 
+    fn surplus(&mut self, key: String, place: usize) {
+        self.expected.push((Expected::Surplus(place), key));
+    }
+
+    /// A frame of the old form: both readers and the command's reading give its place.
+    fn old_form(&mut self, frame: Vec<u8>, place: usize) {
+        assert_eq!(reading_name(&read(&frame)), "read shape 6");
+        put_table(&mut self.lines, &frame);
+        self.surplus(format!("read {OLD_FORM}{BY_TABLE}"), place);
+        put_call(&mut self.lines, &Call::Read(frame));
+        self.surplus(format!("read {OLD_FORM}"), place);
+        self.surplus(format!("command {OLD_FORM}"), place);
+    }
+
     /// The second reader is compared with upstream too.
     fn by_table(&mut self, frame: &[u8]) {
         let answer = read(frame);
@@ -62,6 +82,9 @@ impl Block {
     }
 
     fn frame(&mut self, frame: Vec<u8>) {
+        if let Some(place) = old_form(&frame) {
+            return self.old_form(frame, place);
+        }
         self.by_table(&frame);
         let answer = read(&frame);
         let key = reading_name(&answer);
@@ -100,6 +123,10 @@ impl Block {
     }
 
     fn command(&mut self, call: &Call, frame: &[u8], outcome: &Outcome) {
+        // where CTAP1 is not allowed the frame is not looked at
+        if let (Some(place), 0x6700) = (old_form(frame), outcome.status) {
+            return self.surplus(format!("decide {OLD_FORM}"), place);
+        }
         if let Some(status) = amended(frame, outcome.status) {
             self.words(format!("decide {FETCHED}"), |said| {
                 said.extend_from_slice(format!("{status:04x}").as_bytes())
@@ -115,7 +142,7 @@ impl Block {
 
     fn call(&mut self, device: &mut Device, record: &mut Record, call: &Call) {
         put_call(&mut self.lines, call);
-        match (call, device.answer(call)) {
+        match (call, device.answer(&in_step(call))) {
             (Call::New, _) => {
                 *record = Record::default();
                 self.words(FRESH.into(), |said| said.extend_from_slice(b"ok"));
@@ -136,6 +163,16 @@ impl Block {
             (call, answer) => panic!("{answer:?} to {call:?}"),
         }
         self.record(record);
+    }
+}
+
+/// The call as upstream gets it: a frame of the old form comes with two bytes more.
+fn in_step(call: &Call) -> Call {
+    match call {
+        Call::Command(t, frame, hardware) if old_form(frame).is_some() => {
+            Call::Command(*t, [frame, &[0, 0][..]].concat(), hardware.clone())
+        }
+        call => call.clone(),
     }
 }
 
@@ -204,17 +241,19 @@ fn is_words(expected: &[u8], line: &str) -> bool {
 
 impl Expected {
     fn is_met(&self, line: &str) -> bool {
-        let line = without_pair(line);
+        let status = without_pair(line);
         match self {
-            Expected::Words(words) => is_words(words, line),
-            Expected::Reading(frame, answer) => is_reading(frame, answer, line),
-            Expected::Command(frame, outcome, shown) => is_command(frame, outcome, shown, line),
+            Expected::Words(words) => is_words(words, status),
+            Expected::Surplus(_) => line == self.text(),
+            Expected::Reading(frame, answer) => is_reading(frame, answer, status),
+            Expected::Command(frame, outcome, shown) => is_command(frame, outcome, shown, status),
         }
     }
 
     fn text(&self) -> String {
         match self {
             Expected::Words(words) => String::from_utf8_lossy(words).into_owned(),
+            Expected::Surplus(place) => format!("6700 surplus {place}"),
             Expected::Reading(_, Answer::Frame(says)) => {
                 format!(
                     "shape {}, Lc {}, Le {}, {} bytes of data",
@@ -339,7 +378,7 @@ fn share(plan: &Plan, job: usize) -> Result<Tally, String> {
             let line = next_line(&mut answers, &mut space).unwrap_or("(the panel has ended)");
             if !expected.is_met(line) {
                 result = Err(format!(
-                    "calls:\n{}the panel says: {line}\nthe Rust says:  {}\n",
+                    "calls:\n{}the panel says: {line}\nwanted:         {}\n",
                     story(&block.lines, at),
                     expected.text()
                 ));
@@ -377,10 +416,15 @@ pub fn run(plan: &Plan) -> bool {
         .iter()
         .filter(|key| key.starts_with("read "))
         .map(|key| key.to_string() + BY_TABLE);
+    let old_forms = ["read", "command", "decide"]
+        .map(|what| format!("{what} {OLD_FORM}"))
+        .into_iter()
+        .chain([format!("read {OLD_FORM}{BY_TABLE}")]);
     let mut tally: Tally = ANSWERS
         .iter()
         .map(|key| key.to_string())
         .chain(by_table)
+        .chain(old_forms)
         .map(|key| (key, 0))
         .collect();
     let mut agreed = true;

@@ -91,6 +91,16 @@ pub fn read(frame: &[u8]) -> Answer {
     }
 }
 
+/// The old form, an extended Lc with an Le of one byte: upstream reads it as shape 6. Document 02, E13, retires it: its answer is 6700,
+/// surplus at that byte. Where it stands, worked out from the frame's own bytes; None of any other frame.
+pub fn old_form(frame: &[u8]) -> Option<usize> {
+    let place = match frame {
+        [_, _, _, _, 0, hi, lo, _, ..] => 7 + usize::from(u16::from_be_bytes([*hi, *lo])),
+        _ => return None,
+    };
+    (frame.len() == place + 1).then_some(place)
+}
+
 /// Upstream answers 6d00 to every INS that it does not have. Document 02, E2, takes GET RESPONSE out of that: its answers are looked up
 /// there, for a device that has no body to fetch. None where upstream's answer stands.
 pub fn amended(frame: &[u8], status: u16) -> Option<u16> {
@@ -171,14 +181,13 @@ impl Device {
     }
 }
 
-/// Every answer that the domain has, so that one which was never met shows.
-pub const ANSWERS: [&str; 43] = [
+/// Every answer that the domain has, so that one which was never met shows. Upstream's shape 6 is not in it: document 02, E13.
+pub const ANSWERS: [&str; 42] = [
     "read shape 1",
     "read shape 2",
     "read shape 3",
     "read shape 4",
     "read shape 5",
-    "read shape 6",
     "read shape 7",
     "read shape 8",
     "read 6a80",

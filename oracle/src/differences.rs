@@ -104,12 +104,6 @@ fn against_the_documents() -> Vec<Difference> {
     let allowed = |allowed| Hardware { allowed, ..good() };
     vec![
         show(
-            "shape 6 is read, though no case of ISO's",
-            read(&[0, 3, 0, 0, 0, 0, 0, 5]),
-            "shape 6, Lc 0, Le 5",
-            &["6 0 5 7 7", "version", "6700 surplus 7"],
-        ),
-        show(
             "an extended Lc of 0 is read, and strictly it is not",
             read(&[0, 3, 0, 0, 0, 0, 0, 0, 5]),
             "shape 7, Lc 0, Le 5",
@@ -296,6 +290,42 @@ fn against_upstream() -> Vec<Difference> {
             read(&[0, 0xc0, 0, 0, 1, 7]),
             "shape 3, Lc 1, Le 0",
             &["3 1 0 5 6", "6700 lc 4", "3 1 0 5 6"],
+        ),
+        show(
+            "the old form is in no shape: its Le byte is surplus",
+            read(&frame(6, [0, 3, 0, 0], &[], 5)),
+            "shape 6, Lc 0, Le 5",
+            &["6700 surplus 7", "6700 surplus 7", "6700 surplus 7"],
+        ),
+        show(
+            "the old form with data",
+            read(&frame(6, [0, 1, 0, 0], &[7; 64], 0)),
+            "shape 6, Lc 64, Le 256",
+            &["6700 surplus 71", "6700 surplus 71", "6700 surplus 71"],
+        ),
+        show(
+            "a Version in the old form",
+            fresh(frame(6, [0, 3, 0, 0], &[], 5), Hardware::default()),
+            "9000, 6 bytes",
+            &["6700 surplus 7"],
+        ),
+        then(
+            "record\n",
+            show(
+                "an enrolment in the old form costs no touch",
+                after(
+                    touched(),
+                    command(2, frame(6, [0, 1, 0, 0], &[7; 64], 0), enrolling(64, 300)),
+                ),
+                "9000, 501 bytes, touch spent",
+                &["6700 surplus 71", "R7", "30000 - 1 2"],
+            ),
+        ),
+        show(
+            "GET RESPONSE in the old form",
+            fresh(frame(6, [0, 0xc0, 0, 0], &[], 1), Hardware::default()),
+            "6d00",
+            &["6700 surplus 7"],
         ),
         show("a moment of 2^48", vec![Call::New, Call::Check(1 << 48)], "no", &["R1"]),
     ]

@@ -118,7 +118,8 @@ pub fn all(at: usize) -> Vec<u8> {
     [&HEADERS[at % HEADERS.len()], word(at).as_slice()].concat()
 }
 
-/// A frame of the shape, with the data's length and Le as it can carry them.
+/// A frame of the shape, with the data's length and Le as it can carry them. 6 is upstream's number for the old form, which is in no
+/// shape any more (document 02, E13).
 pub fn frame(shape: u8, header: [u8; 4], data: &[u8], le: u16) -> Vec<u8> {
     let [hi, lo] = (data.len() as u16).to_be_bytes();
     let [le_hi, le_lo] = le.to_be_bytes();
@@ -190,9 +191,9 @@ fn data(dice: &mut Dice, ins: u8) -> Vec<u8> {
 /// A shape that can carry so many bytes of data.
 fn shape_for(dice: &mut Dice, n: usize) -> u8 {
     match n {
-        0 => dice.pick(&[1, 2, 6, 7, 8]),
-        1..=255 => dice.pick(&[3, 4, 5, 6, 7]),
-        _ => dice.pick(&[5, 6, 7]),
+        0 => dice.pick(&[1, 2, 7, 8]),
+        1..=255 => dice.pick(&[3, 4, 5, 7]),
+        _ => dice.pick(&[5, 7]),
     }
 }
 
@@ -204,23 +205,39 @@ pub fn good(dice: &mut Dice) -> Vec<u8> {
 
 pub fn command(dice: &mut Dice, ins: u8) -> Vec<u8> {
     let data = data(dice, ins);
+    let shape = shape_for(dice, data.len());
+    in_shape(dice, shape, ins, &data)
+}
+
+/// The same command in the old form. Upstream would serve it, so it is no good command: it comes where frames are damaged, and where
+/// a command is answered before a touch is looked for.
+fn in_old_form(dice: &mut Dice, ins: u8) -> Vec<u8> {
+    let data = data(dice, ins);
+    in_shape(dice, 6, ins, &data)
+}
+
+fn in_shape(dice: &mut Dice, shape: u8, ins: u8, data: &[u8]) -> Vec<u8> {
     let p1 = match ins {
         0x02 => dice.pick(&[0x03, 0x03, 0x03, 0x07, 0x08]),
         _ => dice.pick(&[0x00, 0x03, 0x80]),
     };
-    let shape = shape_for(dice, data.len());
     let header = [0x00, ins, p1, dice.pick(&[0x00, 0x00, 0xff])];
     let le = le(dice);
-    frame(shape, header, &data, le)
+    frame(shape, header, data, le)
 }
 
-/// A good frame, or one of the vendor's, with some damage: bytes changed, cut off, put in, taken out or appended.
+/// A good frame, one of the vendor's, or one in the old form, with some damage: bytes changed, cut off, put in, taken out or appended.
 pub fn damaged(dice: &mut Dice) -> Vec<u8> {
-    let mut out = if dice.one_in(12) {
-        let ins = dice.pick(&[0x00, 0x04, 0x3f, 0x40, 0x80, 0xbf, 0xc0, 0xff]);
-        command(dice, ins)
-    } else {
-        good(dice)
+    let mut out = match dice.below(12) {
+        0 => {
+            let ins = dice.pick(&[0x00, 0x04, 0x3f, 0x40, 0x80, 0xbf, 0xc0, 0xff]);
+            command(dice, ins)
+        }
+        1 => {
+            let ins = dice.pick(&[0x01, 0x02, 0x03, 0xc0]);
+            in_old_form(dice, ins)
+        }
+        _ => good(dice),
     };
     match dice.below(7) {
         0 => {}
@@ -410,9 +427,12 @@ impl Aimed {
 
 /// A good command that looks for a touch.
 fn touching(dice: &mut Dice, ins: u8) -> Vec<u8> {
-    let mut out = command(dice, ins);
-    out[2] = 0x03;
-    out
+    with_touch(command(dice, ins))
+}
+
+fn with_touch(mut frame: Vec<u8>) -> Vec<u8> {
+    frame[2] = 0x03;
+    frame
 }
 
 /// Hardware that answers well to everything.
@@ -436,12 +456,13 @@ fn before_the_check(dice: &mut Dice, t: u64) -> Call {
     let ins = dice.pick(&[0x01, 0x02]);
     let mut frame = touching(dice, ins);
     let mut hardware = willing(dice);
-    match dice.below(6) {
+    match dice.below(7) {
         0 => return Call::Ask(t),
         1 => frame[0] = dice.pick(&[0x01, 0x80, 0xff]),
         2 => frame[1] = dice.pick(&[0x00, 0x04, 0x40, 0xbf, 0xff]),
         3 => hardware.allowed = Allowed::No,
         4 => hardware.allowed = Allowed::Failed,
+        5 => frame = with_touch(in_old_form(dice, ins)),
         _ => frame = command(dice, 0x03),
     }
     Call::Command(t, frame, Box::new(hardware))

@@ -1,9 +1,10 @@
 //! A sample of the oracle's answers as a case file of the program `lines`: calls of the pipe panel and what upstream answers, with
 //! no Rust at hand when it is run. Bytes that nothing looks at count up, so that names can stand for them. Of a 6700 the sample holds
 //! the status alone: upstream does not say what is wrong with the length, so the line ends in ` ..`, which lets the answer go on. Commands
-//! with INS C0 are left out: upstream's answer to them is amended (document 02, E2).
+//! with INS C0 are left out, and so are frames of the old form, read or commanded, which upstream reads as shape 6: upstream's answers to
+//! them are amended (document 02, E2 and E13).
 
-use crate::device::{amended, reading_name, yes_name, Answer, Call, Device, Outcome, ANSWERS};
+use crate::device::{amended, old_form, reading_name, yes_name, Answer, Call, Device, Outcome, ANSWERS};
 use crate::generate::{all, all_count, boundary, damaged, frame, hardware, plain, Dice, History, LONG};
 use crate::lent::{Allowed, Attested, Hardware};
 use crate::panel::{decided, finished, put_call, put_finish, Record};
@@ -22,7 +23,7 @@ const MOST: usize = 262_143;
 /// The plain bytes from 0 on, once around; and as often as the longest frame takes.
 const ROUND: usize = 251;
 
-const FRAMES: usize = 260;
+const FRAMES: usize = 290;
 const HISTORIES: usize = 90;
 const HISTORY_CALLS: usize = 20;
 
@@ -67,7 +68,7 @@ fn named(line: &str) -> String {
 fn data_start(shape: u8) -> usize {
     match shape {
         3 | 4 => 5,
-        5..=7 => 7,
+        5 | 7 => 7,
         _ => 4,
     }
 }
@@ -98,6 +99,9 @@ impl Sample {
     }
 
     fn read(&mut self, frame: &[u8]) {
+        if old_form(frame).is_some() {
+            return;
+        }
         let answer = crate::device::read(frame);
         self.count(reading_name(&answer));
         let said = match answer {
@@ -143,7 +147,7 @@ impl Sample {
     /// Both devices get every call. The second has a signer that never fails: it is asked for the bytes to sign where the
     /// first one's failed, which upstream does not hand out then.
     fn call(&mut self, device: &mut Device, signing: &mut Device, call: &Call) {
-        if matches!(call, Call::Command(_, frame, _) if amended(frame, 0x6d00).is_some()) {
+        if matches!(call, Call::Command(_, frame, _) if is_amended(frame)) {
             return;
         }
         let signed = match call {
@@ -181,6 +185,11 @@ impl Sample {
     }
 }
 
+/// A command whose answer is not upstream's.
+fn is_amended(frame: &[u8]) -> bool {
+    old_form(frame).is_some() || amended(frame, 0x6d00).is_some()
+}
+
 /// The same answers with short plain bytes; the long ones stay for the comparison.
 fn shortened(mut hw: Hardware) -> Hardware {
     let h = match hw.new_handle.len() {
@@ -216,7 +225,7 @@ fn sampled(seed: u64) -> Sample {
         sample.read(&damaged(&mut dice));
     }
     for n in LONG {
-        for shape in 5..=7 {
+        for shape in [5, 7] {
             let long = frame(shape, [0, 3, 0, 0], &dice.bytes(n), 1);
             sample.read(&long);
             sample.read(&long[..long.len() - 3]);
@@ -247,9 +256,12 @@ fn sampled(seed: u64) -> Sample {
         ..hardware(&mut dice)
     });
     for _ in 0..FRAMES {
+        let frame = damaged(&mut dice);
+        if is_amended(&frame) {
+            continue;
+        }
         sample.call(&mut device, &mut signing, &Call::New);
-        let call = Call::Command(0, damaged(&mut dice), Box::new(answering.clone()));
-        sample.call(&mut device, &mut signing, &call);
+        sample.call(&mut device, &mut signing, &Call::Command(0, frame, Box::new(answering.clone())));
     }
     sample.end("rust_damaged");
     sample
@@ -260,7 +272,8 @@ pub fn make(seed: u64) -> Vec<(&'static str, String)> {
     let sample = sampled(seed);
     let mut head = format!(
         "# Answers of the upstream Rust, made by `oracle/sample {seed}` and not edited. An answer `6700 ..` may go on: upstream does not\n\
-         # say what is wrong with the length. How many of the calls, here and in the other files of the sample, came to each answer:\n"
+         # say what is wrong with the length. Frames of the old form, which upstream still reads as shape 6, are left out: document 02, E13.\n\
+         # How many of the calls, here and in the other files of the sample, came to each answer:\n"
     );
     for answer in ANSWERS.iter().filter(|a| !a.starts_with("command ")) {
         let n = sample
