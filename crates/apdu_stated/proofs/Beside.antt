@@ -5,7 +5,7 @@ use mathlib.Core.Bool.{Bool, true, false, and-false}
 use mathlib.Core.List.{List}
 use native.Mathlib.Omega.{arith}
 use native.Mathlib.Decide.{ℕ-discrete, decLt}
-use borrow.Author.Tests.{lt-ltb, ne-eqb}
+use borrow.Author.Tests.{lt-ltb, ltb-true, ne-eqb}
 use lib.ListN.{length, drop, length-drop}
 use lib.Seq.{getD-drop}
 use Rattle.outcome.specs.Outcome.{Outcome, Gives, surplusAt}
@@ -13,7 +13,7 @@ use Rattle.outcome.proofs.Laws.{gives-same, word-gives}
 use Rattle.octets.specs.Bytes.{byte, pairAt}
 use Rattle.apdu_stated.specs.Words.{Lc3DataLe2, shapeNo}
 use Rattle.apdu_stated.specs.Answers.{Says}
-use Rattle.apdu_stated.specs.Table.{leRead, lcUnder}
+use Rattle.apdu_stated.specs.Table.{leRead, leastOf, lcUnder}
 use Rattle.apdu_stated.specs.Reading.{Entry, Ordinary, Strict, readBy, readOf, lengthsOf, extendedOf, afterData, sayOf, strictOf}
 use Rattle.apdu_stated.specs.Iso.{isTolerated}
 use Rattle.apdu_stated.specs.declared.Lengths.{Lengths}
@@ -21,7 +21,14 @@ use Rattle.apdu_stated.specs.declared.Lengths.the-variants.{Surplus}
 use Rattle.apdu_stated.specs.Terms.{IsoRow, LcZero, OldForm, Differ}
 use Rattle.apdu_stated.proofs.Cases
 use Rattle.apdu_stated.proofs.Ways.{way, way-takes, saidBy, FrameWay, under, found, ends, goes-on, frame-way}
-use Rattle.apdu_stated.proofs.Rows.{iso-row}
+use Rattle.apdu_stated.proofs.Rows.{least-one, iso-row}
+
+-- an extended Lc under the table's least is 0
+under-zero : (entry : Entry) (lc : ℕ) → lcUnder entry lc ≡ true → lc ≡ 0
+under-zero entry lc d =
+    let h = ltb-true lc (leastOf entry Lc3DataLe2) d in
+    let most = least-one entry Lc3DataLe2 in
+    omega arith
 
 -- ---- too many bytes, by the numbers: a short Lc, and an extended one, after four bytes of header
 module _ (frame : List ℕ) where
@@ -72,7 +79,7 @@ module _ (frame : List ℕ) where
       e = o .one-behind
 
       go : (b : Bool) → lcUnder entry (pairAt frame 5) ≡ b → readBy entry frame ≡ surplusAt (7 + pairAt frame 5)
-      go true d = zero-at entry (o .extended) (omega (arith, e)) d ∙ ap surplusAt (omega (arith, Cases.under-zero entry (pairAt frame 5) d))
+      go true d = zero-at entry (o .extended) (omega (arith, e)) d ∙ ap surplusAt (omega (arith, under-zero entry (pairAt frame 5) d))
       go false d =
           let all = length-drop 4 frame in
           surplus-by entry (7 + pairAt frame 5) (omega (arith, e))

@@ -2,10 +2,10 @@
 -- The only file that opens these definitions; it mentions no function.
 use Prim.Native.Nat.{ℕ, _+_, _-_, _*_, _<_, _≤_}
 use mathlib.Core.Path.{_≡_, refl, ap, sym, _∙_}
-use mathlib.Core.Bool.{Bool, true, false, true≢false}
+use mathlib.Core.Bool.{Bool, true, false}
 use mathlib.Core.List.{List}
 use native.Mathlib.Omega.{arith}
-use borrow.Author.Tests.{lt-ltb, le-ltb, ltb-true, ltb-false, eq-eqb, ne-eqb}
+use borrow.Author.Tests.{lt-ltb, le-ltb, ltb-false, eq-eqb, ne-eqb}
 use lib.ListN.{length, take, drop}
 use mir.Syntax.{w16}
 use mir.Val.{Fits}
@@ -93,11 +93,6 @@ from-least entry lc e = ltb-false lc (leastOf entry Lc3DataLe2) e
 
 pub ordinary-has : (lc : ℕ) → lcUnder Ordinary lc ≡ false
 ordinary-has lc = not-under Ordinary lc (omega arith)
-
--- what is under it is 0
-pub under-zero : (entry : Entry) (lc : ℕ) → lcUnder entry lc ≡ true → lc ≡ 0
-under-zero Ordinary lc d = absurd (true≢false (sym d ∙ ordinary-has lc))
-under-zero Strict lc d = let h : lc < 1 = ltb-true lc 1 d in omega arith
 
 pub has-data : (entry : Entry) (lc : ℕ) → (lc ≡ 0 → ⊥) → lcUnder entry lc ≡ false
 has-data Ordinary lc n = ordinary-has lc

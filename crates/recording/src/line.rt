@@ -1,78 +1,82 @@
-// One line of a recording. What a line needs room for is lent: its frame, what that becomes, and the result in hex.
+// One line of a recording, and the line that is written for it. What a line needs room for is lent: its frame, what that becomes, and the words
+// of the line that is written.
 use crate::hex;
-use crate::out::print;
-use crate::out::print_number;
-use crate::out::print_word;
 use crate::tally::CONVERTED;
 use crate::tally::KEPT;
-use crate::tally::LINE;
-use crate::tally::Tally;
+use crate::tally::OTHER;
 use crate::tally::UNREAD;
-use crate::tally::WITHIN;
-use crate::tally::next;
 use convert::Converted;
 use outcome::ApduStatusCode;
 use text::Said;
 
-// As it came.
-fn as_it_is(line: &[u8], tally: &mut Tally) {
-    print(line, tally);
-    print(b"\n", tally);
+// Where the words end, and which count the line goes to.
+pub struct Line {
+    pub end: usize,
+    pub count: usize,
 }
 
-// # line NUMBER:
-fn unread(tally: &mut Tally) {
-    tally[UNREAD] = next(tally[UNREAD]);
-    print(b"# line ", tally);
-    print_number(tally[LINE], b": ", tally);
+fn ended(words: &mut [u8], at: usize, count: usize) -> Line {
+    let end = spell::put(words, at, b"\n");
+    Line { end, count }
+}
+
+// As it came.
+fn as_it_is(line: &[u8], words: &mut [u8], count: usize) -> Line {
+    let end = spell::put(words, 0, line);
+    ended(words, end, count)
+}
+
+// # line NUMBER: WHY: LINE
+fn unread(line: &[u8], number: u64, why: &[u8], words: &mut [u8]) -> Line {
+    let before = spell::numbers(words, 0, b"# line ", &[number], 1);
+    let from = spell::put(words, before, b": ");
+    let to = spell::put(words, from, why);
+    let start = spell::put(words, to, b": ");
+    let end = spell::put(words, start, line);
+    ended(words, end, UNREAD)
 }
 
 // The status word, and what is wrong with the length and where.
-fn put_status(status: ApduStatusCode, tally: &mut Tally) {
-    print_word(outcome::status_number(status), tally);
+fn status_words(status: ApduStatusCode, out: &mut [u8]) -> usize {
+    let mut digits = [0u8; 16];
+    let k = io::hex(outcome::status_number(status) as u64, 4, &mut digits);
+    let end = spell::put(out, 0, &digits[..k]);
     let fault = outcome::fault(status);
-    if fault.kind == 1 {
-        print(b" missing ", tally);
-        print_number(fault.place as u64, b"", tally);
-    }
-    if fault.kind == 2 {
-        print(b" surplus ", tally);
-        print_number(fault.place as u64, b"", tally);
-    }
-}
-
-fn put_frame(frame: &[u8], words: &mut [u8], tally: &mut Tally) {
-    let end = spell::bytes(words, 0, b"", frame);
-    as_it_is(octets::part(words, 0, end), tally);
-}
-
-// A frame: converted, as it came, or behind its status.
-fn put_converted(line: &[u8], frame: &[u8], out: &mut [u8], words: &mut [u8], tally: &mut Tally) {
-    let converted = convert::convert(frame, out);
-    match converted {
-        Converted::Frame(n) => {
-            if convert::is_old(frame) {
-                tally[CONVERTED] = next(tally[CONVERTED]);
-                put_frame(octets::part(out, 0, n), words, tally);
-            } else {
-                tally[KEPT] = next(tally[KEPT]);
-                as_it_is(line, tally);
-            }
-        }
-        Converted::Status(status) => {
-            unread(tally);
-            put_status(status, tally);
-            print(b": ", tally);
-            as_it_is(line, tally);
-        }
-        Converted::Refused(why) => {
-            unread(tally);
-            print_number(outcome::refusal_number(why) as u64, b" refused: ", tally);
-            as_it_is(line, tally);
-        }
+    let kind = fault.kind;
+    let place = [fault.place as u64];
+    match kind {
+        1 => spell::numbers(out, end, b" missing ", &place, 1),
+        2 => spell::numbers(out, end, b" surplus ", &place, 1),
+        _ => end,
     }
 }
 
+// A frame in no shape goes out behind its status.
+fn in_no_shape(line: &[u8], number: u64, status: ApduStatusCode, words: &mut [u8]) -> Line {
+    let mut why = [0u8; 64];
+    let n = status_words(status, &mut why);
+    unread(line, number, octets::part(&why, 0, n), words)
+}
+
+// The old form goes out as what it has become, any other frame as it came.
+fn in_shape(line: &[u8], frame: &[u8], result: &[u8], words: &mut [u8]) -> Line {
+    if !convert::is_old(frame) {
+        return as_it_is(line, words, KEPT);
+    }
+    let end = spell::bytes(words, 0, b"", result);
+    ended(words, end, CONVERTED)
+}
+
+fn converted(line: &[u8], number: u64, frame: &[u8], out: &mut [u8], words: &mut [u8]) -> Line {
+    let answer = convert::convert(frame, out);
+    match answer {
+        Converted::Frame(n) => in_shape(line, frame, octets::part(out, 0, n), words),
+        Converted::Status(status) => in_no_shape(line, number, status, words),
+        Converted::Refused(_) => unread(line, number, b"no room", words),
+    }
+}
+
+// A comment, or nothing but blanks.
 fn is_frame(line: &[u8]) -> bool {
     let i = hex::skip(line, 0);
     if line.len() <= i {
@@ -81,47 +85,18 @@ fn is_frame(line: &[u8]) -> bool {
     line[i] != b'#'
 }
 
-// A line with its end, or the last one without.
-fn one(line: &[u8], frame: &mut [u8], out: &mut [u8], words: &mut [u8], tally: &mut Tally) {
-    tally[LINE] = next(tally[LINE]);
+pub fn written(
+    line: &[u8],
+    number: u64,
+    frame: &mut [u8],
+    out: &mut [u8],
+    words: &mut [u8],
+) -> Line {
     if !is_frame(line) {
-        as_it_is(line, tally);
-        return;
+        return as_it_is(line, words, OTHER);
     }
     let Said::Is(n) = hex::bytes(line, frame) else {
-        unread(tally);
-        print(b"no bytes in hex: ", tally);
-        as_it_is(line, tally);
-        return;
+        return unread(line, number, b"no bytes in hex", words);
     };
-    put_converted(line, octets::part(frame, 0, n as usize), out, words, tally);
-}
-
-// The rest of a line that was too long ends here; any other is a line.
-pub fn whole(line: &[u8], frame: &mut [u8], out: &mut [u8], words: &mut [u8], tally: &mut Tally) {
-    if tally[WITHIN] != 0 {
-        tally[WITHIN] = 0;
-        as_it_is(line, tally);
-        return;
-    }
-    one(line, frame, out, words, tally);
-}
-
-// What stands behind the last line end, if anything does.
-pub fn last(line: &[u8], frame: &mut [u8], out: &mut [u8], words: &mut [u8], tally: &mut Tally) {
-    if line.len() == 0 && tally[WITHIN] == 0 {
-        return;
-    }
-    whole(line, frame, out, words, tally);
-}
-
-// A part of a line that is longer than the text, at its start or further on: it goes out as it came, behind a comment.
-pub fn too_long(part: &[u8], tally: &mut Tally) {
-    if tally[WITHIN] == 0 {
-        tally[WITHIN] = 1;
-        tally[LINE] = next(tally[LINE]);
-        unread(tally);
-        print(b"too long: ", tally);
-    }
-    print(part, tally);
+    converted(line, number, octets::part(frame, 0, n as usize), out, words)
 }
