@@ -46,8 +46,8 @@
 
 /* docs/CHANGES.md says when these move */
 #define BRINECANDLE_VERSION_MAJOR 0
-#define BRINECANDLE_VERSION_MINOR 8
-#define BRINECANDLE_VERSION "0.8"
+#define BRINECANDLE_VERSION_MINOR 9
+#define BRINECANDLE_VERSION "0.9"
 
 #include <stdbool.h>
 #include <stddef.h>
@@ -121,14 +121,14 @@ enum {
  *   BRINECANDLE_NO_FAULT         with every other answer, and never with 0x6700; place is 0
  *   BRINECANDLE_MISSING          the frame ends before its Lc field or its data does, a payload of `00 x` too; place is the frame's length
  *   BRINECANDLE_SURPLUS          there are bytes that no field can claim; place is the first of them: 6 + Lc after a short Lc, 9 + Lc after
- *                                an extended one. In the strict reading a frame of shape 6 has one too, its Le byte, at 7 + Lc, and
- *                                behind an extended Lc of 0 every byte is one, from 7 on
+ *                                an extended one. One byte behind the data of an extended Lc is one too, at 7 + Lc: shape 6 took it for an
+ *                                Le, and is retired. In the strict reading every byte behind an extended Lc of 0 is one, from 7 on
  *   BRINECANDLE_LC_AGAINST_INS   the frame is read, but this command does not have such an Lc: another than 64 for Register, than 0 for
  *                                Version and GET RESPONSE; for Authenticate under 65, or another than 65 and the handle's length. place is 4, where the
  *                                Lc field stands or would stand: in shapes 1, 2 and 8 there is none, and the 4 bytes of shape 1 end there
  * So a place need not lie inside the frame. A reading never says the last kind, a command and a decision say all three. */
 
-/* What a frame says. `shape` is 1 to 8; an absent Le is 0; the data is frame[start] up to and without frame[end]. */
+/* What a frame says. `shape` is 1 to 5, 7 or 8; an absent Le is 0; the data is frame[start] up to and without frame[end]. */
 struct brinecandle_frame {
     uint16_t answer; /* 0x9000; 0x6a80 under 4 bytes; 0x6700 in no shape */
     uint16_t fault;  /* with 0x6700 what is wrong, as above; else 0 */
@@ -148,8 +148,8 @@ struct brinecandle_frame {
 BRINECANDLE_TAKE_IT
 struct brinecandle_frame brinecandle_read(const uint8_t *frame, size_t frame_length);
 
-/* The same by ISO 7816-3's seven cases and nothing else. Shape 6 gets 0x6700, its Le byte is surplus; and so does an extended Lc of 0 in a
- * frame of more than 7 bytes, surplus at 7: an Lc field of ISO's counts at least one byte. Such a frame of 9 bytes is shape 7 above. */
+/* The same by ISO 7816-3's seven cases and nothing else. An extended Lc of 0 in a frame of more than 7 bytes gets 0x6700, surplus at 7: an Lc
+ * field of ISO's counts at least one byte. Such a frame of 9 bytes is shape 7 above; on every frame of 8 bytes or fewer the two answer alike. */
 BRINECANDLE_TAKE_IT
 struct brinecandle_frame brinecandle_read_strict(const uint8_t *frame, size_t frame_length);
 
@@ -169,14 +169,14 @@ struct brinecandle_wrote {
     size_t length;
 };
 
-/* Writes a frame at the front of `out` and leaves the rest of it: 0x9000 and the frame's length. R5 where the shape (1 to 8;
- * any other number too) cannot carry so much data or this Le, then R2 where `out` is shorter than the frame. */
+/* Writes a frame at the front of `out` and leaves the rest of it: 0x9000 and the frame's length. R5 where the shape (1 to 5, 7
+ * or 8; any other number too, the retired 6 among them) cannot carry so much data or this Le, then R2 where `out` is shorter than the frame. */
 BRINECANDLE_TAKE_IT
 struct brinecandle_wrote brinecandle_write(uint8_t cla, uint8_t ins, uint8_t p1, uint8_t p2, uint32_t shape,
                                            const uint8_t *content, size_t content_length, uint32_t le,
                                            uint8_t *out, size_t out_length);
 
-/* The same by ISO's seven cases: R5, before R2, for shape 6 and for shape 7 without data too. It writes what brinecandle_read_strict reads. */
+/* The same by ISO's seven cases: R5, before R2, for shape 7 without data too. It writes what brinecandle_read_strict reads. */
 BRINECANDLE_TAKE_IT
 struct brinecandle_wrote brinecandle_write_strict(uint8_t cla, uint8_t ins, uint8_t p1, uint8_t p2, uint32_t shape,
                                                   const uint8_t *content, size_t content_length, uint32_t le,

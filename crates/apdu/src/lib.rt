@@ -1,4 +1,4 @@
-// Command frames of ISO 7816-3, read by a table of eight shapes, or strictly by ISO's seven cases (apdu_stated's specs/Table.antt); the
+// Command frames of ISO 7816-3, read by a table of seven shapes, or strictly by ISO's seven cases (apdu_stated's specs/Table.antt); the
 // writers are apdu_write's.
 //
 //    +-----+-----+----+----+----------+----------------+----------+
@@ -82,7 +82,7 @@ pub fn read(frame: &[u8]) -> Reading
     read_by(frame, Entry::Ordinary)
 }
 
-// The strict entry: ISO 7816-3's seven cases. Shape 6, and an extended Lc of 0 with more behind it, are in no shape here.
+// The strict entry: ISO 7816-3's seven cases. An extended Lc of 0 with more behind it is in no shape here.
 pub fn read_strict(frame: &[u8]) -> Reading
     ensures { λ r. ⌜ ReadStrict (now (frame .entry)) r ⌝ }
 {

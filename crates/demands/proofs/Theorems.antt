@@ -1,6 +1,7 @@
 -- The three demands are met: each field is the theorem of its claim's name.
 use Rattle.apdu_stated.proofs.Theorems as Frames
 use Rattle.table_stated.proofs.Theorems as Tables
+use Rattle.convert_stated.proofs.Theorems as Converter
 use Rattle.command_stated.proofs.Theorems as Commands
 use Rattle.response_stated.proofs.Theorems as Responses
 use Rattle.session_stated.proofs.Theorems as Sessions
@@ -15,6 +16,7 @@ answered =
     record {
       frames-determined = Frames.ResultsDetermined;
       tables-determined = Tables.ResultsDetermined;
+      converter-determined = Converter.ResultsDetermined;
       commands-determined = Commands.ResultsDetermined;
       presence-determined = Presence.ResultsDetermined;
       responses-determined = Responses.ResultsDetermined;
@@ -30,6 +32,8 @@ answered =
       strict-writing = Frames.StrictWriteExactly;
       frames-as-claimed = Frames.ContractsAsClaimed;
       tables-as-claimed = Tables.ContractsAsClaimed;
+      converting = Converter.ConvertExactly;
+      converter-as-claimed = Converter.ContractsAsClaimed;
       commands = Commands.CommandExactly;
       responses-written = Responses.WritesExactly;
       responses-read = Responses.ReadsExactly;
@@ -49,6 +53,7 @@ answered =
       exports-as-claimed = Panel.ContractsAsClaimed;
       refusals-hand-back = Panel.RefusalHandsBack;
       remainder = Decision.RemainderExactly;
+      old-form-refused = Decision.OldFormRefused;
       part-buffer = Decision.PartsExactly;
       room-was-asked = Decision.RoomWasAsked;
     }
@@ -63,6 +68,10 @@ documents =
       strict-iso = Frames.StrictIsIso;
       differences = Frames.DifferExactly;
       frames-to-try = Frames.ExamplesRead;
+      old-form = Converter.OldExactly;
+      converted-is-read = Converter.ConvertedIsRead;
+      changes = Converter.ChangesExactly;
+      converts-to-itself = Converter.ConvertsToItself;
       second-reader = Tables.SameReading;
       readers-agree = Tables.ReadersAgree;
       one-row = Tables.OneRowFits;

@@ -10,6 +10,8 @@ use Rattle.apdu_stated.specs.declared.Entry.the-variants.{Ordinary, Strict}
 use Rattle.table_stated.specs.Claims as Tables
 use Rattle.table_stated.specs.Rows.{tableOf}
 use Rattle.table_stated.specs.Answers.{readByRows}
+use Rattle.convert_stated.specs.Claims as Converter
+use Rattle.convert_stated.specs.Converting.{isOld, convertOf}
 use Rattle.command_stated.specs.Claims as Commands
 use Rattle.command_stated.specs.Command.{commandOf, challengeOf, applicationOf, handleOf, challengePlaceOf, applicationPlaceOf, handlePlaceOf}
 use Rattle.response_stated.specs.Claims as Responses
@@ -36,6 +38,7 @@ pub record EveryInputIsAnswered : Type 0 where
   -- the contracts leave nothing open: two results, and two final contents of what was lent, that meet one are equal
   pub frames-determined : Frames.ResultsDetermined
   pub tables-determined : Tables.ResultsDetermined
+  pub converter-determined : Converter.ResultsDetermined
   pub commands-determined : Commands.ResultsDetermined
   pub presence-determined : Presence.ResultsDetermined
   pub responses-determined : Responses.ResultsDetermined
@@ -53,6 +56,9 @@ pub record EveryInputIsAnswered : Type 0 where
   pub strict-writing : Frames.StrictWriteExactly strictWritingOf
   pub frames-as-claimed : Frames.ContractsAsClaimed
   pub tables-as-claimed : Tables.ContractsAsClaimed
+  -- the converter's status and R2, and what it leaves of the buffer: 02, E13
+  pub converting : Converter.ConvertExactly convertOf
+  pub converter-as-claimed : Converter.ContractsAsClaimed
   -- every status of command reading
   pub commands : Commands.CommandExactly commandOf
   -- R2 of responses, written and read, and of the next part of a body: 02, E2
@@ -80,15 +86,16 @@ pub record EveryInputIsAnswered : Type 0 where
   pub refusals-hand-back : Panel.RefusalHandsBack (λ n t. stepNumbers (touchOf (presenceOf n) t)) (λ n t. stepNumbers (checkOf (presenceOf n) t)) saidBy
   -- 02, E2: the remainder is dropped exactly when the document says, and only a part changes the buffer for part and status
   pub remainder : Decision.RemainderExactly decisionOf remainderLeft
+  pub old-form-refused : Decision.OldFormRefused decisionOf remainderLeft
   pub part-buffer : Decision.PartsExactly decisionOf frameLimit partLeft
   -- the enrolment that was lost: an order has asked for its room before the touch was spent
   pub room-was-asked : Decision.RoomWasAsked decisionOf
 
--- 2. "Results equal the Rust's", statuses by their number alone, bodies uncut, and without INS C0 (02, E2): that is run, not proved (oracle/compare, and the Rust's own answers in
+-- 2. "Results equal the Rust's", statuses by their number alone, bodies uncut, and without INS C0 (02, E2) and the old form (E13): that is run, not proved (oracle/compare, and the Rust's own answers in
 -- crates/lines/data/rust).
 -- Proved is what stands below.
 pub record AsTheDocumentsSay : Type 0 where
-  -- "Frame reading and writing are proved against the ISO 7816-3 case table with the tolerated forms listed"
+  -- "Frame reading and writing are proved against the ISO 7816-3 case table with the tolerated forms listed": since 02, E13, one form
   pub reading : Frames.ReadingExactly InTable readOf
   pub strict : Frames.StrictExactly strictOf
   pub iso : Frames.IsoExactly readOf
@@ -97,6 +104,12 @@ pub record AsTheDocumentsSay : Type 0 where
   pub strict-iso : Frames.StrictIsIso strictOf
   pub differences : Frames.DifferExactly readOf strictOf
   pub frames-to-try : Frames.ExamplesRead readOf
+  -- 02, E13: the converter knows the old form by its own condition; what it makes of a frame is read with the same header, data and Le; only the old form changes,
+  -- and what was converted converts to itself
+  pub old-form : Converter.OldExactly isOld
+  pub converted-is-read : Converter.ConvertedIsRead convertOf
+  pub changes : Converter.ChangesExactly convertOf
+  pub converts-to-itself : Converter.ConvertsToItself convertOf
   -- 02, E9: the second reader, by a table of rows, is "equal to the branching reader on every frame, E1's pairs included", by both tables; at most one row fits; and by
   -- any other table it answers by that table's rows
   pub second-reader : Tables.SameReading tableOf readByRows

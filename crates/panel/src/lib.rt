@@ -37,7 +37,7 @@ pub extern "C" fn brinecandle_read(frame: &[u8]) -> FrameSaid
     }
 }
 
-// The same by ISO's seven cases: without shape 6, and without an extended Lc of 0. By cases too.
+// The same by ISO's seven cases: without an extended Lc of 0. By cases too.
 #[no_mangle]
 pub extern "C" fn brinecandle_read_strict(frame: &[u8]) -> FrameSaid
     ensures { λ r. ⌜ BrinecandleReadStrict (now (frame .entry)) r ⌝ }
@@ -110,7 +110,7 @@ pub extern "C" fn brinecandle_write(
     plain_frames::write_plain(header, shape, content, le, out)
 }
 
-// The same by ISO's seven cases: R5 for shape 6 and for shape 7 without data, then as the writer.
+// The same by ISO's seven cases: R5 for shape 7 without data, then as the writer.
 #[no_mangle]
 pub extern "C" fn brinecandle_write_strict(
     cla: u8,

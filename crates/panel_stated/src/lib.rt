@@ -114,7 +114,7 @@ pub struct PartSaid {
     pub remainder: Remainder,
 }
 
-// A number that is one of the eight shapes', or none.
+// A number that is a shape's, or none.
 pub enum Shaped {
     As(Case),
     Nothing,
