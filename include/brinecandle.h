@@ -251,7 +251,7 @@ BRINECANDLE_TAKE_IT
 struct brinecandle_asked brinecandle_is_up_needed(struct brinecandle_presence presence, uint64_t t);
 
 /* ---- responses. What a host gets is a body, which may be empty, and two status bytes. A frame in shape 1 to 4 takes no more body at a
- * time than its Le, and 256 bytes where it has none; in shape 5 to 8 it takes all. That number is the frame's limit: 1 to 256, or 0 for
+ * time than its Le, and 256 bytes where it has none; in shapes 5, 7 and 8 it takes all. That number is the frame's limit: 1 to 256, or 0 for
  * none. brinecandle_decide hands it out, since a body may be made only after it, by brinecandle_finish.
  *
  * So a body goes out in parts. The first is made by brinecandle_next_part from (0, n), n being the body's length; each GET RESPONSE

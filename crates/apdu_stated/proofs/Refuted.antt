@@ -79,7 +79,7 @@ of-none Case3E = refl
 of-none Case4E = refl
 
 pub ninthShape : Claims.ToleratedExactly Wrong.ninthShape → ⊥
-ninthShape exact = true≢false (sym (exact (try (0 ∷ 1 ∷ [])) (saying h0 9 4 0 0) refl .1 of-none))
+ninthShape exact = true≢false (sym (exact .of-no-case (try (0 ∷ 1 ∷ [])) (saying h0 9 4 0 0) refl .1 of-none))
 
 -- ---- the payload, at 02 AA and at 01 AA 00 00
 missing-surplus : (k : ℕ) → Missing ≡ Surplus k → ⊥
@@ -153,8 +153,8 @@ oldFormStillReadBeside exact = word-gives _ _ (sym (exact .at-eight old6 (record
 pub oldFormOneLate : Claims.PlacesExactly Wrong.oldFormOneLate strictOf → ⊥
 oldFormOneLate exact = omega (arith, place-is _ _ (exact .old-form old6 is-old .0))
 
-pub strictSixAt9 : Claims.PlacesExactly readOf Wrong.strictSixAt9 → ⊥
-strictSixAt9 exact = omega (arith, place-is _ _ (exact .old-form old6 is-old .1))
+pub strictOldFormAt9 : Claims.PlacesExactly readOf Wrong.strictOldFormAt9 → ⊥
+strictOldFormAt9 exact = omega (arith, place-is _ _ (exact .old-form old6 is-old .1))
 
 old-not-early : EndsEarly (0 ∷ 0 ∷ 0 ∷ 5 ∷ []) → ⊥
 old-not-early (in-lc a b c) = omega arith
@@ -169,9 +169,9 @@ unfolding readBy sayOf lengthsOf extendedOf
 pairDropped exact = omega (arith, exact .0 .paired (try (0 ∷ 1 ∷ [])) _ refl refl .0)
 
 -- ---- the strict entry, at the old form
-pub strictTakesShape6 : Claims.StrictExactly Wrong.strictTakesShape6 → ⊥
+pub strictStillReadsOldForm : Claims.StrictExactly Wrong.strictStillReadsOldForm → ⊥
 unfolding small
-strictTakesShape6 exact = let t = exact .reads old6 (bytes-of old6 refl) (saying h0 6 7 0 5) .0 refl in of-no-row _ (t .0) (t .1 .table)
+strictStillReadsOldForm exact = let t = exact .reads old6 (bytes-of old6 refl) (saying h0 6 7 0 5) .0 refl in of-no-row _ (t .0) (t .1 .table)
 
 pub strictRefusesEverything : Claims.StrictExactly Wrong.strictRefusesEverything → ⊥
 unfolding small
@@ -212,15 +212,15 @@ old-of-no-case Case2E = refl
 old-of-no-case Case3E = refl
 old-of-no-case Case4E = refl
 
-pub strictTakesShape6Iso : Claims.StrictIsIso Wrong.strictTakesShape6 → ⊥
-strictTakesShape6Iso exact = let c = exact .no-other old6 (saying h0 6 7 0 5) refl .1 in true≢false (sym (c .1) ∙ old-of-no-case (c .0))
+pub strictStillReadsOldFormIso : Claims.StrictIsIso Wrong.strictStillReadsOldForm → ⊥
+strictStillReadsOldFormIso exact = let c = exact .no-other old6 (saying h0 6 7 0 5) refl .1 in true≢false (sym (c .1) ∙ old-of-no-case (c .0))
 
 pub oldFormStillReadTolerated : Claims.ToleratedExactly Wrong.oldFormStillRead → ⊥
-oldFormStillReadTolerated exact = true≢false (sym (exact old6 (saying h0 6 7 0 5) refl .1 old-of-no-case))
+oldFormStillReadTolerated exact = true≢false (sym (exact .of-no-case old6 (saying h0 6 7 0 5) refl .1 old-of-no-case))
 
-pub strictTakesShape6NoShape : Claims.StrictNoShapeExactly Wrong.strictTakesShape6 → ⊥
+pub strictStillReadsOldFormNoShape : Claims.StrictNoShapeExactly Wrong.strictStillReadsOldForm → ⊥
 unfolding small
-strictTakesShape6NoShape exact = word-gives _ _ (sym (exact old6 (bytes-of old6 refl) .1 (omega arith, λ says content i. of-no-row says content (i .table)) .is))
+strictStillReadsOldFormNoShape exact = word-gives _ _ (sym (exact old6 (bytes-of old6 refl) .1 (omega arith, λ says content i. of-no-row says content (i .table)) .is))
 
 pub strictLcZeroAt9 : Claims.PlacesExactly readOf Wrong.strictLcZeroAt9 → ⊥
 strictLcZeroAt9 exact =
@@ -245,6 +245,9 @@ strictRefusesLe3 exact = word-gives _ _ (exact .each-case (try (0 ∷ 0 ∷ 0 �
 
 pub readRefusesLcZero : Claims.DifferExactly Wrong.readRefusesLcZero strictOf → ⊥
 readRefusesLcZero exact = word-gives _ _ (exact .at-nine h0 0 5 5 (pair (record { high = omega arith; low = omega arith; is = refl }) (omega arith)) .0)
+
+pub readRefusesLcZeroTolerated : Claims.ToleratedExactly Wrong.readRefusesLcZero → ⊥
+readRefusesLcZeroTolerated exact = word-gives _ _ (exact .is-read house (record { longer = omega arith; extended = refl; zero-lc = refl }) refl .1)
 
 pub strictShortGets6700 : Claims.StrictOtherwise readOf Wrong.strictShortGets6700 → ⊥
 unfolding readBy

@@ -270,24 +270,24 @@ DifferExactly =
     differs frame d e = zero-differs frame (d .lc-zero) (d .nine) (ℕ-discrete (length frame) 9) e
 
 pub ToleratedExactly : Claims.ToleratedExactly readOf
-ToleratedExactly frame said e = (forth, back)
+ToleratedExactly = record { of-no-case = λ frame said e. (forth frame said e, back frame said e); is-read = nine }
   where
-    long : 4 ≤ length frame
-    long = given-long Ordinary frame said e
-
-    forth : isTolerated (said .shape) (said .lc) ≡ true → (c : IsoCase) → isCase c (drop 4 frame) ≡ false
-    forth t c = go (isCase c (drop 4 frame)) refl
+    forth : (frame : List ℕ) (said : Says) → readOf frame ≡ Gives said → isTolerated (said .shape) (said .lc) ≡ true → (c : IsoCase) → isCase c (drop 4 frame) ≡ false
+    forth frame said e t c = go (isCase c (drop 4 frame)) refl
       where
         go : (b : Bool) → isCase c (drop 4 frame) ≡ b → b ≡ false
         go false x = refl
         go true x =
-            let r = IsoExactly frame c long .0 x in
+            let r = IsoExactly frame c (given-long Ordinary frame said e) .0 x in
             let same : r .0 ≡ said = gives-same _ _ (sym (r .1) ∙ e) in
             absurd (true≢false (sym t ∙ ap (λ (y : Says). isTolerated (y .shape) (y .lc)) (sym same) ∙ r .3))
 
-    back : ((c : IsoCase) → isCase c (drop 4 frame) ≡ false) → isTolerated (said .shape) (said .lc) ≡ true
-    back never = go (isTolerated (said .shape) (said .lc)) refl
+    back : (frame : List ℕ) (said : Says) → readOf frame ≡ Gives said → ((c : IsoCase) → isCase c (drop 4 frame) ≡ false) → isTolerated (said .shape) (said .lc) ≡ true
+    back frame said e never = go (isTolerated (said .shape) (said .lc)) refl
       where
         go : (b : Bool) → isTolerated (said .shape) (said .lc) ≡ b → b ≡ true
         go true t = refl
         go false t = let c = of-case Ordinary frame said e t in absurd (true≢false (sym (c .1) ∙ never (c .0)))
+
+    nine : (frame : List ℕ) → LcZero frame → length frame ≡ 9 → (says : Says) × (readOf frame ≡ Gives says) × (isTolerated (says .shape) (says .lc) ≡ true)
+    nine frame l e = let r = read-nine-at frame (l .extended) (l .zero-lc) e in (_, r .1, rw (l .zero-lc))

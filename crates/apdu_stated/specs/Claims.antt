@@ -47,7 +47,8 @@ NoShapeExactly Table read =
 -- ---- where the length went wrong: 02, E1
 
 -- Kind 1, "for missing bytes the frame's length": a frame of 4 bytes or more misses bytes exactly when it ends before its Lc field or its data
--- does. "A short payload of `00 x` counts as missing". Rejects a place one byte short, and `00 x` as surplus. Bites at 00 03 00 00 | 00 01.
+-- does. "A short payload of `00 x` counts as missing". Rejects a place one byte short, `00 x` as surplus, and the old form told as one that misses its second
+-- byte of Le. Bites at 00 03 00 00 | 00 01, and at 00 03 00 00 | 00 00 00 05.
 abbrev pub MissingExactly : (List ℕ → Outcome Says) → Type 0
 MissingExactly read = (frame : List ℕ) (k : ℕ) → (read frame ≡ wrongLength 1 k) ↔ ((4 ≤ length frame) × EndsEarly (drop 4 frame) × (k ≡ length frame))
 
@@ -180,13 +181,14 @@ IsoExactly read =
     → (isCase c (drop 4 frame) ≡ true)
     ↔ ((says : Says) × (read frame ≡ Gives says) × (says .shape ≡ shapeNo (shapeFor c)) × (isTolerated (says .shape) (says .lc) ≡ false))
 
--- What is read and is of no ISO case is the tolerated form, shape 7 with an Lc of 0, and it is of none.
--- Rejects a table with a row that ISO lacks: a ninth shape, or the retired sixth. Bites at 00 03 00 00 | 00 00 00 00 05, at 00 03 00 00 | 00 01,
--- and at 00 03 00 00 | 00 00 00 05.
-abbrev pub ToleratedExactly : (List ℕ → Outcome Says) → Type 0
-ToleratedExactly read =
-    (frame : List ℕ) (says : Says) → read frame ≡ Gives says
-    → (isTolerated (says .shape) (says .lc) ≡ true) ↔ ((c : IsoCase) → isCase c (drop 4 frame) ≡ false)
+-- What is read and is of no ISO case is the tolerated form, shape 7 with an Lc of 0, and it is of none; and every frame of that form is read.
+-- Rejects a table with a row that ISO lacks, one numbered 9 or the retired sixth, and a reading without the tolerated form. Bites at 00 03 00 00 | 00 01, at
+-- 00 03 00 00 | 00 00 00 05, and at 00 03 00 00 | 00 00 00 00 05.
+pub record ToleratedExactly (read : List ℕ → Outcome Says) : Type 0 where
+  pub of-no-case : (frame : List ℕ) (says : Says) → read frame ≡ Gives says
+      → (isTolerated (says .shape) (says .lc) ≡ true) ↔ ((c : IsoCase) → isCase c (drop 4 frame) ≡ false)
+  pub is-read : (frame : List ℕ) → LcZero frame → length frame ≡ 9
+      → (says : Says) × (read frame ≡ Gives says) × (isTolerated (says .shape) (says .lc) ≡ true)
 
 -- ---- the strict entry
 
@@ -202,7 +204,8 @@ pub record StrictIsIso (strict : List ℕ → Outcome Says) : Type 0 where
 
 -- 01: "It accepts the ISO cases, that is the shapes above without shape 6, and gives 6700 for shape 6"; 02, E4: "with Lc 0 it is 6700":
 -- every answer, each exactly when, by the strict table and the same law as the ordinary reading. Rejects a strict entry that takes shape 6,
--- or Lc 0, one that says surplus at 9 there, and one that refuses everything. Bites at 00 03 00 00 | 00 00 00 05.
+-- or Lc 0, one that says surplus at 9 there, and one that refuses everything. Bites at 00 03 00 00 | 00 00 00 05, at 00 03 00 00 | 00 00 00 00 05, at an
+-- extended Lc of 0 with ten bytes, and at the header alone.
 abbrev pub StrictExactly : (List ℕ → Outcome Says) → Type 0
 StrictExactly strict = ReadingExactly InStrictTable strict
 
@@ -215,7 +218,7 @@ abbrev pub StrictPayloadExactly : (List ℕ → Lengths) → Type 0
 StrictPayloadExactly payload = PayloadExactly InStrictTable payload
 
 -- 01: "It accepts the ISO cases ..; otherwise it equals the first", amended by 02, E4, and with E13 on any frame, beside any first reading: of an
--- extended Lc of 0 the answer with its pair, of every other frame the first reading's, the old form among them.
+-- extended Lc of 0 the answer with its pair, of every other frame the first reading's, the old form with data among them.
 -- Rejects a strict entry with a status of its own. Bites at 00 03 00.
 pub record StrictOtherwise (read strict : List ℕ → Outcome Says) : Type 0 where
   pub lc-zero : (frame : List ℕ) → LcZero frame → strict frame ≡ wrongLength 2 7
@@ -223,7 +226,8 @@ pub record StrictOtherwise (read strict : List ℕ → Outcome Says) : Type 0 wh
 
 -- Where the two readings agree and differ, both answers said, pairs included. Every frame that ISO has, they read alike. They differ
 -- exactly at an extended Lc of 0 in nine bytes or more: with nine "The ordinary reading still takes it, as the Rust does", with ten or more it is
--- surplus at 9 and at 7. With eight, the old form without data, both say surplus at 7 (02, E13). One of nine bytes is said as the table has it.
+-- surplus at 9 and at 7. With eight, the old form without data, both say surplus at 7 (02, E13). `at-nine` spells the nine bytes out: header, 00 00 00, two
+-- bytes of Le.
 -- Rejects an ordinary reading that refuses an Lc of 0, or still takes the old form, and a strict one that takes an Lc of 0. Bites at 00 03 00 00 |
 -- 00 00 00 00 05, and at 00 03 00 00 | 00 00 00 05.
 pub record DifferExactly (read strict : List ℕ → Outcome Says) : Type 0 where

@@ -1,5 +1,5 @@
--- ISO/IEC 7816-3:2006, section 12.1.3: the seven cases of a command, by its body b of L bytes B1 .. BL; and the forms beyond
--- them that document 01 tolerates. Written from the public table, apart from document 01's.
+-- ISO/IEC 7816-3:2006, section 12.1.3: the seven cases of a command, by its body b of L bytes B1 .. BL; and the one form
+-- beyond them that is tolerated. Written from the public table, apart from document 01's.
 use Prim.Native.Nat.{ℕ, _+_}
 use mathlib.Core.Bool.{Bool, not, _&&_}
 use mathlib.Core.List.{List}

@@ -1,4 +1,4 @@
--- Document 01, 'Eight frame shapes': the table, its columns, and what follows from them; document 02, E13: it "loses its row 6".
+-- Document 01, 'Eight frame shapes': the table, its columns, and what follows from them; document 02, E13: "Shape 6 is retired", so there is no row 6.
 -- Covered: the payload and condition of each row; "Data is exactly Lc bytes"; "A written Le of 0 means 256 in one byte and
 -- 65536 in two; an absent Le reads as 0"; which data length and Le a shape can carry. Document 02, E4: what of it the strict table has.
 use Prim.Native.Nat.{ℕ, _%_}
@@ -62,7 +62,7 @@ leFits s le = leb (leLeast (leField s)) le && leb le (leMost (leField s))
 abbrev pub canCarry : Case → ℕ → ℕ → Bool
 canCarry s dataLength le = lcFits s dataLength && leFits s le
 
--- ---- the two tables. 02, E9, of E4's: "The strict reading is the same table with other least Lc"; since E13 the rows are the same.
+-- ---- the two tables. 02, E9: "The strict reading is the same table with other least Lc"; its "without row 6" is true of both since E13.
 -- 02, E4: "In ISO 7816-3 a case with an Lc field carries at least one byte of data": so row 7 begins at Lc 1, as rows 3, 4 and 5 do in both
 abbrev pub leastOf : Entry → Case → ℕ
 leastOf Ordinary s = lcLeast s

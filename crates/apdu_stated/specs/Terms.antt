@@ -59,7 +59,7 @@ pub data EndsEarly (p : List ℕ) : Type 0 where
   in-extended-data : byte p 0 ≡ 0x00 → 3 < length p → length p < 3 + (byte p 1 * 256 + byte p 2) → EndsEarly p
 
 -- `IsoRow shape lc`: a row of the table that is ISO's. 02, E4: "In ISO 7816-3 a case with an Lc field carries at least one byte of data", and
--- that is shapes 3 to 7: "Strict shape 7 needs Lc 1..65535"
+-- that is shapes 3, 4, 5 and 7: "Strict shape 7 needs Lc 1..65535"
 pub record IsoRow (shape lc : ℕ) : Type 0 where
   pub some-data : 3 ≤ shape → shape ≤ 7 → 1 ≤ lc
 

@@ -1,5 +1,5 @@
 -- Document 01, 'Eight frame shapes': the writer. "It refuses (R5) exactly when data length or Le is not one that the shape
--- can carry, else R2 exactly when the buffer is shorter than the frame; else it writes the frame at the front and leaves the rest."
+-- can carry .., else R2 exactly when the buffer is shorter than the frame; else it writes the frame at the front and leaves the rest."
 -- Document 02, E4: "a strict writer is added that refuses .. Lc 0 in shape 7, with R5 and is otherwise the writer": one writer
 -- by two tables, as the reading is. E13: no shape has number 6 here; over plain numbers it gets R5.
 use Prim.Native.Nat.{ℕ}

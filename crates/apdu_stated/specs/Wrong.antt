@@ -52,7 +52,7 @@ without3E (R n) = R n
 abbrev pub withoutCase3E : List ℕ → Outcome Says
 withoutCase3E frame = without3E (readOf frame)
 
--- a row that ISO lacks: `00 01` is a ninth shape
+-- a row that ISO lacks: `00 01` is a shape numbered 9
 abbrev pub ninthShape : List ℕ → Outcome Says
 ninthShape frame = if eqb (length frame) 6 && eqb (byte frame 4) 0 then Gives (saying (headerOf frame) 9 4 0 0) else readOf frame
 
@@ -108,15 +108,15 @@ oldSaid frame = Gives (saying (headerOf frame) 6 7 (pairAt frame 5) (leRead 1 (b
 abbrev pub oldFormStillRead : List ℕ → Outcome Says
 oldFormStillRead frame = if isOld frame then oldSaid frame else readOf frame
 
-abbrev pub strictTakesShape6 : List ℕ → Outcome Says
-strictTakesShape6 frame = if isOld frame then oldSaid frame else strictOf frame
+abbrev pub strictStillReadsOldForm : List ℕ → Outcome Says
+strictStillReadsOldForm frame = if isOld frame then oldSaid frame else strictOf frame
 
 -- here the place is one byte late, behind the Le byte; and here it is 9 + Lc, as for every other extended frame
 abbrev pub oldFormOneLate : List ℕ → Outcome Says
 oldFormOneLate frame = if isOld frame then surplusAt (8 + pairAt frame 5) else readOf frame
 
-abbrev pub strictSixAt9 : List ℕ → Outcome Says
-strictSixAt9 frame = if isOld frame then surplusAt (9 + pairAt frame 5) else strictOf frame
+abbrev pub strictOldFormAt9 : List ℕ → Outcome Says
+strictOldFormAt9 frame = if isOld frame then surplusAt (9 + pairAt frame 5) else strictOf frame
 
 -- here the old form counts as a frame that misses its second byte of Le
 abbrev pub oldFormMissing : List ℕ → Outcome Says
@@ -179,7 +179,7 @@ shape8Numbered7 s = if eqb (shapeNo s) 8 then 7 else shapeNo s
 abbrev pub numberedFrom0 : Case → ℕ
 numberedFrom0 s = shapeNo s - 1
 
--- "7 and 8 keep their numbers": here they move up, where 6 was
+-- E13's request: "The other shapes keep their numbers": here 7 and 8 move up, where 6 was
 abbrev pub numbersMovedUp : Case → ℕ
 numbersMovedUp s = if ltb 6 (shapeNo s) then shapeNo s - 1 else shapeNo s
 

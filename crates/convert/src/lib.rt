@@ -9,7 +9,7 @@ ghost use Rattle.table_stated.specs.Rows.{columnsOf};
 ghost use Rattle.table_stated.specs.Answers.{tableReadingOf, rowSaysOf};
 ghost use Rattle.convert_stated.specs.Converting.{oldRow, oldOf, newShape, newParts, copied, keptBy};
 ghost use Rattle.convert_stated.specs.Answers.{convertedOf};
-ghost use Rattle.convert_stated.specs.Contracts.{IsOld, Convert};
+ghost use Rattle.convert_stated.specs.Contracts.{OldFormTold, Convert};
 use apdu::Case;
 use apdu::Reading;
 use apdu::Written;
@@ -39,7 +39,7 @@ fn old(frame: &[u8]) -> TableReading
 
 // Whether a frame is of the old form.
 pub fn is_old(frame: &[u8]) -> bool
-    ensures { λ r. ⌜ IsOld (now (frame .entry)) r ⌝ }
+    ensures { λ r. ⌜ OldFormTold (now (frame .entry)) r ⌝ }
 {
     match old(frame) {
         TableReading::Frame(_) => true,
@@ -85,8 +85,8 @@ fn keep(frame: &[u8], out: &mut [u8]) -> Converted
     }
 }
 
-// Writes what the frame becomes at the front of out, and says its length. The reader's status where the frame is in no shape; R2 where out is
-// shorter than the result. Neither changes out.
+// Writes what the frame becomes at the front of out, and says its length. The reader's status where the frame is in no shape and not of the old
+// form; R2 where out is shorter than the result. Neither changes out.
 pub fn convert(frame: &[u8], out: &mut [u8]) -> Converted
     ensures { λ r. ⌜ Convert (now (frame .entry)) (now (out .entry)) r (now (out .exit)) ⌝ }
 {

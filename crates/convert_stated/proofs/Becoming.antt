@@ -2,6 +2,7 @@
 use Prim.Native.Nat.{ℕ, _+_, _≤_}
 use mathlib.Core.Path.{_≡_, refl, ap, sym, _∙_}
 use mathlib.Core.List.{List, [], _∷_}
+use mathlib.Core.Logic.{_⊎_, inl, inr}
 use native.Mathlib.Omega.{arith}
 use native.Mathlib.Decide.{ℕ-discrete}
 use lib.ListN.{length, length-append}
@@ -39,17 +40,11 @@ old-one {frame} {h} {k} {d} {e} {le} {me} bytes o p =
       ap (λ (s : Says). s .le) same,
     )
 
-said-as : {result : List ℕ} {h k : ApduHeader} {d e : List ℕ} {le me : ℕ} → h ≡ k → d ≡ e → le ≡ me → Said result h d le → Said result k e me
-said-as a b c s = rw (← a, ← b, ← c) s
-
--- the result holds what the frame did
-pub holds : {frame result : List ℕ} {h : ApduHeader} {d : List ℕ} {le : ℕ} → AreBytes frame → Holds frame h d le → Becomes frame result → Said result h d le
-holds bytes (by-table i) (unchanged j) = record { says = _; table = i; header = refl; same-le = refl }
-holds bytes (by-table i) (as-shape-7 o some w) = absurd (not-both _ _ _ i (old-form o))
-holds bytes (by-table i) (as-shape-8 o w) = absurd (not-both _ _ _ i (old-form o))
-holds bytes (by-old p) (unchanged j) = absurd (not-both _ _ _ j (old-form p))
-holds bytes (by-old p) (as-shape-7 o some w) = let t = old-one bytes o p in said-as (t .0) (t .1) (t .2) (made w)
-holds bytes (by-old p) (as-shape-8 o w) = let t = old-one bytes o p in said-as (t .0) (t .1) (t .2) (made w)
+-- what a frame holds, its result does
+pub holds : {frame result : List ℕ} → Becomes frame result → (h : ApduHeader) × (d : List ℕ) × (le : ℕ) × Holds frame h d le × Said result h d le
+holds (as-shape-7 o some w) = (_, _, _, by-old o, made w)
+holds (as-shape-8 o w) = (_, _, _, by-old o, made w)
+holds (unchanged i) = (_, _, _, by-table i, record { says = _; table = i; header = refl; same-le = refl })
 
 -- eight bytes and the data
 old-long : {frame : List ℕ} {h : ApduHeader} {d : List ℕ} {le : ℕ} → Old frame h d le → length frame ≡ 8 + length d
@@ -81,21 +76,27 @@ becomes-one bytes (as-shape-8 {h = h} {le = le} o w) (as-shape-8 {h = k} {le = m
 becomes-one bytes (as-shape-7 o some w) (as-shape-8 p v) = let t = old-one bytes o p in let z = ap (length {A = ℕ}) (t .1) in absurd (omega arith)
 becomes-one bytes (as-shape-8 p v) (as-shape-7 o some w) = let t = old-one bytes o p in let z = ap (length {A = ℕ}) (t .1) in absurd (omega arith)
 
--- the new form is a byte longer than the old one, or, without data, a byte shorter: it is another frame
-pub changed : {frame result : List ℕ} → OldForm frame → Becomes frame result → result ≡ frame → ⊥
-changed {frame} {result} f (as-shape-7 {h = h} {d = d} {le = le} o some w) e =
+-- the new form is a byte longer than the old one, or, without data, a byte shorter
+pub new-long : {frame result : List ℕ} → OldForm frame → Becomes frame result → (length result ≡ 1 + length frame) ⊎ (1 + length result ≡ length frame)
+new-long {frame} {result} f (as-shape-7 {h = h} {d = d} {le = le} o some w) =
     let is = ap length (is-built Ordinary (partsOf h Lc3DataLe2 d le) result w .built .layout) in
     let long = frame-long h Lc3DataLe2 d le in
-    let old = old-long o in
-    let same = ap (length {A = ℕ}) e in
-    omega arith
-changed {frame} {result} f (as-shape-8 {h = h} {le = le} o w) e =
+    let eight = old-long o in
+    inl (omega arith)
+new-long {frame} {result} f (as-shape-8 {h = h} {le = le} o w) =
     let is = ap length (is-built Ordinary (partsOf h Le3 [] le) result w .built .layout) in
     let long = frame-long h Le3 [] le in
-    let old = old-long o in
-    let same = ap (length {A = ℕ}) e in
-    omega arith
-changed f (unchanged i) e = not-both _ _ _ i f
+    let eight = old-long o in
+    inr (omega arith)
+new-long f (unchanged i) = absurd (not-both _ _ _ i f)
+
+-- so it is another frame
+pub changed : {frame result : List ℕ} → OldForm frame → Becomes frame result → result ≡ frame → ⊥
+changed {frame} {result} f b e = go (new-long f b)
+  where
+    go : (length result ≡ 1 + length frame) ⊎ (1 + length result ≡ length frame) → ⊥
+    go (inl x) = let same = ap (length {A = ℕ}) e in omega arith
+    go (inr x) = let same = ap (length {A = ℕ}) e in omega arith
 
 -- ---- of a frame of the table
 pub lc-is : {frame d : List ℕ} {says : Says} → InTable frame says d → says .lc ≡ length d

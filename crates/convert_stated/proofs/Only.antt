@@ -20,22 +20,22 @@ OldExactly f g p q frame = go (f frame) (g frame) refl refl
     go false true e d = p .by-length frame .1 (q .by-length frame .0 d) ∙ sym d
     go false false e d = e ∙ sym d
 
-pub ConvertExactly : (f g : List ℕ → List ℕ → Outcome ℕ × List ℕ) → Claims.ConvertExactly f → Claims.ConvertExactly g → (frame old : List ℕ) → AreBytes frame → f frame old ≡ g frame old
-ConvertExactly f g p q frame old bytes = go (way frame old bytes)
+pub ConvertExactly : (f g : List ℕ → List ℕ → Outcome ℕ × List ℕ) → Claims.ConvertExactly f → Claims.ConvertExactly g → (frame before : List ℕ) → AreBytes frame → f frame before ≡ g frame before
+ConvertExactly f g p q frame before bytes = go (way frame before bytes)
   where
-    both : f frame old .0 ≡ g frame old .0 → f frame old .1 ≡ g frame old .1 → f frame old ≡ g frame old
+    both : f frame before .0 ≡ g frame before .0 → f frame before .1 ≡ g frame before .1 → f frame before ≡ g frame before
     both a b = ap₂ (λ (x : Outcome ℕ) (y : List ℕ). (x, y)) a b
 
-    go : {o : Outcome ℕ × List ℕ} → Way frame old o → f frame old ≡ g frame old
+    go : {o : Outcome ℕ × List ℕ} → Way frame before o → f frame before ≡ g frame before
     go (short r b h) =
-        let x = p .r2 frame old bytes .1 (r, b, h) in
-        let y = q .r2 frame old bytes .1 (r, b, h) in
-        both (x ∙ sym y) (p .refused frame old 2 x ∙ sym (q .refused frame old 2 y))
-    go (wrote r b h) = p .converts frame old r bytes b h ∙ sym (q .converts frame old r bytes b h)
+        let x = p .r2 frame before bytes .1 (r, b, h) in
+        let y = q .r2 frame before bytes .1 (r, b, h) in
+        both (x ∙ sym y) (p .refused frame before 2 x ∙ sym (q .refused frame before 2 y))
+    go (wrote r b h) = p .converts frame before r bytes b h ∙ sym (q .converts frame before r bytes b h)
     go (status w e n) =
-        let x = p .status frame old w bytes .1 (e, λ h d le o. n (old-form o)) in
-        let y = q .status frame old w bytes .1 (e, λ h d le o. n (old-form o)) in
-        both (x ∙ sym y) (p .left frame old w x ∙ sym (q .left frame old w y))
+        let x = p .status frame before w bytes .1 (e, λ h d le o. n (old-form o)) in
+        let y = q .status frame before w bytes .1 (e, λ h d le o. n (old-form o)) in
+        both (x ∙ sym y) (p .left frame before w x ∙ sym (q .left frame before w y))
 
 pub SaidExactly : Determines Claims.SaidExactly
 SaidExactly f g p q (Frame n) = p .frame n ∙ sym (q .frame n)

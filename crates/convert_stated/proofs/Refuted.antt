@@ -21,13 +21,13 @@ use Rattle.apdu_stated.specs.Terms.{full, plain, pair, frameWith, saying, InTab
 use Rattle.table_stated.specs.Trying.{begins, lcIn, leIn, opens, stands, triedOf}
 use Rattle.table_stated.specs.Answers.{readByRows}
 use Rattle.convert_stated.specs.Converting.{convertOf}
-use Rattle.convert_stated.specs.Terms.{Old, row6, Becomes, as-shape-7, as-shape-8, unchanged, by-old}
+use Rattle.convert_stated.specs.Terms.{Old, row6, Holds, by-table, by-old, Becomes, as-shape-7, as-shape-8, unchanged, EmptySeven}
 use Rattle.convert_stated.specs.declared.Converted.{Converted}
 use Rattle.convert_stated.specs.declared.Converted.the-variants as Converted′
 use Rattle.convert_stated.specs.Answers.{convertedOf}
 use Rattle.convert_stated.specs.Claims
 use Rattle.convert_stated.specs.Wrong
-use Rattle.convert_stated.proofs.OldForms.{old-form}
+use Rattle.convert_stated.proofs.OldForms.{old-form, old-says, not-both}
 
 -- ---- frames to try: header 00 03 00 00, and a payload
 abbrev h0 : ApduHeader
@@ -51,6 +51,9 @@ old-one = row6 {h = h0} {d = 0xAA ∷ []} {hi = 0} {lo = 1} (record { high = ome
 
 form-bare : OldForm bare
 form-bare = record { extended = refl; one-behind = refl }
+
+form-one : OldForm one
+form-one = record { extended = refl; one-behind = refl }
 
 -- what they become: 00 00 05, and 00 00 01 AA 01 00
 becomes-bare : Becomes bare (try (0 ∷ 0 ∷ 5 ∷ []))
@@ -143,6 +146,10 @@ not-short6 o = let e = o .one-behind in omega arith
 missing-6 : StatusWord
 missing-6 = record { number = 0x6700; kind = 1; place = 6 }
 
+pub noShapeCopied : Claims.ConvertExactly Wrong.noShapeCopied → ⊥
+unfolding small readByRows triedOf stands opens begins lcIn leIn readBy sayOf lengthsOf shortOf extendedOf afterData dataOf partOf writeBy bufferBy carriedBy lcFits leFits frameOf payloadOf convertOf missing-6
+noShapeCopied exact = word-gives _ _ (sym (exact .status short6 twelve missing-6 (bytes-of short6 refl) .1 (refl, λ h d le o. not-short6 (old-form o))))
+
 pub pairDropped : Claims.ConvertExactly Wrong.pairDropped → ⊥
 unfolding small readByRows triedOf stands opens begins lcIn leIn readBy sayOf lengthsOf shortOf extendedOf afterData dataOf partOf writeBy bufferBy carriedBy lcFits leFits frameOf payloadOf convertOf missing-6
 pairDropped exact =
@@ -151,6 +158,15 @@ pairDropped exact =
 pub roomFirst : Claims.ConvertExactly Wrong.roomFirst → ⊥
 unfolding small readByRows triedOf stands opens begins lcIn leIn readBy sayOf lengthsOf shortOf extendedOf afterData dataOf partOf writeBy bufferBy carriedBy lcFits leFits frameOf payloadOf convertOf missing-6
 roomFirst exact = r-word _ _ (exact .status short6 [] missing-6 (bytes-of short6 refl) .1 (refl, λ h d le o. not-short6 (old-form o)))
+
+pub statusWrites : Claims.ConvertExactly Wrong.statusWrites → ⊥
+unfolding small readByRows triedOf stands opens begins lcIn leIn readBy sayOf lengthsOf shortOf extendedOf afterData dataOf partOf writeBy bufferBy carriedBy lcFits leFits frameOf payloadOf convertOf missing-6
+statusWrites exact = omega (arith, ap (λ (l : List ℕ). byte l 0) (exact .left short6 twelve missing-6 refl))
+
+-- the old form without data, of eight bytes, in a buffer of seven, which its result just fills
+pub roomOfTheFrame : Claims.ConvertExactly Wrong.roomOfTheFrame → ⊥
+unfolding small readByRows triedOf stands opens begins lcIn leIn readBy sayOf lengthsOf shortOf extendedOf afterData dataOf partOf writeBy bufferBy carriedBy lcFits leFits frameOf payloadOf convertOf
+roomOfTheFrame exact = r-gives _ _ (answer-is _ _ (exact .converts bare (replicate 7 9) _ (bytes-of bare refl) becomes-bare (omega arith)))
 
 -- the header alone, in a buffer of four bytes, of three, and of five
 abbrev four : List ℕ
@@ -176,26 +192,58 @@ unfolding small readByRows triedOf stands opens begins lcIn leIn readBy sayOf le
 refusalWrites exact = omega (arith, ap (λ (l : List ℕ). byte l 0) (exact .refused four (replicate 3 9) 2 refl))
 
 -- ---- the result is read, changes exactly, converts to itself
+-- what the frame holds is one thing: the Le of `one` is 256
+le-held : {h : ApduHeader} {d : List ℕ} {le : ℕ} → Holds one h d le → le ≡ 256
+unfolding small readByRows triedOf stands opens begins lcIn leIn readBy sayOf lengthsOf shortOf extendedOf afterData dataOf partOf writeBy bufferBy carriedBy lcFits leFits frameOf payloadOf convertOf
+le-held (by-old o) = ap (λ (s : Says). s .le) (gives-same _ _ (sym (old-says (bytes-of one refl) o) ∙ old-says (bytes-of one refl) old-one))
+le-held (by-table i) = absurd (not-both one _ _ i form-one)
+
 pub leZeroAsZeroRead : Claims.ConvertedIsRead Wrong.leZeroAsZero → ⊥
 unfolding small readByRows triedOf stands opens begins lcIn leIn readBy sayOf lengthsOf shortOf extendedOf afterData dataOf partOf writeBy bufferBy carriedBy lcFits leFits frameOf payloadOf convertOf
 leZeroAsZeroRead exact =
-    let t = exact .is-read one twelve h0 (0xAA ∷ []) 256 10 (bytes-of one refl) (by-old old-one) refl in
-    omega (arith, ap (λ (s : Says). s .le) (gives-same _ _ (t .1)), t .4)
+    let t = exact .is-read one twelve 10 (bytes-of one refl) refl in
+    omega (arith, ap (λ (s : Says). s .le) (gives-same _ _ (t .4 .1)), t .4 .4, le-held (t .3))
 
 pub oldFormKeptUnread : Claims.ConvertedIsRead Wrong.oldFormKept → ⊥
 unfolding small readByRows triedOf stands opens begins lcIn leIn readBy sayOf lengthsOf shortOf extendedOf afterData dataOf partOf writeBy bufferBy carriedBy lcFits leFits frameOf payloadOf convertOf
-oldFormKeptUnread exact = let t = exact .is-read one twelve h0 (0xAA ∷ []) 256 9 (bytes-of one refl) (by-old old-one) refl in word-gives _ _ (t .1)
+oldFormKeptUnread exact = let t = exact .is-read one twelve 9 (bytes-of one refl) refl in word-gives _ _ (t .4 .1)
+
+pub noShapeCopiedRead : Claims.ConvertedIsRead Wrong.noShapeCopied → ⊥
+unfolding small readByRows triedOf stands opens begins lcIn leIn readBy sayOf lengthsOf shortOf extendedOf afterData dataOf partOf writeBy bufferBy carriedBy lcFits leFits frameOf payloadOf convertOf
+noShapeCopiedRead exact = let t = exact .is-read short6 twelve 6 (bytes-of short6 refl) refl in word-gives _ _ (t .4 .1)
+
+-- strictly: the old form without data is no shape 7
+not-seven : EmptySeven bare → ⊥
+unfolding small readByRows triedOf stands opens begins lcIn leIn readBy sayOf lengthsOf shortOf extendedOf afterData dataOf partOf writeBy bufferBy carriedBy lcFits leFits frameOf payloadOf convertOf
+not-seven e = word-gives _ _ (e .is-read)
+
+pub lcZeroAsShape7Strictly : Claims.ConvertedIsRead Wrong.lcZeroAsShape7 → ⊥
+unfolding small readByRows triedOf stands opens begins lcIn leIn readBy sayOf lengthsOf shortOf extendedOf afterData dataOf partOf writeBy bufferBy carriedBy lcFits leFits frameOf payloadOf convertOf
+lcZeroAsShape7Strictly exact = let t = exact .strictly bare twelve 9 (bytes-of bare refl) refl .1 not-seven in word-gives _ _ (t .1)
+
+-- and the house's frame is one
+is-seven : EmptySeven house
+unfolding small readByRows triedOf stands opens begins lcIn leIn readBy sayOf lengthsOf shortOf extendedOf afterData dataOf partOf writeBy bufferBy carriedBy lcFits leFits frameOf payloadOf convertOf
+is-seven = record { says = saying h0 7 7 0 5; is-read = refl; seven = refl; empty = refl }
+
+pub shape7RewrittenStrictly : Claims.ConvertedIsRead Wrong.shape7Rewritten → ⊥
+unfolding small readByRows triedOf stands opens begins lcIn leIn readBy sayOf lengthsOf shortOf extendedOf afterData dataOf partOf writeBy bufferBy carriedBy lcFits leFits frameOf payloadOf convertOf
+shape7RewrittenStrictly exact = exact .strictly house twelve 7 (bytes-of house refl) refl .0 (saying h0 8 4 0 5, refl) is-seven
 
 not-house : OldForm house → ⊥
 not-house o = let e = o .one-behind in omega arith
 
 pub shape7RewrittenChanges : Claims.ChangesExactly Wrong.shape7Rewritten → ⊥
 unfolding small readByRows triedOf stands opens begins lcIn leIn readBy sayOf lengthsOf shortOf extendedOf afterData dataOf partOf writeBy bufferBy carriedBy lcFits leFits frameOf payloadOf convertOf
-shape7RewrittenChanges claim = not-house (claim house twelve 7 (bytes-of house refl) refl .0 (λ e. omega (arith, ap (length {A = ℕ}) e)))
+shape7RewrittenChanges claim = not-house (claim .exactly house twelve 7 (bytes-of house refl) refl .0 (λ e. omega (arith, ap (length {A = ℕ}) e)))
 
 pub oldFormKeptUnchanged : Claims.ChangesExactly Wrong.oldFormKept → ⊥
 unfolding small readByRows triedOf stands opens begins lcIn leIn readBy sayOf lengthsOf shortOf extendedOf afterData dataOf partOf writeBy bufferBy carriedBy lcFits leFits frameOf payloadOf convertOf
-oldFormKeptUnchanged claim = claim bare twelve 8 (bytes-of bare refl) refl .1 form-bare refl
+oldFormKeptUnchanged claim = claim .exactly bare twelve 8 (bytes-of bare refl) refl .1 form-bare refl
+
+pub oldFormRefusedUnchanged : Claims.ChangesExactly Wrong.oldFormRefused → ⊥
+unfolding small readByRows triedOf stands opens begins lcIn leIn readBy sayOf lengthsOf shortOf extendedOf afterData dataOf partOf writeBy bufferBy carriedBy lcFits leFits frameOf payloadOf convertOf
+oldFormRefusedUnchanged claim = let t = claim .converted bare twelve (bytes-of bare refl) form-bare (omega arith) in word-gives _ _ (t .1)
 
 pub twoSteps : Claims.ConvertsToItself Wrong.twoSteps → ⊥
 unfolding small readByRows triedOf stands opens begins lcIn leIn readBy sayOf lengthsOf shortOf extendedOf afterData dataOf partOf writeBy bufferBy carriedBy lcFits leFits frameOf payloadOf convertOf

@@ -3,6 +3,7 @@ use Prim.Native.Nat.{ℕ, _+_, _<_, _≤_}
 use mathlib.Core.Path.{_≡_, refl, ap, ap₂, sym, subst, _∙_}
 use mathlib.Core.Bool.{Bool, true, false}
 use mathlib.Core.List.{List, [], _∷_, _++_}
+use mathlib.Core.Logic.{_⊎_, inl, inr}
 use native.Mathlib.Omega.{arith}
 use lib.Dec.{ltb}
 use lib.ListN.{length, take, drop}
@@ -27,7 +28,7 @@ use Rattle.convert_stated.specs.Answers.{convertedOf}
 use Rattle.convert_stated.specs.Terms.{Old, row6, Holds, by-table, by-old, Becomes, as-shape-7, as-shape-8, unchanged, EmptySeven}
 use Rattle.convert_stated.specs.Claims
 use Rattle.convert_stated.proofs.OldForms.{OldIs, known, old-exactly, old-says, old-data, old-form, form-old, not-both}
-use Rattle.convert_stated.proofs.Becoming.{Said, holds, in-table, lc-is, some-data, unread-old, lc-zero, becomes-one, changed}
+use Rattle.convert_stated.proofs.Becoming.{Said, holds, in-table, lc-is, some-data, unread-old, lc-zero, becomes-one, new-long, changed}
 use Rattle.convert_stated.proofs.Ways.{Way, short, wrote, status, way, copies}
 use Rattle.convert_stated.proofs.Numbers.{converted-same}
 
@@ -49,52 +50,60 @@ unread frame result w e n (as-shape-7 o some x) = n (old-form o)
 unread frame result w e n (as-shape-8 o x) = n (old-form o)
 unread frame result w e n (unchanged i) = word-gives _ _ (sym e ∙ reads-entry Ordinary frame _ _ i)
 
-module _ (frame old : List ℕ) where
-  gives-result : (result : List ℕ) → AreBytes frame → Becomes frame result → length result ≤ length old → {o : Outcome ℕ × List ℕ} → Way frame old o
-      → o ≡ (Gives (length result), result ++ drop (length result) old)
+fits : (n : ℕ) (before result : List ℕ) → length result ≡ n → n ≤ length before → length result ≤ length before
+fits n before result e h = omega arith
+
+module _ (frame before : List ℕ) where
+  gives-result : (result : List ℕ) → AreBytes frame → Becomes frame result → length result ≤ length before → {o : Outcome ℕ × List ℕ} → Way frame before o
+      → o ≡ (Gives (length result), result ++ drop (length result) before)
   gives-result result bytes b room (short r c h) = let same = ap length (becomes-one bytes b c) in absurd (omega arith)
-  gives-result result bytes b room (wrote r c h) = ap (λ (x : List ℕ). (Gives (length x), x ++ drop (length x) old)) (becomes-one bytes c b)
+  gives-result result bytes b room (wrote r c h) = ap (λ (x : List ℕ). (Gives (length x), x ++ drop (length x) before)) (becomes-one bytes c b)
   gives-result result bytes b room (status w e n) = absurd (unread frame result w e n b)
 
-  short-of : {o : Outcome ℕ × List ℕ} → Way frame old o → o .0 ≡ R 2 → (result : List ℕ) × Becomes frame result × (length old < length result)
+  given-of : (n : ℕ) → {o : Outcome ℕ × List ℕ} → Way frame before o → o .0 ≡ Gives n → (result : List ℕ) × Becomes frame result × (length result ≡ n) × (n ≤ length before)
+  given-of n (short r c h) e = absurd (r-gives _ _ e)
+  given-of n (wrote r c h) e = let long : length r ≡ n = gives-same _ _ e in (r, c, long, omega arith)
+  given-of n (status w r m) e = absurd (word-gives _ _ e)
+
+  short-of : {o : Outcome ℕ × List ℕ} → Way frame before o → o .0 ≡ R 2 → (result : List ℕ) × Becomes frame result × (length before < length result)
   short-of (short r c h) e = (r, c, h)
   short-of (wrote r c h) e = absurd (r-gives _ _ (sym e))
   short-of (status w r n) e = absurd (r-word _ _ (sym e))
 
-  short-at : (result : List ℕ) → AreBytes frame → Becomes frame result → length old < length result → {o : Outcome ℕ × List ℕ} → Way frame old o → o .0 ≡ R 2
+  short-at : (result : List ℕ) → AreBytes frame → Becomes frame result → length before < length result → {o : Outcome ℕ × List ℕ} → Way frame before o → o .0 ≡ R 2
   short-at result bytes b h (short r c g) = refl
   short-at result bytes b h (wrote r c g) = let same = ap length (becomes-one bytes b c) in absurd (omega arith)
   short-at result bytes b h (status w e n) = absurd (unread frame result w e n b)
 
-  word-of : (w : StatusWord) → {o : Outcome ℕ × List ℕ} → Way frame old o → o .0 ≡ Word w → (readOf frame ≡ Word w) × (OldForm frame → ⊥)
+  word-of : (w : StatusWord) → {o : Outcome ℕ × List ℕ} → Way frame before o → o .0 ≡ Word w → (readOf frame ≡ Word w) × (OldForm frame → ⊥)
   word-of w (short r c h) e = absurd (r-word _ _ e)
   word-of w (wrote r c h) e = absurd (word-gives _ _ (sym e))
   word-of w (status v r n) e = (r ∙ ap Word (word-same _ _ e), n)
 
-  word-at : (w : StatusWord) → readOf frame ≡ Word w → (OldForm frame → ⊥) → {o : Outcome ℕ × List ℕ} → Way frame old o → o .0 ≡ Word w
+  word-at : (w : StatusWord) → readOf frame ≡ Word w → (OldForm frame → ⊥) → {o : Outcome ℕ × List ℕ} → Way frame before o → o .0 ≡ Word w
   word-at w r n (short x c h) = absurd (unread frame x w r n c)
   word-at w r n (wrote x c h) = absurd (unread frame x w r n c)
   word-at w r n (status v e m) = ap Word (word-same _ _ (sym e ∙ r))
 
   -- on numbers whatever, an answer without a result leaves the buffer
   abbrev Kept : Outcome ℕ × List ℕ → Type 0
-  Kept o = ((n : ℕ) → o .0 ≡ R n → o .1 ≡ old) × ((w : StatusWord) → o .0 ≡ Word w → o .1 ≡ old)
+  Kept o = ((n : ℕ) → o .0 ≡ R n → o .1 ≡ before) × ((w : StatusWord) → o .0 ≡ Word w → o .1 ≡ before)
 
-  kept-by : (o : Outcome Says) → Kept (keptBy frame o old)
+  kept-by : (o : Outcome Says) → Kept (keptBy frame o before)
   kept-by (R n) = (λ m e. refl, λ w e. refl)
   kept-by (Word s) = (λ m e. refl, λ w e. refl)
-  kept-by (Gives said) = go (ltb (length old) (length frame))
+  kept-by (Gives said) = go (ltb (length before) (length frame))
     where
-      go : (b : Bool) → Kept (if b then (R 2, old) else (Gives (length frame), laid frame old))
+      go : (b : Bool) → Kept (if b then (R 2, before) else (Gives (length frame), laid frame before))
       go true = (λ m e. refl, λ w e. refl)
       go false = (λ m e. absurd (r-gives _ _ (sym e)), λ w e. absurd (word-gives _ _ (sym e)))
 
-  kept : (o : Outcome Says) → Kept (convertBy frame o old)
+  kept : (o : Outcome Says) → Kept (convertBy frame o before)
   kept (R n) = kept-by (readOf frame)
   kept (Word s) = kept-by (readOf frame)
-  kept (Gives said) = (write-exactly Ordinary .refused (newParts frame said) old, λ w e. absurd (go (write-way Ordinary (newParts frame said) old) w e))
+  kept (Gives said) = (write-exactly Ordinary .refused (newParts frame said) before, λ w e. absurd (go (write-way Ordinary (newParts frame said) before) w e))
     where
-      go : {o : Outcome ℕ × List ℕ} → WriteWay Ordinary (newParts frame said) old o → (w : StatusWord) → o .0 ≡ Word w → ⊥
+      go : {o : Outcome ℕ × List ℕ} → WriteWay Ordinary (newParts frame said) before o → (w : StatusWord) → o .0 ≡ Word w → ⊥
       go (unfit c) w e = r-word _ _ e
       go (no-room c h) w e = r-word _ _ e
       go (written c h) w e = word-gives _ _ (sym e)
@@ -103,14 +112,18 @@ pub ConvertExactly : Claims.ConvertExactly convertOf
 unfolding convertOf
 ConvertExactly =
     record {
-      converts = λ frame old result bytes b room. gives-result frame old result bytes b room (way frame old bytes);
-      r2 = λ frame old bytes. (short-of frame old (way frame old bytes), λ t. short-at frame old (t .0) bytes (t .1) (t .2) (way frame old bytes));
-      status = λ frame old w bytes. (
-        λ e. let t = word-of frame old w (way frame old bytes) e in (t .0, λ h d le o. t .1 (old-form o)),
-        λ t. word-at frame old w (t .0) (λ o. let i = form-old frame bytes o in t .1 (i .h) (i .d) (i .le) (i .is-old)) (way frame old bytes),
+      gives = λ frame before n bytes. (
+        given-of frame before n (way frame before bytes),
+        λ t. ap (λ (o : Outcome ℕ × List ℕ). o .0) (gives-result frame before (t .0) bytes (t .1) (fits n before (t .0) (t .2) (t .3)) (way frame before bytes)) ∙ ap Gives (t .2),
       );
-      refused = λ frame old. kept frame old (oldOf frame) .0;
-      left = λ frame old. kept frame old (oldOf frame) .1;
+      converts = λ frame before result bytes b room. gives-result frame before result bytes b room (way frame before bytes);
+      r2 = λ frame before bytes. (short-of frame before (way frame before bytes), λ t. short-at frame before (t .0) bytes (t .1) (t .2) (way frame before bytes));
+      status = λ frame before w bytes. (
+        λ e. let t = word-of frame before w (way frame before bytes) e in (t .0, λ h d le o. t .1 (old-form o)),
+        λ t. word-at frame before w (t .0) (λ o. let i = form-old frame bytes o in t .1 (i .h) (i .d) (i .le) (i .is-old)) (way frame before bytes),
+      );
+      refused = λ frame before. kept frame before (oldOf frame) .0;
+      left = λ frame before. kept frame before (oldOf frame) .1;
     }
 
 -- ---- a result
@@ -121,21 +134,25 @@ pub record Result (frame : List ℕ) (n : ℕ) (after : List ℕ) : Type 0 where
   pub long : length result ≡ n
   pub cut : take n after ≡ result
 
-pub result-of : (frame old : List ℕ) (n : ℕ) → AreBytes frame → convertOf frame old .0 ≡ Gives n → Result frame n (convertOf frame old .1)
-result-of frame old n bytes = go (way frame old bytes)
+pub result-of : (frame before : List ℕ) (n : ℕ) → AreBytes frame → convertOf frame before .0 ≡ Gives n → Result frame n (convertOf frame before .1)
+result-of frame before n bytes = go (way frame before bytes)
   where
-    go : {o : Outcome ℕ × List ℕ} → Way frame old o → o .0 ≡ Gives n → Result frame n (o .1)
+    go : {o : Outcome ℕ × List ℕ} → Way frame before o → o .0 ≡ Gives n → Result frame n (o .1)
     go (short r c h) e = absurd (r-gives _ _ e)
-    go (wrote r c h) e = let long : length r ≡ n = gives-same _ _ e in record { result = r; becomes = c; long = long; cut = take-at r (drop (length r) old) n long }
+    go (wrote r c h) e = let long : length r ≡ n = gives-same _ _ e in record { result = r; becomes = c; long = long; cut = take-at r (drop (length r) before) n long }
     go (status w r m) e = absurd (word-gives _ _ e)
 
 -- ---- the result is read
 pub ConvertedIsRead : Claims.ConvertedIsRead convertOf
 ConvertedIsRead =
     record {
-      is-read = λ frame old h d le n bytes k e. let r = result-of frame old n bytes e in rw (r .cut) (read-as (holds bytes k (r .becomes)));
-      strictly = λ frame old n bytes other e. let r = result-of frame old n bytes e in rw (r .cut) (strictly frame (r .result) other (r .becomes));
-      not-strictly = λ frame old n bytes empty e. let r = result-of frame old n bytes e in rw (r .cut) (not-strictly bytes empty (r .becomes));
+      is-read = λ frame before n bytes e. let r = result-of frame before n bytes e in let t = holds (r .becomes) in rw (r .cut) (t .0, t .1, t .2, t .3, read-as (t .4));
+      strictly = λ frame before n bytes e. let r = result-of frame before n bytes e in rw (r .cut) (
+        λ t seven. word-gives _ _ (sym (not-strictly bytes seven (r .becomes)) ∙ t .1),
+        λ other. let t = in-table (r .becomes) in (t .0, strictly frame (r .result) other (r .becomes) ∙ reads-entry Ordinary (r .result) (t .1) (t .0) (t .2)),
+      );
+      strictly-the-same = λ frame before n bytes e. let r = result-of frame before n bytes e in rw (r .cut)
+          (λ says x. sym (strictly frame (r .result) (λ seven. word-gives _ _ (sym (not-strictly bytes seven (r .becomes)) ∙ x)) (r .becomes)) ∙ x);
     }
   where
     read-as : {result : List ℕ} {h : ApduHeader} {d : List ℕ} {le : ℕ} → Said result h d le
@@ -158,19 +175,31 @@ ConvertedIsRead =
 
 -- ---- which frames change
 pub ChangesExactly : Claims.ChangesExactly convertOf
-ChangesExactly frame old n bytes e =
-    let r = result-of frame old n bytes e in
-    (λ other. old-of (r .becomes) (λ same. other (r .cut ∙ same)), λ f same. changed f (r .becomes) (sym (r .cut) ∙ same))
+ChangesExactly =
+    record {
+      exactly = λ frame before n bytes e. let r = result-of frame before n bytes e in
+          (λ other. old-of (r .becomes) (λ same. other (r .cut ∙ same)), λ f same. changed f (r .becomes) (sym (r .cut) ∙ same));
+      converted = λ frame before bytes f room. given f room (way frame before bytes);
+    }
   where
-    old-of : {result : List ℕ} → Becomes frame result → (result ≡ frame → ⊥) → OldForm frame
+    old-of : {frame result : List ℕ} → Becomes frame result → (result ≡ frame → ⊥) → OldForm frame
     old-of (as-shape-7 o some w) other = old-form o
     old-of (as-shape-8 o w) other = old-form o
     old-of (unchanged i) other = absurd (other refl)
 
+    over : (f b r : ℕ) → 1 + f ≤ b → b < r → (r ≡ 1 + f) ⊎ (1 + r ≡ f) → ⊥
+    over f b r room h (inl x) = omega arith
+    over f b r room h (inr x) = omega arith
+
+    given : {frame before : List ℕ} → OldForm frame → 1 + length frame ≤ length before → {o : Outcome ℕ × List ℕ} → Way frame before o → (n : ℕ) × (o .0 ≡ Gives n)
+    given f room (short r b h) = absurd (over _ _ _ room h (new-long f b))
+    given f room (wrote r b h) = (length r, refl)
+    given f room (status w e n) = absurd (n f)
+
 -- ---- a second time
 pub ConvertsToItself : Claims.ConvertsToItself convertOf
-ConvertsToItself frame old again n bytes e room =
-    let r = result-of frame old n bytes e in
+ConvertsToItself frame before again n bytes e room =
+    let r = result-of frame before n bytes e in
     let t = in-table (r .becomes) in
     let fits : length (r .result) ≤ length again = let long = r .long in omega arith in
     rw (r .cut) (copies (r .result) again (t .0) (t .1) (t .2) fits ∙ ap (λ (m : ℕ). (Gives m, r .result ++ drop m again)) (r .long))
@@ -187,7 +216,7 @@ pub ContractsAsClaimed : Claims.ContractsAsClaimed
 ContractsAsClaimed =
     record {
       is-old = λ f is. subst Claims.OldExactly (λ d frame. sym (is frame) d) OldExactly;
-      convert = λ f is. subst Claims.ConvertExactly (λ d frame old. (sym (is frame old .0) d, sym (is frame old .1) d)) ConvertExactly;
+      convert = λ f is. subst Claims.ConvertExactly (λ d frame before. (sym (is frame before .0) d, sym (is frame before .1) d)) ConvertExactly;
     }
 
 -- ---- two results are equal
@@ -195,5 +224,5 @@ pub ResultsDetermined : Claims.ResultsDetermined
 ResultsDetermined =
     record {
       is-old = λ frame a b. both-are a b;
-      convert = λ frame old a b p q. ap₂ (λ (r : Converted) (l : List ℕ). (r, l)) (converted-same (a .0) (b .0) (both-are _ _ (p .0) (q .0))) (both-are _ _ (p .1) (q .1));
+      convert = λ frame before a b p q. ap₂ (λ (r : Converted) (l : List ℕ). (r, l)) (converted-same (a .0) (b .0) (both-are _ _ (p .0) (q .0))) (both-are _ _ (p .1) (q .1));
     }

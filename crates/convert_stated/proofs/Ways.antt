@@ -30,9 +30,9 @@ use Rattle.convert_stated.proofs.OldForms.{old-says, says-old, old-data
 pub new-parts : {frame : List ℕ} {h : ApduHeader} {d : List ℕ} {le : ℕ} → Old frame h d le → newParts frame (saying h 6 7 (length d) le) ≡ partsOf h (newShape (length d)) d le
 new-parts {frame} {h} {d} {le} o = ap (λ (content : List ℕ). partsOf h (newShape (length d)) content le) (old-data o)
 
-pub renewed : (frame old : List ℕ) (h : ApduHeader) (d : List ℕ) (le : ℕ) → AreBytes frame → Old frame h d le → convertOf frame old ≡ writingOf (partsOf h (newShape (length d)) d le) old
+pub renewed : (frame before : List ℕ) (h : ApduHeader) (d : List ℕ) (le : ℕ) → AreBytes frame → Old frame h d le → convertOf frame before ≡ writingOf (partsOf h (newShape (length d)) d le) before
 unfolding convertOf
-renewed frame old h d le bytes o = ap (λ (x : Outcome Says). convertBy frame x old) (old-says bytes o) ∙ ap (λ (w : Parts). writingOf w old) (new-parts o)
+renewed frame before h d le bytes o = ap (λ (x : Outcome Says). convertBy frame x before) (old-says bytes o) ∙ ap (λ (w : Parts). writingOf w before) (new-parts o)
 
 -- it can be carried
 le-small : {b le : ℕ} → OneByteLe b le → (1 ≤ le) × (le ≤ 256)
@@ -58,68 +58,68 @@ becomes-new frame result h (x ∷ d) le o i = as-shape-7 o (omega arith) (subst 
     with-data = rw (ne-eqb (length (x ∷ d)) 0 (omega arith))
 
 -- ---- every way
-pub data Way (frame old : List ℕ) : Outcome ℕ × List ℕ → Type 0 where
-  short : (result : List ℕ) → Becomes frame result → length old < length result → Way frame old (R 2, old)
-  wrote : (result : List ℕ) → Becomes frame result → length result ≤ length old → Way frame old (Gives (length result), result ++ drop (length result) old)
-  status : (w : StatusWord) → readOf frame ≡ Word w → (OldForm frame → ⊥) → Way frame old (Word w, old)
+pub data Way (frame before : List ℕ) : Outcome ℕ × List ℕ → Type 0 where
+  short : (result : List ℕ) → Becomes frame result → length before < length result → Way frame before (R 2, before)
+  wrote : (result : List ℕ) → Becomes frame result → length result ≤ length before → Way frame before (Gives (length result), result ++ drop (length result) before)
+  status : (w : StatusWord) → readOf frame ≡ Word w → (OldForm frame → ⊥) → Way frame before (Word w, before)
 
-module _ (frame old : List ℕ) (bytes : AreBytes frame) where
+module _ (frame before : List ℕ) (bytes : AreBytes frame) where
   -- of the old form
-  by-writing : (h : ApduHeader) (d : List ℕ) (le : ℕ) → Old frame h d le → Way frame old (writingOf (partsOf h (newShape (length d)) d le) old)
-  by-writing h d le o = go (writingOf w old) (write-way Ordinary w old) refl
+  by-writing : (h : ApduHeader) (d : List ℕ) (le : ℕ) → Old frame h d le → Way frame before (writingOf (partsOf h (newShape (length d)) d le) before)
+  by-writing h d le o = go (writingOf w before) (write-way Ordinary w before) refl
     where
       w : Parts
       w = partsOf h (newShape (length d)) d le
 
-      go : (x : Outcome ℕ × List ℕ) → WriteWay Ordinary w old x → writingOf w old ≡ x → Way frame old x
-      go _ (unfit c) e = absurd (write-exactly Ordinary .r5 w old .0 (ap (λ (x : Outcome ℕ × List ℕ). x .0) e) (carried o))
+      go : (x : Outcome ℕ × List ℕ) → WriteWay Ordinary w before x → writingOf w before ≡ x → Way frame before x
+      go _ (unfit c) e = absurd (write-exactly Ordinary .r5 w before .0 (ap (λ (x : Outcome ℕ × List ℕ). x .0) e) (carried o))
       go _ (no-room c g) e =
-          let t = write-exactly Ordinary .r2 w old .0 (ap (λ (x : Outcome ℕ × List ℕ). x .0) e) in
+          let t = write-exactly Ordinary .r2 w before .0 (ap (λ (x : Outcome ℕ × List ℕ). x .0) e) in
           short (t .0) (becomes-new frame (t .0) h d le o (t .1)) (t .2)
       go _ (written c g) e = wrote _ (becomes-new frame _ h d le o (frame-of Ordinary w c)) g
 
   -- of no old form
-  by-copy : (said : Says) → readOf frame ≡ Gives said → Way frame old (copied frame old)
-  by-copy said r = go (decLt (length old) (length frame))
+  by-copy : (said : Says) → readOf frame ≡ Gives said → Way frame before (copied frame before)
+  by-copy said r = go (decLt (length before) (length frame))
     where
       as-it-is : Becomes frame frame
       as-it-is = let t = read-exactly frame bytes said .0 r in unchanged (t .1)
 
-      go : Dec (length old < length frame) → Way frame old (copied frame old)
-      go (yes h) = subst (Way frame old) (sym (rw (lt-ltb (length old) (length frame) h))) (short frame as-it-is h)
+      go : Dec (length before < length frame) → Way frame before (copied frame before)
+      go (yes h) = subst (Way frame before) (sym (rw (lt-ltb (length before) (length frame) h))) (short frame as-it-is h)
       go (no n) =
-          let fits : length frame ≤ length old = omega arith in
-          subst (Way frame old) (sym (rw (le-ltb (length old) (length frame) fits, laid-fits frame old fits))) (wrote frame as-it-is fits)
+          let fits : length frame ≤ length before = omega arith in
+          subst (Way frame before) (sym (rw (le-ltb (length before) (length frame) fits, laid-fits frame before fits))) (wrote frame as-it-is fits)
 
-  by-reading : (OldForm frame → ⊥) → (o : Outcome Says) → readOf frame ≡ o → Way frame old (keptBy frame o old)
+  by-reading : (OldForm frame → ⊥) → (o : Outcome Says) → readOf frame ≡ o → Way frame before (keptBy frame o before)
   by-reading n (Gives said) e = by-copy said e
   by-reading n (Word w) e = status w e n
   by-reading n (R k) e = absurd (read-refuses-not frame k e)
 
-  by-form : (o : Outcome Says) → oldOf frame ≡ o → Way frame old (convertBy frame o old)
+  by-form : (o : Outcome Says) → oldOf frame ≡ o → Way frame before (convertBy frame o before)
   by-form (Gives said) e =
       let i = says-old frame said bytes e in
-      subst (Way frame old) (sym (ap (λ (s : Says). writingOf (newParts frame s) old) (i .said) ∙ ap (λ (w : Parts). writingOf w old) (new-parts (i .is-old)))) (by-writing (i .h) (i .d) (i .le) (i .is-old))
+      subst (Way frame before) (sym (ap (λ (s : Says). writingOf (newParts frame s) before) (i .said) ∙ ap (λ (w : Parts). writingOf w before) (new-parts (i .is-old)))) (by-writing (i .h) (i .d) (i .le) (i .is-old))
   by-form (Word w) e = by-reading (λ o. word-gives _ _ (sym e ∙ old-given frame o)) (readOf frame) refl
   by-form (R k) e = by-reading (λ o. r-gives _ _ (sym e ∙ old-given frame o)) (readOf frame) refl
 
-  pub way : Way frame old (convertOf frame old)
+  pub way : Way frame before (convertOf frame before)
   unfolding convertOf
   way = by-form (oldOf frame) refl
 
 -- ---- on numbers whatever: a frame of the table is copied
-module _ (frame old : List ℕ) (said : Says) (d : List ℕ) (i : InTable frame said d) (fits : length frame ≤ length old) where
-  copied-whole : copied frame old ≡ (Gives (length frame), frame ++ drop (length frame) old)
-  copied-whole = rw (le-ltb (length old) (length frame) fits, laid-fits frame old fits)
+module _ (frame before : List ℕ) (said : Says) (d : List ℕ) (i : InTable frame said d) (fits : length frame ≤ length before) where
+  copied-whole : copied frame before ≡ (Gives (length frame), frame ++ drop (length frame) before)
+  copied-whole = rw (le-ltb (length before) (length frame) fits, laid-fits frame before fits)
 
-  kept-whole : keptBy frame (readOf frame) old ≡ (Gives (length frame), frame ++ drop (length frame) old)
-  kept-whole = ap (λ (o : Outcome Says). keptBy frame o old) (reads-entry Ordinary frame d said i) ∙ copied-whole
+  kept-whole : keptBy frame (readOf frame) before ≡ (Gives (length frame), frame ++ drop (length frame) before)
+  kept-whole = ap (λ (o : Outcome Says). keptBy frame o before) (reads-entry Ordinary frame d said i) ∙ copied-whole
 
-  by-none : (o : Outcome Says) → oldOf frame ≡ o → convertBy frame o old ≡ (Gives (length frame), frame ++ drop (length frame) old)
+  by-none : (o : Outcome Says) → oldOf frame ≡ o → convertBy frame o before ≡ (Gives (length frame), frame ++ drop (length frame) before)
   by-none (Gives says) e = absurd (not-both frame d said i (given-old frame says e))
   by-none (Word w) e = kept-whole
   by-none (R n) e = kept-whole
 
-  pub copies : convertOf frame old ≡ (Gives (length frame), frame ++ drop (length frame) old)
+  pub copies : convertOf frame before ≡ (Gives (length frame), frame ++ drop (length frame) before)
   unfolding convertOf
   copies = by-none (oldOf frame) refl

@@ -4,9 +4,9 @@ use Rattle.convert_stated.specs.Converting.{isOld, convertOf}
 use Rattle.convert_stated.specs.Answers.{convertedOf}
 
 -- `is_old`
-abbrev pub IsOld : List ℕ → Bool → Type 0
-IsOld frame r = r ≡ isOld frame
+abbrev pub OldFormTold : List ℕ → Bool → Type 0
+OldFormTold frame r = r ≡ isOld frame
 
 -- `convert`: the answer, and what the buffer holds afterwards
 abbrev pub Convert : List ℕ → List ℕ → Converted → List ℕ → Type 0
-Convert frame old r after = (convertedOf r ≡ convertOf frame old .0) × (after ≡ convertOf frame old .1)
+Convert frame before r after = (convertedOf r ≡ convertOf frame before .0) × (after ≡ convertOf frame before .1)

@@ -11,12 +11,13 @@ oldRow = numbered 6 3 0 1
 abbrev pub oldOf : List ℕ → Outcome Says
 oldOf frame = readByRows (oldRow ∷ []) frame
 
--- whether a frame is of the old form
+-- whether an outcome gives something
 abbrev pub isGiven : Outcome Says → Bool
 isGiven (R n) = false
 isGiven (Word s) = false
 isGiven (Gives said) = true
 
+-- whether a frame is of the old form
 abbrev pub isOld : List ℕ → Bool
 isOld frame = isGiven (oldOf frame)
 
@@ -30,22 +31,22 @@ newParts frame said = partsOf (said .header) (newShape (said .lc)) (dataOf frame
 
 -- "A frame of another shape comes back unchanged": it is written to the buffer too
 abbrev pub copied : List ℕ → List ℕ → Outcome ℕ × List ℕ
-copied frame old =
-    if ltb (length old) (length frame) then (R 2, old)
-    else (Gives (length frame), laid frame old)
+copied frame before =
+    if ltb (length before) (length frame) then (R 2, before)
+    else (Gives (length frame), laid frame before)
 
--- "the reader's status for a frame in no shape". The reader refuses nothing: no R comes of it
+-- "the reader's status for a frame in no shape": asked where the frame is not of the old form. The reader refuses nothing: no R comes of it
 abbrev pub keptBy : List ℕ → Outcome Says → List ℕ → Outcome ℕ × List ℕ
-keptBy frame (R n) old = (R n, old)
-keptBy frame (Word s) old = (Word s, old)
-keptBy frame (Gives said) old = copied frame old
+keptBy frame (R n) before = (R n, before)
+keptBy frame (Word s) before = (Word s, before)
+keptBy frame (Gives said) before = copied frame before
 
 -- by what the old row says; the new form is written by apdu_stated's writer, which gives R2 when the buffer is shorter
 abbrev pub convertBy : List ℕ → Outcome Says → List ℕ → Outcome ℕ × List ℕ
-convertBy frame (R n) old = keptBy frame (readOf frame) old
-convertBy frame (Word s) old = keptBy frame (readOf frame) old
-convertBy frame (Gives said) old = writingOf (newParts frame said) old
+convertBy frame (R n) before = keptBy frame (readOf frame) before
+convertBy frame (Word s) before = keptBy frame (readOf frame) before
+convertBy frame (Gives said) before = writingOf (newParts frame said) before
 
 -- the answer, and what the buffer holds afterwards
 unfoldable pub convertOf : List ℕ → List ℕ → Outcome ℕ × List ℕ
-convertOf frame old = convertBy frame (oldOf frame) old
+convertOf frame before = convertBy frame (oldOf frame) before

@@ -2,7 +2,7 @@
 use outcome::ApduStatusCode;
 use outcome::Refusal;
 
-// The length of what was written; or a refusal; or the reader's status word for a frame in no shape.
+// The length of what was written; or a refusal; or the reader's status word for a frame that is in no shape and not of the old form.
 pub enum Converted {
     Frame(usize),
     Refused(Refusal),

@@ -332,13 +332,13 @@ absentIsWhole frame = limitBy (λ said. if leb (said .shape) 4 then said .le els
 
 -- "Extended shapes get the whole body": one with an Le that a single byte could say is taken for a short one
 abbrev pub smallLeShort : List ℕ → ℕ
-smallLeShort frame = limitBy (λ said. if ltb (said .le) 257 then said .le else limitOf said) (readOf frame)
+smallLeShort frame = limitBy (λ said. if ltb 4 (said .shape) then (if ltb (said .le) 257 then said .le else 0) else limitOf said) (readOf frame)
 
 -- ---- the old form: 02, E13, "The ordinary reading gives 6700 for shape 6"
 abbrev isOld : List ℕ → Bool
 isOld frame = if eqb (byte frame 4) 0x00 then eqb (length frame) (8 + pairAt frame 5) else false
 
--- here it is served as the shape 7 that its Le makes
+-- here it is served as shape 7, a 00 put in before its Le (an Le of 00 so becomes 65536)
 abbrev widened : List ℕ → List ℕ
 widened frame = if isOld frame then take (7 + pairAt frame 5) frame ++ 0x00 ∷ drop (7 + pairAt frame 5) frame else frame
 

@@ -30,14 +30,14 @@ use Rattle.response_stated.specs.Terms.{sendingOf, writingOf}
 use Rattle.response_stated.specs.Parts.{partLength, nextPartOf, limitOf, leftStatus}
 use Rattle.response_stated.specs.Responses.{writeResponseOf}
 use Rattle.response_stated.proofs.Laws.{next-exactly, writes-exactly}
-use Rattle.outcome.proofs.Laws.{r-word}
+use Rattle.outcome.proofs.Laws.{r-gives, r-word}
 use Rattle.octets.specs.Bytes.{AreBytes, partOf, byte}
 use Rattle.signing_stated.specs.Orders.{isAuthenticateLayout, registerOrderOf, block}
 use Rattle.signing_stated.specs.Finishing.{finishOf}
 use Rattle.signing_stated.specs.declared.Kind.the-variants as Kind′
 use Rattle.panel_stated.specs.Words.{Ordinary, Strict, Instruction, Lc3DataLe2, Window, Made, PresenceRecord, OrderNumbers, FrameSaid, CommandSaid, Wrote, Stepped, Asked, Order, ResponseSaid, PartSaid, HardwareSaid, Remainder}
 use Rattle.panel_stated.specs.Numbers.{answerNo, decidedNo, presenceNumbers, shapeOf, kindOf}
-use Rattle.panel_stated.specs.Exports.{ToWrite, ToDecide, writeNumbered, saidBy, statedOf, commandNumbers}
+use Rattle.panel_stated.specs.Exports.{ToWrite, ToDecide, writeNumbered, finishNumbered, saidBy, statedOf, commandNumbers}
 use Rattle.panel_stated.specs.Claims
 use Rattle.panel_stated.specs.Wrong
 use Rattle.panel_stated.specs.declared.Kinded.the-variants as Kinded′
@@ -241,6 +241,12 @@ runsAtItsNumber p =
 
 -- ---- the hardware, and orders of no kind
 
+pub sixAnswered : Claims.OthersRefused Wrong.sixAnswered finishNumbered → ⊥
+unfolding writeBy carriedBy lcFits leFits frameOf payloadOf shapeOf
+sixAnswered p =
+    let w : ToWrite = record { header = record { cla = 0x00; ins = 0x03; p1 = 0x01; p2 = 0x02 }; shape = 6; content = []; le = 5; out = replicate 9 0 } in
+    r-gives _ _ (sym (p .shape Ordinary w (retired refl)))
+
 pub noKindIsR2 : Claims.OthersRefused writeNumbered Wrong.noKindIsR2 → ⊥
 noKindIsR2 p =
     let e : _≡_ {A = ℕ} 2 7 =
@@ -376,6 +382,13 @@ pub sixWritten : Claims.WriteExported Wrong.sixWritten → ⊥
 unfolding writeBy bufferBy carriedBy lcFits leFits frameOf payloadOf shapeOf
 sixWritten p =
     let w : ToWrite = record { header = record { cla = 0x00; ins = 0x03; p1 = 0x01; p2 = 0x02 }; shape = 6; content = []; le = 5; out = replicate 9 0 } in
+    let e : _≡_ {A = ℕ} 0x9000 5 = ap (λ (s : Wrote). s .answer) (p .no-shape w (retired refl) .0) in
+    omega arith
+
+pub sixWrittenStrictly : Claims.WriteStrictExported Wrong.sixWrittenStrictly → ⊥
+unfolding writeBy bufferBy carriedBy lcFits leFits frameOf payloadOf shapeOf
+sixWrittenStrictly p =
+    let w : ToWrite = record { header = record { cla = 0x00; ins = 0x03; p1 = 0x01; p2 = 0x02 }; shape = 6; content = 7 ∷ []; le = 5; out = replicate 10 0 } in
     let e : _≡_ {A = ℕ} 0x9000 5 = ap (λ (s : Wrote). s .answer) (p .no-shape w (retired refl) .0) in
     omega arith
 

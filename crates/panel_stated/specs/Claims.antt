@@ -129,8 +129,8 @@ pub record RefusalHandsBack (touch check : PresenceRecord → ℕ → Stepped) (
 
 -- ---- numbers that stand for cases
 
--- 01, 'Eight frame shapes', the column "no"; ours: OPEN POINTS, "a shape number outside 1..8 is R5"; 02, E13: number 6 is no shape's, 7 and 8 keep
--- theirs. A table that takes 0 for Instruction (`shape0Accepted`) fails it, and one that takes the retired 6 for shape 7 (`shape6Accepted`).
+-- 01, 'Eight frame shapes', the column "no"; ours: OPEN POINTS, "a shape number outside 1..8 is R5"; 02, E13: number 6 is no shape's, the
+-- others keep theirs. A table that takes 0 for Instruction (`shape0Accepted`) fails it, and one that takes the retired 6 for shape 7 (`shape6Accepted`).
 pub record ShapeNumbers (shape : ℕ → Shaped) : Type 0 where
   pub instruction : shape 1 ≡ Shaped′.As Instruction
   pub le1 : shape 2 ≡ Shaped′.As Le1
@@ -148,8 +148,8 @@ pub record KindNumbers (kind : ℕ → Kinded) : Type 0 where
   pub authenticate : kind 2 ≡ Kinded′.As Kind′.Authenticate
   pub none : (n : ℕ) → (n ≡ 0) ⊎ (3 ≤ n) → kind n ≡ Kinded′.Nothing
 
--- Ours: OPEN POINTS, "a shape number outside 1..8 is R5", "Over plain numbers any other kind is R7"; 02, E13: for shape 6 "the writer R5". A finisher that refuses an order of
--- no kind for its room (`noKindIsR2`) fails it.
+-- Ours: OPEN POINTS, "a shape number outside 1..8 is R5", "Over plain numbers any other kind is R7"; 02, E13: for shape 6 "the writer R5". A writer that takes number 6 for
+-- shape 7 (`sixAnswered`) fails it, and a finisher that refuses an order of no kind for its room (`noKindIsR2`).
 pub record OthersRefused (write : Entry → ToWrite → Outcome ℕ) (finish : ToFinish → Outcome (List ℕ)) : Type 0 where
   pub shape : (entry : Entry) (w : ToWrite) → NoShape (w .shape) → write entry w ≡ R 5
   pub kind : (i : ToFinish) → (i .order .kind ≡ 0) ⊎ (3 ≤ i .order .kind) → finish i ≡ R 7
@@ -366,7 +366,7 @@ ReadStrictExported read = ReaderExported Frames.StrictExactly read
 -- The exported writers of frames as a whole, by whatever writer meets apdu_stated's `WriteExactly`, of the strict one `StrictWriteExactly`: of a shape's
 -- number that writer's answer in numbers and its buffer, on the header, data and Le that are lent under these names; of any other number R5, of the retired 6 too (02, E13). E4: the strict
 -- writer "refuses .. Lc 0 in shape 7, with R5 and is otherwise the writer". A strict export that is the other one (`strictExportWrites`) fails it, one
--- that gives R5 for no shape a written buffer (`noShapeClears`), one that still writes for number 6 (`sixWritten`), and one that takes P2 for P1
+-- that gives R5 for no shape a written buffer (`noShapeClears`), one that still writes for number 6 (`sixWritten`, `sixWrittenStrictly`), and one that takes P2 for P1
 -- (`parametersSwapped`).
 pub record WriterExported (Writes : (Parts → List ℕ → Outcome ℕ × List ℕ) → Type 0) (write : ToWrite → AfterWriting) : Type 0 where
   pub given : (writer : Parts → List ℕ → Outcome ℕ × List ℕ) → Writes writer → (w : ToWrite) (s : Case) (n : ℕ) → w .shape ≡ shapeNo s

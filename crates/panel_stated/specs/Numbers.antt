@@ -58,7 +58,7 @@ abbrev pub presenceNumbers : Presence → PresenceRecord
 presenceNumbers p = record { w = p .w; prompt = windowNo (p .prompt); touch = windowNo (p .touch); last = p .last }
 
 -- 01, 'Eight frame shapes', the column "no"; ours: OPEN POINTS, "a shape number outside 1..8 is R5"; 02, E13: shape 6 is retired, "the writer
--- R5", and 7 and 8 keep their numbers
+-- R5"; its request: "The other shapes keep their numbers"
 unfoldable pub shapeOf : ℕ → Shaped
 shapeOf n =
     if eqb n 1 then Shaped′.As Instruction

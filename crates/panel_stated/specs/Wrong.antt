@@ -5,8 +5,8 @@ use Rattle.panel_stated.specs.Words.{DecisionSaid, PresenceRecord, Order
 use Rattle.panel_stated.specs.Words.{Says, Command, Register, Authenticate, Version, GetResponse, Told, Result, Given, Body, Ordered, Part, toSign, certificateLength, Remainder, rest, Response, Sent}
 use Rattle.panel_stated.specs.Numbers.{greatestNo, presenceOf, presenceNumbers, shapeOf, kindOf}
 use Rattle.panel_stated.specs.Exports.{ToFinish, finishNumbered, frameNumbers, commandNumbers, lengthNumbers, madeNumbers, askedNumbers, orderAfter, decisionNumbers, stepNumbers, responseNumbers, partNumbers, statedOf}
-use Rattle.panel_stated.specs.Words.{Ordinary, Strict}
-use Rattle.panel_stated.specs.Exports.{ToWrite, readsOf, writesOf, ToDecide, inputsOf, decidedBy, decidesOf, nextsOf, respondsOf, AfterWriting, AfterPart, AfterDeciding}
+use Rattle.panel_stated.specs.Words.{Entry, Ordinary, Strict}
+use Rattle.panel_stated.specs.Exports.{ToWrite, writeNumbered, readsOf, writesOf, ToDecide, inputsOf, decidedBy, decidesOf, nextsOf, respondsOf, AfterWriting, AfterPart, AfterDeciding}
 use Rattle.ctap1_stated.specs.Decision.{blockAfter}
 use Rattle.ctap1_stated.specs.Session.{partLeft}
 use Rattle.signing_stated.specs.Orders.{blankOrder}
@@ -82,6 +82,12 @@ shape0Accepted n = if eqb n 0 then Shaped′.As Instruction else shapeOf n
 -- 02, E13, for shape 6 "the writer R5": 6 taken for the shape that the converter writes
 abbrev pub shape6Accepted : ℕ → Shaped
 shape6Accepted n = if eqb n 6 then Shaped′.As Lc3DataLe2 else shapeOf n
+
+abbrev sixAs7 : ToWrite → ToWrite
+sixAs7 w = record { header = w .header; shape = if eqb (w .shape) 6 then 7 else w .shape; content = w .content; le = w .le; out = w .out }
+
+abbrev pub sixAnswered : Entry → ToWrite → Outcome ℕ
+sixAnswered entry w = writeNumbered entry (sixAs7 w)
 
 -- an Authenticate order finished as a Register
 abbrev pub kindsAlike : ℕ → Kinded
@@ -358,10 +364,12 @@ strictExportWrites w = writesOf Ordinary w
 abbrev pub noShapeClears : ToWrite → AfterWriting
 noShapeClears w = let a = writesOf Ordinary w in record { said = a .said; buffer = if leb 9 (w .shape) then replicate (length (w .out)) 0 else a .buffer }
 
--- for shape 6 "the writer R5": it writes shape 7
+-- for shape 6 "the writer R5": it writes shape 7, and strictly too
 abbrev pub sixWritten : ToWrite → AfterWriting
-sixWritten w =
-    writesOf Ordinary (record { header = w .header; shape = if eqb (w .shape) 6 then 7 else w .shape; content = w .content; le = w .le; out = w .out })
+sixWritten w = writesOf Ordinary (sixAs7 w)
+
+abbrev pub sixWrittenStrictly : ToWrite → AfterWriting
+sixWrittenStrictly w = writesOf Strict (sixAs7 w)
 
 -- "CLA INS P1 P2": P2 for P1
 abbrev pub parametersSwapped : ToWrite → AfterWriting

@@ -1,13 +1,13 @@
-// A frame in hex: two digits a byte, of either case, and blanks before, between and behind the bytes as one likes.
+// A frame in hex: two digits a byte, of either case, and blanks before and between the bytes as one likes. A remark (#) may follow.
 ghost use Prim.Native.Nat.{_≤_};
 use text::Said;
 
 fn is_blank(b: u8) -> bool {
-    b == b' ' || b == b'\t' || b == b'\r'
+    b == b' ' || b == b'\t'
 }
 
 // Where the next byte begins: behind the blanks from `at` on; `at` itself where that is past the end.
-pub fn skip(line: &[u8], at: usize) -> usize
+fn skip(line: &[u8], at: usize) -> usize
     ensures { λ r. ⌜ at ≤ r ⌝ }
 {
     let mut i = at;
@@ -20,20 +20,36 @@ pub fn skip(line: &[u8], at: usize) -> usize
     i
 }
 
-// The line's bytes at the front of the frame, and how many they are; or that it is no bytes in hex, or more than the frame can hold.
-pub fn bytes(line: &[u8], frame: &mut [u8]) -> Said {
+// Where the frame's text ends: before a remark, the blanks before that, and a line end of two bytes. 0 where there is no frame.
+pub fn end(line: &[u8]) -> usize {
+    let mut i = text::find(line, 0, b'#');
+    while 0 < i {
+        if line.len() < i {
+            return 0;
+        }
+        let b = line[i - 1];
+        if !is_blank(b) && b != b'\r' {
+            return i;
+        }
+        i -= 1;
+    }
+    0
+}
+
+// The text's bytes at the front of the frame, and how many they are; or that it is no bytes in hex, or more than the frame can hold.
+pub fn bytes(text: &[u8], frame: &mut [u8]) -> Said {
     let mut n = 0;
-    let mut i = skip(line, 0);
-    while i < line.len() {
+    let mut i = skip(text, 0);
+    while i < text.len() {
         if frame.len() <= n {
             return Said::Not;
         }
-        let Said::Is(b) = text::byte(octets::part(line, i, i + 2)) else {
+        let Said::Is(b) = text::byte(octets::part(text, i, i + 2)) else {
             return Said::Not;
         };
         octets::put_byte(&mut frame[n..], (b % 256) as u8);
         n += 1;
-        i = skip(line, i + 2);
+        i = skip(text, i + 2);
     }
     Said::Is(n as u64)
 }

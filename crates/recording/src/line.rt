@@ -1,46 +1,47 @@
-// One line of a recording, and the line that is written for it. What a line needs room for is lent: its frame, what that becomes, and the words
-// of the line that is written.
+// One line of a recording, and what is written for it.
 use crate::hex;
 use crate::tally::CONVERTED;
 use crate::tally::KEPT;
-use crate::tally::OTHER;
+use crate::tally::LINE;
+use crate::tally::Tally;
 use crate::tally::UNREAD;
+use crate::tally::add;
+use crate::tally::print;
+use crate::tally::print_number;
 use convert::Converted;
 use outcome::ApduStatusCode;
 use text::Said;
 
-// Where the words end, and which count the line goes to.
-pub struct Line {
-    pub end: usize,
-    pub count: usize,
+// For as many bytes as a line can say.
+fn frame_space() -> [u8; 131072] {
+    [0; 131072]
 }
 
-fn ended(words: &mut [u8], at: usize, count: usize) -> Line {
-    let end = spell::put(words, at, b"\n");
-    Line { end, count }
+// For those bytes in hex.
+fn words_space() -> [u8; 262144] {
+    [0; 262144]
 }
 
-// As it came.
-fn as_it_is(line: &[u8], words: &mut [u8], count: usize) -> Line {
-    let end = spell::put(words, 0, line);
-    ended(words, end, count)
+fn as_it_is(line: &[u8], tally: &mut Tally) {
+    print(line, tally);
+    print(b"\n", tally);
 }
 
-// # line NUMBER: WHY: LINE
-fn unread(line: &[u8], number: u64, why: &[u8], words: &mut [u8]) -> Line {
-    let before = spell::numbers(words, 0, b"# line ", &[number], 1);
-    let from = spell::put(words, before, b": ");
-    let to = spell::put(words, from, why);
-    let start = spell::put(words, to, b": ");
-    let end = spell::put(words, start, line);
-    ended(words, end, UNREAD)
+// # line NUMBER: WHY, and then the line as it came.
+pub fn unread(line: &[u8], why: &[u8], tally: &mut Tally) {
+    add(tally, UNREAD);
+    print(b"# line ", tally);
+    print_number(tally[LINE], tally);
+    print(why, tally);
+    print(line, tally);
 }
 
-// The status word, and what is wrong with the length and where.
+// The status word in hex, and what is wrong with the length and where.
 fn status_words(status: ApduStatusCode, out: &mut [u8]) -> usize {
     let mut digits = [0u8; 16];
     let k = io::hex(outcome::status_number(status) as u64, 4, &mut digits);
-    let end = spell::put(out, 0, &digits[..k]);
+    let from = spell::put(out, 0, b": ");
+    let end = spell::put(out, from, &digits[..k]);
     let fault = outcome::fault(status);
     let kind = fault.kind;
     let place = [fault.place as u64];
@@ -51,52 +52,63 @@ fn status_words(status: ApduStatusCode, out: &mut [u8]) -> usize {
     }
 }
 
-// A frame in no shape goes out behind its status.
-fn in_no_shape(line: &[u8], number: u64, status: ApduStatusCode, words: &mut [u8]) -> Line {
+fn in_no_shape(line: &[u8], status: ApduStatusCode, tally: &mut Tally) {
     let mut why = [0u8; 64];
     let n = status_words(status, &mut why);
-    unread(line, number, octets::part(&why, 0, n), words)
+    let end = spell::put(&mut why, n, b"\n");
+    unread(line, octets::part(&why, 0, end), tally);
+    print(b"\n", tally);
 }
 
-// The old form goes out as what it has become, any other frame as it came.
-fn in_shape(line: &[u8], frame: &[u8], result: &[u8], words: &mut [u8]) -> Line {
-    if !convert::is_old(frame) {
-        return as_it_is(line, words, KEPT);
-    }
+// What a frame of the old form has become, and what stood behind it.
+fn put_result(result: &[u8], behind: &[u8], tally: &mut Tally) {
+    let mut space = words_space();
+    let words: &mut [u8] = &mut space;
     let end = spell::bytes(words, 0, b"", result);
-    ended(words, end, CONVERTED)
+    add(tally, CONVERTED);
+    print(octets::part(words, 0, end), tally);
+    as_it_is(behind, tally);
 }
 
-fn converted(line: &[u8], number: u64, frame: &[u8], out: &mut [u8], words: &mut [u8]) -> Line {
+// The frame's text ends at `end`.
+fn put_frame(line: &[u8], end: usize, frame: &[u8], tally: &mut Tally) {
+    let mut space = frame_space();
+    let out: &mut [u8] = &mut space;
     let answer = convert::convert(frame, out);
     match answer {
-        Converted::Frame(n) => in_shape(line, frame, octets::part(out, 0, n), words),
-        Converted::Status(status) => in_no_shape(line, number, status, words),
-        Converted::Refused(_) => unread(line, number, b"no room", words),
+        Converted::Frame(n) => {
+            if convert::is_old(frame) {
+                put_result(
+                    octets::part(out, 0, n),
+                    octets::part(line, end, line.len()),
+                    tally,
+                );
+            } else {
+                add(tally, KEPT);
+                as_it_is(line, tally);
+            }
+        }
+        Converted::Status(status) => in_no_shape(line, status, tally),
+        Converted::Refused(_) => {
+            unread(line, b": no room\n", tally);
+            print(b"\n", tally);
+        }
     }
 }
 
-// A comment, or nothing but blanks.
-fn is_frame(line: &[u8]) -> bool {
-    let i = hex::skip(line, 0);
-    if line.len() <= i {
-        return false;
+pub fn put(line: &[u8], tally: &mut Tally) {
+    add(tally, LINE);
+    let end = hex::end(line);
+    if end == 0 {
+        as_it_is(line, tally);
+        return;
     }
-    line[i] != b'#'
-}
-
-pub fn written(
-    line: &[u8],
-    number: u64,
-    frame: &mut [u8],
-    out: &mut [u8],
-    words: &mut [u8],
-) -> Line {
-    if !is_frame(line) {
-        return as_it_is(line, words, OTHER);
-    }
-    let Said::Is(n) = hex::bytes(line, frame) else {
-        return unread(line, number, b"no bytes in hex", words);
+    let mut space = frame_space();
+    let frame: &mut [u8] = &mut space;
+    let Said::Is(n) = hex::bytes(octets::part(line, 0, end), frame) else {
+        unread(line, b": no bytes in hex\n", tally);
+        print(b"\n", tally);
+        return;
     };
-    converted(line, number, octets::part(frame, 0, n as usize), out, words)
+    put_frame(line, end, octets::part(frame, 0, n as usize), tally);
 }

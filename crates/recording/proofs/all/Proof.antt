@@ -7,10 +7,10 @@ use Rattle.recording.proofs.all.Statement.{statement}
 use Rattle.recording.proofs.all.Tie as tie
 
 abbrev Inv-loop : tie.InvT-loop
-Inv-loop text₀ frame₀ out₀ words₀ tally₀ turns₀ have₀ text frame out words tally turns have = (length text ≡ length text₀) × (length frame ≡ length frame₀) × (length out ≡ length out₀) × (length words ≡ length words₀)
+Inv-loop text₀ tally₀ turns₀ have₀ text tally turns have = length text ≡ length text₀
 
 abbrev μ-loop : tie.MeasureT-loop
-μ-loop text₀ frame₀ out₀ words₀ tally₀ turns₀ have₀ text frame out words tally turns have = turns
+μ-loop text₀ tally₀ turns₀ have₀ text tally turns have = turns
 
 pub all-spec : {M : Type 1} → statement M
 all-spec =
@@ -19,13 +19,8 @@ all-spec =
     Inv-loop
     μ-loop
     (λ c. search needs)
+    (λ c. search needs)
     (λ c κs. search needs)
-    (λ c. search needs)
-    (λ c. search needs)
-    (λ c. search needs)
-    (λ c. search needs)
-    (λ c. search needs)
-    (λ c. search needs)
     (λ c. search needs)
     (λ c. search needs)
     (λ c. search needs)

@@ -7,10 +7,10 @@ use Rattle.recording.proofs.lines.Statement.{statement}
 use Rattle.recording.proofs.lines.Tie as tie
 
 abbrev Inv-loop : tie.InvT-loop
-Inv-loop text frame₀ out₀ words₀ tally₀ at₀ end₀ frame out words tally at end = (length frame ≡ length frame₀) × (length out ≡ length out₀) × (length words ≡ length words₀)
+Inv-loop text tally₀ at₀ end₀ tally at end = Unit {0}
 
 abbrev μ-loop : tie.MeasureT-loop
-μ-loop text frame₀ out₀ words₀ tally₀ at₀ end₀ frame out words tally at end = length text - end
+μ-loop text tally₀ at₀ end₀ tally at end = length text - end
 
 pub lines-spec : {M : Type 1} → statement M
 lines-spec =
@@ -24,9 +24,6 @@ lines-spec =
     (λ c κs. search needs)
     (λ c. search needs)
     (λ c κs. search needs)
-    (λ c. search needs)
-    (λ c. search needs)
-    (λ c. search needs)
     (λ c. search needs)
     (λ c. search needs)
     (λ c. search needs))

@@ -7,10 +7,10 @@ use Rattle.recording.proofs.hex.bytes.Statement.{statement}
 use Rattle.recording.proofs.hex.bytes.Tie as tie
 
 abbrev Inv-loop : tie.InvT-loop
-Inv-loop line frame₀ n₀ i₀ frame n i = length frame ≡ length frame₀
+Inv-loop text frame₀ n₀ i₀ frame n i = length frame ≡ length frame₀
 
 abbrev μ-loop : tie.MeasureT-loop
-μ-loop line frame₀ n₀ i₀ frame n i = length line - i
+μ-loop text frame₀ n₀ i₀ frame n i = length text - i
 
 pub bytes-spec : {M : Type 1} → statement M
 bytes-spec =
