@@ -121,7 +121,7 @@ enum {
  *   BRINECANDLE_NO_FAULT         with every other answer, and never with 0x6700; place is 0
  *   BRINECANDLE_MISSING          the frame ends before its Lc field or its data does, a payload of `00 x` too; place is the frame's length
  *   BRINECANDLE_SURPLUS          there are bytes that no field can claim; place is the first of them: 6 + Lc after a short Lc, 9 + Lc after
- *                                an extended one. One byte behind the data of an extended Lc is one too, at 7 + Lc: shape 6 took it for an
+ *                                an extended one. One byte alone behind the data of an extended Lc is one too, at 7 + Lc: shape 6 took it for an
  *                                Le, and is retired. In the strict reading every byte behind an extended Lc of 0 is one, from 7 on
  *   BRINECANDLE_LC_AGAINST_INS   the frame is read, but this command does not have such an Lc: another than 64 for Register, than 0 for
  *                                Version and GET RESPONSE; for Authenticate under 65, or another than 65 and the handle's length. place is 4, where the

@@ -4,7 +4,7 @@ use mathlib.Core.Path.{_≡_, refl, sym, ap, _∙_}
 use mathlib.Core.Bool.{Bool, true, false, true≢false}
 use mathlib.Core.List.{List, [], _∷_}
 use native.Mathlib.Omega.{arith}
-use lib.ListN.{length}
+use lib.ListN.{length, getD}
 use Rattle.outcome.specs.Outcome.{StatusWord, Outcome, R, Word, SW, Gives}
 use Rattle.outcome.proofs.Laws.{gives-same, word-same, sw-same, word-gives, r-gives}
 use Rattle.octets.specs.Bytes.{byte, AreBytes, partOf}
@@ -143,6 +143,9 @@ of-no-row says content i = word-gives _ _ (reads-entry Ordinary old6 content say
 pub oldFormStillRead : Claims.ReadExactly InTable Wrong.oldFormStillRead → ⊥
 unfolding small
 oldFormStillRead exact = let t = exact old6 (bytes-of old6 refl) (saying h0 6 7 0 5) .0 refl in of-no-row _ (t .0) (t .1)
+
+pub oldFormStillReadInExamples : Claims.ExamplesRead Wrong.oldFormStillRead → ⊥
+oldFormStillReadInExamples exact = word-gives _ _ (sym (ap (λ (answers : List (Outcome Says)). getD answers 8 (SW 0x9000)) exact))
 
 pub oldFormStillReadPlaces : Claims.PlacesExactly Wrong.oldFormStillRead strictOf → ⊥
 oldFormStillReadPlaces exact = word-gives _ _ (sym (exact .old-form old6 is-old .0))

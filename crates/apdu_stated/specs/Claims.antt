@@ -217,8 +217,8 @@ StrictNoShapeExactly strict = NoShapeExactly InStrictTable strict
 abbrev pub StrictPayloadExactly : (List ℕ → Lengths) → Type 0
 StrictPayloadExactly payload = PayloadExactly InStrictTable payload
 
--- 01: "It accepts the ISO cases ..; otherwise it equals the first", amended by 02, E4, and with E13 on any frame, beside any first reading: of an
--- extended Lc of 0 the answer with its pair, of every other frame the first reading's, the old form with data among them.
+-- 01: "It accepts the ISO cases ..; otherwise it equals the first", amended by 02, E4. Beside any first reading: an extended Lc of 0 in more than 7 bytes is
+-- surplus at 7; to every other frame, the old form with data among them, the strict entry answers as the first does.
 -- Rejects a strict entry with a status of its own. Bites at 00 03 00.
 pub record StrictOtherwise (read strict : List ℕ → Outcome Says) : Type 0 where
   pub lc-zero : (frame : List ℕ) → LcZero frame → strict frame ≡ wrongLength 2 7

@@ -18,6 +18,8 @@ use Rattle.apdu_stated.specs.Table.{lcFits, leFits, carriedBy}
 use Rattle.apdu_stated.specs.Reading.{readBy, readOf, sayOf, lengthsOf, shortOf, extendedOf, afterData, dataOf}
 use Rattle.apdu_stated.specs.Writing.{partsOf, payloadOf, frameOf, writeBy, bufferBy}
 use Rattle.apdu_stated.specs.Terms.{full, plain, pair, frameWith, saying, InTable, row1, row7, row8, IsFrameOf, OldForm}
+use Rattle.apdu_stated.specs.declared.Entry.the-variants.{Ordinary}
+use Rattle.apdu_stated.proofs.Laws.{reads-entry}
 use Rattle.table_stated.specs.Trying.{begins, lcIn, leIn, opens, stands, triedOf}
 use Rattle.table_stated.specs.Answers.{readByRows}
 use Rattle.convert_stated.specs.Converting.{convertOf}
@@ -212,6 +214,16 @@ pub noShapeCopiedRead : Claims.ConvertedIsRead Wrong.noShapeCopied → ⊥
 unfolding small readByRows triedOf stands opens begins lcIn leIn readBy sayOf lengthsOf shortOf extendedOf afterData dataOf partOf writeBy bufferBy carriedBy lcFits leFits frameOf payloadOf convertOf
 noShapeCopiedRead exact = let t = exact .is-read short6 twelve 6 (bytes-of short6 refl) refl in word-gives _ _ (t .4 .1)
 
+-- ten bytes and Lc hold nothing, though what they are converted to is read
+nothing-held : {h : ApduHeader} {d : List ℕ} {le : ℕ} → Holds longer h d le → ⊥
+unfolding small readByRows triedOf stands opens begins lcIn leIn readBy sayOf lengthsOf shortOf extendedOf afterData dataOf partOf writeBy bufferBy carriedBy lcFits leFits frameOf payloadOf convertOf
+nothing-held (by-old o) = not-longer (old-form o)
+nothing-held (by-table i) = word-gives _ _ (reads-entry Ordinary longer _ _ i)
+
+pub convertsBySurplusRead : Claims.ConvertedIsRead Wrong.convertsBySurplus → ⊥
+unfolding small readByRows triedOf stands opens begins lcIn leIn readBy sayOf lengthsOf shortOf extendedOf afterData dataOf partOf writeBy bufferBy carriedBy lcFits leFits frameOf payloadOf convertOf
+convertsBySurplusRead exact = nothing-held (exact .is-read longer twelve 10 (bytes-of longer refl) refl .3)
+
 -- strictly: the old form without data is no shape 7
 not-seven : EmptySeven bare → ⊥
 unfolding small readByRows triedOf stands opens begins lcIn leIn readBy sayOf lengthsOf shortOf extendedOf afterData dataOf partOf writeBy bufferBy carriedBy lcFits leFits frameOf payloadOf convertOf
@@ -228,7 +240,7 @@ is-seven = record { says = saying h0 7 7 0 5; is-read = refl; seven = refl; empt
 
 pub shape7RewrittenStrictly : Claims.ConvertedIsRead Wrong.shape7Rewritten → ⊥
 unfolding small readByRows triedOf stands opens begins lcIn leIn readBy sayOf lengthsOf shortOf extendedOf afterData dataOf partOf writeBy bufferBy carriedBy lcFits leFits frameOf payloadOf convertOf
-shape7RewrittenStrictly exact = exact .strictly house twelve 7 (bytes-of house refl) refl .0 (saying h0 8 4 0 5, refl) is-seven
+shape7RewrittenStrictly exact = exact .strictly house twelve 7 (bytes-of house refl) refl .0 (saying h0 8 4 0 5, refl, refl) is-seven
 
 not-house : OldForm house → ⊥
 not-house o = let e = o .one-behind in omega arith
@@ -248,6 +260,11 @@ oldFormRefusedUnchanged claim = let t = claim .converted bare twelve (bytes-of b
 pub twoSteps : Claims.ConvertsToItself Wrong.twoSteps → ⊥
 unfolding small readByRows triedOf stands opens begins lcIn leIn readBy sayOf lengthsOf shortOf extendedOf afterData dataOf partOf writeBy bufferBy carriedBy lcFits leFits frameOf payloadOf convertOf
 twoSteps claim = omega (arith, gives-same _ _ (answer-is _ _ (claim bare twelve twelve 9 (bytes-of bare refl) refl (omega arith))))
+
+-- the header alone into five bytes, then into four
+pub r2OneByteEarlyAgain : Claims.ConvertsToItself Wrong.r2OneByteEarly → ⊥
+unfolding small readByRows triedOf stands opens begins lcIn leIn readBy sayOf lengthsOf shortOf extendedOf afterData dataOf partOf writeBy bufferBy carriedBy lcFits leFits frameOf payloadOf convertOf
+r2OneByteEarlyAgain claim = r-gives _ _ (answer-is _ _ (claim four (replicate 5 9) (replicate 4 9) 4 (bytes-of four refl) refl (omega arith)))
 
 -- ---- what the code holds
 surplus-is : ℕ → Converted

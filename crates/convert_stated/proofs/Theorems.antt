@@ -149,10 +149,11 @@ ConvertedIsRead =
       is-read = λ frame before n bytes e. let r = result-of frame before n bytes e in let t = holds (r .becomes) in rw (r .cut) (t .0, t .1, t .2, t .3, read-as (t .4));
       strictly = λ frame before n bytes e. let r = result-of frame before n bytes e in rw (r .cut) (
         λ t seven. word-gives _ _ (sym (not-strictly bytes seven (r .becomes)) ∙ t .1),
-        λ other. let t = in-table (r .becomes) in (t .0, strictly frame (r .result) other (r .becomes) ∙ reads-entry Ordinary (r .result) (t .1) (t .0) (t .2)),
+        λ other.
+            let t = in-table (r .becomes) in
+            let read = reads-entry Ordinary (r .result) (t .1) (t .0) (t .2) in
+            (t .0, strictly frame (r .result) other (r .becomes) ∙ read, read),
       );
-      strictly-the-same = λ frame before n bytes e. let r = result-of frame before n bytes e in rw (r .cut)
-          (λ says x. sym (strictly frame (r .result) (λ seven. word-gives _ _ (sym (not-strictly bytes seven (r .becomes)) ∙ x)) (r .becomes)) ∙ x);
     }
   where
     read-as : {result : List ℕ} {h : ApduHeader} {d : List ℕ} {le : ℕ} → Said result h d le

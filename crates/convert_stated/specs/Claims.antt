@@ -43,7 +43,8 @@ pub record ConvertExactly (convert : List ℕ → List ℕ → Outcome ℕ × Li
 
 -- E13's request: "the converter's result is read (ordinary always; strict exactly where the frame was not shape 7 with Lc 0) with the same header,
 -- data and Le": what is converted is of one of document 01's eight shapes, and the result is read with what the frame held. Rejects `leZeroAsZero` and
--- `oldFormKept`, at 00 03 00 00 | 00 00 01 AA 00; `noShapeCopied`, at 00 03 00 00 | 00 01; strictly `lcZeroAsShape7`, at 00 03 00 00 | 00 00 00 05, and
+-- `oldFormKept`, at 00 03 00 00 | 00 00 01 AA 00; `noShapeCopied`, at 00 03 00 00 | 00 01; `convertsBySurplus`, at ten bytes and Lc: its result is read, and its
+-- frame is of no shape; strictly `lcZeroAsShape7`, at 00 03 00 00 | 00 00 00 05, and
 -- `shape7Rewritten`, at 00 03 00 00 | 00 00 00 00 05.
 pub record ConvertedIsRead (convert : List ℕ → List ℕ → Outcome ℕ × List ℕ) : Type 0 where
   pub is-read : (frame before : List ℕ) (n : ℕ) → AreBytes frame → convert frame before .0 ≡ Gives n
@@ -52,10 +53,7 @@ pub record ConvertedIsRead (convert : List ℕ → List ℕ → Outcome ℕ × L
       × ((says : Says) × (readOf result ≡ Gives says) × (says .header ≡ h) × (dataOf result says ≡ d) × (says .le ≡ le))
   pub strictly : (frame before : List ℕ) (n : ℕ) → AreBytes frame → convert frame before .0 ≡ Gives n
       → let result = take n (convert frame before .1) in
-      ((says : Says) × (strictOf result ≡ Gives says)) ↔ (EmptySeven frame → ⊥)
-  pub strictly-the-same : (frame before : List ℕ) (n : ℕ) → AreBytes frame → convert frame before .0 ≡ Gives n
-      → let result = take n (convert frame before .1) in
-      (says : Says) → strictOf result ≡ Gives says → readOf result ≡ Gives says
+      ((says : Says) × (strictOf result ≡ Gives says) × (readOf result ≡ Gives says)) ↔ (EmptySeven frame → ⊥)
 
 -- E13's request: "exactly which frames change": those of the old form, and, given a byte more than the frame, each of them is converted. Rejects a frame of
 -- shape 7 rewritten (`shape7Rewritten`), the old form handed back (`oldFormKept`), and refused (`oldFormRefused`). Bites at 00 03 00 00 | 00 00 00 00 05, and at
@@ -67,7 +65,7 @@ pub record ChangesExactly (convert : List ℕ → List ℕ → Outcome ℕ × Li
       → (n : ℕ) × (convert frame before .0 ≡ Gives n)
 
 -- E13's request: "a converted frame converts to itself", into any buffer with the room. Rejects one that writes an Lc of 0 as shape 7 and such a shape 7
--- as shape 8 (`twoSteps`). Bites at 00 03 00 00 | 00 00 00 05.
+-- as shape 8 (`twoSteps`), and R2 a byte early (`r2OneByteEarly`). Bites at 00 03 00 00 | 00 00 00 05, and at the header alone.
 abbrev pub ConvertsToItself : (List ℕ → List ℕ → Outcome ℕ × List ℕ) → Type 0
 ConvertsToItself convert =
     (frame before again : List ℕ) (n : ℕ) → AreBytes frame → convert frame before .0 ≡ Gives n → n ≤ length again

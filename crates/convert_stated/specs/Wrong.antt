@@ -1,4 +1,4 @@
--- Wrong programs, one fault each. proofs/Refuted.antt shows the claim that is false of each.
+-- Wrong programs, one fault each; `twoSteps` joins two. proofs/Refuted.antt shows the claim that is false of each.
 use lib.ListN.{take, replicate}
 use Rattle.convert_stated.specs.Words.{ℕ, _+_, Bool, false, _&&_, List, [], _∷_, _++_, length, ltb, eqb, if_then_else_, Outcome, R, Word, Gives, wordOf, refusalNo, byte, pairAt, laid, Says, readOf, dataOf, Lc3DataLe2, Le3, Parts, partsOf, writingOf, Converted}
 use Rattle.outcome.specs.Outcome.{SW}
@@ -10,7 +10,7 @@ use Rattle.convert_stated.specs.declared.Converted.the-variants as Conve
 
 -- ---- which frames are of the old form
 
--- "an extended Lc with a one-byte Le", and "when Lc is 0" too: here an Lc of 0 is none
+-- "an extended Lc with a one-byte Le", and "when Lc is 0" too: here a frame whose Lc is 0 is not of it
 abbrev pub wantsData : List ℕ → Bool
 wantsData frame = isOld frame && ltb 0 (pairAt frame 5)
 
@@ -100,7 +100,7 @@ roomAsked (Gives n, after) frame = (Gives n, after)
 abbrev pub roomFirst : List ℕ → List ℕ → Outcome ℕ × List ℕ
 roomFirst frame before = roomAsked (convertOf frame before) frame
 
--- "R2 when the buffer is shorter than the result": here when it is shorter than the frame
+-- "R2 when the buffer is shorter than the result": here also where it is shorter than the frame, which without data is longer than its result
 abbrev pub roomOfTheFrame : List ℕ → List ℕ → Outcome ℕ × List ℕ
 roomOfTheFrame frame before = if isOld frame && ltb (length before) (length frame) then (R 2, before) else convertOf frame before
 
@@ -113,14 +113,19 @@ tooTight (Gives n, after) before = if eqb n (length before) then (R 2, before) e
 abbrev pub r2OneByteEarly : List ℕ → List ℕ → Outcome ℕ × List ℕ
 r2OneByteEarly frame before = tooTight (convertOf frame before) before
 
--- and one byte late: what would be answered with a byte more
-abbrev lateBy : Outcome ℕ × List ℕ → Outcome ℕ → Outcome ℕ × List ℕ
-lateBy (R n, after) wider = (wider, after)
+-- and one byte late: what would be answered with a byte more, as far as it fits
+abbrev cutTo : List ℕ → Outcome ℕ × List ℕ → Outcome ℕ × List ℕ
+cutTo before (R n, wide) = (R n, before)
+cutTo before (Word w, wide) = (Word w, before)
+cutTo before (Gives n, wide) = (Gives n, take (length before) wide)
+
+abbrev lateBy : Outcome ℕ × List ℕ → Outcome ℕ × List ℕ → Outcome ℕ × List ℕ
+lateBy (R n, after) wider = cutTo after wider
 lateBy (Word w, after) wider = (Word w, after)
 lateBy (Gives n, after) wider = (Gives n, after)
 
 abbrev pub r2OneByteLate : List ℕ → List ℕ → Outcome ℕ × List ℕ
-r2OneByteLate frame before = lateBy (convertOf frame before) (convertOf frame (0 ∷ before) .0)
+r2OneByteLate frame before = lateBy (convertOf frame before) (convertOf frame (0 ∷ before))
 
 -- E13's request: "a result leaves its rest": here it becomes 0
 abbrev cleared : Outcome ℕ × List ℕ → Outcome ℕ × List ℕ

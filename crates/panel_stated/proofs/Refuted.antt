@@ -377,7 +377,7 @@ strictExportWrites p =
 pub noShapeClears : Claims.WriteExported Wrong.noShapeClears → ⊥
 noShapeClears p = let e : _≡_ {A = ℕ} 0 7 = ap (λ (l : List ℕ). byte l 0) (p .no-shape (toWrite 9 (7 ∷ [])) (above (omega arith)) .1) in omega arith
 
--- shape 6, in a buffer of nine bytes
+-- shape 6, in a buffer of nine bytes; strictly with a byte of data, in ten
 pub sixWritten : Claims.WriteExported Wrong.sixWritten → ⊥
 unfolding writeBy bufferBy carriedBy lcFits leFits frameOf payloadOf shapeOf
 sixWritten p =

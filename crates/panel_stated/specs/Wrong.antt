@@ -79,7 +79,7 @@ refusedMoves n t = record { answer = 1; yes = false; presence = record { w = n .
 abbrev pub shape0Accepted : ℕ → Shaped
 shape0Accepted n = if eqb n 0 then Shaped′.As Instruction else shapeOf n
 
--- 02, E13, for shape 6 "the writer R5": 6 taken for the shape that the converter writes
+-- 02, E13, for shape 6 "the writer R5": 6 taken for shape 7
 abbrev pub shape6Accepted : ℕ → Shaped
 shape6Accepted n = if eqb n 6 then Shaped′.As Lc3DataLe2 else shapeOf n
 

@@ -70,52 +70,35 @@ fn forward(text: &mut [u8], at: usize, end: usize) -> usize {
     i
 }
 
-// What stands behind the last line end, if anything does: the input has ended.
-fn last(line: &[u8], tally: &mut Tally) {
+// What stands behind the last line end, if anything does: the input has ended, or it cannot be read further.
+fn last(line: &[u8], failed: bool, tally: &mut Tally) {
     if tally[ENDED] != 0 {
         return;
     }
-    tally[ENDED] = 1;
+    tally[ENDED] = if failed { 2 } else { 1 };
     if line.len() == 0 && tally[WITHIN] == 0 {
+        return;
+    }
+    if failed {
+        put_part(line, b": cut short\n", tally);
         return;
     }
     whole(line, tally);
 }
 
-// What stands behind the last line end, where no more came: the input has ended, or a read has failed and another tells which. That one may bring a
-// byte: then the input goes on. How many bytes stand at the text's front.
-fn rest(text: &mut [u8], at: usize, all: usize, tally: &mut Tally) -> usize {
-    let mut more = [0u8; 1];
-    let got = libc::read(STDIN_FILENO, &mut more);
-    if got < 0 {
-        put_part(octets::part(text, at, all), b": cut short\n", tally);
-        tally[ENDED] = 2;
-        return 0;
-    }
-    if got == 0 {
-        last(octets::part(text, at, all), tally);
-        return 0;
-    }
-    let n = forward(text, at, all);
-    if text.len() <= n {
-        return n;
-    }
-    text[n] = more[0];
-    n + 1
-}
-
-// One filling of the text, of which `have` bytes stand there: how many are left at its front.
+// One more read into the text, of which `have` bytes stand there: how many are left at its front.
 fn filled(text: &mut [u8], have: usize, tally: &mut Tally) -> usize {
     if text.len() <= have {
         put_part(text, b": too long\n", tally);
         return 0;
     }
-    let got = io::read_full(STDIN_FILENO, &mut text[have..]);
-    let all = have + got;
-    let at = lines(octets::part(text, 0, all), tally);
-    if all < text.len() {
-        return rest(text, at, all, tally);
+    let got = libc::read(STDIN_FILENO, &mut text[have..]);
+    if got <= 0 {
+        last(octets::part(text, 0, have), got < 0, tally);
+        return 0;
     }
+    let all = have + io::count(got, &text[have..]);
+    let at = lines(octets::part(text, 0, all), tally);
     forward(text, at, all)
 }
 

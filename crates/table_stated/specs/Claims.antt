@@ -38,7 +38,7 @@ shapes = Instruction ∷ Le1 ∷ Lc1Data ∷ Lc1DataLe1 ∷ Lc3Data ∷ Lc3DataL
 
 -- each with its number, its fields and the table's least Lc
 abbrev pub rowsIn : Entry → List Case → List Row
-rowsIn entry shapes = map (λ (s : Case). numbered (shapeNo s) (lcField s) (leastOf entry s) (leField s)) shapes
+rowsIn entry listed = map (λ (s : Case). numbered (shapeNo s) (lcField s) (leastOf entry s) (leField s)) listed
 
 -- The rows are those of apdu_stated's table, and of its strict one: "The strict reading is the same table with other least Lc". Each carries its
 -- shape's number; it is not its place. Rejects tables whose rows are numbered from 1 to 7 (`numberedByPlace`), and one that keeps row 6 (`row6Kept`).
