@@ -86,8 +86,9 @@ pub record EveryInputIsAnswered : Type 0 where
   pub refusals-hand-back : Panel.RefusalHandsBack (λ n t. stepNumbers (touchOf (presenceOf n) t)) (λ n t. stepNumbers (checkOf (presenceOf n) t)) saidBy
   -- 02, E2: the remainder is dropped exactly when the document says, and only a part changes the buffer for part and status
   pub remainder : Decision.RemainderExactly decisionOf remainderLeft
-  pub old-form-refused : Decision.OldFormRefused decisionOf remainderLeft
   pub part-buffer : Decision.PartsExactly decisionOf frameLimit partLeft
+  -- 02, E13: a decision gives the retired shape 6 its 6700, surplus at its Le byte, and such a frame drops a remainder, whatever its INS
+  pub old-form-refused : Decision.OldFormRefused decisionOf remainderLeft
   -- the enrolment that was lost: an order has asked for its room before the touch was spent
   pub room-was-asked : Decision.RoomWasAsked decisionOf
 

@@ -28,15 +28,30 @@ fn whole(line: &[u8], tally: &mut Tally) {
     tally::print(b"\n", tally);
 }
 
-// A part of a line that is not to be had as a whole goes out as it came; before the first a remark says why.
-fn put_part(part: &[u8], why: &[u8], tally: &mut Tally) {
+// A part of a line that is longer than the text goes out as it came; before the first a remark says why.
+fn put_part(part: &[u8], tally: &mut Tally) {
     if tally[WITHIN] != 0 {
         tally::print(part, tally);
         return;
     }
     tally[WITHIN] = 1;
     tally::add(tally, LINE);
-    line::unread(part, why, tally);
+    line::unread(part, b": too long\n", tally);
+}
+
+// What came of a line before a read failed. It goes out as a remark: its front may read as a frame that it never was. A line that is too long
+// has begun to go out, and stays too long.
+fn cut_short(part: &[u8], tally: &mut Tally) {
+    if tally[WITHIN] == 0 {
+        tally::add(tally, LINE);
+        line::unread(part, b": cut short\n# ", tally);
+        tally::print(b"\n", tally);
+        return;
+    }
+    tally::print(part, tally);
+    tally::print(b"\n# line ", tally);
+    tally::print_number(tally[LINE], tally);
+    tally::print(b": cut short\n", tally);
 }
 
 // Handles the whole lines of the text, and says where the rest begins, which has no line end yet.
@@ -80,7 +95,7 @@ fn last(line: &[u8], failed: bool, tally: &mut Tally) {
         return;
     }
     if failed {
-        put_part(line, b": cut short\n", tally);
+        cut_short(line, tally);
         return;
     }
     whole(line, tally);
@@ -89,7 +104,7 @@ fn last(line: &[u8], failed: bool, tally: &mut Tally) {
 // One more read into the text, of which `have` bytes stand there: how many are left at its front.
 fn filled(text: &mut [u8], have: usize, tally: &mut Tally) -> usize {
     if text.len() <= have {
-        put_part(text, b": too long\n", tally);
+        put_part(text, tally);
         return 0;
     }
     let got = libc::read(STDIN_FILENO, &mut text[have..]);

@@ -1,5 +1,5 @@
 // Frames read by a table: the rows are data, and the reader tries them in turn by their three columns. Nothing in it knows a shape by
-// name; a table of other rows reads other frames. The branching reader is apdu's; on document 01's table and on ISO's the two are one
+// name; a table of other rows reads other frames. The branching reader is apdu's; on the ordinary table and on ISO's the two are one
 // (table_stated's specs/Claims.antt, SameReading).
 //
 //    a row, four numbers:   shape's number | length of the Lc field | least Lc | length of the Le field
@@ -191,7 +191,7 @@ pub fn read_rows(table: &[[u8; 4]], frame: &[u8]) -> TableReading
     }
 }
 
-// By document 01's table.
+// By the ordinary table: document 01's without its row 6.
 pub fn read(frame: &[u8]) -> TableReading
     ensures { λ r. ⌜ ReadByTable (now (frame .entry)) r ⌝ }
 {

@@ -55,7 +55,7 @@ ExamplesRead table read = map (λ (e : Example). read (table Ordinary) (e .frame
 
 -- What comes of trying the rows of any table. Short exactly when the frame is under four bytes; ByRow r exactly when r is the first row that the
 -- frame is of; Early exactly when it is of no row and ends early in at least one; Beyond k exactly when it is of no row, ends early in none, and k bytes
--- is the most that a row claims from its front. Rejects a reader that knows document 01's rows whatever it is given (`knowsItsRows`), one that takes the last row that
+-- is the most that a row claims from its front. Rejects a reader that knows the ordinary rows whatever it is given (`knowsItsRows`), one that takes the last row that
 -- fits (`lastThatFits`), and one that looks for missing bytes before it tries the rows (`earlyFirst`). Bites at an empty table, at two rows of equal
 -- columns and different numbers, and at 00 03 00 00 | 00 FF FF.
 pub record TriesExactly (try : List Row → List ℕ → Tried) : Type 0 where
@@ -69,7 +69,7 @@ pub record TriesExactly (try : List Row → List ℕ → Tried) : Type 0 where
       ↔ ((4 ≤ length frame) × ((r : Row) → Has rows r → EarlyIn r frame → ⊥) × (k < length frame) × MostClaimed rows frame k)
 
 -- What is answered by any table: what the frame says by its first row, 01's 6a80, 02's E1 kinds 1 and 2 with their places, each exactly when. Rejects
--- a reader that asks which of the two tables it holds, by their row 7, and then reads by document 01's shapes (`asksWhichTable`; it meets `SameReading`),
+-- a reader that asks which of the two tables it holds, by their row 7, and then reads by the shapes (`asksWhichTable`; it meets `SameReading`),
 -- missing bytes placed where the payload begins (`missingAtThePayload`), and a row's least said for the frame's Lc (`leastForLc`). Bites at an empty
 -- table, at 00 03 00 00 | 02 AA, and at 00 03 00 00 | 02 AA BB.
 pub record AnswersExactly (read : List Row → List ℕ → Outcome Says) : Type 0 where

@@ -8,7 +8,7 @@ abbrev pub numbered : (number : ℕ) → (lcLong : ℕ) → (least : ℕ) → (l
 numbered number lcLong least leLong = record { number = number; «lc_field» = lcLong; «lc_least» = least; «le_field» = leLong }
 
 abbrev pub tableOf : Entry → List Row
--- document 01's. Number, length of Lc field, least Lc, length of Le field
+-- the ordinary table, document 01's without its row 6. Number, length of Lc field, least Lc, length of Le field
 tableOf Ordinary =
     numbered 1 0 0 0  -- 1 | Instruction | empty |
     ∷ numbered 2 0 0 1  -- 2 | Le1 | Le (1 byte) |
