@@ -72,8 +72,8 @@ fn ordered(order: Head, settled: Presence, taken: bool) -> Decision
 }
 
 fn version(kept: Presence, settled: Presence, reply: &mut [u8]) -> Decision
-    ensures { λ r. ⌜ decisionSaid r ≡ handedOf (along (versionPath (length (now (reply .entry)))) kept settled 0) ⌝ }
-    ensures { λ _. ⌜ now (reply .exit) ≡ replyLeft (along (versionPath (length (now (reply .entry)))) kept settled 0) (now (reply .entry)) ⌝ }
+    ensures { λ r. ⌜ decisionSaid r ≡ handedOf (along (versionPath (length (now (reply .entry)))) kept settled 0 0) ⌝ }
+    ensures { λ _. ⌜ now (reply .exit) ≡ replyLeft (along (versionPath (length (now (reply .entry)))) kept settled 0 0) (now (reply .entry)) ⌝ }
 {
     if reply.len() < 6 {
         return refused(Refusal::R2, kept);
@@ -116,6 +116,7 @@ fn enrol(
 // The room is asked for first: a touch that is spent on a reply which then does not fit is lost.
 fn register(
     frame: &[u8],
+    side: u32,
     t: u64,
     kept: Presence,
     hardware: HardwareSaid,
@@ -128,12 +129,12 @@ fn register(
     settled: Presence,
     block: &mut [u8; 385],
 ) -> Decision
-    ensures { λ r. ⌜ decisionWith r (now (block .exit)) ≡ leftOf (along (registerPath (record { frame = now (frame .entry); hardware = hardwareOf hardware; newHandle = now (handle .entry); certificate = now (certificate .entry); x = now (x .entry); y = now (y .entry); room = room; remainder = rest 0 0; partRoom = 0 }) (saysOf says)) kept settled t) (now (block .entry)) ⌝ }
+    ensures { λ r. ⌜ decisionWith r (now (block .exit)) ≡ leftOf (along (registerPath (record { side = side; frame = now (frame .entry); hardware = hardwareOf hardware; newHandle = now (handle .entry); certificate = now (certificate .entry); x = now (x .entry); y = now (y .entry); room = room; remainder = rest 0 0; partRoom = 0 }) (saysOf says)) kept settled side t) (now (block .entry)) ⌝ }
 {
     if !signing::has_register_room(room, handle.len(), certificate.len()) {
         return refused(Refusal::R2, kept);
     }
-    let found = u2f_up::touch_check(settled, t);
+    let found = u2f_up::touch_check(settled, side, t);
     let after = found.presence;
     if !found.yes {
         return answered(ApduStatusCode::CondUseNotSatisfied, after);
@@ -175,13 +176,14 @@ fn enforce(
     hardware: HardwareSaid,
     frame: &[u8],
     says: Apdu,
+    side: u32,
     t: u64,
     settled: Presence,
     block: &mut [u8; 385],
 ) -> Decision
-    ensures { λ r. ⌜ decisionWith r (now (block .exit)) ≡ leftOf (touchChecked (checkedOf settled t) (countedEnding (now (frame .entry)) (saysOf says) true (hardwareOf hardware .counter))) (now (block .entry)) ⌝ }
+    ensures { λ r. ⌜ decisionWith r (now (block .exit)) ≡ leftOf (touchChecked (checkedOf settled side t) (countedEnding (now (frame .entry)) (saysOf says) true (hardwareOf hardware .counter))) (now (block .entry)) ⌝ }
 {
-    let found = u2f_up::touch_check(settled, t);
+    let found = u2f_up::touch_check(settled, side, t);
     let after = found.presence;
     if !found.yes {
         return answered(ApduStatusCode::CondUseNotSatisfied, after);
@@ -192,6 +194,7 @@ fn enforce(
 // A check-only 6985 is the good answer: it looks at no touch, asks for no room and leaves the windows alone.
 fn authenticate(
     frame: &[u8],
+    side: u32,
     t: u64,
     kept: Presence,
     hardware: HardwareSaid,
@@ -201,7 +204,7 @@ fn authenticate(
     settled: Presence,
     block: &mut [u8; 385],
 ) -> Decision
-    ensures { λ r. ⌜ decisionWith r (now (block .exit)) ≡ leftOf (along (loginPath (now (frame .entry)) (hardwareOf hardware) room (flagsNo flags) (saysOf says)) kept settled t) (now (block .entry)) ⌝ }
+    ensures { λ r. ⌜ decisionWith r (now (block .exit)) ≡ leftOf (along (loginPath (now (frame .entry)) (hardwareOf hardware) room (flagsNo flags) (saysOf says)) kept settled side t) (now (block .entry)) ⌝ }
 {
     let p1 = command::flags_number(flags);
     if hardware.good != YES {
@@ -214,7 +217,7 @@ fn authenticate(
         return refused(Refusal::R2, kept);
     }
     if p1 == 0x03 {
-        return enforce(hardware, frame, says, t, settled, block);
+        return enforce(hardware, frame, says, side, t, settled, block);
     }
     counted(hardware, frame, says, false, settled, block)
 }
@@ -222,6 +225,7 @@ fn authenticate(
 fn commanded(
     frame: &[u8],
     reading: Reading,
+    side: u32,
     t: u64,
     kept: Presence,
     hardware: HardwareSaid,
@@ -234,8 +238,8 @@ fn commanded(
     block: &mut [u8; 385],
 ) -> Decision
     requires { ⌜ readingOf reading ≡ readOf (now frame) ⌝ }
-    ensures { λ r. ⌜ decisionWith r (now (block .exit)) ≡ leftOf (along (commandPath (record { frame = now (frame .entry); hardware = hardwareOf hardware; newHandle = now (handle .entry); certificate = now (certificate .entry); x = now (x .entry); y = now (y .entry); room = length (now (reply .entry)); remainder = rest 0 0; partRoom = 0 }) (commandOf (now (frame .entry)))) kept settled t) (now (block .entry)) ⌝ }
-    ensures { λ _. ⌜ now (reply .exit) ≡ replyLeft (along (commandPath (record { frame = now (frame .entry); hardware = hardwareOf hardware; newHandle = now (handle .entry); certificate = now (certificate .entry); x = now (x .entry); y = now (y .entry); room = length (now (reply .entry)); remainder = rest 0 0; partRoom = 0 }) (commandOf (now (frame .entry)))) kept settled t) (now (reply .entry)) ⌝ }
+    ensures { λ r. ⌜ decisionWith r (now (block .exit)) ≡ leftOf (along (commandPath (record { side = side; frame = now (frame .entry); hardware = hardwareOf hardware; newHandle = now (handle .entry); certificate = now (certificate .entry); x = now (x .entry); y = now (y .entry); room = length (now (reply .entry)); remainder = rest 0 0; partRoom = 0 }) (commandOf (now (frame .entry)))) kept settled side t) (now (block .entry)) ⌝ }
+    ensures { λ _. ⌜ now (reply .exit) ≡ replyLeft (along (commandPath (record { side = side; frame = now (frame .entry); hardware = hardwareOf hardware; newHandle = now (handle .entry); certificate = now (certificate .entry); x = now (x .entry); y = now (y .entry); room = length (now (reply .entry)); remainder = rest 0 0; partRoom = 0 }) (commandOf (now (frame .entry)))) kept settled side t) (now (reply .entry)) ⌝ }
 {
     let room = reply.len();
     let read = command::on_reading(frame, reading);
@@ -245,6 +249,7 @@ fn commanded(
         U2fCommand::GetResponse => answered(ApduStatusCode::CondUseNotSatisfied, settled),
         U2fCommand::Register(says) => register(
             frame,
+            side,
             t,
             kept,
             hardware,
@@ -259,6 +264,7 @@ fn commanded(
         ),
         U2fCommand::Authenticate(flags, says) => authenticate(
             frame,
+            side,
             t,
             kept,
             hardware,
@@ -319,12 +325,13 @@ fn beside(found: Said, decision: Decision) -> Ruling
     }
 }
 
-// What a frame is answered at moment t where nothing is left to fetch: a refusal, a status word, Version's body, or an order to sign.
+// What a frame is answered, for the side that it came from, at moment t where nothing is left to fetch: a refusal, a status word, Version's body, or an order to sign.
 // `handle` and `certificate` are the new handle and the attestation certificate that a Register would use, x and y its public key. The
 // block is written for an order alone. The frame is read in each case by itself: once for all of them takes a decision 24 instructions
 // more.
 pub fn decide(
     frame: &[u8],
+    side: u32,
     t: u64,
     presence: Presence,
     hardware: HardwareSaid,
@@ -335,9 +342,9 @@ pub fn decide(
     reply: &mut [u8],
     block: &mut [u8; 385],
 ) -> Ruling
-    ensures { λ r. ⌜ Decide presence t (record { frame = now (frame .entry); hardware = hardwareOf hardware; newHandle = now (handle .entry); certificate = now (certificate .entry); x = now (x .entry); y = now (y .entry); room = length (now (reply .entry)); remainder = rest 0 0; partRoom = 0 }) (record { reply = now (reply .entry); block = now (block .entry) }) r (record { reply = now (reply .exit); block = now (block .exit) }) ⌝ }
+    ensures { λ r. ⌜ Decide presence t (record { side = side; frame = now (frame .entry); hardware = hardwareOf hardware; newHandle = now (handle .entry); certificate = now (certificate .entry); x = now (x .entry); y = now (y .entry); room = length (now (reply .entry)); remainder = rest 0 0; partRoom = 0 }) (record { reply = now (reply .entry); block = now (block .entry) }) r (record { reply = now (reply .exit); block = now (block .exit) }) ⌝ }
 {
-    let ready = u2f_up::settle(presence, t);
+    let ready = u2f_up::settle(presence, side, t);
     let allowed = hardware.allowed;
     match ready {
         Ready::Refused(why) => beside(takes(apdu::read(frame)), refused(why, presence)),
@@ -359,6 +366,7 @@ pub fn decide(
             let decision = commanded(
                 frame,
                 reading,
+                side,
                 t,
                 presence,
                 hardware,

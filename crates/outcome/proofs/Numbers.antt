@@ -9,7 +9,7 @@ use Rattle.outcome.specs.declared.ApduStatusCode.the-variants.{Success, 
 use Rattle.outcome.specs.declared.LengthFault.{LengthFault}
 use Rattle.outcome.specs.declared.LengthFault.the-variants.{Missing, Surplus, LcAgainstIns}
 use Rattle.outcome.specs.declared.Refusal.{Refusal}
-use Rattle.outcome.specs.declared.Refusal.the-variants.{R1, R2, R3, R4, R5, R6, R7}
+use Rattle.outcome.specs.declared.Refusal.the-variants.{R1, R2, R3, R4, R5, R6, R7, R8}
 
 pub one-to-one : {A B : Type 0} (f : A → B) (g : B → A) → ((a : A) → g (f a) ≡ a) → (a b : A) → f a ≡ f b → a ≡ b
 one-to-one f g back a b e = sym (back a) ∙ ap g e ∙ back b
@@ -57,7 +57,8 @@ refusalOf n =
     else if eqb n 4 then R4
     else if eqb n 5 then R5
     else if eqb n 6 then R6
-    else R7
+    else if eqb n 7 then R7
+    else R8
 
 pub refusal-back : (r : Refusal) → refusalOf (refusalNo r) ≡ r
 unfolding refusalOf
@@ -68,6 +69,7 @@ refusal-back R4 = refl
 refusal-back R5 = refl
 refusal-back R6 = refl
 refusal-back R7 = refl
+refusal-back R8 = refl
 
 pub refusal-one-to-one : (a b : Refusal) → refusalNo a ≡ refusalNo b → a ≡ b
 refusal-one-to-one = one-to-one refusalNo refusalOf refusal-back

@@ -9,7 +9,7 @@ use Rattle.outcome.specs.declared.ApduStatusCode.{ApduStatusCode}
 use Rattle.outcome.specs.declared.ApduStatusCode.the-variants.{Success, WrongData, WrongLength, CondUseNotSatisfied, CommandNotAllowed, IncorrectP1P2, InsInvalid, ClaInvalid, InternalException}
 use Rattle.outcome.specs.declared.LengthFault.{LengthFault}
 use Rattle.outcome.specs.declared.LengthFault.the-variants.{Missing, Surplus, LcAgainstIns}
-use Rattle.outcome.specs.declared.Refusal.the-variants.{R1, R2, R3, R4, R5, R6, R7}
+use Rattle.outcome.specs.declared.Refusal.the-variants.{R1, R2, R3, R4, R5, R6, R7, R8}
 
 pub StatusNumbers : Determines Claims.StatusNumbers
 StatusNumbers f g p q Success = p .success ∙ sym (q .success)
@@ -67,3 +67,4 @@ RefusalNumbers f g p q R4 = p .r4 ∙ sym (q .r4)
 RefusalNumbers f g p q R5 = p .r5 ∙ sym (q .r5)
 RefusalNumbers f g p q R6 = p .r6 ∙ sym (q .r6)
 RefusalNumbers f g p q R7 = p .r7 ∙ sym (q .r7)
+RefusalNumbers f g p q R8 = p .r8 ∙ sym (q .r8)

@@ -9,7 +9,7 @@ use Rattle.outcome.specs.declared.LengthFault.{LengthFault}
 use Rattle.outcome.specs.declared.LengthFault.the-variants.{Missing, Surplus, LcAgainstIns}
 use Rattle.outcome.specs.Claims
 use Rattle.outcome.specs.declared.Refusal.{Refusal}
-use Rattle.outcome.specs.declared.Refusal.the-variants.{R1, R2, R3, R4, R5, R6, R7}
+use Rattle.outcome.specs.declared.Refusal.the-variants.{R1, R2, R3, R4, R5, R6, R7, R8}
 use Rattle.outcome.proofs.Laws.{both-are}
 use Rattle.outcome.proofs.Numbers.{status-one-to-one, refusal-one-to-one}
 
@@ -51,7 +51,7 @@ pub WordExactly : Claims.WordExactly statusNo faultOf wordOf
 WordExactly = record { numbered = λ s. refl; kind = λ s. refl; place = λ s. refl }
 
 pub RefusalNumbers : Claims.RefusalNumbers refusalNo
-RefusalNumbers = record { r1 = refl; r2 = refl; r3 = refl; r4 = refl; r5 = refl; r6 = refl; r7 = refl }
+RefusalNumbers = record { r1 = refl; r2 = refl; r3 = refl; r4 = refl; r5 = refl; r6 = refl; r7 = refl; r8 = refl }
 
 pub StatusOneToOne : Claims.StatusOneToOne wordOf
 StatusOneToOne = status-one-to-one
@@ -70,6 +70,7 @@ RefusalRange = record { within = within; each = each }
     within R5 = (omega arith, omega arith)
     within R6 = (omega arith, omega arith)
     within R7 = (omega arith, omega arith)
+    within R8 = (omega arith, omega arith)
 
     each : (n : ℕ) → 1 ≤ n → n ≤ lastRefusal → (r : Refusal) × (refusalNo r ≡ n)
     each zero low high = absurd (omega arith)
@@ -80,7 +81,8 @@ RefusalRange = record { within = within; each = each }
     each (suc (suc (suc (suc (suc zero))))) low high = (R5, refl)
     each (suc (suc (suc (suc (suc (suc zero)))))) low high = (R6, refl)
     each (suc (suc (suc (suc (suc (suc (suc zero))))))) low high = (R7, refl)
-    each (suc (suc (suc (suc (suc (suc (suc (suc n)))))))) low high = absurd (omega arith)
+    each (suc (suc (suc (suc (suc (suc (suc (suc zero)))))))) low high = (R8, refl)
+    each (suc (suc (suc (suc (suc (suc (suc (suc (suc n))))))))) low high = absurd (omega arith)
 
 pub ResultsDetermined : Claims.ResultsDetermined
 ResultsDetermined = record { status-number = λ s a b. both-are a b; fault = λ s a b. both-are a b; no-fault = both-are; refusal-number = λ r a b. both-are a b }

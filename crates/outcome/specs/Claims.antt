@@ -10,7 +10,7 @@ use Rattle.outcome.specs.declared.ApduStatusCode.the-variants.{Success, 
 use Rattle.outcome.specs.declared.LengthFault.{LengthFault}
 use Rattle.outcome.specs.declared.LengthFault.the-variants.{Missing, Surplus, LcAgainstIns}
 use Rattle.outcome.specs.declared.Refusal.{Refusal}
-use Rattle.outcome.specs.declared.Refusal.the-variants.{R1, R2, R3, R4, R5, R6, R7}
+use Rattle.outcome.specs.declared.Refusal.the-variants.{R1, R2, R3, R4, R5, R6, R7, R8}
 
 -- Each status word has ISO 7816-4's number. A wire layer that sends 6700 for wrong data (`wrongDataAsWrongLength`) fails it, at
 -- a frame of three bytes, whose status is 6a80.
@@ -34,6 +34,7 @@ pub record RefusalNumbers (number : Refusal → ℕ) : Type 0 where
   pub r5 : number R5 ≡ 5
   pub r6 : number R6 ≡ 6
   pub r7 : number R7 ≡ 7
+  pub r8 : number R8 ≡ 8
 
 -- 02, E1: a 6700 has its pair, and every other status word none: the kinds 1, 2 and 3, and the place as it was found. A table that
 -- tells missing as surplus (`missingAsSurplus`) fails it, one whose place is one off (`placeOneOff`), and a 6a80 with a pair

@@ -8,7 +8,7 @@ use Rattle.outcome.specs.declared.LengthFault.{LengthFault}
 use Rattle.outcome.specs.declared.LengthFault.the-variants.{Missing, Surplus, LcAgainstIns}
 pub use Rattle.outcome.specs.declared.FaultNumbers.{FaultNumbers}
 use Rattle.outcome.specs.declared.Refusal.{Refusal}
-use Rattle.outcome.specs.declared.Refusal.the-variants.{R1, R2, R3, R4, R5, R6, R7}
+use Rattle.outcome.specs.declared.Refusal.the-variants.{R1, R2, R3, R4, R5, R6, R7, R8}
 
 -- A status word: its number, and the pair of a kind and a place that tells where a length went wrong. 02, E1: "A 6700 should say
 -- whether bytes are missing or surplus, and a place". Where there is no pair, both are 0.
@@ -94,8 +94,9 @@ refusalNo R4 = 4  -- certificate length is not the order's
 refusalNo R5 = 5  -- shape cannot carry this data length or Le
 refusalNo R6 = 6  -- W is 0 or above 60,000, when made or in a record
 refusalNo R7 = 7  -- order not of either layout
+refusalNo R8 = 8  -- 02, E7: a side other than 0 or 1
 
--- 01, 'Refusal numbers': R1 to R7. The last one is named here alone: the range that the panel's answers leave to refusals ends
+-- 01, 'Refusal numbers': R1 to R7, and 02, E7: R8. The last one is named here alone: the range that the panel's answers leave to refusals ends
 -- with it, in the statements and, held to this line by .ci/header, in C.
 abbrev pub lastRefusal : ℕ
-lastRefusal = 7
+lastRefusal = 8

@@ -9,7 +9,7 @@ use Rattle.outcome.specs.declared.ApduStatusCode.the-variants.{Success, 
 use Rattle.outcome.specs.declared.LengthFault.{LengthFault}
 use Rattle.outcome.specs.declared.LengthFault.the-variants.{Missing, Surplus, LcAgainstIns}
 use Rattle.outcome.specs.declared.Refusal.{Refusal}
-use Rattle.outcome.specs.declared.Refusal.the-variants.{R1, R2, R3, R4, R5, R6, R7}
+use Rattle.outcome.specs.declared.Refusal.the-variants.{R1, R2, R3, R4, R5, R6, R7, R8}
 
 -- 6a80 sent as 6700: the mistake of a wire layer that keeps the number in a comment
 abbrev pub wrongDataAsWrongLength : ApduStatusCode → ℕ
@@ -90,6 +90,7 @@ r6Numbered7 R4 = refusalNo R4
 r6Numbered7 R5 = refusalNo R5
 r6Numbered7 R6 = 7
 r6Numbered7 R7 = refusalNo R7
+r6Numbered7 R8 = refusalNo R8
 
 -- 01, 'Refusal numbers': R4 under R2's number
 abbrev pub r4Numbered2 : Refusal → ℕ
@@ -100,3 +101,4 @@ r4Numbered2 R4 = 2
 r4Numbered2 R5 = refusalNo R5
 r4Numbered2 R6 = refusalNo R6
 r4Numbered2 R7 = refusalNo R7
+r4Numbered2 R8 = refusalNo R8

@@ -1,4 +1,4 @@
-// The words that every crate here answers with: the status words of a reply and the refusals R1 to R7, each with its
+// The words that every crate here answers with: the status words of a reply and the refusals R1 to R8, each with its
 // number. Status words go to the host. A refusal goes to the firmware: nothing was decided, and nothing was changed.
 ghost use mathlib.Core.Path.{_≡_};
 ghost use Rattle.outcome.specs.Outcome.{faultPair, faultKind};
@@ -36,6 +36,7 @@ pub enum Refusal {
     R5,
     R6,
     R7,
+    R8,
 }
 
 // The status word as the number that goes out.
@@ -113,5 +114,6 @@ pub fn refusal_number(refusal: Refusal) -> u8
         Refusal::R5 => 5,
         Refusal::R6 => 6,
         Refusal::R7 => 7,
+        Refusal::R8 => 8,
     }
 }

@@ -157,12 +157,12 @@ pub extern "C" fn brinecandle_grant_up(presence: PresenceRecord, t: u64) -> Step
     plain_presence::step_plain(u2f_up::grant_up(plain_presence::record_lent(presence), t))
 }
 
-// The touch check at t.
+// The touch check at t, for the side that checks.
 #[no_mangle]
-pub extern "C" fn brinecandle_consume_up(presence: PresenceRecord, t: u64) -> Stepped
-    ensures { λ r. ⌜ BrinecandleConsumeUp presence t r ⌝ }
+pub extern "C" fn brinecandle_consume_up(presence: PresenceRecord, side: u32, t: u64) -> Stepped
+    ensures { λ r. ⌜ BrinecandleConsumeUp presence side t r ⌝ }
 {
-    plain_presence::step_plain(u2f_up::consume_up(plain_presence::record_lent(presence), t))
+    plain_presence::step_plain(u2f_up::consume_up(plain_presence::record_lent(presence), side, t))
 }
 
 // Whether a prompt is live at t. It hands back no record, since it changes none.
@@ -173,11 +173,12 @@ pub extern "C" fn brinecandle_is_up_needed(presence: PresenceRecord, t: u64) -> 
     plain_presence::asked_plain(u2f_up::is_up_needed(plain_presence::record_lent(presence), t))
 }
 
-// Decides what a frame is answered. The block is written for an order alone: a refused call leaves an order that waits
+// Decides what a frame is answered, for the side that it came from. The block is written for an order alone: a refused call leaves an order that waits
 // for its signature whole. By cases, as brinecandle_read.
 #[no_mangle]
 pub extern "C" fn brinecandle_decide(
     frame: &[u8],
+    side: u32,
     t: u64,
     presence: PresenceRecord,
     hardware: HardwareSaid,
@@ -190,11 +191,12 @@ pub extern "C" fn brinecandle_decide(
     block: &mut [u8; 385],
     part: &mut [u8],
 ) -> DecisionSaid
-    ensures { λ r. ⌜ BrinecandleDecide (record { frame = now (frame .entry); moment = t; presence = presence; hardware = hardware; newHandle = now (handle .entry); certificate = now (certificate .entry); x = now (x .entry); y = now (y .entry); reply = now (reply .entry); block = now (block .entry); remainder = remainder; part = now (part .entry) }) r (now (reply .exit)) (now (block .exit)) (now (part .exit)) ⌝ }
+    ensures { λ r. ⌜ BrinecandleDecide (record { frame = now (frame .entry); side = side; moment = t; presence = presence; hardware = hardware; newHandle = now (handle .entry); certificate = now (certificate .entry); x = now (x .entry); y = now (y .entry); reply = now (reply .entry); block = now (block .entry); remainder = remainder; part = now (part .entry) }) r (now (reply .exit)) (now (block .exit)) (now (part .exit)) ⌝ }
 {
     let kept = plain_presence::record_lent(presence);
     let ruling = ctap1::decide(
         frame,
+        side,
         t,
         kept,
         hardware,

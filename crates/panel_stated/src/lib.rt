@@ -11,13 +11,15 @@ use apdu_stated::Case;
 use response_stated::Remainder;
 use signing_stated::Kind;
 
-// The presence record. A window is 0 where it is closed, and otherwise the moment at which it was opened and one more.
+// The presence record. A window is 0 where it is closed, and otherwise the moment at which it was opened and one more. The asking side
+// is 0 or 1; it has 32 bits, and so has a side that a call names, so that no other number is cut down to one of the two.
 #[repr(C)]
 pub struct PresenceRecord {
     pub w: u64,
     pub prompt: u64,
     pub touch: u64,
     pub last: u64,
+    pub asker: u32,
 }
 
 // What a frame says: the header, the shape's number, Lc and Le, and where the data stands in the frame.

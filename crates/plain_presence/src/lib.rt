@@ -49,6 +49,7 @@ pub fn record_lent(numbers: PresenceRecord) -> Presence
         prompt: window_of(numbers.prompt),
         touch: window_of(numbers.touch),
         last: numbers.last,
+        asker: numbers.asker,
     }
 }
 
@@ -63,6 +64,7 @@ pub fn record_plain(presence: Presence) -> PresenceRecord
         prompt: window_number(prompt),
         touch: window_number(touch),
         last: presence.last,
+        asker: presence.asker,
     }
 }
 
@@ -77,6 +79,7 @@ pub fn made_plain(ready: Ready) -> Made
                 prompt: 0,
                 touch: 0,
                 last: 0,
+                asker: 0,
             },
         },
         Ready::Record(presence) => Made {

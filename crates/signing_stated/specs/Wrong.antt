@@ -7,7 +7,7 @@ use lib.Dec.{eqb, leb, ltb}
 use lib.ListN.{length, take, replicate}
 use Rattle.outcome.specs.Notation.{if_then_else_}
 use Rattle.outcome.specs.Outcome.{Outcome, R, Word, SW, Gives, wordOf}
-use Rattle.outcome.specs.declared.Refusal.the-variants.{R1, R2, R3, R4, R5, R6, R7}
+use Rattle.outcome.specs.declared.Refusal.the-variants.{R1, R2, R3, R4, R5, R6, R7, R8}
 use Rattle.octets.specs.Bytes.{byte, laid}
 use Rattle.signing_stated.specs.Layouts.{RegisterFields, registerToSign, registerBody, presenceByte}
 use Rattle.signing_stated.specs.Orders.{Kind, Register, Authenticate, Order, AuthenticateParts, kindNo, toSign, certificateLength, block, registerOrderOf, authenticateOrderOf, authenticateOrderFor, isOfLayout, registerFieldsOf}
@@ -33,6 +33,7 @@ r4SaidAsR2 (Refused R4) = R 2
 r4SaidAsR2 (Refused R5) = R 5
 r4SaidAsR2 (Refused R6) = R 6
 r4SaidAsR2 (Refused R7) = R 7
+r4SaidAsR2 (Refused R8) = R 8
 r4SaidAsR2 (Status s) = Word (wordOf s)
 r4SaidAsR2 (Body n) = Gives n
 

@@ -1,6 +1,7 @@
 // Presence: prompts, touches and their spending, carried over from the Rust's u2f_up.rs. Moments are given in. The record goes
 // in by value and comes back; the last three functions are the same calls on a record lent for writing.
-// Any values may stand in a record: no sum of moments is ever made, so none can wrap.
+// A direct check, like a decision, names the side that it comes from, 0 or 1; touch and ask name none. Any values may stand in a
+// record: no sum of moments is ever made, so none can wrap.
 use outcome::Refusal;
 pub use u2f_up_stated::Answer;
 pub use u2f_up_stated::Finding;
@@ -10,13 +11,15 @@ pub use u2f_up_stated::Step;
 pub use u2f_up_stated::Window;
 ghost use mathlib.Core.Path.{_≡_};
 ghost use Rattle.outcome.specs.Outcome.{Gives, refusalNo};
-ghost use Rattle.u2f_up_stated.specs.Moments.{isLive, isR6, isR1, grantedOf, gave, refused};
+ghost use Rattle.u2f_up_stated.specs.Moments.{isLive, isR6, isR8, isR1, grantedOf, gave, refused};
 ghost use Rattle.u2f_up_stated.specs.Answers.{outcomeOf, toldOf};
 ghost use Rattle.u2f_up_stated.specs.Contracts.{New, Settle, TouchCheck, GrantUp, ConsumeUp, IsUpNeeded, GrantUpLent, ConsumeUpLent, IsUpNeededLent};
 
 const U2F_UP_PROMPT_TIMEOUT_MS: u64 = 10000;
 
 const W_MOST: u64 = 60000;
+
+const SIDE_MOST: u32 = 1;
 
 const MOMENTS: u64 = 1 << 48;
 
@@ -28,6 +31,16 @@ fn is_r6(w: u64) -> bool
         return true;
     }
     W_MOST < w
+}
+
+// R8: the side that is named, or the record's, is neither 0 nor 1.
+fn is_r8(named: u32, asker: u32) -> bool
+    ensures { λ r. ⌜ r ≡ isR8 named asker ⌝ }
+{
+    if SIDE_MOST < named {
+        return true;
+    }
+    SIDE_MOST < asker
 }
 
 // R1: the moment is 2^48 or more, or before the last one.
@@ -52,15 +65,20 @@ pub fn new(w: u64) -> Ready
         prompt: Window::Closed,
         touch: Window::Closed,
         last: 0,
+        asker: 0,
     })
 }
 
-// The moment settled, before all else: R6, R1, or the record with its last moment at `t`.
-pub fn settle(presence: Presence, t: u64) -> Ready
-    ensures { λ r. ⌜ Settle presence t r ⌝ }
+// The moment settled, before all else: R6, R8, R1, or the record with its last moment at `t`. A call that names no side names the
+// record's own.
+pub fn settle(presence: Presence, side: u32, t: u64) -> Ready
+    ensures { λ r. ⌜ Settle presence side t r ⌝ }
 {
     if is_r6(presence.w) {
         return Ready::Refused(Refusal::R6);
+    }
+    if is_r8(side, presence.asker) {
+        return Ready::Refused(Refusal::R8);
     }
     if is_r1(presence.last, t) {
         return Ready::Refused(Refusal::R1);
@@ -72,6 +90,7 @@ pub fn settle(presence: Presence, t: u64) -> Ready
         prompt,
         touch,
         last: t,
+        asker: presence.asker,
     })
 }
 
@@ -90,7 +109,7 @@ fn is_live(window: Window, d: u64, t: u64) -> bool
     }
 }
 
-// Touch on a settled record: accepted while the prompt is live.
+// Touch on a settled record: accepted while the prompt is live, for the side that asked.
 fn granted(settled: Presence, t: u64) -> Finding
     ensures { λ r. ⌜ r ≡ grantedOf settled t ⌝ }
 {
@@ -103,6 +122,7 @@ fn granted(settled: Presence, t: u64) -> Finding
                 prompt: Window::Closed,
                 touch: Window::Opened(t),
                 last: settled.last,
+                asker: settled.asker,
             },
         };
     }
@@ -112,31 +132,39 @@ fn granted(settled: Presence, t: u64) -> Finding
     }
 }
 
-// The touch check on a settled record: a live touch is spent, else a prompt opens. For callers that settled the moment
-// themselves and had more to look at before they came here.
-pub fn touch_check(presence: Presence, t: u64) -> Finding
-    ensures { λ r. ⌜ TouchCheck presence t r ⌝ }
+// The touch check on a settled record: without a live touch a prompt opens for the side that checks; a live touch is spent if it is
+// that side's, and left where it is if not. For callers that settled the moment themselves and had more to look at before they came here.
+pub fn touch_check(presence: Presence, side: u32, t: u64) -> Finding
+    ensures { λ r. ⌜ TouchCheck presence side t r ⌝ }
 {
     let prompt = presence.prompt;
     let touch = presence.touch;
-    if is_live(touch, presence.w, t) {
+    if !is_live(touch, presence.w, t) {
         return Finding {
-            yes: true,
+            yes: false,
             presence: Presence {
                 w: presence.w,
-                prompt,
-                touch: Window::Closed,
+                prompt: Window::Opened(t),
+                touch,
                 last: presence.last,
+                asker: side,
             },
         };
     }
+    if presence.asker != side {
+        return Finding {
+            yes: false,
+            presence,
+        };
+    }
     Finding {
-        yes: false,
+        yes: true,
         presence: Presence {
             w: presence.w,
-            prompt: Window::Opened(t),
-            touch,
+            prompt,
+            touch: Window::Closed,
             last: presence.last,
+            asker: presence.asker,
         },
     }
 }
@@ -170,19 +198,19 @@ fn refuse(why: Refusal, kept: Presence) -> Step
 pub fn grant_up(presence: Presence, t: u64) -> Step
     ensures { λ r. ⌜ GrantUp presence t r ⌝ }
 {
-    match settle(presence, t) {
+    match settle(presence, presence.asker, t) {
         Ready::Refused(why) => refuse(why, presence),
         Ready::Record(settled) => tell(granted(settled, t)),
     }
 }
 
-// The touch check at `t`: whether a touch was granted, not yet spent and younger than W; it is spent now.
-pub fn consume_up(presence: Presence, t: u64) -> Step
-    ensures { λ r. ⌜ ConsumeUp presence t r ⌝ }
+// The touch check at `t`: whether a touch was granted to this side, not yet spent and younger than W; it is spent now.
+pub fn consume_up(presence: Presence, side: u32, t: u64) -> Step
+    ensures { λ r. ⌜ ConsumeUp presence side t r ⌝ }
 {
-    match settle(presence, t) {
+    match settle(presence, side, t) {
         Ready::Refused(why) => refuse(why, presence),
-        Ready::Record(settled) => tell(touch_check(settled, t)),
+        Ready::Record(settled) => tell(touch_check(settled, side, t)),
     }
 }
 
@@ -191,7 +219,7 @@ pub fn is_up_needed(presence: Presence, t: u64) -> Answer
     ensures { λ r. ⌜ IsUpNeeded presence t r ⌝ }
 {
     let prompt = presence.prompt;
-    match settle(presence, t) {
+    match settle(presence, presence.asker, t) {
         Ready::Refused(why) => Answer::Refused(why),
         Ready::Record(_) => answer_of(is_live(prompt, U2F_UP_PROMPT_TIMEOUT_MS, t)),
     }
@@ -206,10 +234,10 @@ pub fn grant_up_lent(presence: &mut Presence, t: u64) -> Answer
     step.answer
 }
 
-pub fn consume_up_lent(presence: &mut Presence, t: u64) -> Answer
-    ensures { λ r. ⌜ ConsumeUpLent (now (presence .entry)) t r (now (presence .exit)) ⌝ }
+pub fn consume_up_lent(presence: &mut Presence, side: u32, t: u64) -> Answer
+    ensures { λ r. ⌜ ConsumeUpLent (now (presence .entry)) side t r (now (presence .exit)) ⌝ }
 {
-    let step = consume_up(*presence, t);
+    let step = consume_up(*presence, side, t);
     *presence = step.presence;
     step.answer
 }

@@ -8,12 +8,14 @@ pub enum Window {
     Opened(u64),
 }
 
-// The presence record: W, the prompt window (the Rust's `needs_up`), the touch window (`has_up`), and the last moment.
+// The presence record: W, the prompt window (the Rust's `needs_up`), the touch window (`has_up`), the last moment, and the side
+// that asked last, 0 or 1: a prompt is for it, and a touch is its own.
 pub struct Presence {
     pub w: u64,
     pub prompt: Window,
     pub touch: Window,
     pub last: u64,
+    pub asker: u32,
 }
 
 // A record to go on with, or why there is none.
