@@ -8,18 +8,24 @@ use lib.Dec.{ltb}
 use borrow.Author.Tests.{lt-ltb, le-ltb, le-leb, lt-leb, eq-eqb, ne-eqb, ltb-true, ltb-false}
 use Rattle.outcome.specs.declared.Refusal.{Refusal}
 use Rattle.u2f_up_stated.specs.Words.{Outcome, R, Gives, refusalNo, Presence, Window, Opened, Finding}
-use Rattle.u2f_up_stated.specs.Moments.{isLive, isR6, isR1, fresh, newOf, movedTo, touchOpened, touchClosed, promptOpened, settleOf, grantedOf, checkedOf}
+use Rattle.u2f_up_stated.specs.Moments.{isLive, isR6, isR8, isR1, fresh, newOf, movedTo, touchOpened, touchClosed, promptOpened, settleOf, grantedOf, checkedOf}
 use Rattle.u2f_up_stated.specs.Moments.{Told, gave, refused, onSettled, touchOf, checkOf, askOf}
 use Rattle.u2f_up_stated.specs.Answers.{readyOf}
 use Rattle.u2f_up_stated.specs.declared.Ready.{Ready}
 use Rattle.u2f_up_stated.specs.declared.Ready.the-variants as Ready′
 
--- R6 and R1, from the comparisons that the code makes
+-- R6, R8 and R1, from the comparisons that the code makes
 pub r6-zero : (w : ℕ) → w ≡ 0 → true ≡ isR6 w
 r6-zero w h = rw (eq-eqb w 0 h)
 
 pub r6-above : (w : ℕ) → (w ≡ 0 → ⊥) → ltb 60000 w ≡ isR6 w
 r6-above w h = rw (ne-eqb w 0 h)
+
+pub r8-named : (named asker : ℕ) → 1 < named → true ≡ isR8 named asker
+r8-named named asker h = rw (lt-ltb 1 named h)
+
+pub r8-asker : (named asker : ℕ) → named ≤ 1 → ltb 1 asker ≡ isR8 named asker
+r8-asker named asker h = rw (le-ltb 1 named h)
 
 pub r1-beyond : (last t : ℕ) → 2 ^ 48 ≤ t → true ≡ isR1 last t
 r1-beyond last t h = rw (le-leb (2 ^ 48) t h)
@@ -38,19 +44,24 @@ module _ (w : ℕ) (bad : Bool) where
   new-made e h = rw (sym e ∙ h)
 
 -- settling the moment
-module _ (p : Presence) (t : ℕ) (bad : Bool) where
-  pub settle-r6 : bad ≡ isR6 (p .w) → bad ≡ true → R 6 ≡ settleOf p t
+module _ (p : Presence) (s t : ℕ) (bad : Bool) where
+  pub settle-r6 : bad ≡ isR6 (p .w) → bad ≡ true → R 6 ≡ settleOf p s t
   unfolding settleOf
   settle-r6 e h = rw (sym e ∙ h)
 
-  module _ (late : Bool) where
-    pub settle-r1 : bad ≡ isR6 (p .w) → bad ≡ false → late ≡ isR1 (p .last) t → late ≡ true → R 1 ≡ settleOf p t
+  module _ (none : Bool) where
+    pub settle-r8 : bad ≡ isR6 (p .w) → bad ≡ false → none ≡ isR8 s (p .asker) → none ≡ true → R 8 ≡ settleOf p s t
     unfolding settleOf
-    settle-r1 e h f k = rw (sym e ∙ h, sym f ∙ k)
+    settle-r8 e h f k = rw (sym e ∙ h, sym f ∙ k)
 
-    pub settled : bad ≡ isR6 (p .w) → bad ≡ false → late ≡ isR1 (p .last) t → late ≡ false → Gives (movedTo p t) ≡ settleOf p t
-    unfolding settleOf
-    settled e h f k = rw (sym e ∙ h, sym f ∙ k)
+    module _ (late : Bool) where
+      pub settle-r1 : bad ≡ isR6 (p .w) → bad ≡ false → none ≡ isR8 s (p .asker) → none ≡ false → late ≡ isR1 (p .last) t → late ≡ true → R 1 ≡ settleOf p s t
+      unfolding settleOf
+      settle-r1 e h f k g l = rw (sym e ∙ h, sym f ∙ k, sym g ∙ l)
+
+      pub settled : bad ≡ isR6 (p .w) → bad ≡ false → none ≡ isR8 s (p .asker) → none ≡ false → late ≡ isR1 (p .last) t → late ≡ false → Gives (movedTo p t) ≡ settleOf p s t
+      unfolding settleOf
+      settled e h f k g l = rw (sym e ∙ h, sym f ∙ k, sym g ∙ l)
 
 -- windows
 pub live-ahead : (window : Window) (m d t : ℕ) → window ≡ Opened m → t < m → true ≡ isLive window d t
@@ -73,46 +84,52 @@ module _ (p : Presence) (t : ℕ) (live : Bool) where
   unfolding grantedOf
   granted-no e h = rw (sym e ∙ h)
 
-  pub checked-yes : live ≡ isLive (p .touch) (p .w) t → live ≡ true → record { yes = true; presence = touchClosed p } ≡ checkedOf p t
-  unfolding checkedOf
-  checked-yes e h = rw (sym e ∙ h)
+  module _ (s : ℕ) where
+    pub checked-prompts : live ≡ isLive (p .touch) (p .w) t → live ≡ false → record { yes = false; presence = promptOpened p s t } ≡ checkedOf p s t
+    unfolding checkedOf
+    checked-prompts e h = rw (sym e ∙ h)
 
-  pub checked-no : live ≡ isLive (p .touch) (p .w) t → live ≡ false → record { yes = false; presence = promptOpened p t } ≡ checkedOf p t
-  unfolding checkedOf
-  checked-no e h = rw (sym e ∙ h)
+    pub checked-other : live ≡ isLive (p .touch) (p .w) t → live ≡ true → (p .asker ≡ s → ⊥) → record { yes = false; presence = p } ≡ checkedOf p s t
+    unfolding checkedOf
+    checked-other e h n = rw (sym e ∙ h, ne-eqb (p .asker) s n)
+
+    pub checked-own : live ≡ isLive (p .touch) (p .w) t → live ≡ true → p .asker ≡ s → record { yes = true; presence = touchClosed p } ≡ checkedOf p s t
+    unfolding checkedOf
+    checked-own e h o = rw (sym e ∙ h, eq-eqb (p .asker) s o)
 
 -- an answer and a record, told
 pub told-as : (found : Finding) (o : Outcome Bool) → o ≡ Gives (found .yes) → record { outcome = o; presence = found .presence } ≡ gave found
 told-as found o e = rw e
 
 -- the calls: a refusal keeps the record that came in, and what is found on the settled record is what is told
-module _ (p : Presence) (t : ℕ) (ready : Ready) (settles : readyOf ready ≡ settleOf p t) (s : Told) where
-  module _ (why : Refusal) (is : ready ≡ Ready′.Refused why) (tells : s ≡ refused (refusalNo why) p) where
-    told-refused : (goOn : Presence → Told) → s ≡ onSettled p (settleOf p t) goOn
-    told-refused goOn = tells ∙ rw (← settles, is)
+module _ (p : Presence) (side t : ℕ) (ready : Ready) (settles : readyOf ready ≡ settleOf p side t) (s : Told) where
+  told-refused : (why : Refusal) → ready ≡ Ready′.Refused why → s ≡ refused (refusalNo why) p → (goOn : Presence → Told) → s ≡ onSettled p (settleOf p side t) goOn
+  told-refused why is tells goOn = tells ∙ rw (← settles, is)
 
-    pub touch-refused : s ≡ touchOf p t
-    unfolding touchOf
-    touch-refused = told-refused (λ q. gave (grantedOf q t))
+  told-found : (q : Presence) → ready ≡ Ready′.Record q → (found : Finding) → s ≡ gave found → (f : Presence → Finding) → found ≡ f q
+      → s ≡ onSettled p (settleOf p side t) (λ x. gave (f x))
+  told-found q is found tells f e = tells ∙ rw (← settles, is, ← e)
 
-    pub check-refused : s ≡ checkOf p t
-    unfolding checkOf
-    check-refused = told-refused (λ q. gave (checkedOf q t))
+  pub check-refused : (why : Refusal) → ready ≡ Ready′.Refused why → s ≡ refused (refusalNo why) p → s ≡ checkOf p side t
+  unfolding checkOf
+  check-refused why is tells = told-refused why is tells (λ q. gave (checkedOf q side t))
 
-  module _ (q : Presence) (is : ready ≡ Ready′.Record q) (found : Finding) (tells : s ≡ gave found) where
-    told-found : (f : Presence → Finding) → found ≡ f q → s ≡ onSettled p (settleOf p t) (λ x. gave (f x))
-    told-found f e = tells ∙ rw (← settles, is, ← e)
+  pub check-found : (q : Presence) → ready ≡ Ready′.Record q → (found : Finding) → s ≡ gave found → found ≡ checkedOf q side t → s ≡ checkOf p side t
+  unfolding checkOf
+  check-found q is found tells = told-found q is found tells (λ x. checkedOf x side t)
 
-    pub touch-found : found ≡ grantedOf q t → s ≡ touchOf p t
-    unfolding touchOf
-    touch-found = told-found (λ x. grantedOf x t)
+-- a touch settles as the record's own side
+module _ (p : Presence) (t : ℕ) (ready : Ready) (settles : readyOf ready ≡ settleOf p (p .asker) t) (s : Told) where
+  pub touch-refused : (why : Refusal) → ready ≡ Ready′.Refused why → s ≡ refused (refusalNo why) p → s ≡ touchOf p t
+  unfolding touchOf
+  touch-refused why is tells = told-refused p (p .asker) t ready settles s why is tells (λ q. gave (grantedOf q t))
 
-    pub check-found : found ≡ checkedOf q t → s ≡ checkOf p t
-    unfolding checkOf
-    check-found = told-found (λ x. checkedOf x t)
+  pub touch-found : (q : Presence) → ready ≡ Ready′.Record q → (found : Finding) → s ≡ gave found → found ≡ grantedOf q t → s ≡ touchOf p t
+  unfolding touchOf
+  touch-found q is found tells = told-found p (p .asker) t ready settles s q is found tells (λ x. grantedOf x t)
 
 -- asking gives no record back
-module _ (p : Presence) (t : ℕ) (ready : Ready) (settles : readyOf ready ≡ settleOf p t) where
+module _ (p : Presence) (t : ℕ) (ready : Ready) (settles : readyOf ready ≡ settleOf p (p .asker) t) where
   pub ask-refused : (why : Refusal) → ready ≡ Ready′.Refused why → R (refusalNo why) ≡ askOf p t .outcome
   unfolding askOf
   ask-refused why is = rw (← settles, is)

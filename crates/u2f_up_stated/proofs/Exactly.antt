@@ -10,9 +10,9 @@ use lib.Dec.{ltb, leb}
 use lib.ListN.{length}
 use borrow.Author.Tests.{ltb-true, leb-true, lt-ltb}
 use Rattle.outcome.specs.Notation.{if_then_else_}
-use Rattle.u2f_up_stated.specs.Moments.{isR1}
-use Rattle.u2f_up_stated.specs.History.{Role, Touching, Checking, Asking, Settling, Short, Came, RefusedBy, TouchAccepted, TouchIgnored, TouchFound, NoTouchFound, PromptStands, NoPromptStands, Event, Mark, isAny, heldAt, lastMoment, isPromptStanding, latest, isAccepted, isPromptingRefusal, isAfter, isStandingBy, unrefused, foretold}
-use Rattle.u2f_up_stated.specs.Terms.{RefusedAt}
+use Rattle.u2f_up_stated.specs.Moments.{isNoSide, isR1}
+use Rattle.u2f_up_stated.specs.History.{Role, Touching, Checking, Asking, Settling, Short, Came, RefusedBy, TouchAccepted, TouchIgnored, TouchFound, NoTouchFound, PromptStands, NoPromptStands, Event, Mark, sideOf, isAny, heldFor, lastMoment, isPromptStanding, latestPrompt, latestTouch, isAfter, isStandingBy, unrefused, foretold}
+use Rattle.u2f_up_stated.specs.Terms.{RefusedAt, NamesNoSide}
 use Rattle.u2f_up_stated.proofs.Cases.{r1-beyond}
 
 both : (a b : Bool) → a && b ≡ true → (a ≡ true) × (b ≡ true)
@@ -74,64 +74,99 @@ module _ (h : List Event) (t : ℕ) where
   passed : isR1 (lastMoment h) t ≡ false → RefusedAt h t → ⊥
   passed e r = true≢false (sym (refused-r1 r) ∙ e)
 
-module _ (w : ℕ) (h : List Event) (t : ℕ) (o : Came) where
-  -- a foretold outcome, by whether the moment passes
-  foretold-r1 : (k : Role) → o ≡ foretold w h (record { role = k; moment = t }) → isR1 (lastMoment h) t ≡ true → o ≡ RefusedBy 1
-  unfolding foretold
-  foretold-r1 k f e = f ∙ rw e
+-- a side that is none
+named-none : (n : ℕ) → isNoSide n ≡ true → 1 < n
+named-none n e = ltb-true 1 n e
 
-  foretold-given : (k : Role) → o ≡ foretold w h (record { role = k; moment = t }) → isR1 (lastMoment h) t ≡ false → o ≡ unrefused w h k t
-  unfolding foretold
-  foretold-given k f e = f ∙ rw e
+none-named : (n : ℕ) → 1 < n → isNoSide n ≡ true
+none-named n h = lt-ltb 1 n h
 
-  -- R1, and never R6
+named-one : (n : ℕ) → isNoSide n ≡ false → 1 < n → ⊥
+named-one n e h = true≢false (sym (none-named n h) ∙ e)
+
+module _ (w : ℕ) (h : List Event) (t : ℕ) (o : Came) (k : Role) (f : o ≡ foretold w h (record { role = k; moment = t })) where
+  -- a foretold outcome, by whether side and moment pass
+  foretold-r8 : isNoSide (sideOf k) ≡ true → o ≡ RefusedBy 8
+  unfolding foretold
+  foretold-r8 n = f ∙ rw n
+
+  foretold-r1 : isNoSide (sideOf k) ≡ false → isR1 (lastMoment h) t ≡ true → o ≡ RefusedBy 1
+  unfolding foretold
+  foretold-r1 n e = f ∙ rw (n, e)
+
+  foretold-given : isNoSide (sideOf k) ≡ false → isR1 (lastMoment h) t ≡ false → o ≡ unrefused w h k t
+  unfolding foretold
+  foretold-given n e = f ∙ rw (n, e)
+
+-- once side and moment have passed, a refusal is R2
+module _ (w : ℕ) (h : List Event) (t : ℕ) where
   unrefused-no-r : (n : ℕ) → (2 ≡ n → ⊥) → (k : Role) → unrefused w h k t ≡ RefusedBy n → ⊥
-  unrefused-no-r n d Touching e = no-refusal TouchAccepted TouchIgnored accepted-refusal ignored-refusal ignored-accepted n (isPromptStanding h t) e
-  unrefused-no-r n d Checking e = no-refusal TouchFound NoTouchFound found-refusal not-found-refusal not-found-found n (isAny (heldAt w h t)) e
-  unrefused-no-r n d Asking e = no-refusal PromptStands NoPromptStands stands-refusal stands-not-refusal stands-not-stands n (isPromptStanding h t) e
-  unrefused-no-r n d Settling e = let z : _≡_ {A = ℕ} 0 1 = cc in omega arith
-  unrefused-no-r n d Short e = d (cc)
+  unrefused-no-r n d Touching e = no-refusal TouchAccepted TouchIgnored accepted-refusal ignored-refusal ignored-accepted n (isPromptStanding w h t) e
+  unrefused-no-r n d (Checking s) e = no-refusal TouchFound NoTouchFound found-refusal not-found-refusal not-found-found n (isAny (heldFor w h s t)) e
+  unrefused-no-r n d Asking e = no-refusal PromptStands NoPromptStands stands-refusal stands-not-refusal stands-not-stands n (isPromptStanding w h t) e
+  unrefused-no-r n d (Settling s) e = let z : _≡_ {A = ℕ} 0 1 = cc in omega arith
+  unrefused-no-r n d (Short s) e = d (cc)
 
-  pub refuses : (k : Role) → o ≡ foretold w h (record { role = k; moment = t }) → (o ≡ RefusedBy 1) ↔ RefusedAt h t
-  refuses k f = (go (isR1 (lastMoment h) t) refl, λ r. foretold-r1 k f (refused-r1 h t r))
+number-same : (n m : ℕ) → RefusedBy n ≡ RefusedBy m → n ≡ m
+number-same n m e = cc
+
+module _ (w : ℕ) (h : List Event) (t : ℕ) (o : Came) (k : Role) (f : o ≡ foretold w h (record { role = k; moment = t })) where
+  pub refuses-side : (o ≡ RefusedBy 8) ↔ NamesNoSide k
+  refuses-side = (go (isNoSide (sideOf k)) refl (isR1 (lastMoment h) t) refl, λ n. foretold-r8 w h t o k f (none-named (sideOf k) n))
     where
-      go : (b : Bool) → isR1 (lastMoment h) t ≡ b → o ≡ RefusedBy 1 → RefusedAt h t
-      go true e q = r1-refused h t e
-      go false e q = absurd (unrefused-no-r 1 (omega arith) k (sym (foretold-given k f e) ∙ q))
+      go : (c : Bool) → isNoSide (sideOf k) ≡ c → (b : Bool) → isR1 (lastMoment h) t ≡ b → o ≡ RefusedBy 8 → NamesNoSide k
+      go true n b e q = named-none (sideOf k) n
+      go false n true e q = absurd (omega (arith, number-same 1 8 (sym (foretold-r1 w h t o k f n e) ∙ q)))
+      go false n false e q = absurd (unrefused-no-r w h t 8 (omega arith) k (sym (foretold-given w h t o k f n e) ∙ q))
 
-  pub refuses-no-window : (k : Role) → o ≡ foretold w h (record { role = k; moment = t }) → o ≡ RefusedBy 6 → ⊥
-  refuses-no-window k f = go (isR1 (lastMoment h) t) refl
+  pub refuses : (o ≡ RefusedBy 1) ↔ ((NamesNoSide k → ⊥) × RefusedAt h t)
+  refuses = (go (isNoSide (sideOf k)) refl (isR1 (lastMoment h) t) refl, back (isNoSide (sideOf k)) refl)
     where
-      go : (b : Bool) → isR1 (lastMoment h) t ≡ b → o ≡ RefusedBy 6 → ⊥
-      go true e q = let r = foretold-r1 k f e in let z : _≡_ {A = ℕ} 1 6 = cc in omega arith
-      go false e q = unrefused-no-r 6 (omega arith) k (sym (foretold-given k f e) ∙ q)
+      go : (c : Bool) → isNoSide (sideOf k) ≡ c → (b : Bool) → isR1 (lastMoment h) t ≡ b → o ≡ RefusedBy 1 → (NamesNoSide k → ⊥) × RefusedAt h t
+      go true n b e q = absurd (omega (arith, number-same 8 1 (sym (foretold-r8 w h t o k f n) ∙ q)))
+      go false n true e q = (named-one (sideOf k) n, r1-refused h t e)
+      go false n false e q = absurd (unrefused-no-r w h t 1 (omega arith) k (sym (foretold-given w h t o k f n e) ∙ q))
 
-  -- yes: the moment passes, and what was asked is so
-  yes : (k : Role) (b : Bool) (y n : Came) → ((m : ℕ) → RefusedBy m ≡ y → ⊥) → ((m : ℕ) → RefusedBy m ≡ n → ⊥) → (n ≡ y → ⊥) → unrefused w h k t ≡ (if b then y else n)
-      → o ≡ foretold w h (record { role = k; moment = t }) → (o ≡ y) ↔ ((RefusedAt h t → ⊥) × (b ≡ true))
-  yes k b y n ry rn apart u f = (go (isR1 (lastMoment h) t) refl, back (isR1 (lastMoment h) t) refl)
+      back : (c : Bool) → isNoSide (sideOf k) ≡ c → (NamesNoSide k → ⊥) × RefusedAt h t → o ≡ RefusedBy 1
+      back true n r = absurd (r .0 (named-none (sideOf k) n))
+      back false n r = foretold-r1 w h t o k f n (refused-r1 h t (r .1))
+
+  pub refuses-no-window : o ≡ RefusedBy 6 → ⊥
+  refuses-no-window = go (isNoSide (sideOf k)) refl (isR1 (lastMoment h) t) refl
     where
-      go : (c : Bool) → isR1 (lastMoment h) t ≡ c → o ≡ y → (RefusedAt h t → ⊥) × (b ≡ true)
-      go true e q = absurd (ry 1 (sym (foretold-r1 k f e) ∙ q))
-      go false e q = (passed h t e, is-yes y n ry rn apart b (sym u ∙ sym (foretold-given k f e) ∙ q))
+      go : (c : Bool) → isNoSide (sideOf k) ≡ c → (b : Bool) → isR1 (lastMoment h) t ≡ b → o ≡ RefusedBy 6 → ⊥
+      go true n b e q = omega (arith, number-same 8 6 (sym (foretold-r8 w h t o k f n) ∙ q))
+      go false n true e q = omega (arith, number-same 1 6 (sym (foretold-r1 w h t o k f n e) ∙ q))
+      go false n false e q = unrefused-no-r w h t 6 (omega arith) k (sym (foretold-given w h t o k f n e) ∙ q)
 
-      back : (c : Bool) → isR1 (lastMoment h) t ≡ c → (RefusedAt h t → ⊥) × (b ≡ true) → o ≡ y
-      back true e q = absurd (q .0 (r1-refused h t e))
-      back false e q = foretold-given k f e ∙ u ∙ ap (λ (c : Bool). if c then y else n) (q .1)
+  -- yes: side and moment pass, and what was asked is so
+  yes : (b : Bool) (y n : Came) → ((m : ℕ) → RefusedBy m ≡ y → ⊥) → ((m : ℕ) → RefusedBy m ≡ n → ⊥) → (n ≡ y → ⊥) → unrefused w h k t ≡ (if b then y else n)
+      → (o ≡ y) ↔ ((NamesNoSide k → ⊥) × (RefusedAt h t → ⊥) × (b ≡ true))
+  yes b y n ry rn apart u = (go (isNoSide (sideOf k)) refl (isR1 (lastMoment h) t) refl, back (isNoSide (sideOf k)) refl (isR1 (lastMoment h) t) refl)
+    where
+      go : (d : Bool) → isNoSide (sideOf k) ≡ d → (c : Bool) → isR1 (lastMoment h) t ≡ c → o ≡ y → (NamesNoSide k → ⊥) × (RefusedAt h t → ⊥) × (b ≡ true)
+      go true g c e q = absurd (ry 8 (sym (foretold-r8 w h t o k f g) ∙ q))
+      go false g true e q = absurd (ry 1 (sym (foretold-r1 w h t o k f g e) ∙ q))
+      go false g false e q = (named-one (sideOf k) g, passed h t e, is-yes y n ry rn apart b (sym u ∙ sym (foretold-given w h t o k f g e) ∙ q))
+
+      back : (d : Bool) → isNoSide (sideOf k) ≡ d → (c : Bool) → isR1 (lastMoment h) t ≡ c → (NamesNoSide k → ⊥) × (RefusedAt h t → ⊥) × (b ≡ true) → o ≡ y
+      back true g c e q = absurd (q .0 (named-none (sideOf k) g))
+      back false g true e q = absurd (q .1 (r1-refused h t e))
+      back false g false e q = foretold-given w h t o k f g e ∙ u ∙ ap (λ (c : Bool). if c then y else n) (q .2)
 
 -- a standing prompt, in the document's words
-abbrev Standing : List Event → ℕ → Type 0
-Standing h t = (s : Mark) × (latest isPromptingRefusal h ≡ some s) × (isAfter s (latest isAccepted h) ≡ true) × (t < s .moment + 10000)
+abbrev Standing : ℕ → List Event → ℕ → Type 0
+Standing w h t = (s : Mark) × (latestPrompt w h ≡ some s) × (isAfter s (latestTouch w h) ≡ true) × (t < s .moment + 10000)
 
-standing : (h : List Event) (t : ℕ) → (isPromptStanding h t ≡ true) ↔ Standing h t
+standing : (w : ℕ) (h : List Event) (t : ℕ) → (isPromptStanding w h t ≡ true) ↔ Standing w h t
 unfolding isPromptStanding
-standing h t = (go (latest isPromptingRefusal h) refl, back)
+standing w h t = (go (latestPrompt w h) refl, back)
   where
-    go : (o : Option Mark) → latest isPromptingRefusal h ≡ o → isStandingBy o (latest isAccepted h) t ≡ true → Standing h t
+    go : (o : Option Mark) → latestPrompt w h ≡ o → isStandingBy o (latestTouch w h) t ≡ true → Standing w h t
     go none e q = absurd (false≢true q)
-    go (some s) e q = let z = both (isAfter s (latest isAccepted h)) (ltb t (s .moment + 10000)) q in (s, e, z .0, ltb-true t (s .moment + 10000) (z .1))
+    go (some s) e q = let z = both (isAfter s (latestTouch w h)) (ltb t (s .moment + 10000)) q in (s, e, z .0, ltb-true t (s .moment + 10000) (z .1))
 
-    back : Standing h t → isStandingBy (latest isPromptingRefusal h) (latest isAccepted h) t ≡ true
+    back : Standing w h t → isStandingBy (latestPrompt w h) (latestTouch w h) t ≡ true
     back s = rw (s .1, s .2) (lt-ltb t (s .0 .moment + 10000) (s .3))
 
 -- one touch held
@@ -141,15 +176,19 @@ only (k ∷ []) b = (λ e. (k, refl), λ s. refl)
 only (k ∷ (j ∷ ks)) b = (λ e. absurd (omega arith), λ s. refl)
 
 module _ (w : ℕ) (h : List Event) (t : ℕ) (o : Came) where
-  pub accepts : o ≡ foretold w h (record { role = Touching; moment = t }) → (o ≡ TouchAccepted) ↔ ((RefusedAt h t → ⊥) × Standing h t)
-  accepts f = let y = yes w h t o Touching (isPromptStanding h t) TouchAccepted TouchIgnored accepted-refusal ignored-refusal ignored-accepted refl f in
-      (λ q. (y .0 q .0, standing h t .0 (y .0 q .1)), λ s. y .1 (s .0, standing h t .1 (s .1)))
+  -- a touch names no side
+  nobody : NamesNoSide Touching → ⊥
+  nobody n = omega arith
 
-  pub finds : (lastMoment h ≤ t → length (heldAt w h t) ≤ 1) → o ≡ foretold w h (record { role = Checking; moment = t })
-      → (o ≡ TouchFound) ↔ ((RefusedAt h t → ⊥) × ((k : Mark) × (heldAt w h t ≡ k ∷ [])))
-  finds one f = let y = yes w h t o Checking (isAny (heldAt w h t)) TouchFound NoTouchFound found-refusal not-found-refusal not-found-found refl f in (
-    λ q. (y .0 q .0, only (heldAt w h t) (one (late (y .0 q .0))) .0 (y .0 q .1)),
-    λ s. y .1 (s .0, only (heldAt w h t) (one (late (s .0))) .1 (s .1)),
+  pub accepts : o ≡ foretold w h (record { role = Touching; moment = t }) → (o ≡ TouchAccepted) ↔ ((RefusedAt h t → ⊥) × Standing w h t)
+  accepts f = let y = yes w h t o Touching f (isPromptStanding w h t) TouchAccepted TouchIgnored accepted-refusal ignored-refusal ignored-accepted refl in
+      (λ q. (y .0 q .1, standing w h t .0 (y .0 q .2)), λ s. y .1 (nobody, s .0, standing w h t .1 (s .1)))
+
+  pub finds : (s : ℕ) → (lastMoment h ≤ t → length (heldFor w h s t) ≤ 1) → o ≡ foretold w h (record { role = Checking s; moment = t })
+      → (o ≡ TouchFound) ↔ ((NamesNoSide (Checking s) → ⊥) × (RefusedAt h t → ⊥) × ((k : Mark) × (heldFor w h s t ≡ k ∷ [])))
+  finds s one f = let y = yes w h t o (Checking s) f (isAny (heldFor w h s t)) TouchFound NoTouchFound found-refusal not-found-refusal not-found-found refl in (
+    λ q. (y .0 q .0, y .0 q .1, only (heldFor w h s t) (one (late (y .0 q .1))) .0 (y .0 q .2)),
+    λ g. y .1 (g .0, g .1, only (heldFor w h s t) (one (late (g .1))) .1 (g .2)),
   )
     where
       late : (RefusedAt h t → ⊥) → lastMoment h ≤ t
@@ -158,3 +197,27 @@ module _ (w : ℕ) (h : List Event) (t : ℕ) (o : Came) where
           go : (b : Bool) → ltb t (lastMoment h) ≡ b → lastMoment h ≤ t
           go true e = absurd (n (inr (ltb-true t (lastMoment h) e)))
           go false e = borrow.Author.Tests.ltb-false t (lastMoment h) e
+
+  other : (k : Role) → o ≡ foretold w h (record { role = k; moment = t }) → (unrefused w h k t ≡ TouchFound → ⊥) → o ≡ TouchFound → ⊥
+  other k f never q = go (isNoSide (sideOf k)) refl (isR1 (lastMoment h) t) refl
+    where
+      go : (c : Bool) → isNoSide (sideOf k) ≡ c → (b : Bool) → isR1 (lastMoment h) t ≡ b → ⊥
+      go true n b e = found-refusal 8 (sym (foretold-r8 w h t o k f n) ∙ q)
+      go false n true e = found-refusal 1 (sym (foretold-r1 w h t o k f n e) ∙ q)
+      go false n false e = never (sym (foretold-given w h t o k f n e) ∙ q)
+
+  -- only a check finds a touch
+  pub checks : (k : Role) → o ≡ foretold w h (record { role = k; moment = t }) → o ≡ TouchFound → (s : ℕ) × (k ≡ Checking s)
+  checks (Checking s) f q = (s, refl)
+  checks Touching f q = absurd (other Touching f (λ e. two (isPromptStanding w h t) e) q)
+    where
+      two : (b : Bool) → (if b then TouchAccepted else TouchIgnored) ≡ TouchFound → ⊥
+      two true e = let z : _≡_ {A = ℕ} 0 1 = cc in omega arith
+      two false e = let z : _≡_ {A = ℕ} 0 1 = cc in omega arith
+  checks Asking f q = absurd (other Asking f (λ e. two (isPromptStanding w h t) e) q)
+    where
+      two : (b : Bool) → (if b then PromptStands else NoPromptStands) ≡ TouchFound → ⊥
+      two true e = let z : _≡_ {A = ℕ} 0 1 = cc in omega arith
+      two false e = let z : _≡_ {A = ℕ} 0 1 = cc in omega arith
+  checks (Settling s) f q = absurd (other (Settling s) f (λ e. let z : _≡_ {A = ℕ} 0 1 = cc in omega arith) q)
+  checks (Short s) f q = absurd (other (Short s) f (found-refusal 2) q)

@@ -11,6 +11,7 @@ pub mod Ledger
 pub mod Exactly
 pub mod Demand
 pub mod Keepers
+pub mod OneSide
 pub mod Laws
 pub mod Numbers
 pub mod Only

@@ -3,14 +3,16 @@ use Prim.Native.Nat.{ℕ, _<_, _≤_}
 use mathlib.Core.Path.{_≡_, refl, sym, ap₂, _∙_}
 use mathlib.Core.Bool.{Bool}
 use mathlib.Core.List.{List, [], _∷_}
-use Rattle.outcome.specs.Notation.{Determines, Determines2}
-use Rattle.u2f_up_stated.specs.Words.{Outcome, R, Presence}
+use Rattle.outcome.specs.Notation.{Determines, Determines2, Determines3}
+use native.Mathlib.Decide.{ℕ-discrete}
+use Rattle.u2f_up_stated.specs.Words.{Outcome, R, Presence, Finding}
 use Rattle.u2f_up_stated.specs.Moments.{Told}
 use Rattle.u2f_up_stated.specs.History.{Call, Came, Event, foretold}
-use Rattle.u2f_up_stated.specs.Runs.{Caller, history}
-use Rattle.u2f_up_stated.specs.Terms.{BadWindow, BadMoment, Passes, HasPrompt, HasTouch, SettlesFirst}
+use Rattle.u2f_up_stated.specs.Runs.{Caller, after, history}
+use Rattle.u2f_up_stated.specs.OneSide.{sideless, OnlySide}
+use Rattle.u2f_up_stated.specs.Terms.{BadWindow, BadSide, BadMoment, Passes, HasPrompt, HasTouch, SettlesFirst}
 use Rattle.u2f_up_stated.specs.Claims
-use Rattle.u2f_up_stated.proofs.Ways.{bad-window, bad-moment, has-touch, has-prompt}
+use Rattle.u2f_up_stated.proofs.Ways.{bad-window, bad-side, bad-moment, has-touch, has-prompt}
 
 pub MakesExactly : Determines Claims.MakesExactly
 MakesExactly f g F G w = by (bad-window w)
@@ -19,57 +21,79 @@ MakesExactly f g F G w = by (bad-window w)
     by (yes b) = F .r6 w .1 b ∙ sym (G .r6 w .1 b)
     by (no h) = F .makes w h ∙ sym (G .makes w h)
 
-pub SettlesExactly : Determines2 Claims.SettlesExactly
-SettlesExactly f g F G p t = by (bad-window (p .w)) (bad-moment (p .last) t)
+pub SettlesExactly : Determines3 Claims.SettlesExactly
+SettlesExactly f g F G p s t = by (bad-window (p .w)) (bad-side s (p .asker)) (bad-moment (p .last) t)
   where
-    by : Dec (BadWindow (p .w)) → Dec (BadMoment (p .last) t) → f p t ≡ g p t
-    by (yes b) m = F .r6 p t .1 b ∙ sym (G .r6 p t .1 b)
-    by (no w) (yes b) = F .r1 p t .1 (w, b) ∙ sym (G .r1 p t .1 (w, b))
-    by (no w) (no m) = F .moves p t (w, m) ∙ sym (G .moves p t (w, m))
+    by : Dec (BadWindow (p .w)) → Dec (BadSide s (p .asker)) → Dec (BadMoment (p .last) t) → f p s t ≡ g p s t
+    by (yes b) n m = F .r6 p s t .1 b ∙ sym (G .r6 p s t .1 b)
+    by (no w) (yes b) m = F .r8 p s t .1 (w, b) ∙ sym (G .r8 p s t .1 (w, b))
+    by (no w) (no n) (yes b) = F .r1 p s t .1 (w, n, b) ∙ sym (G .r1 p s t .1 (w, n, b))
+    by (no w) (no n) (no m) = F .moves p s t (w, n, m) ∙ sym (G .moves p s t (w, n, m))
 
 -- two calls that settle first agree where they refuse; where they do not, what is left to show
-module _ (f g : Presence → ℕ → Told) (F : SettlesFirst f) (G : SettlesFirst g) (p : Presence) (t : ℕ) where
+module _ (named : Presence → ℕ) (f g : Presence → ℕ → Told) (F : SettlesFirst named f) (G : SettlesFirst named g) (p : Presence) (t : ℕ) where
   same : f p t .outcome ≡ g p t .outcome → f p t .presence ≡ g p t .presence → f p t ≡ g p t
   same e q = ap₂ (λ (o : Outcome Bool) (r : Presence). record { outcome = o; presence = r }) e q
 
   refuse : (n : ℕ) → f p t .outcome ≡ R n → g p t .outcome ≡ R n → f p t ≡ g p t
   refuse n a b = same (a ∙ sym b) (F .keeps p t n a ∙ sym (G .keeps p t n b))
 
-  settled : (Passes p t → f p t ≡ g p t) → f p t ≡ g p t
-  settled more = by (bad-window (p .w)) (bad-moment (p .last) t)
+  settled : (Passes p (named p) t → f p t ≡ g p t) → f p t ≡ g p t
+  settled more = by (bad-window (p .w)) (bad-side (named p) (p .asker)) (bad-moment (p .last) t)
     where
-      by : Dec (BadWindow (p .w)) → Dec (BadMoment (p .last) t) → f p t ≡ g p t
-      by (yes b) m = refuse 6 (F .r6 p t .1 b) (G .r6 p t .1 b)
-      by (no w) (yes b) = refuse 1 (F .r1 p t .1 (w, b)) (G .r1 p t .1 (w, b))
-      by (no w) (no m) = more (w, m)
+      by : Dec (BadWindow (p .w)) → Dec (BadSide (named p) (p .asker)) → Dec (BadMoment (p .last) t) → f p t ≡ g p t
+      by (yes b) n m = refuse 6 (F .r6 p t .1 b) (G .r6 p t .1 b)
+      by (no w) (yes b) m = refuse 8 (F .r8 p t .1 (w, b)) (G .r8 p t .1 (w, b))
+      by (no w) (no n) (yes b) = refuse 1 (F .r1 p t .1 (w, n, b)) (G .r1 p t .1 (w, n, b))
+      by (no w) (no n) (no m) = more (w, n, m)
 
 pub TouchesExactly : Determines2 Claims.TouchesExactly
-TouchesExactly f g F G p t = settled f g (F .settles) (G .settles) p t (λ ok. by ok (has-prompt p t))
+TouchesExactly f g F G p t = settled (λ p. p .asker) f g (F .settles) (G .settles) p t (λ ok. by ok (has-prompt p t))
   where
-    by : Passes p t → Dec (HasPrompt p t) → f p t ≡ g p t
+    by : Passes p (p .asker) t → Dec (HasPrompt p t) → f p t ≡ g p t
     by ok (yes h) = F .accepts p t ok h ∙ sym (G .accepts p t ok h)
     by ok (no h) = F .otherwise p t ok h ∙ sym (G .otherwise p t ok h)
 
-pub ChecksExactly : Determines2 Claims.ChecksExactly
-ChecksExactly f g F G p t = settled f g (F .settles) (G .settles) p t (λ ok. by ok (has-touch p t))
+pub ChecksExactly : Determines3 Claims.ChecksExactly
+ChecksExactly f g F G p s t = settled (λ p. s) (λ p t. f p s t) (λ p t. g p s t) (F .settles s) (G .settles s) p t (λ ok. by ok (has-touch p t) (ℕ-discrete (p .asker) s))
   where
-    by : Passes p t → Dec (HasTouch p t) → f p t ≡ g p t
-    by ok (yes h) = F .finds p t ok h ∙ sym (G .finds p t ok h)
-    by ok (no h) = F .prompts p t ok h ∙ sym (G .prompts p t ok h)
+    by : Passes p s t → Dec (HasTouch p t) → Dec (p .asker ≡ s) → f p s t ≡ g p s t
+    by ok (yes h) (yes o) = F .finds p s t ok h o ∙ sym (G .finds p s t ok h o)
+    by ok (yes h) (no o) = F .other p s t ok h o ∙ sym (G .other p s t ok h o)
+    by ok (no h) o = F .prompts p s t ok h ∙ sym (G .prompts p s t ok h)
 
-pub FindsExactly : Determines2 Claims.FindsExactly
-FindsExactly f g F G p t = by (has-touch p t)
+pub FindsExactly : Determines3 Claims.FindsExactly
+FindsExactly f g F G p s t = by (has-touch p t) (ℕ-discrete (p .asker) s)
   where
-    by : Dec (HasTouch p t) → f p t ≡ g p t
-    by (yes h) = F .finds p t h ∙ sym (G .finds p t h)
-    by (no h) = F .prompts p t h ∙ sym (G .prompts p t h)
+    by : Dec (HasTouch p t) → Dec (p .asker ≡ s) → f p s t ≡ g p s t
+    by (yes h) (yes o) = F .finds p s t h o ∙ sym (G .finds p s t h o)
+    by (yes h) (no o) = F .other p s t h o ∙ sym (G .other p s t h o)
+    by (no h) o = F .prompts p s t h ∙ sym (G .prompts p s t h)
 
 pub AsksExactly : Determines2 Claims.AsksExactly
-AsksExactly f g F G p t = settled f g (F .settles) (G .settles) p t (λ ok. by ok (has-prompt p t))
+AsksExactly f g F G p t = settled (λ p. p .asker) f g (F .settles) (G .settles) p t (λ ok. by ok (has-prompt p t))
   where
-    by : Passes p t → Dec (HasPrompt p t) → f p t ≡ g p t
+    by : Passes p (p .asker) t → Dec (HasPrompt p t) → f p t ≡ g p t
     by ok (yes h) = F .live p t ok h ∙ sym (G .live p t ok h)
     by ok (no h) = F .not-live p t ok h ∙ sym (G .not-live p t ok h)
+
+pub BaseExactly : (f g : Presence → ℕ → Outcome Presence) (h k : Presence → ℕ → Finding) → Claims.BaseExactly f h → Claims.BaseExactly g k
+    → (p : Presence) (t : ℕ) → (f p t ≡ g p t) × (h p t ≡ k p t)
+BaseExactly f g h k F G p t = (by (bad-window (p .w)) (bad-moment (p .last) t), found (has-touch p t))
+  where
+    by : Dec (BadWindow (p .w)) → Dec (BadMoment (p .last) t) → f p t ≡ g p t
+    by (yes b) m = F .r6 p t b ∙ sym (G .r6 p t b)
+    by (no w) (yes b) = F .r1 p t w b ∙ sym (G .r1 p t w b)
+    by (no w) (no m) = F .moves p t w m ∙ sym (G .moves p t w m)
+
+    found : Dec (HasTouch p t) → h p t ≡ k p t
+    found (yes y) = F .finds p t y ∙ sym (G .finds p t y)
+    found (no n) = F .prompts p t n ∙ sym (G .prompts p t n)
+
+-- on runs with one side, two ways of calling that are the base's give the same answers and windows
+pub OneSideIsBase : {D : Type 0} (𝒜 ℬ 𝒞 : Caller D) → Claims.OneSideIsBase 𝒜 𝒞 → Claims.OneSideIsBase ℬ 𝒞 → (w : ℕ) → 0 < w → w ≤ 60000 → (s : ℕ) → s ≤ 1
+    → (ds : List D) → OnlySide 𝒜 s ds → OnlySide ℬ s ds → sideless (after 𝒜 w ds) ≡ sideless (after ℬ w ds)
+OneSideIsBase 𝒜 ℬ 𝒞 a b w least most s one ds p q = a w least most s one ds p .0 ∙ sym (b w least most s one ds q .0)
 
 -- demand 3 determines histories: two ways of calling that meet it, and are alike in what their calls are, have the same one on
 -- every run

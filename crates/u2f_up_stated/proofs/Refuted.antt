@@ -8,9 +8,10 @@ use native.Mathlib.Omega.{arith}
 use Rattle.outcome.proofs.Laws.{r-gives}
 use Rattle.u2f_up_stated.specs.Words.{Outcome, R, Gives, Closed, Opened, Presence, Finding}
 use Rattle.u2f_up_stated.specs.Moments.{Told, fresh, settleOf, grantedOf, checkedOf, checkOf}
-use Rattle.u2f_up_stated.specs.History.{Touching, Checking, Short, TouchAccepted, TouchIgnored, TouchFound, NoTouchFound, Call, lastMoment, latest, isPromptStanding, unspent, servers, foretold}
+use Rattle.u2f_up_stated.specs.History.{Touching, Checking, Short, RefusedBy, TouchAccepted, TouchIgnored, TouchFound, NoTouchFound, Call, lastMoment, latestPrompt, latestTouch, isPromptStanding, unspent, servers, foretold}
 use Rattle.u2f_up_stated.specs.Runs.{after, history, doneBy}
-use Rattle.u2f_up_stated.specs.Terms.{BadWindow, BadMoment, Passes, HasTouch, HasPrompt, ServesOnce}
+use Rattle.u2f_up_stated.specs.OneSide.{base, baseBy, baseSettleOf, baseCheckedOf}
+use Rattle.u2f_up_stated.specs.Terms.{BadWindow, BadSide, BadMoment, Passes, HasTouch, HasPrompt, ServesOnce}
 use Rattle.u2f_up_stated.specs.Claims
 use Rattle.u2f_up_stated.specs.Wrong
 
@@ -27,34 +28,70 @@ takes60001 d = r-gives 6 _ (sym (d .r6 60001 .1 (inr (omega arith))))
 pub refuses60000 : Claims.MakesExactly Wrong.refuses60000 → ⊥
 refuses60000 d = r-gives 6 _ (d .makes 60000 (⊎-elim (λ z. omega arith) (λ z. omega arith)))
 
--- ---- settlings
-abbrev noWindow : Presence
-noWindow = record { w = 0; prompt = Closed; touch = Closed; last = 1 }
+pub freshSide1 : Claims.MakesExactly Wrong.freshSide1 → ⊥
+freshSide1 d = let z : _≡_ {A = ℕ} 1 0 = ap askerOr0 (d .makes 1 (⊎-elim (λ z. omega arith) (λ z. omega arith))) in omega arith
+  where
+    askerOr0 : Outcome Presence → ℕ
+    askerOr0 (R n) = 0
+    askerOr0 (Outcome.Word w) = 0
+    askerOr0 (Gives p) = p .asker
 
-pub r1First : Claims.SettlesExactly Wrong.r1First → ⊥
-r1First d = let e : _≡_ {A = Outcome Presence} (R 1) (R 6) = d .r6 noWindow 0 .1 (inl refl) in let z : _≡_ {A = ℕ} 1 6 = cc in omega arith
+-- ---- settlings
+r-same : {A : Type 0} {n m : ℕ} → _≡_ {A = Outcome A} (R n) (R m) → n ≡ m
+r-same e = cc
+
+-- neither W nor side nor moment is right; then W is
+abbrev noWindow : Presence
+noWindow = record { w = 0; prompt = Closed; touch = Closed; last = 1; asker = 2 }
+
+abbrev noSide : Presence
+noSide = record { w = 100; prompt = Closed; touch = Closed; last = 1; asker = 2 }
 
 within : (w : ℕ) → 0 < w → w ≤ 60000 → BadWindow w → ⊥
 within w least most = ⊎-elim (λ z. omega arith) (λ z. omega arith)
 
+sided : (s a : ℕ) → s ≤ 1 → a ≤ 1 → BadSide s a → ⊥
+sided s a p q = ⊎-elim (λ z. omega arith) (λ z. omega arith)
+
 timely : (last t : ℕ) → last ≤ t → t < 2 ^ 48 → BadMoment last t → ⊥
 timely last t late least = ⊎-elim (λ z. omega arith) (λ z. omega arith)
 
+in-range : BadWindow 100 → ⊥
+in-range = within 100 (omega arith) (omega arith)
+
+pub r1First : Claims.SettlesExactly Wrong.r1First → ⊥
+r1First d = omega (arith, r-same (d .r6 noWindow 0 0 .1 (inl refl)))
+
+pub r8First : Claims.SettlesExactly Wrong.r8First → ⊥
+r8First d = omega (arith, r-same (d .r6 noWindow 0 0 .1 (inl refl)))
+
+pub r8AfterR1 : Claims.SettlesExactly Wrong.r8AfterR1 → ⊥
+r8AfterR1 d = omega (arith, r-same (d .r8 noSide 0 0 .1 (in-range, inr (omega arith))))
+
+pub takesSide2 : Claims.SettlesExactly Wrong.takesSide2 → ⊥
+takesSide2 d = r-gives 8 _ (sym (d .r8 (fresh 100) 2 7 .1 (in-range, inl (omega arith))))
+
+pub namedSideTaken : Claims.SettlesExactly Wrong.namedSideTaken → ⊥
+namedSideTaken d = r-gives 8 _ (sym (d .r8 (fresh 100) 4294967295 7 .1 (in-range, inl (omega arith))))
+
+pub recordSideTaken : Claims.SettlesExactly Wrong.recordSideTaken → ⊥
+recordSideTaken d = r-gives 8 _ (sym (d .r8 noSide 1 7 .1 (in-range, inr (omega arith))))
+
 pub takes2to48 : Claims.SettlesExactly Wrong.takes2to48 → ⊥
-takes2to48 d = r-gives 1 _ (sym (d .r1 (fresh 100) (2 ^ 48) .1 (within 100 (omega arith) (omega arith), inl (omega arith))))
+takes2to48 d = r-gives 1 _ (sym (d .r1 (fresh 100) 0 (2 ^ 48) .1 (in-range, sided 0 0 (omega arith) (omega arith), inl (omega arith))))
 
 pub refusesLast : Claims.SettlesExactly Wrong.refusesLast → ⊥
-refusesLast d = r-gives 1 _ (d .moves (fresh 100) 281474976710655 (within 100 (omega arith) (omega arith), timely 0 281474976710655 (omega arith) (omega arith)))
+refusesLast d = r-gives 1 _ (d .moves (fresh 100) 0 281474976710655 (in-range, sided 0 0 (omega arith) (omega arith), timely 0 281474976710655 (omega arith) (omega arith)))
 
 abbrev later : Presence
-later = record { w = 100; prompt = Closed; touch = Closed; last = 1 }
+later = record { w = 100; prompt = Closed; touch = Closed; last = 1; asker = 0 }
 
 pub goesBack : Claims.SettlesExactly Wrong.goesBack → ⊥
-goesBack d = r-gives 1 _ (sym (d .r1 later 0 .1 (within 100 (omega arith) (omega arith), inr (omega arith))))
+goesBack d = r-gives 1 _ (sym (d .r1 later 0 0 .1 (in-range, sided 0 0 (omega arith) (omega arith), inr (omega arith))))
 
 -- ---- touches
-passes : (p : Presence) (t : ℕ) → 0 < p .w → p .w ≤ 60000 → p .last ≤ t → t < 2 ^ 48 → Passes p t
-passes p t a b c d = (within (p .w) a b, timely (p .last) t c d)
+passes : (p : Presence) (s t : ℕ) → p .w ≡ 100 → s ≤ 1 → p .asker ≤ 1 → p .last ≤ t → t < 2 ^ 48 → Passes p s t
+passes p s t w a b c d = (within (p .w) (omega (arith, w)) (omega (arith, w)), sided s (p .asker) a b, timely (p .last) t c d)
 
 yes-same : {a b : Bool} → _≡_ {A = Outcome Bool} (Gives a) (Gives b) → a ≡ b
 yes-same e = cc
@@ -64,29 +101,29 @@ opened-same e = cc
 
 -- both windows live
 abbrev bothLive : Presence
-bothLive = record { w = 100; prompt = Opened 5; touch = Opened 3; last = 5 }
+bothLive = record { w = 100; prompt = Opened 5; touch = Opened 3; last = 5; asker = 0 }
 
 pub leavesOlder : Claims.TouchesExactly Wrong.leavesOlder → ⊥
 unfolding settleOf
-leavesOlder d = let z = opened-same (ap (λ (s : Told). s .presence .touch) (d .accepts bothLive 7 (passes bothLive 7 (omega arith) (omega arith) (omega arith) (omega arith)) (5, refl, omega arith))) in omega arith
+leavesOlder d = let z = opened-same (ap (λ (s : Told). s .presence .touch) (d .accepts bothLive 7 (passes bothLive 0 7 refl (omega arith) (omega arith) (omega arith) (omega arith)) (5, refl, omega arith))) in omega arith
 
 abbrev asked : Presence
-asked = record { w = 100; prompt = Opened 0; touch = Closed; last = 0 }
+asked = record { w = 100; prompt = Opened 0; touch = Closed; last = 0; asker = 0 }
 
 pub window9999 : Claims.TouchesExactly Wrong.window9999 → ⊥
 unfolding settleOf
-window9999 d = false≢true (yes-same (ap (λ (s : Told). s .outcome) (d .accepts asked 9999 (passes asked 9999 (omega arith) (omega arith) (omega arith) (omega arith)) (0, refl, omega arith))))
+window9999 d = false≢true (yes-same (ap (λ (s : Told). s .outcome) (d .accepts asked 9999 (passes asked 0 9999 refl (omega arith) (omega arith) (omega arith) (omega arith)) (0, refl, omega arith))))
 
 over : (t : ℕ) → 10000 ≤ t → HasPrompt asked t → ⊥
 over t late (m, e, h) = let z = opened-same e in omega arith
 
 pub window10001 : Claims.TouchesExactly Wrong.window10001 → ⊥
 unfolding settleOf
-window10001 d = true≢false (yes-same (ap (λ (s : Told). s .outcome) (d .otherwise asked 10000 (passes asked 10000 (omega arith) (omega arith) (omega arith) (omega arith)) (over 10000 (omega arith)))))
+window10001 d = true≢false (yes-same (ap (λ (s : Told). s .outcome) (d .otherwise asked 10000 (passes asked 0 10000 refl (omega arith) (omega arith) (omega arith) (omega arith)) (over 10000 (omega arith)))))
 
 pub leavesTheMoment : Claims.TouchesExactly Wrong.leavesTheMoment → ⊥
 unfolding settleOf grantedOf
-leavesTheMoment d = let z : _≡_ {A = ℕ} 0 10000 = ap (λ (s : Told). s .presence .last) (d .otherwise asked 10000 (passes asked 10000 (omega arith) (omega arith) (omega arith) (omega arith)) (over 10000 (omega arith))) in omega arith
+leavesTheMoment d = let z : _≡_ {A = ℕ} 0 10000 = ap (λ (s : Told). s .presence .last) (d .otherwise asked 10000 (passes asked 0 10000 refl (omega arith) (omega arith) (omega arith) (omega arith)) (over 10000 (omega arith))) in omega arith
 
 closed-open : (m : ℕ) → Closed ≡ Opened m → ⊥
 closed-open m x = let z : _≡_ {A = ℕ} 0 1 = cc in omega arith
@@ -95,36 +132,70 @@ pub refusalCloses : Claims.TouchesExactly Wrong.refusalCloses → ⊥
 unfolding settleOf
 refusalCloses d = closed-open 0 (ap (λ (p : Presence). p .prompt) (d .settles .keeps asked (2 ^ 48) 1 refl))
 
+-- side 1 has asked
+abbrev asked1 : Presence
+asked1 = record { w = 100; prompt = Opened 0; touch = Closed; last = 0; asker = 1 }
+
+pub touchTo0 : Claims.TouchesExactly Wrong.touchTo0 → ⊥
+unfolding settleOf
+touchTo0 d =
+    let z : _≡_ {A = ℕ} 0 1 = ap (λ (s : Told). s .presence .asker) (d .accepts asked1 7 (passes asked1 1 7 refl (omega arith) (omega arith) (omega arith) (omega arith)) (0, refl, omega arith)) in
+    omega arith
+
 -- ---- checks
 abbrev held : Presence
-held = record { w = 100; prompt = Closed; touch = Opened 0; last = 0 }
+held = record { w = 100; prompt = Closed; touch = Opened 0; last = 0; asker = 0 }
 
 pub checkKeeps : Claims.ChecksExactly Wrong.checkKeeps → ⊥
 unfolding settleOf
-checkKeeps d = closed-open 0 (sym (ap (λ (s : Told). s .presence .touch) (d .finds held 7 (passes held 7 (omega arith) (omega arith) (omega arith) (omega arith)) (0, refl, omega arith))))
+checkKeeps d = closed-open 0 (sym (ap (λ (s : Told). s .presence .touch) (d .finds held 0 7 (passes held 0 7 refl (omega arith) (omega arith) (omega arith) (omega arith)) (0, refl, omega arith) refl)))
 
 lapsed : HasTouch held 100 → ⊥
 lapsed (m, e, h) = let z = opened-same e in omega arith
 
 pub liveAtTheEnd : Claims.ChecksExactly Wrong.liveAtTheEnd → ⊥
 unfolding settleOf
-liveAtTheEnd d = true≢false (yes-same (ap (λ (s : Told). s .outcome) (d .prompts held 100 (passes held 100 (omega arith) (omega arith) (omega arith) (omega arith)) lapsed)))
+liveAtTheEnd d = true≢false (yes-same (ap (λ (s : Told). s .outcome) (d .prompts held 0 100 (passes held 0 100 refl (omega arith) (omega arith) (omega arith) (omega arith)) lapsed)))
 
 untouched : (t : ℕ) → HasTouch asked t → ⊥
 untouched t (m, e, h) = closed-open m e
 
 pub keepsOlderPrompt : Claims.ChecksExactly Wrong.keepsOlderPrompt → ⊥
 unfolding settleOf
-keepsOlderPrompt d = let z = opened-same (ap (λ (s : Told). s .presence .prompt) (d .prompts asked 7 (passes asked 7 (omega arith) (omega arith) (omega arith) (omega arith)) (untouched 7))) in omega arith
+keepsOlderPrompt d = let z = opened-same (ap (λ (s : Told). s .presence .prompt) (d .prompts asked 0 7 (passes asked 0 7 refl (omega arith) (omega arith) (omega arith) (omega arith)) (untouched 7))) in omega arith
+
+-- side 1 checks beside the live touch of side 0
+beside : (check : Presence → (side t : ℕ) → Told) → Claims.ChecksExactly check
+    → check held 1 7 ≡ record { outcome = Gives false; presence = record { w = 100; prompt = Closed; touch = Opened 0; last = 7; asker = 0 } }
+beside check d = d .other held 1 7 (passes held 1 7 refl (omega arith) (omega arith) (omega arith) (omega arith)) (0, refl, omega arith) (λ e. omega arith)
+
+pub serves2 : Claims.ChecksExactly Wrong.serves2 → ⊥
+unfolding settleOf
+serves2 d = true≢false (yes-same (ap (λ (s : Told). s .outcome) (beside Wrong.serves2 d)))
+
+pub prompts2 : Claims.ChecksExactly Wrong.prompts2 → ⊥
+unfolding settleOf
+prompts2 d = closed-open 7 (sym (ap (λ (s : Told). s .presence .prompt) (beside Wrong.prompts2 d)))
+
+pub gives2 : Claims.ChecksExactly Wrong.gives2 → ⊥
+unfolding settleOf
+gives2 d = let z : _≡_ {A = ℕ} 1 0 = ap (λ (s : Told). s .presence .asker) (beside Wrong.gives2 d) in omega arith
+
+-- side 1 asks after side 0
+pub keepsAsker : Claims.ChecksExactly Wrong.keepsAsker → ⊥
+unfolding settleOf
+keepsAsker d =
+    let z : _≡_ {A = ℕ} 0 1 = ap (λ (s : Told). s .presence .asker) (d .prompts asked 1 7 (passes asked 1 7 refl (omega arith) (omega arith) (omega arith) (omega arith)) (untouched 7)) in
+    omega arith
 
 pub movesAgain : Claims.FindsExactly Wrong.movesAgain → ⊥
 unfolding checkedOf
-movesAgain d = let z : _≡_ {A = ℕ} 7 0 = ap (λ (f : Finding). f .presence .last) (d .finds held 7 (0, refl, omega arith)) in omega arith
+movesAgain d = let z : _≡_ {A = ℕ} 7 0 = ap (λ (f : Finding). f .presence .last) (d .finds held 0 7 (0, refl, omega arith) refl) in omega arith
 
 -- ---- ask
 pub askMoves : Claims.AsksExactly Wrong.askMoves → ⊥
 unfolding settleOf
-askMoves d = let z : _≡_ {A = ℕ} 7 0 = ap (λ (s : Told). s .presence .last) (d .live asked 7 (passes asked 7 (omega arith) (omega arith) (omega arith) (omega arith)) (0, refl, omega arith)) in omega arith
+askMoves d = let z : _≡_ {A = ℕ} 7 0 = ap (λ (s : Told). s .presence .last) (d .live asked 7 (passes asked 0 7 refl (omega arith) (omega arith) (omega arith) (omega arith)) (0, refl, omega arith)) in omega arith
 
 -- ---- runs, newest call first
 found-not : TouchFound ≡ NoTouchFound → ⊥
@@ -136,12 +207,15 @@ accepted-not e = let z : _≡_ {A = ℕ} 0 1 = cc in omega arith
 abbrev touch : ℕ → Call
 touch t = record { role = Touching; moment = t }
 
+abbrev checkOn : (side t : ℕ) → Call
+checkOn s t = record { role = Checking s; moment = t }
+
 abbrev check : ℕ → Call
-check t = record { role = Checking; moment = t }
+check t = checkOn 0 t
 
 -- one touch, two checks within W: it is named twice
 pub keepsSpent : Claims.Demand3 Wrong.keepsSpent → ⊥
-unfolding after history servers latest grantedOf settleOf
+unfolding after history servers latestPrompt latestTouch grantedOf settleOf
 keepsSpent d = let z : 2 ≤ 1 = d 100 (omega arith) (omega arith) (check 3 ∷ check 2 ∷ touch 1 ∷ check 0 ∷ []) .once 1 in omega arith
 
 -- the check after an accepted touch finds nothing
@@ -151,14 +225,14 @@ opensNothing d = found-not (sym (d 100 (omega arith) (omega arith) (touch 1 ∷ 
 
 -- the second touch after one prompt is accepted
 pub keepsPrompt : Claims.Demand3 Wrong.keepsPrompt → ⊥
-unfolding after history foretold isPromptStanding latest lastMoment checkedOf settleOf
+unfolding after history foretold isPromptStanding latestPrompt latestTouch lastMoment checkedOf settleOf
 keepsPrompt d = accepted-not ((d 100 (omega arith) (omega arith) (touch 1 ∷ check 0 ∷ []) .foretells (touch 2)))
 
 -- the touch at 5 is held, and the window says 0
 pub opensAtPrompt : Claims.Demand3 Wrong.opensAtPrompt → ⊥
 unfolding after history unspent lastMoment checkedOf settleOf
 opensAtPrompt d =
-    let z = opened-same (d 100 (omega arith) (omega arith) (touch 5 ∷ check 0 ∷ []) .holds (record { number = 1; moment = 5 }) 6 (omega arith) refl [] (touch 5 ∷ check 0 ∷ []) refl (omega arith)) in
+    let z = opened-same (d 100 (omega arith) (omega arith) (touch 5 ∷ check 0 ∷ []) .holds (record { number = 1; moment = 5; side = 0 }) 6 (omega arith) refl [] (touch 5 ∷ check 0 ∷ []) refl (omega arith)) in
     omega arith
 
 -- the first touch is found, the second is accepted and not found
@@ -166,16 +240,65 @@ pub firstOnly : Claims.Demand3 Wrong.firstOnly → ⊥
 unfolding after history foretold unspent lastMoment settleOf
 firstOnly d = found-not (sym (d 100 (omega arith) (omega arith) (touch 4 ∷ check 3 ∷ check 2 ∷ touch 1 ∷ check 0 ∷ []) .foretells (check 5)))
 
+-- wireless (1) asks, a finger touches, and a check of USB (0) spends it
+pub otherServed : Claims.Demand3 Wrong.otherServed → ⊥
+unfolding after history foretold unspent lastMoment grantedOf settleOf
+otherServed d = found-not (d 100 (omega arith) (omega arith) (touch 1 ∷ checkOn 1 0 ∷ []) .foretells (check 2))
+
+-- the 6985 of USB beside that touch opens a prompt: one more touch is accepted
+pub otherPrompts : Claims.Demand3 Wrong.otherPrompts → ⊥
+unfolding after history foretold isPromptStanding latestPrompt latestTouch lastMoment grantedOf settleOf
+otherPrompts d = accepted-not (d 100 (omega arith) (omega arith) (check 2 ∷ touch 1 ∷ checkOn 1 0 ∷ []) .foretells (touch 3))
+
+-- or it gives USB the touch
+pub givenToChecker : Claims.Demand3 Wrong.givenToChecker → ⊥
+unfolding after history foretold unspent lastMoment grantedOf settleOf
+givenToChecker d = found-not (d 100 (omega arith) (omega arith) (check 2 ∷ touch 1 ∷ checkOn 1 0 ∷ []) .foretells (check 3))
+
+-- wireless asks and is not the asker: the touch is not its own
+pub askerKept : Claims.Demand3 Wrong.askerKept → ⊥
+unfolding after history foretold unspent lastMoment grantedOf settleOf
+askerKept d = found-not (sym (d 100 (omega arith) (omega arith) (touch 1 ∷ checkOn 1 0 ∷ []) .foretells (checkOn 1 2)))
+
+-- nor is it on a run of its own
+pub askerKeptAlone : Claims.OneSideIsBase Wrong.askerKept base → ⊥
+unfolding after grantedOf settleOf baseBy baseSettleOf baseCheckedOf
+askerKeptAlone d =
+    let z : _≡_ {A = Outcome Bool} (Gives false) (Gives true) = d 100 (omega arith) (omega arith) 1 (omega arith) (touch 1 ∷ checkOn 1 0 ∷ []) (tt, (refl, tt)) .1 (checkOn 1 2) refl in
+    false≢true (yes-same z)
+
+-- a check of side 2 at 0, after one at 7
+pub r8Last : Claims.Demand3 Wrong.r8Last → ⊥
+unfolding after history foretold lastMoment checkedOf settleOf
+r8Last d = omega (arith, number-same (d 100 (omega arith) (omega arith) (check 7 ∷ []) .foretells (checkOn 2 0)))
+  where
+    number-same : {n m : ℕ} → RefusedBy n ≡ RefusedBy m → n ≡ m
+    number-same e = cc
+
+-- what stands for the base: a live touch that is not side 0's, a record with side 2
+pub baseAsksWhose : Claims.BaseExactly baseSettleOf Wrong.baseAsksWhose → ⊥
+unfolding checkedOf
+baseAsksWhose d = false≢true (ap (λ (f : Finding). f .yes) (d .finds (record { w = 100; prompt = Closed; touch = Opened 0; last = 0; asker = 1 }) 7 (0, refl, omega arith)))
+
+pub baseLooksAtSide : Claims.BaseExactly Wrong.baseLooksAtSide baseCheckedOf → ⊥
+unfolding settleOf
+baseLooksAtSide d = r-gives 8 _ (d .moves noSide 7 in-range (timely 1 7 (omega arith) (omega arith)))
+
+-- a check that serves the other side is the base's on a lent record too
+pub lentRecordServed : Claims.LentRecordDiffers Wrong.serves2 (baseBy (Checking 1)) → ⊥
+unfolding settleOf
+lentRecordServed d = true≢false (yes-same (d .sided))
+
 pub refusesAll : Claims.Demand3 Wrong.refusesAll → ⊥
 unfolding after history lastMoment
-refusesAll d = ⊎-elim (λ z. omega arith) (λ z. omega arith) (d 100 (omega arith) (omega arith) [] .refuses (check 0) .0 refl)
+refusesAll d = ⊎-elim (λ z. omega arith) (λ z. omega arith) (d 100 (omega arith) (omega arith) [] .refuses (check 0) .0 refl .1)
 
 -- R2 at 7, and then R1 at 3
 pub shortMoves : Claims.Demand3 Wrong.shortMoves → ⊥
 unfolding after history lastMoment doneBy checkOf settleOf
-shortMoves d = ⊎-elim (λ z. omega arith) (λ z. omega arith) (d 100 (omega arith) (omega arith) (record { role = Short; moment = 7 } ∷ []) .refuses (check 3) .0 refl)
+shortMoves d = ⊎-elim (λ z. omega arith) (λ z. omega arith) (d 100 (omega arith) (omega arith) (record { role = Short 0; moment = 7 } ∷ []) .refuses (check 3) .0 refl .1)
 
 -- a history that no program here made
-pub servedTwice : ServesOnce Wrong.servedTwice → ⊥
-unfolding servers latest
+pub servedTwice : ServesOnce 100 Wrong.servedTwice → ⊥
+unfolding servers latestPrompt latestTouch
 servedTwice once = let z : 2 ≤ 1 = once 1 in omega arith

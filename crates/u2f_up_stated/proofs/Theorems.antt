@@ -1,18 +1,23 @@
 -- The claims of specs/Claims.antt, each under its own name.
 use Prim.Native.Nat.{ℕ}
 use mathlib.Core.Path.{_≡_, refl, sym, ap, ap₂, _∙_}
+use native.Mathlib.Omega.{arith}
+use borrow.Author.Tests.{eq-eqb, ne-eqb}
 use Rattle.outcome.specs.Notation.{if_then_else_}
 use Rattle.outcome.proofs.Laws.{r-gives, both-are}
 use Rattle.u2f_up_stated.specs.Words.{Outcome, R, Gives, Presence}
 use Rattle.u2f_up_stated.specs.Answers.{Answer, Step}
 use Rattle.u2f_up_stated.specs.Moments.{isR6, fresh, isPrompting, newOf, settleOf, grantedOf, checkedOf, gave, touchOf, checkOf, askOf}
+use Rattle.u2f_up_stated.specs.History.{Checking}
 use Rattle.u2f_up_stated.specs.Runs.{own}
-use Rattle.u2f_up_stated.specs.Terms.{BadWindow, BadMoment}
+use Rattle.u2f_up_stated.specs.OneSide.{base, baseBy, baseSettleOf, baseCheckedOf}
+use Rattle.u2f_up_stated.specs.Terms.{BadWindow, BadSide, BadMoment}
 use Rattle.u2f_up_stated.specs.Claims
-use Rattle.u2f_up_stated.proofs.Ways.{bad-window, is-r6, not-r6, settle-r6, settle-r1, settle-moves, SettleWay, settle-way, settles-first, window-live, window-over}
+use Rattle.u2f_up_stated.proofs.Ways.{bad-window, is-r6, not-r6, is-r1, not-r1, settle-r6, settle-r8, settle-r1, settle-moves, SettleWay, settle-way, settles-first, r-apart, window-live, window-over}
 use Rattle.u2f_up_stated.proofs.Ways
 use Rattle.u2f_up_stated.proofs.Numbers.{ready-apart, answer-apart, step-apart}
 use Rattle.u2f_up_stated.proofs.Keepers.{demand-3}
+use Rattle.u2f_up_stated.proofs.OneSide.{one-side}
 
 -- ---- each call
 pub MakesExactly : Claims.MakesExactly newOf
@@ -28,55 +33,84 @@ MakesExactly = record {
 
 pub SettlesExactly : Claims.SettlesExactly settleOf
 SettlesExactly = record {
-  r6 = λ p t. (λ e. r6-due p t (settleOf p t) (settle-way p t) e, settle-r6 p t);
-  r1 = λ p t. (λ e. r1-due p t (settleOf p t) (settle-way p t) e, λ b. settle-r1 p t (b .0) (b .1));
+  r6 = λ p s t. (λ e. r6-due p s t (settleOf p s t) (settle-way p s t) e, settle-r6 p s t);
+  r8 = λ p s t. (λ e. r8-due p s t (settleOf p s t) (settle-way p s t) e, λ b. settle-r8 p s t (b .0) (b .1));
+  r1 = λ p s t. (λ e. r1-due p s t (settleOf p s t) (settle-way p s t) e, λ b. settle-r1 p s t (b .0) (b .1) (b .2));
   moves = settle-moves;
 }
   where
-    r6-due : (p : Presence) (t : ℕ) (o : Outcome Presence) → SettleWay p t o → o ≡ R 6 → BadWindow (p .w)
-    r6-due p t _ (Ways.r6 b) e = b
-    r6-due p t _ (Ways.r1 g b) e = let z : _≡_ {A = ℕ} 1 6 = cc in absurd (omega native.Mathlib.Omega.arith)
-    r6-due p t _ (Ways.moves ok) e = absurd (r-gives _ _ (sym e))
+    r6-due : (p : Presence) (s t : ℕ) (o : Outcome Presence) → SettleWay p s t o → o ≡ R 6 → BadWindow (p .w)
+    r6-due p s t _ (Ways.r6 b) e = b
+    r6-due p s t _ (Ways.r8 g b) e = absurd (r-apart 8 6 (omega arith) e)
+    r6-due p s t _ (Ways.r1 g h b) e = absurd (r-apart 1 6 (omega arith) e)
+    r6-due p s t _ (Ways.moves ok) e = absurd (r-gives _ _ (sym e))
 
-    r1-due : (p : Presence) (t : ℕ) (o : Outcome Presence) → SettleWay p t o → o ≡ R 1 → (BadWindow (p .w) → ⊥) × BadMoment (p .last) t
-    r1-due p t _ (Ways.r6 b) e = let z : _≡_ {A = ℕ} 1 6 = cc in absurd (omega native.Mathlib.Omega.arith)
-    r1-due p t _ (Ways.r1 g b) e = (g, b)
-    r1-due p t _ (Ways.moves ok) e = absurd (r-gives _ _ (sym e))
+    r8-due : (p : Presence) (s t : ℕ) (o : Outcome Presence) → SettleWay p s t o → o ≡ R 8 → (BadWindow (p .w) → ⊥) × BadSide s (p .asker)
+    r8-due p s t _ (Ways.r6 b) e = absurd (r-apart 6 8 (omega arith) e)
+    r8-due p s t _ (Ways.r8 g b) e = (g, b)
+    r8-due p s t _ (Ways.r1 g h b) e = absurd (r-apart 1 8 (omega arith) e)
+    r8-due p s t _ (Ways.moves ok) e = absurd (r-gives _ _ (sym e))
+
+    r1-due : (p : Presence) (s t : ℕ) (o : Outcome Presence) → SettleWay p s t o → o ≡ R 1 → (BadWindow (p .w) → ⊥) × (BadSide s (p .asker) → ⊥) × BadMoment (p .last) t
+    r1-due p s t _ (Ways.r6 b) e = absurd (r-apart 6 1 (omega arith) e)
+    r1-due p s t _ (Ways.r8 g b) e = absurd (r-apart 8 1 (omega arith) e)
+    r1-due p s t _ (Ways.r1 g h b) e = (g, h, b)
+    r1-due p s t _ (Ways.moves ok) e = absurd (r-gives _ _ (sym e))
 
 pub TouchesExactly : Claims.TouchesExactly touchOf
 unfolding touchOf grantedOf
 TouchesExactly = record {
-  settles = settles-first (λ p t q. gave (grantedOf q t)) (λ p t q. (grantedOf q t .yes, refl));
-  accepts = λ p t ok h. rw (settle-moves p t ok, window-live (p .prompt) 10000 t h);
-  otherwise = λ p t ok h. rw (settle-moves p t ok, window-over (p .prompt) 10000 t h);
+  settles = settles-first (λ p. p .asker) (λ p t q. gave (grantedOf q t)) (λ p t q. (grantedOf q t .yes, refl));
+  accepts = λ p t ok h. rw (settle-moves p (p .asker) t ok, window-live (p .prompt) 10000 t h);
+  otherwise = λ p t ok h. rw (settle-moves p (p .asker) t ok, window-over (p .prompt) 10000 t h);
 }
 
 pub ChecksExactly : Claims.ChecksExactly checkOf
 unfolding checkOf checkedOf
 ChecksExactly = record {
-  settles = settles-first (λ p t q. gave (checkedOf q t)) (λ p t q. (checkedOf q t .yes, refl));
-  finds = λ p t ok h. rw (settle-moves p t ok, window-live (p .touch) (p .w) t h);
-  prompts = λ p t ok h. rw (settle-moves p t ok, window-over (p .touch) (p .w) t h);
+  settles = λ s. settles-first (λ p. s) (λ p t q. gave (checkedOf q s t)) (λ p t q. (checkedOf q s t .yes, refl));
+  finds = λ p s t ok h o. rw (settle-moves p s t ok, window-live (p .touch) (p .w) t h, eq-eqb (p .asker) s o);
+  other = λ p s t ok h o. rw (settle-moves p s t ok, window-live (p .touch) (p .w) t h, ne-eqb (p .asker) s o);
+  prompts = λ p s t ok h. rw (settle-moves p s t ok, window-over (p .touch) (p .w) t h);
 }
 
 pub FindsExactly : Claims.FindsExactly checkedOf
 unfolding checkedOf
 FindsExactly = record {
-  finds = λ p t h. rw (window-live (p .touch) (p .w) t h);
-  prompts = λ p t h. rw (window-over (p .touch) (p .w) t h);
+  finds = λ p s t h o. rw (window-live (p .touch) (p .w) t h, eq-eqb (p .asker) s o);
+  other = λ p s t h o. rw (window-live (p .touch) (p .w) t h, ne-eqb (p .asker) s o);
+  prompts = λ p s t h. rw (window-over (p .touch) (p .w) t h);
 }
 
 pub AsksExactly : Claims.AsksExactly askOf
 unfolding askOf
 AsksExactly = record {
-  settles = settles-first (λ p t q. record { outcome = Gives (isPrompting p t); presence = p }) (λ p t q. (isPrompting p t, refl));
-  live = λ p t ok h. rw (settle-moves p t ok, window-live (p .prompt) 10000 t h);
-  not-live = λ p t ok h. rw (settle-moves p t ok, window-over (p .prompt) 10000 t h);
+  settles = settles-first (λ p. p .asker) (λ p t q. record { outcome = Gives (isPrompting p t); presence = p }) (λ p t q. (isPrompting p t, refl));
+  live = λ p t ok h. rw (settle-moves p (p .asker) t ok, window-live (p .prompt) 10000 t h);
+  not-live = λ p t ok h. rw (settle-moves p (p .asker) t ok, window-over (p .prompt) 10000 t h);
 }
 
 -- ---- demand 3
 pub Demand3 : Claims.Demand3 own
 Demand3 = demand-3 own (λ p c. refl)
+
+-- ---- one side
+pub BaseExactly : Claims.BaseExactly baseSettleOf baseCheckedOf
+unfolding baseSettleOf baseCheckedOf
+BaseExactly = record {
+  r6 = λ p t b. rw (is-r6 (p .w) b);
+  r1 = λ p t g b. rw (not-r6 (p .w) g, is-r1 (p .last) t b);
+  moves = λ p t g h. rw (not-r6 (p .w) g, not-r1 (p .last) t h);
+  finds = λ p t h. rw (window-live (p .touch) (p .w) t h);
+  prompts = λ p t h. rw (window-over (p .touch) (p .w) t h);
+}
+
+pub OneSideIsBase : Claims.OneSideIsBase own base
+OneSideIsBase = one-side own base (λ p c. refl) (λ p c. refl) (λ c. refl)
+
+pub LentRecordDiffers : Claims.LentRecordDiffers checkOf (baseBy (Checking 1))
+unfolding checkOf settleOf checkedOf baseBy baseSettleOf baseCheckedOf
+LentRecordDiffers = record { sided = refl; base = refl }
 
 -- ---- two results are equal
 pub ReadyOneToOne : Claims.ReadyOneToOne
@@ -98,12 +132,12 @@ lent a b e = same-lent a b (ap (λ (s : Step). s .answer) e) (ap (λ (s : Step).
 pub ResultsDetermined : Claims.ResultsDetermined
 ResultsDetermined = record {
   new = λ w a b ha hb. ready-apart a b (both-are _ _ ha hb);
-  settle = λ p t a b ha hb. ready-apart a b (both-are _ _ ha hb);
-  touch-check = λ p t a b. both-are a b;
+  settle = λ p s t a b ha hb. ready-apart a b (both-are _ _ ha hb);
+  touch-check = λ p s t a b. both-are a b;
   grant-up = λ p t a b ha hb. step-apart a b (both-are _ _ ha hb);
-  consume-up = λ p t a b ha hb. step-apart a b (both-are _ _ ha hb);
+  consume-up = λ p s t a b ha hb. step-apart a b (both-are _ _ ha hb);
   is-up-needed = λ p t a b ha hb. answer-apart a b (both-are _ _ ha hb);
   grant-up-lent = λ p t a b ha hb. lent a b (step-apart _ _ (both-are _ _ ha hb));
-  consume-up-lent = λ p t a b ha hb. lent a b (step-apart _ _ (both-are _ _ ha hb));
+  consume-up-lent = λ p s t a b ha hb. lent a b (step-apart _ _ (both-are _ _ ha hb));
   is-up-needed-lent = λ p t a b ha hb. same-lent a b (answer-apart (a .0) (b .0) (both-are _ _ (ha .0) (hb .0))) (both-are _ _ (ha .1) (hb .1));
 }

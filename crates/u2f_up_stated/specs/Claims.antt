@@ -6,63 +6,74 @@ use Rattle.u2f_up_stated.specs.Words.{ℕ, _<_, _≤_, _≡_, true, fals
 use Rattle.u2f_up_stated.specs.Moments.{Told}
 use Rattle.u2f_up_stated.specs.Answers.{Ready, Answer, Step, readyOf, outcomeOf, toldOf}
 use Rattle.u2f_up_stated.specs.Contracts.{New, Settle, TouchCheck, GrantUp, ConsumeUp, IsUpNeeded, GrantUpLent, ConsumeUpLent, IsUpNeededLent}
-use Rattle.u2f_up_stated.specs.Runs.{Caller}
-use Rattle.u2f_up_stated.specs.Terms.{BadWindow, BadMoment, Passes, HasPrompt, HasTouch, SettlesFirst}
+use Rattle.u2f_up_stated.specs.Runs.{Caller, after, next}
+use Rattle.u2f_up_stated.specs.OneSide.{sideless, NamesOnly, OnlySide}
+use Rattle.u2f_up_stated.specs.Terms.{BadWindow, BadSide, BadMoment, Passes, HasPrompt, HasTouch, SettlesFirst}
 use Rattle.u2f_up_stated.specs.Demand.{RunMeets}
 
 -- ---- each call, on any record
 
 -- Making a record. 01, Moments and touches: "A fresh record is made with a touch window W of 1..60,000, both windows closed and last
--- moment 0"; Refusal numbers, R6: "W is 0 or above 60,000". A maker that takes 60,001 (Wrong `takes60001`) or refuses 60,000
--- (`refuses60000`) fails it there.
+-- moment 0"; Refusal numbers, R6: "W is 0 or above 60,000"; 02, E7: the asking side is "0 when fresh". A maker that takes 60,001 (Wrong
+-- `takes60001`) or refuses 60,000 (`refuses60000`) fails it there, one whose record has side 1 (`freshSide1`) at every W.
 pub record MakesExactly (new : ℕ → Outcome Presence) : Type 0 where
   pub r6 : (w : ℕ) → (new w ≡ R 6) ↔ BadWindow w
-  pub makes : (w : ℕ) → (BadWindow w → ⊥) → new w ≡ Gives (record { w = w; prompt = Closed; touch = Closed; last = 0 })
+  pub makes : (w : ℕ) → (BadWindow w → ⊥) → new w ≡ Gives (record { w = w; prompt = Closed; touch = Closed; last = 0; asker = 0 })
 
--- Settling the moment. 01, Moments and touches: "R6, then R1, before all else"; Refusal numbers: "each touch, direct check and
--- decision sets the last moment to t". A settling that gives R1 first (`r1First`) fails it where both are due; one that takes
--- 2^48 (`takes2to48`) or refuses the moment before it (`refusesLast`) fails it there.
-pub record SettlesExactly (settle : Presence → ℕ → Outcome Presence) : Type 0 where
-  pub r6 : (p : Presence) (t : ℕ) → (settle p t ≡ R 6) ↔ BadWindow (p .w)
-  pub r1 : (p : Presence) (t : ℕ) → (settle p t ≡ R 1) ↔ ((BadWindow (p .w) → ⊥) × BadMoment (p .last) t)
-  pub moves : (p : Presence) (t : ℕ) → Passes p t → settle p t ≡ Gives (record { w = p .w; prompt = p .prompt; touch = p .touch; last = t })
+-- Settling the moment, for a call that names a side. 01, Moments and touches: "R6, then R1, before all else"; 02, E7: "R8 for a side other
+-- than 0 or 1, named or in the record, after R6 and before R1"; Refusal numbers: "each touch, direct check and decision sets the last
+-- moment to t". A settling that gives R1 first (`r1First`) fails it where R6 is due too, one that gives R8 after R1 (`r8AfterR1`) or
+-- before R6 (`r8First`) where both are; one that takes side 2 (`takesSide2`) fails it there, and one that does not look at the
+-- record's (`recordSideTaken`); one that takes 2^48 (`takes2to48`) or refuses the moment before it (`refusesLast`) fails it there.
+pub record SettlesExactly (settle : Presence → (side t : ℕ) → Outcome Presence) : Type 0 where
+  pub r6 : (p : Presence) (s t : ℕ) → (settle p s t ≡ R 6) ↔ BadWindow (p .w)
+  pub r8 : (p : Presence) (s t : ℕ) → (settle p s t ≡ R 8) ↔ ((BadWindow (p .w) → ⊥) × BadSide s (p .asker))
+  pub r1 : (p : Presence) (s t : ℕ) → (settle p s t ≡ R 1) ↔ ((BadWindow (p .w) → ⊥) × (BadSide s (p .asker) → ⊥) × BadMoment (p .last) t)
+  pub moves : (p : Presence) (s t : ℕ) → Passes p s t → settle p s t ≡ Gives (record { w = p .w; prompt = p .prompt; touch = p .touch; last = t; asker = p .asker })
 
 -- Touch. 01, Moments and touches: "Touch (`grant_up`) is accepted when the prompt is live; then the prompt closes and a touch window
--- opens. Otherwise nothing but the last moment moves." The window opens at the touch's moment on every record: a touch that
--- leaves an older live one (`leavesOlder`) fails it at a record with both windows live. A prompt window of 9,999 or 10,001
--- (`window9999`, `window10001`) fails it a moment before and at the end.
+-- opens. Otherwise nothing but the last moment moves." 02, E7: "An accepted touch belongs to the asker", so the asker stays. It names no
+-- side: R8 is for the record's. The window opens at the touch's moment on every record: a touch that leaves an older live one
+-- (`leavesOlder`) fails it at a record with both windows live. A prompt window of 9,999 or 10,001 (`window9999`, `window10001`) fails
+-- it a moment before and at the end; a touch that is given to side 0 whoever asked (`touchTo0`) fails it where side 1 did.
 pub record TouchesExactly (touch : Presence → ℕ → Told) : Type 0 where
-  pub settles : SettlesFirst touch
-  pub accepts : (p : Presence) (t : ℕ) → Passes p t → HasPrompt p t
-      → touch p t ≡ record { outcome = Gives true; presence = record { w = p .w; prompt = Closed; touch = Opened t; last = t } }
-  pub otherwise : (p : Presence) (t : ℕ) → Passes p t → (HasPrompt p t → ⊥)
-      → touch p t ≡ record { outcome = Gives false; presence = record { w = p .w; prompt = p .prompt; touch = p .touch; last = t } }
+  pub settles : SettlesFirst (λ p. p .asker) touch
+  pub accepts : (p : Presence) (t : ℕ) → Passes p (p .asker) t → HasPrompt p t
+      → touch p t ≡ record { outcome = Gives true; presence = record { w = p .w; prompt = Closed; touch = Opened t; last = t; asker = p .asker } }
+  pub otherwise : (p : Presence) (t : ℕ) → Passes p (p .asker) t → (HasPrompt p t → ⊥)
+      → touch p t ≡ record { outcome = Gives false; presence = record { w = p .w; prompt = p .prompt; touch = p .touch; last = t; asker = p .asker } }
 
 -- The touch check. 01, Moments and touches: "The touch check (`consume_up`): with a live touch, it is spent; without, a prompt window
--- opens at t, replacing an older one." A check that keeps the spent touch (`checkKeeps`) fails it at any live touch; one that
--- finds a touch at the window's end (`liveAtTheEnd`) fails it there; one that keeps an older prompt (`keepsOlderPrompt`) fails
--- it where both are due.
-pub record ChecksExactly (check : Presence → ℕ → Told) : Type 0 where
-  pub settles : SettlesFirst check
-  pub finds : (p : Presence) (t : ℕ) → Passes p t → HasTouch p t
-      → check p t ≡ record { outcome = Gives true; presence = record { w = p .w; prompt = p .prompt; touch = Closed; last = t } }
-  pub prompts : (p : Presence) (t : ℕ) → Passes p t → (HasTouch p t → ⊥)
-      → check p t ≡ record { outcome = Gives false; presence = record { w = p .w; prompt = Opened t; touch = p .touch; last = t } }
+-- opens at t, replacing an older one." 02, E7: "A prompting refusal makes its side the asker, in place of any earlier"; "If the other side
+-- reaches the touch check while a touch is live, it gets 6985, nothing is opened or spent". A check that keeps the spent touch
+-- (`checkKeeps`) fails it at any live touch of its side; one that finds a touch at the window's end (`liveAtTheEnd`) fails it there; one
+-- that keeps an older prompt (`keepsOlderPrompt`) fails it where both are due; and so do one that serves the other side (`serves2`),
+-- one whose 6985 to the other side opens a prompt (`prompts2`) or gives it the touch (`gives2`), and one that keeps the older asker
+-- (`keepsAsker`).
+pub record ChecksExactly (check : Presence → (side t : ℕ) → Told) : Type 0 where
+  pub settles : (s : ℕ) → SettlesFirst (λ p. s) (λ p t. check p s t)
+  pub finds : (p : Presence) (s t : ℕ) → Passes p s t → HasTouch p t → p .asker ≡ s
+      → check p s t ≡ record { outcome = Gives true; presence = record { w = p .w; prompt = p .prompt; touch = Closed; last = t; asker = p .asker } }
+  pub other : (p : Presence) (s t : ℕ) → Passes p s t → HasTouch p t → (p .asker ≡ s → ⊥)
+      → check p s t ≡ record { outcome = Gives false; presence = record { w = p .w; prompt = p .prompt; touch = p .touch; last = t; asker = p .asker } }
+  pub prompts : (p : Presence) (s t : ℕ) → Passes p s t → (HasTouch p t → ⊥)
+      → check p s t ≡ record { outcome = Gives false; presence = record { w = p .w; prompt = Opened t; touch = p .touch; last = t; asker = s } }
 
 -- The same check by itself, on any record, for callers that have settled the moment: no refusal, and the last moment stays.
 -- A check that moves the last moment by itself (`movesAgain`) fails it.
-pub record FindsExactly (checked : Presence → ℕ → Finding) : Type 0 where
-  pub finds : (p : Presence) (t : ℕ) → HasTouch p t
-      → checked p t ≡ record { yes = true; presence = record { w = p .w; prompt = p .prompt; touch = Closed; last = p .last } }
-  pub prompts : (p : Presence) (t : ℕ) → (HasTouch p t → ⊥)
-      → checked p t ≡ record { yes = false; presence = record { w = p .w; prompt = Opened t; touch = p .touch; last = p .last } }
+pub record FindsExactly (checked : Presence → (side t : ℕ) → Finding) : Type 0 where
+  pub finds : (p : Presence) (s t : ℕ) → HasTouch p t → p .asker ≡ s
+      → checked p s t ≡ record { yes = true; presence = record { w = p .w; prompt = p .prompt; touch = Closed; last = p .last; asker = p .asker } }
+  pub other : (p : Presence) (s t : ℕ) → HasTouch p t → (p .asker ≡ s → ⊥) → checked p s t ≡ record { yes = false; presence = p }
+  pub prompts : (p : Presence) (s t : ℕ) → (HasTouch p t → ⊥)
+      → checked p s t ≡ record { yes = false; presence = record { w = p .w; prompt = Opened t; touch = p .touch; last = p .last; asker = s } }
 
--- Ask. 01, Moments and touches: "Asking whether a prompt is live changes nothing, not even the last moment." An ask that moves the last
--- moment (`askMoves`) fails it at any later moment.
+-- Ask. 01, Moments and touches: "Asking whether a prompt is live changes nothing, not even the last moment." It names no side. An ask
+-- that moves the last moment (`askMoves`) fails it at any later moment.
 pub record AsksExactly (ask : Presence → ℕ → Told) : Type 0 where
-  pub settles : SettlesFirst ask
-  pub live : (p : Presence) (t : ℕ) → Passes p t → HasPrompt p t → ask p t ≡ record { outcome = Gives true; presence = p }
-  pub not-live : (p : Presence) (t : ℕ) → Passes p t → (HasPrompt p t → ⊥) → ask p t ≡ record { outcome = Gives false; presence = p }
+  pub settles : SettlesFirst (λ p. p .asker) ask
+  pub live : (p : Presence) (t : ℕ) → Passes p (p .asker) t → HasPrompt p t → ask p t ≡ record { outcome = Gives true; presence = p }
+  pub not-live : (p : Presence) (t : ℕ) → Passes p (p .asker) t → (HasPrompt p t → ⊥) → ask p t ≡ record { outcome = Gives false; presence = p }
 
 -- ---- demand 3
 
@@ -71,6 +82,34 @@ pub record AsksExactly (ask : Presence → ℕ → Told) : Type 0 where
 -- (proofs/Laws.antt): decisions join in the crate that has them.
 abbrev pub Demand3 : {D : Type 0} → Caller D → Type 0
 Demand3 {D} 𝒞 = (w : ℕ) → 0 < w → w ≤ 60000 → (ds : List D) → RunMeets 𝒞 w ds
+
+-- ---- runs with one side only
+
+-- What stands for document 01 before sides were: its sentences on R6 and R1 and on the touch check, of the two definitions of
+-- specs/OneSide.antt. A base that asks whose the touch is (`baseAsksWhose`) fails it, and one that looks at the record's side
+-- (`baseLooksAtSide`).
+pub record BaseExactly (settle : Presence → ℕ → Outcome Presence) (checked : Presence → ℕ → Finding) : Type 0 where
+  pub r6 : (p : Presence) (t : ℕ) → BadWindow (p .w) → settle p t ≡ R 6
+  pub r1 : (p : Presence) (t : ℕ) → (BadWindow (p .w) → ⊥) → BadMoment (p .last) t → settle p t ≡ R 1
+  pub moves : (p : Presence) (t : ℕ) → (BadWindow (p .w) → ⊥) → (BadMoment (p .last) t → ⊥)
+      → settle p t ≡ Gives (record { w = p .w; prompt = p .prompt; touch = p .touch; last = t; asker = p .asker })
+  pub finds : (p : Presence) (t : ℕ) → HasTouch p t
+      → checked p t ≡ record { yes = true; presence = record { w = p .w; prompt = p .prompt; touch = Closed; last = p .last; asker = p .asker } }
+  pub prompts : (p : Presence) (t : ℕ) → (HasTouch p t → ⊥)
+      → checked p t ≡ record { yes = false; presence = record { w = p .w; prompt = Opened t; touch = p .touch; last = p .last; asker = p .asker } }
+
+-- E7's request: "from a fresh record, with one side throughout (0 or 1), answers and windows are those of the base". 𝒞 is a way of calling
+-- with sides, ℬ the base's. A record made with side 1 whose first touch check keeps the asker (`askerKept`) fails it for side 1: its own touch is the other's.
+abbrev pub OneSideIsBase : {D : Type 0} → Caller D → Caller D → Type 0
+OneSideIsBase {D} 𝒞 ℬ =
+    (w : ℕ) → 0 < w → w ≤ 60000 → (s : ℕ) → s ≤ 1 → (ds : List D) → OnlySide 𝒞 s ds
+    → (sideless (after 𝒞 w ds) ≡ after ℬ w ds) × ((d : D) → NamesOnly s (𝒞 .asCall d .role) → next 𝒞 w ds d ≡ next ℬ w ds d)
+
+-- "on a lent record it need not be so: asker 0, live touch, side 1 gets 6985", where the base found the touch. A check that serves
+-- the other side (`serves2`) fails it.
+pub record LentRecordDiffers (check : Presence → (side t : ℕ) → Told) (baseCheck : Presence → ℕ → Told) : Type 0 where
+  pub sided : check (record { w = 100; prompt = Closed; touch = Opened 0; last = 0; asker = 0 }) 1 7 .outcome ≡ Gives false
+  pub base : baseCheck (record { w = 100; prompt = Closed; touch = Opened 0; last = 0; asker = 0 }) 7 .outcome ≡ Gives true
 
 -- ---- two results that satisfy a contract are equal
 
@@ -88,11 +127,11 @@ StepOneToOne = (a b : Step) → toldOf a ≡ toldOf b → a ≡ b
 -- a lent record the record at exit counts. A promise that is silent on the record after an unaccepted touch fails it.
 pub record ResultsDetermined : Type 0 where
   pub new : (w : ℕ) → AtMostOne (New w)
-  pub settle : (p : Presence) (t : ℕ) → AtMostOne (Settle p t)
-  pub touch-check : (p : Presence) (t : ℕ) → AtMostOne (TouchCheck p t)
+  pub settle : (p : Presence) (s t : ℕ) → AtMostOne (Settle p s t)
+  pub touch-check : (p : Presence) (s t : ℕ) → AtMostOne (TouchCheck p s t)
   pub grant-up : (p : Presence) (t : ℕ) → AtMostOne (GrantUp p t)
-  pub consume-up : (p : Presence) (t : ℕ) → AtMostOne (ConsumeUp p t)
+  pub consume-up : (p : Presence) (s t : ℕ) → AtMostOne (ConsumeUp p s t)
   pub is-up-needed : (p : Presence) (t : ℕ) → AtMostOne (IsUpNeeded p t)
   pub grant-up-lent : (p : Presence) (t : ℕ) → AtMostOne (λ (o : Answer × Presence). GrantUpLent p t (o .0) (o .1))
-  pub consume-up-lent : (p : Presence) (t : ℕ) → AtMostOne (λ (o : Answer × Presence). ConsumeUpLent p t (o .0) (o .1))
+  pub consume-up-lent : (p : Presence) (s t : ℕ) → AtMostOne (λ (o : Answer × Presence). ConsumeUpLent p s t (o .0) (o .1))
   pub is-up-needed-lent : (p : Presence) (t : ℕ) → AtMostOne (λ (o : Answer × Presence). IsUpNeededLent p t (o .0) (o .1))

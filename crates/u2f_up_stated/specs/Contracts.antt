@@ -6,17 +6,17 @@ use Rattle.u2f_up_stated.specs.Answers.{Ready, Answer, Step, readyOf, ou
 abbrev pub New : ℕ → Ready → Type 0
 New w r = readyOf r ≡ newOf w
 
-abbrev pub Settle : Presence → ℕ → Ready → Type 0
-Settle p t r = readyOf r ≡ settleOf p t
+abbrev pub Settle : Presence → (side t : ℕ) → Ready → Type 0
+Settle p s t r = readyOf r ≡ settleOf p s t
 
-abbrev pub TouchCheck : Presence → ℕ → Finding → Type 0
-TouchCheck p t r = r ≡ checkedOf p t
+abbrev pub TouchCheck : Presence → (side t : ℕ) → Finding → Type 0
+TouchCheck p s t r = r ≡ checkedOf p s t
 
 abbrev pub GrantUp : Presence → ℕ → Step → Type 0
 GrantUp p t r = toldOf r ≡ touchOf p t
 
-abbrev pub ConsumeUp : Presence → ℕ → Step → Type 0
-ConsumeUp p t r = toldOf r ≡ checkOf p t
+abbrev pub ConsumeUp : Presence → (side t : ℕ) → Step → Type 0
+ConsumeUp p s t r = toldOf r ≡ checkOf p s t
 
 abbrev pub IsUpNeeded : Presence → ℕ → Answer → Type 0
 IsUpNeeded p t r = outcomeOf r ≡ askOf p t .outcome
@@ -25,8 +25,8 @@ IsUpNeeded p t r = outcomeOf r ≡ askOf p t .outcome
 abbrev pub GrantUpLent : Presence → ℕ → Answer → Presence → Type 0
 GrantUpLent p t r q = GrantUp p t (record { answer = r; presence = q })
 
-abbrev pub ConsumeUpLent : Presence → ℕ → Answer → Presence → Type 0
-ConsumeUpLent p t r q = ConsumeUp p t (record { answer = r; presence = q })
+abbrev pub ConsumeUpLent : Presence → (side t : ℕ) → Answer → Presence → Type 0
+ConsumeUpLent p s t r q = ConsumeUp p s t (record { answer = r; presence = q })
 
 abbrev pub IsUpNeededLent : Presence → ℕ → Answer → Presence → Type 0
 IsUpNeededLent p t r q = IsUpNeeded p t r × (q ≡ p)

@@ -1,23 +1,32 @@
--- Document 01, 'Moments and touches', from "In history terms" on: what a history says of its touches, read off its calls and
--- their outcomes alone. No definition here looks at a presence record.
+-- Document 01, 'Moments and touches', from "In history terms" on, with document 02, E7: what a history says of its touches, read off
+-- its calls and their outcomes alone. No definition here looks at a presence record.
 -- Histories are lists, NEWEST FIRST: what stands behind an event in the list is its past.
 use mathlib.Core.List.{List, [], _∷_, _++_}
 use mathlib.Core.Option.{Option, none, some}
 use lib.ListN.{length}
 use Rattle.u2f_up_stated.specs.Words.{ℕ, _+_, Bool, true, false, not, _&&_, ltb, eqb, if_then_else_}
-use Rattle.u2f_up_stated.specs.Moments.{isR1}
+use Rattle.u2f_up_stated.specs.Moments.{isR1, isNoSide}
 
--- What a call is to the record. It follows from the call's own inputs, never from the record.
+-- What a call is to the record, with the side that it names: "every decision and direct check names its side", touch and ask none. It
+-- follows from the call's own inputs, never from the record.
 pub data Role : Type 0 where
   Touching : Role  -- a touch
-  Checking : Role  -- a call that reaches the touch check: a direct check, or a decision that comes so far
+  Checking : (side : ℕ) → Role  -- a call that reaches the touch check: a direct check, or a decision that comes so far
   Asking : Role  -- whether a prompt is live
-  Settling : Role  -- a decision that is answered before the touch check
-  Short : Role  -- a decision whose buffer is too short, or whose lent body is shorter than its remainder's end, R2
+  Settling : (side : ℕ) → Role  -- a decision that is answered before the touch check
+  Short : (side : ℕ) → Role  -- a decision whose buffer is too short, or whose lent body is shorter than its remainder's end, R2
 
 pub record Call : Type 0 where
   pub role : Role
   pub moment : ℕ
+
+-- The side of a call; what names none has the number 0 here, and nobody looks.
+abbrev pub sideOf : Role → ℕ
+sideOf Touching = 0
+sideOf (Checking s) = s
+sideOf Asking = 0
+sideOf (Settling s) = s
+sideOf (Short s) = s
 
 -- What came of a call, as its history tells it.
 pub data Came : Type 0 where
@@ -25,7 +34,7 @@ pub data Came : Type 0 where
   TouchAccepted : Came  -- a touch
   TouchIgnored : Came
   TouchFound : Came  -- a call that reaches the touch check: a touch was found, and is spent
-  NoTouchFound : Came  -- none was: a prompting refusal
+  NoTouchFound : Came  -- none was
   PromptStands : Came  -- an ask
   NoPromptStands : Came
   Passed : Came  -- a decision that is answered before the touch check
@@ -80,10 +89,6 @@ isTimed Passed = true
 abbrev pub isAccepted : Event → Bool
 isAccepted e = isTouchAccepted (e .came)
 
--- 01, Moments and touches: "a prompting refusal is a touch check that finds no live touch"
-abbrev pub isPromptingRefusal : Event → Bool
-isPromptingRefusal e = isNoTouchFound (e .came)
-
 -- 01, Moments and touches: "A call spends a touch if the check succeeds"
 abbrev pub isSpending : Event → Bool
 isSpending e = isTouchFound (e .came)
@@ -96,19 +101,96 @@ unfoldable pub lastMoment : List Event → ℕ
 lastMoment [] = 0
 lastMoment (e ∷ past) = if isMoving e then e .call .moment else lastMoment past
 
--- A touch, or a prompting refusal, as the history knows it: which event it is, counted from 0 in the order of the calls, and its
--- moment. Two touches may share a moment; they never share a number.
+-- A touch, or a prompting refusal, as the history knows it: which event it is, counted from 0 in the order of the calls, its moment,
+-- and whose it is. Two touches may share a moment; they never share a number.
 pub record Mark : Type 0 where
   pub number : ℕ
   pub moment : ℕ
+  pub side : ℕ
 
-abbrev pub marked : Event → List Event → Mark
-marked e past = record { number = length past; moment = e .call .moment }
+abbrev pub marked : (side : ℕ) → Event → List Event → Mark
+marked s e past = record { number = length past; moment = e .call .moment; side = s }
 
--- The latest event that the test picks.
-unfoldable pub latest : (Event → Bool) → List Event → Option Mark
-latest picks [] = none
-latest picks (e ∷ past) = if picks e then some (marked e past) else latest picks past
+-- Those of a list that the test picks.
+abbrev pub those : {A : Type 0} → (A → Bool) → List A → List A
+those picks [] = []
+those picks (a ∷ rest) = if picks a then a ∷ those picks rest else those picks rest
+
+abbrev pub isAny : List Mark → Bool
+isAny [] = false
+isAny (k ∷ ks) = true
+
+-- 01, Moments and touches: "A touch has lapsed when it is unspent and W has passed"; it is young while W has not
+abbrev pub isYoung : ℕ → ℕ → Mark → Bool
+isYoung w t k = ltb t (k .moment + w)
+
+abbrev pub isOld : ℕ → ℕ → Mark → Bool
+isOld w t k = not (isYoung w t k)
+
+abbrev pub isOf : (side : ℕ) → Mark → Bool
+isOf s k = eqb (k .side) s
+
+-- What a call of a side finds at t: young, and its own.
+abbrev pub isFound : (w side t : ℕ) → Mark → Bool
+isFound w s t k = isYoung w t k && isOf s k
+
+-- E7's request: "a check that finds nothing while the history holds no touch of either side that is live at the check's moment". A 6985
+-- beside the other side's live touch is none, so what the past held has to be looked at, too.
+abbrev pub isPromptingBy : Event → (held : List Mark) → Bool
+isPromptingBy e held = isNoTouchFound (e .came) && not (isAny held)
+
+-- E7's request: "an accepted touch belongs to the side of the latest prompting refusal". Where there was none (no touch is accepted then), to 0.
+abbrev pub sideAsked : Option Mark → ℕ
+sideAsked none = 0
+sideAsked (some s) = s .side
+
+-- The latest prompting refusal, and the accepted touches that no call has spent. The two are told together, each from the past of the
+-- other: whether a check was a prompting refusal says what its past held, and whose a touch is says the latest prompting refusal before
+-- it. A touch goes when a call of its side spends while it is young; one that has grown old by then was not there to be spent, and
+-- stays in the list for good.
+unfoldable mutual
+  pub latestPrompt : ℕ → List Event → Option Mark
+  latestPrompt w [] = none
+  latestPrompt w (e ∷ past) =
+      if isPromptingBy e (those (isYoung w (e .call .moment)) (unspent w past)) then some (marked (sideOf (e .call .role)) e past)
+      else latestPrompt w past
+
+  pub unspent : ℕ → List Event → List Mark
+  unspent w [] = []
+  unspent w (e ∷ past) =
+      if isAccepted e then marked (sideAsked (latestPrompt w past)) e past ∷ unspent w past
+      else if isSpending e then those (λ k. not (isFound w (sideOf (e .call .role)) (e .call .moment) k)) (unspent w past)
+      else unspent w past
+
+-- 02, E7: the asking side: "A prompting refusal makes its side the asker, in place of any earlier."
+abbrev pub askerOf : ℕ → List Event → ℕ
+askerOf w past = sideAsked (latestPrompt w past)
+
+-- 02, E7: "An accepted touch belongs to the asker."
+abbrev pub touchMark : ℕ → Event → List Event → Mark
+touchMark w e past = marked (askerOf w past) e past
+
+-- The accepted touches, unspent and younger than W, that a history holds at t, whichever side's. (Of a record, a window is live; of a
+-- history, a touch is held.)
+abbrev pub heldAt : ℕ → List Event → ℕ → List Mark
+heldAt w past t = those (isYoung w t) (unspent w past)
+
+-- Those of them that belong to a side.
+abbrev pub heldFor : ℕ → List Event → (side t : ℕ) → List Mark
+heldFor w past s t = those (isFound w s t) (unspent w past)
+
+-- Whether an event with its past is a prompting refusal.
+abbrev pub isPromptingRefusal : ℕ → Event → List Event → Bool
+isPromptingRefusal w e past = isPromptingBy e (heldAt w past (e .call .moment))
+
+-- The touches that were accepted, and the latest of them.
+unfoldable pub accepted : ℕ → List Event → List Mark
+accepted w [] = []
+accepted w (e ∷ past) = if isAccepted e then touchMark w e past ∷ accepted w past else accepted w past
+
+unfoldable pub latestTouch : ℕ → List Event → Option Mark
+latestTouch w [] = none
+latestTouch w (e ∷ past) = if isAccepted e then some (touchMark w e past) else latestTouch w past
 
 -- 's comes after', in the order of the calls; everything comes after what never was.
 abbrev pub isAfter : Mark → Option Mark → Bool
@@ -121,80 +203,52 @@ abbrev pub isStandingBy : Option Mark → Option Mark → ℕ → Bool
 isStandingBy none a t = false
 isStandingBy (some s) a t = isAfter s a && ltb t (s .moment + 10000)
 
-unfoldable pub isPromptStanding : List Event → ℕ → Bool
-isPromptStanding past t = isStandingBy (latest isPromptingRefusal past) (latest isAccepted past) t
-
--- Those of a list that the test picks.
-abbrev pub those : {A : Type 0} → (A → Bool) → List A → List A
-those picks [] = []
-those picks (a ∷ rest) = if picks a then a ∷ those picks rest else those picks rest
-
--- 01, Moments and touches: "A touch has lapsed when it is unspent and W has passed"; it is young while W has not
-abbrev pub isYoung : ℕ → ℕ → Mark → Bool
-isYoung w t k = ltb t (k .moment + w)
-
-abbrev pub isOld : ℕ → ℕ → Mark → Bool
-isOld w t k = not (isYoung w t k)
-
--- The touches that were accepted.
-unfoldable pub accepted : List Event → List Mark
-accepted [] = []
-accepted (e ∷ past) = if isAccepted e then marked e past ∷ accepted past else accepted past
-
--- Those of them that no call has spent. A touch goes when a call spends while it is young; one that has grown old by then was not
--- there to be spent, and stays in the list for good.
-unfoldable pub unspent : ℕ → List Event → List Mark
-unspent w [] = []
-unspent w (e ∷ past) =
-    if isAccepted e then marked e past ∷ unspent w past
-    else if isSpending e then those (isOld w (e .call .moment)) (unspent w past)
-    else unspent w past
-
--- The accepted touches, unspent and younger than W, that a history holds at t. (Of a record, a window is live; of a history, a
--- touch is held.)
-abbrev pub heldAt : ℕ → List Event → ℕ → List Mark
-heldAt w past t = those (isYoung w t) (unspent w past)
+unfoldable pub isPromptStanding : ℕ → List Event → ℕ → Bool
+isPromptStanding w past t = isStandingBy (latestPrompt w past) (latestTouch w past) t
 
 -- 01, Moments and touches: "A touch has lapsed when it is unspent and W has passed at the last moment."
 abbrev pub lapsed : ℕ → List Event → List Mark
 lapsed w past = those (isOld w (lastMoment past)) (unspent w past)
 
--- The touches that are gone from the unspent ones, call by call: what its past held when a call spent.
+-- The touches that are gone from the unspent ones, call by call: what its past held for its side when a call spent.
 unfoldable pub served : ℕ → List Event → List Mark
 served w [] = []
-served w (e ∷ past) = if isSpending e then heldAt w past (e .call .moment) ++ served w past else served w past
+served w (e ∷ past) = if isSpending e then heldFor w past (sideOf (e .call .role)) (e .call .moment) ++ served w past else served w past
 
 -- Which touch served a call that spent one, said without a word of what is spent: the latest accepted one before it.
-abbrev pub serverOf : List Event → Option Mark
-serverOf past = latest isAccepted past
+abbrev pub serverOf : ℕ → List Event → Option Mark
+serverOf w past = latestTouch w past
 
 -- The touches that served the calls of a history, call by call.
-unfoldable pub servers : List Event → List (Option Mark)
-servers [] = []
-servers (e ∷ past) = if isSpending e then serverOf past ∷ servers past else servers past
+unfoldable pub servers : ℕ → List Event → List (Option Mark)
+servers w [] = []
+servers w (e ∷ past) = if isSpending e then serverOf w past ∷ servers w past else servers w past
 
 abbrev pub isNamed : ℕ → Option Mark → Bool
 isNamed n none = false
 isNamed n (some k) = eqb (k .number) n
 
--- How many calls spent a touch.
+-- How many calls spent a touch, and how many of a side.
 abbrev pub spenders : List Event → ℕ
 spenders past = length (those isSpending past)
 
-abbrev pub isAny : List Mark → Bool
-isAny [] = false
-isAny (k ∷ ks) = true
+abbrev pub isSpendingFor : (side : ℕ) → Event → Bool
+isSpendingFor s e = isSpending e && eqb (sideOf (e .call .role)) s
 
--- What a history says of its next call, once the call's moment has passed R1.
+abbrev pub spendersOf : (side : ℕ) → List Event → ℕ
+spendersOf s past = length (those (isSpendingFor s) past)
+
+-- What a history says of its next call, once the call's side and moment have passed.
 abbrev pub unrefused : ℕ → List Event → Role → ℕ → Came
-unrefused w past Touching t = if isPromptStanding past t then TouchAccepted else TouchIgnored
-unrefused w past Checking t = if isAny (heldAt w past t) then TouchFound else NoTouchFound
-unrefused w past Asking t = if isPromptStanding past t then PromptStands else NoPromptStands
-unrefused w past Settling t = Passed
-unrefused w past Short t = RefusedBy 2
+unrefused w past Touching t = if isPromptStanding w past t then TouchAccepted else TouchIgnored
+unrefused w past (Checking s) t = if isAny (heldFor w past s t) then TouchFound else NoTouchFound
+unrefused w past Asking t = if isPromptStanding w past t then PromptStands else NoPromptStands
+unrefused w past (Settling s) t = Passed
+unrefused w past (Short s) t = RefusedBy 2
 
--- 01, Refusal numbers, R1: "moment 2^48 or more, or before the record's last moment"
+-- 02, E7: R8 "for a side other than 0 or 1"; then 01, Refusal numbers, R1: "moment 2^48 or more, or before the record's last moment"
 unfoldable pub foretold : ℕ → List Event → Call → Came
 foretold w past c =
-    if isR1 (lastMoment past) (c .moment) then RefusedBy 1
+    if isNoSide (sideOf (c .role)) then RefusedBy 8
+    else if isR1 (lastMoment past) (c .moment) then RefusedBy 1
     else unrefused w past (c .role) (c .moment)

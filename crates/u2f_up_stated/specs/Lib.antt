@@ -4,6 +4,7 @@ pub mod Answers
 pub mod Contracts
 pub mod History
 pub mod Runs
+pub mod OneSide
 pub mod Terms
 pub mod Demand
 pub mod Claims

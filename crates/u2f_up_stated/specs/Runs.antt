@@ -8,12 +8,12 @@ use Rattle.u2f_up_stated.specs.History.{Came, RefusedBy, TouchAccepted, 
 -- What a call of each role does to the record.
 unfoldable pub doneBy : Role → Presence → ℕ → Told
 doneBy Touching p t = touchOf p t
-doneBy Checking p t = checkOf p t
+doneBy (Checking s) p t = checkOf p s t
 doneBy Asking p t = askOf p t
 -- 01, Refusal numbers: "Without an R refusal, each .. decision sets the last moment to t"
-doneBy Settling p t = onSettled p (settleOf p t) (λ q. record { outcome = Gives true; presence = q })
+doneBy (Settling s) p t = onSettled p (settleOf p s t) (λ q. record { outcome = Gives true; presence = q })
 -- 01, Refusal numbers: "An R refusal changes no buffer and no record."
-doneBy Short p t = onSettled p (settleOf p t) (λ q. refused 2 p)
+doneBy (Short s) p t = onSettled p (settleOf p s t) (λ q. refused 2 p)
 
 -- A way of calling, with calls of any type D: what each call is in history terms, and what it does to the record.
 pub record Caller (D : Type 0) : Type 0 where
@@ -31,10 +31,10 @@ own = record { asCall = λ c. c; does = λ p c. doneBy (c .role) p (c .moment) }
 -- What came of a call of each role, by its outcome. (No call gives a status word here.)
 abbrev pub cameOfGiven : Role → Bool → Came
 cameOfGiven Touching given = if given then TouchAccepted else TouchIgnored
-cameOfGiven Checking given = if given then TouchFound else NoTouchFound
+cameOfGiven (Checking s) given = if given then TouchFound else NoTouchFound
 cameOfGiven Asking given = if given then PromptStands else NoPromptStands
-cameOfGiven Settling given = Passed
-cameOfGiven Short given = Passed
+cameOfGiven (Settling s) given = Passed
+cameOfGiven (Short s) given = Passed
 
 abbrev pub cameOf : Role → Outcome Bool → Came
 cameOf role (R n) = RefusedBy n

@@ -1,7 +1,7 @@
 -- Wrong programs, each with one fault. proofs/Refuted.antt shows of each that a claim is false of it.
 use mathlib.Core.List.{List, [], _∷_}
-use Rattle.u2f_up_stated.specs.Words.{ℕ, _+_, _^_, Bool, true, false, _||_, eqb, ltb, leb, if_then_else_, Outcome, R, Gives, Window, Closed, Opened, Presence, Finding}
-use Rattle.u2f_up_stated.specs.Moments.{fresh, Told, isLive, isPrompting, isR6, isR1, movedTo, settleOf, gave, refused, touchOpened, touchClosed, promptOpened, onSettled, grantedOf, checkedOf}
+use Rattle.u2f_up_stated.specs.Words.{ℕ, _+_, _^_, Bool, true, false, not, _||_, eqb, ltb, leb, if_then_else_, Outcome, R, Gives, Window, Closed, Opened, Presence, Finding}
+use Rattle.u2f_up_stated.specs.Moments.{fresh, Told, isLive, isPrompting, isR6, isNoSide, isR8, isR1, movedTo, settleOf, gave, refused, touchOpened, touchClosed, promptOpened, onSettled, grantedOf, checkedOf}
 use Rattle.u2f_up_stated.specs.History.{Role, Touching, Checking, Asking, Settling, Short, Call, Event, TouchAccepted, TouchFound, NoTouchFound}
 use Rattle.u2f_up_stated.specs.Runs.{Caller, doneBy}
 
@@ -18,43 +18,71 @@ takes60001 w = if eqb w 0 then R 6 else if ltb 60001 w then R 6 else Gives (fres
 abbrev pub refuses60000 : ℕ → Outcome Presence
 refuses60000 w = if eqb w 0 then R 6 else if ltb 59999 w then R 6 else Gives (fresh w)
 
--- ---- settlings
+-- "0 when fresh": side 1
+abbrev pub freshSide1 : ℕ → Outcome Presence
+freshSide1 w = if isR6 w then R 6 else Gives (record { w = w; prompt = Closed; touch = Closed; last = 0; asker = 1 })
+
+-- ---- settlings, by the tests that they make in turn: R6's, R8's of the named side and the record's, R1's of the last moment
+abbrev settling : (ℕ → Bool) → (ℕ → ℕ → Bool) → (ℕ → ℕ → Bool) → Presence → (side t : ℕ) → Outcome Presence
+settling r6 r8 r1 p s t =
+    if r6 (p .w) then R 6
+    else if r8 s (p .asker) then R 8
+    else if r1 (p .last) t then R 1
+    else Gives (movedTo p t)
+
 -- "R6, then R1": the other way round
-abbrev pub r1First : Presence → ℕ → Outcome Presence
-r1First p t =
+abbrev pub r1First : Presence → (side t : ℕ) → Outcome Presence
+r1First p s t =
     if isR1 (p .last) t then R 1
     else if isR6 (p .w) then R 6
+    else if isR8 s (p .asker) then R 8
     else Gives (movedTo p t)
+
+-- R8 "after R6 and before R1": after R1, and before R6
+abbrev pub r8AfterR1 : Presence → (side t : ℕ) → Outcome Presence
+r8AfterR1 p s t =
+    if isR6 (p .w) then R 6
+    else if isR1 (p .last) t then R 1
+    else if isR8 s (p .asker) then R 8
+    else Gives (movedTo p t)
+
+abbrev pub r8First : Presence → (side t : ℕ) → Outcome Presence
+r8First p s t =
+    if isR8 s (p .asker) then R 8
+    else if isR6 (p .w) then R 6
+    else if isR1 (p .last) t then R 1
+    else Gives (movedTo p t)
+
+-- "a side other than 0 or 1": 2 is taken; "or in the record": it is not looked at; "named": nor is that
+abbrev pub takesSide2 : Presence → (side t : ℕ) → Outcome Presence
+takesSide2 = settling isR6 (λ s asker. ltb 2 s || ltb 2 asker) isR1
+
+abbrev pub recordSideTaken : Presence → (side t : ℕ) → Outcome Presence
+recordSideTaken = settling isR6 (λ s asker. isNoSide s) isR1
+
+abbrev pub namedSideTaken : Presence → (side t : ℕ) → Outcome Presence
+namedSideTaken = settling isR6 (λ s asker. isNoSide asker) isR1
 
 -- "moment 2^48 or more": 2^48 is taken
-abbrev pub takes2to48 : Presence → ℕ → Outcome Presence
-takes2to48 p t =
-    if isR6 (p .w) then R 6
-    else if ltb (2 ^ 48) t || ltb t (p .last) then R 1
-    else Gives (movedTo p t)
+abbrev pub takes2to48 : Presence → (side t : ℕ) → Outcome Presence
+takes2to48 = settling isR6 isR8 (λ last t. ltb (2 ^ 48) t || ltb t last)
 
 -- "moment 2^48 or more": the moment before it is refused
-abbrev pub refusesLast : Presence → ℕ → Outcome Presence
-refusesLast p t =
-    if isR6 (p .w) then R 6
-    else if leb (2 ^ 48) (t + 1) || ltb t (p .last) then R 1
-    else Gives (movedTo p t)
+abbrev pub refusesLast : Presence → (side t : ℕ) → Outcome Presence
+refusesLast = settling isR6 isR8 (λ last t. leb (2 ^ 48) (t + 1) || ltb t last)
 
 -- "or before the record's last moment": an earlier moment is taken
-abbrev pub goesBack : Presence → ℕ → Outcome Presence
-goesBack p t =
-    if isR6 (p .w) then R 6
-    else if leb (2 ^ 48) t then R 1
-    else Gives (movedTo p t)
+abbrev pub goesBack : Presence → (side t : ℕ) → Outcome Presence
+goesBack = settling isR6 isR8 (λ last t. leb (2 ^ 48) t)
 
 -- ---- touches: what is found on a settled record
 abbrev touching : (Presence → ℕ → Finding) → Presence → ℕ → Told
-touching grants p t = onSettled p (settleOf p t) (λ q. gave (grants q t))
+touching grants p t = onSettled p (settleOf p (p .asker) t) (λ q. gave (grants q t))
 
 -- "then the prompt closes and a touch window opens": a touch window that is live already stays as it is
 abbrev keepsOlder : Presence → ℕ → Finding
 keepsOlder p t =
-    if isPrompting p t then record { yes = true; presence = record { w = p .w; prompt = Closed; touch = if isLive (p .touch) (p .w) t then p .touch else Opened t; last = p .last } }
+    if isPrompting p t then record { yes = true; presence = record { w = p .w; prompt = Closed; touch = if isLive (p .touch) (p .w) t then p .touch else Opened t; last = p .last; asker = p .asker } }
     else record { yes = false; presence = p }
 
 abbrev pub leavesOlder : Presence → ℕ → Told
@@ -72,61 +100,107 @@ window9999 = touching (grantedWithin 9999)
 abbrev pub window10001 : Presence → ℕ → Told
 window10001 = touching (grantedWithin 10001)
 
+-- "An accepted touch belongs to the asker": to side 0, whoever asked
+abbrev pub touchTo0 : Presence → ℕ → Told
+touchTo0 = touching (λ p t. if isPrompting p t then record { yes = true; presence = record { w = p .w; prompt = Closed; touch = Opened t; last = p .last; asker = 0 } } else record { yes = false; presence = p })
+
 -- "Otherwise nothing but the last moment moves": a touch leaves even that
 abbrev pub leavesTheMoment : Presence → ℕ → Told
-leavesTheMoment p t = onSettled p (settleOf p t) (λ q. gave (grantedOf p t))
+leavesTheMoment p t = onSettled p (settleOf p (p .asker) t) (λ q. gave (grantedOf p t))
 
 -- "An R refusal changes no buffer and no record": a refused touch closes the windows
 abbrev closedBy : Presence → Outcome Presence → (Presence → Told) → Told
-closedBy p (R n) goOn = refused n (record { w = p .w; prompt = Closed; touch = Closed; last = p .last })
+closedBy p (R n) goOn = refused n (record { w = p .w; prompt = Closed; touch = Closed; last = p .last; asker = p .asker })
 closedBy p (Outcome.Word s) goOn = record { outcome = Outcome.Word s; presence = p }
 closedBy p (Gives q) goOn = goOn q
 
 abbrev pub refusalCloses : Presence → ℕ → Told
-refusalCloses p t = closedBy p (settleOf p t) (λ q. gave (grantedOf q t))
+refusalCloses p t = closedBy p (settleOf p (p .asker) t) (λ q. gave (grantedOf q t))
 
 -- ---- checks
-abbrev checking : (Presence → ℕ → Finding) → Presence → ℕ → Told
-checking checks p t = onSettled p (settleOf p t) (λ q. gave (checks q t))
+abbrev checking : (Presence → (side t : ℕ) → Finding) → Presence → (side t : ℕ) → Told
+checking checks p s t = onSettled p (settleOf p s t) (λ q. gave (checks q s t))
+
+-- by what is done with a live touch of the side that checks, and of the other one, and without one
+abbrev by : (own other without : Presence → (side t : ℕ) → Finding) → Presence → (side t : ℕ) → Finding
+by own other without p s t =
+    if not (isLive (p .touch) (p .w) t) then without p s t
+    else if not (eqb (p .asker) s) then other p s t
+    else own p s t
+
+abbrev spends : Presence → (side t : ℕ) → Finding
+spends p s t = record { yes = true; presence = touchClosed p }
+
+abbrev leaves : Presence → (side t : ℕ) → Finding
+leaves p s t = record { yes = false; presence = p }
+
+abbrev prompts : Presence → (side t : ℕ) → Finding
+prompts p s t = record { yes = false; presence = promptOpened p s t }
 
 -- "with a live touch, it is spent": it stays
-abbrev staysSpent : Presence → ℕ → Finding
-staysSpent p t =
-    if isLive (p .touch) (p .w) t then record { yes = true; presence = p }
-    else record { yes = false; presence = promptOpened p t }
+abbrev staysSpent : Presence → (side t : ℕ) → Finding
+staysSpent = by (λ p s t. record { yes = true; presence = p }) leaves prompts
 
-abbrev pub checkKeeps : Presence → ℕ → Told
+abbrev pub checkKeeps : Presence → (side t : ℕ) → Told
 checkKeeps = checking staysSpent
+
+-- 02, E7: "A touch that wireless asked for must not release a USB login": the other side is served
+abbrev servesOther : Presence → (side t : ℕ) → Finding
+servesOther = by spends spends prompts
+
+abbrev pub serves2 : Presence → (side t : ℕ) → Told
+serves2 = checking servesOther
+
+-- 02, E7: "nothing is opened or spent, and that is no prompting refusal": it opens a prompt, the asker being the one that asked
+abbrev promptsBeside : Presence → (side t : ℕ) → Finding
+promptsBeside = by spends (λ p s t. record { yes = false; presence = promptOpened p (p .asker) t }) prompts
+
+abbrev pub prompts2 : Presence → (side t : ℕ) → Told
+prompts2 = checking promptsBeside
+
+-- 02, E7: "An accepted touch belongs to the asker": it is given to the side that checks, which finds it the next time
+abbrev givesTouch : Presence → (side t : ℕ) → Finding
+givesTouch = by spends (λ p s t. record { yes = false; presence = record { w = p .w; prompt = p .prompt; touch = p .touch; last = p .last; asker = s } }) prompts
+
+abbrev pub gives2 : Presence → (side t : ℕ) → Told
+gives2 = checking givesTouch
+
+-- 02, E7: "makes its side the asker, in place of any earlier": the earlier one stays
+abbrev keepsTheAsker : Presence → (side t : ℕ) → Finding
+keepsTheAsker = by spends leaves (λ p s t. record { yes = false; presence = promptOpened p (p .asker) t })
+
+abbrev pub keepsAsker : Presence → (side t : ℕ) → Told
+keepsAsker = checking keepsTheAsker
 
 -- "is live at t when t < m + d": at the end too
 abbrev isLiveStill : Window → ℕ → ℕ → Bool
 isLiveStill Closed d t = false
 isLiveStill (Opened m) d t = leb t (m + d)
 
-abbrev pub liveAtTheEnd : Presence → ℕ → Told
-liveAtTheEnd = checking (λ p t. if isLiveStill (p .touch) (p .w) t then record { yes = true; presence = touchClosed p } else record { yes = false; presence = promptOpened p t })
+abbrev pub liveAtTheEnd : Presence → (side t : ℕ) → Told
+liveAtTheEnd = checking (λ p s t. if isLiveStill (p .touch) (p .w) t then record { yes = true; presence = touchClosed p } else record { yes = false; presence = promptOpened p s t })
 
 -- "a prompt window opens at t, replacing an older one": an older live one stays
-abbrev pub keepsOlderPrompt : Presence → ℕ → Told
-keepsOlderPrompt = checking (λ p t. if isLive (p .touch) (p .w) t then record { yes = true; presence = touchClosed p } else if isPrompting p t then record { yes = false; presence = p } else record { yes = false; presence = promptOpened p t })
+abbrev pub keepsOlderPrompt : Presence → (side t : ℕ) → Told
+keepsOlderPrompt = checking (by spends leaves (λ p s t. if isPrompting p t then leaves p s t else prompts p s t))
 
 -- the check by itself moves nothing but the windows: here the last moment too
-abbrev pub movesAgain : Presence → ℕ → Finding
-movesAgain p t = checkedOf (movedTo p t) t
+abbrev pub movesAgain : Presence → (side t : ℕ) → Finding
+movesAgain p s t = checkedOf (movedTo p t) s t
 
 -- ---- asks: "changes nothing, not even the last moment": it moves
 abbrev pub askMoves : Presence → ℕ → Told
-askMoves p t = onSettled p (settleOf p t) (λ q. record { outcome = Gives (isPrompting p t); presence = q })
+askMoves p t = onSettled p (settleOf p (p .asker) t) (λ q. record { outcome = Gives (isPrompting p t); presence = q })
 
 -- ---- ways of calling: the calls of this crate, but for what touch and check find on a settled record
-abbrev doing : (Presence → ℕ → Finding) → (Presence → ℕ → Finding) → Role → Presence → ℕ → Told
+abbrev doing : (Presence → ℕ → Finding) → (Presence → (side t : ℕ) → Finding) → Role → Presence → ℕ → Told
 doing grants checks Touching p t = touching grants p t
-doing grants checks Checking p t = checking checks p t
+doing grants checks (Checking s) p t = checking checks p s t
 doing grants checks Asking p t = doneBy Asking p t
-doing grants checks Settling p t = doneBy Settling p t
-doing grants checks Short p t = doneBy Short p t
+doing grants checks (Settling s) p t = doneBy (Settling s) p t
+doing grants checks (Short s) p t = doneBy (Short s) p t
 
-abbrev calling : (Presence → ℕ → Finding) → (Presence → ℕ → Finding) → Caller Call
+abbrev calling : (Presence → ℕ → Finding) → (Presence → (side t : ℕ) → Finding) → Caller Call
 calling grants checks = record { asCall = λ c. c; does = λ p c. doing grants checks (c .role) p (c .moment) }
 
 -- a spent touch stays, and serves again
@@ -135,15 +209,15 @@ keepsSpent = calling grantedOf staysSpent
 
 -- honours no touch: an accepted one opens nothing
 abbrev pub opensNothing : Caller Call
-opensNothing = calling (λ p t. if isPrompting p t then record { yes = true; presence = record { w = p .w; prompt = Closed; touch = Closed; last = p .last } } else record { yes = false; presence = p }) checkedOf
+opensNothing = calling (λ p t. if isPrompting p t then record { yes = true; presence = record { w = p .w; prompt = Closed; touch = Closed; last = p .last; asker = p .asker } } else record { yes = false; presence = p }) checkedOf
 
 -- one prompt lets in touch after touch
 abbrev pub keepsPrompt : Caller Call
-keepsPrompt = calling (λ p t. if isPrompting p t then record { yes = true; presence = record { w = p .w; prompt = p .prompt; touch = Opened t; last = p .last } } else record { yes = false; presence = p }) checkedOf
+keepsPrompt = calling (λ p t. if isPrompting p t then record { yes = true; presence = record { w = p .w; prompt = p .prompt; touch = Opened t; last = p .last; asker = p .asker } } else record { yes = false; presence = p }) checkedOf
 
 -- an accepted touch opens its window at the prompt's moment
 abbrev pub opensAtPrompt : Caller Call
-opensAtPrompt = calling (λ p t. if isPrompting p t then record { yes = true; presence = record { w = p .w; prompt = Closed; touch = p .prompt; last = p .last } } else record { yes = false; presence = p }) checkedOf
+opensAtPrompt = calling (λ p t. if isPrompting p t then record { yes = true; presence = record { w = p .w; prompt = Closed; touch = p .prompt; last = p .last; asker = p .asker } } else record { yes = false; presence = p }) checkedOf
 
 -- honours the first touch only. A window opened at 2^48, which no touch opens, says that one was spent: from then on every touch
 -- is accepted as ever, and every check is an ordinary 6985.
@@ -153,8 +227,32 @@ isUsedUp (Opened m) = leb (2 ^ 48) m
 
 abbrev pub firstOnly : Caller Call
 firstOnly = calling
-    (λ p t. if isPrompting p t then record { yes = true; presence = record { w = p .w; prompt = Closed; touch = if isUsedUp (p .touch) then p .touch else Opened t; last = p .last } } else record { yes = false; presence = p })
-    (λ p t. if isUsedUp (p .touch) then record { yes = false; presence = promptOpened p t } else if isLive (p .touch) (p .w) t then record { yes = true; presence = record { w = p .w; prompt = p .prompt; touch = Opened (2 ^ 48); last = p .last } } else record { yes = false; presence = promptOpened p t })
+    (λ p t. if isPrompting p t then record { yes = true; presence = record { w = p .w; prompt = Closed; touch = if isUsedUp (p .touch) then p .touch else Opened t; last = p .last; asker = p .asker } } else record { yes = false; presence = p })
+    (λ p s t. if isUsedUp (p .touch) then prompts p s t else by (λ p s t. record { yes = true; presence = record { w = p .w; prompt = p .prompt; touch = Opened (2 ^ 48); last = p .last; asker = p .asker } }) leaves prompts p s t)
+
+-- 02, E7, over a run: the other side is served; its 6985 opens a prompt, or gives it the touch; the asker is not replaced
+abbrev pub otherServed : Caller Call
+otherServed = calling grantedOf servesOther
+
+abbrev pub otherPrompts : Caller Call
+otherPrompts = calling grantedOf promptsBeside
+
+abbrev pub givenToChecker : Caller Call
+givenToChecker = calling grantedOf givesTouch
+
+abbrev pub askerKept : Caller Call
+askerKept = calling grantedOf keepsTheAsker
+
+-- R8 "before R1": after it
+abbrev r8LastDoes : Role → Presence → ℕ → Told
+r8LastDoes Touching p t = doneBy Touching p t
+r8LastDoes (Checking s) p t = onSettled p (r8AfterR1 p s t) (λ q. gave (checkedOf q s t))
+r8LastDoes Asking p t = doneBy Asking p t
+r8LastDoes (Settling s) p t = doneBy (Settling s) p t
+r8LastDoes (Short s) p t = doneBy (Short s) p t
+
+abbrev pub r8Last : Caller Call
+r8Last = record { asCall = λ c. c; does = λ p c. r8LastDoes (c .role) p (c .moment) }
 
 -- refuses every call
 abbrev pub refusesAll : Caller Call
@@ -163,20 +261,27 @@ refusesAll = record { asCall = λ c. c; does = λ p c. refused 1 p }
 -- a decision refused by R2 has settled its moment
 abbrev shortDoes : Role → Presence → ℕ → Told
 shortDoes Touching p t = doneBy Touching p t
-shortDoes Checking p t = doneBy Checking p t
+shortDoes (Checking s) p t = doneBy (Checking s) p t
 shortDoes Asking p t = doneBy Asking p t
-shortDoes Settling p t = doneBy Settling p t
-shortDoes Short p t = onSettled p (settleOf p t) (λ q. refused 2 q)
+shortDoes (Settling s) p t = doneBy (Settling s) p t
+shortDoes (Short s) p t = onSettled p (settleOf p s t) (λ q. refused 2 q)
 
 abbrev pub shortMoves : Caller Call
 shortMoves = record { asCall = λ c. c; does = λ p c. shortDoes (c .role) p (c .moment) }
+
+-- ---- what stands for the base: the touch check asks whose the touch is; settling looks at the record's side
+abbrev pub baseAsksWhose : Presence → ℕ → Finding
+baseAsksWhose p t = checkedOf p 0 t
+
+abbrev pub baseLooksAtSide : Presence → ℕ → Outcome Presence
+baseLooksAtSide p t = settleOf p 0 t
 
 -- ---- a history that no program here made, in the order of the calls: a check at 0 prompts, a touch at 1 is accepted, and checks at 2
 -- and at 3 spend it
 abbrev pub servedTwice : List Event
 servedTwice =
-    record { call = record { role = Checking; moment = 3 }; came = TouchFound }
-    ∷ record { call = record { role = Checking; moment = 2 }; came = TouchFound }
+    record { call = record { role = Checking 0; moment = 3 }; came = TouchFound }
+    ∷ record { call = record { role = Checking 0; moment = 2 }; came = TouchFound }
     ∷ record { call = record { role = Touching; moment = 1 }; came = TouchAccepted }
-    ∷ record { call = record { role = Checking; moment = 0 }; came = NoTouchFound }
+    ∷ record { call = record { role = Checking 0; moment = 0 }; came = NoTouchFound }
     ∷ []
