@@ -1,6 +1,7 @@
--- The calls on a record lent for writing: two walks of their MIR, by hand, each over a free callee. All that a walk knows of its
--- callee is that it meets its contract, whatever that says of the record, the moment and what comes back.
---     steps-meets    touch and touch check: the borrow is opened, the record copied out and passed, the record of the step
+-- The calls on a record lent for writing that name no side: two walks of their MIR, by hand, each over a free callee. All that a walk knows of
+-- its callee is that it meets its contract, whatever that says of the record, the moment and what comes back. The touch check, which names a
+-- side, is walked in LentSide.antt.
+--     steps-meets    touch: the borrow is opened, the record copied out and passed, the record of the step
 --                    that comes back is stored, and the borrow is closed at that record
 --     asks-meets     ask: the record is copied out and passed, and the borrow is closed as it was
 -- Assumes nothing.
@@ -112,17 +113,17 @@ Arg = RefT Presence × (ℕ × Unit {0})
 abbrev stayed : Stays (lent.ended .signature .params) (lent.ended .kept)
 stayed = (stay-ref (0 ∷ []) tt (plain (λ _. P.the-row)), (stay-none (λ _. u64) yes, tt))
 
-abbrev val : Presence → Val
+abbrev pub val : Presence → Val
 val = LL.val P.the-type P′.the-laws
 
-abbrev answers : Answer → List Val
+abbrev pub answers : Answer → List Val
 answers = EL.vals N.the-type N′.the-laws
 
 -- what whoever holds a step knows of its parts
-presence-is : (r : Step) (vs : List Val) → Is S.the-row r vs → Is P.the-row (r .presence) (val (r .presence) ∷ [])
+pub presence-is : (r : Step) (vs : List Val) → Is S.the-row r vs → Is P.the-row (r .presence) (val (r .presence) ∷ [])
 presence-is r vs is = LL.owed S.the-type S′.the-laws r vs is .1 .0
 
-answer-is : (r : Step) (vs : List Val) → Is S.the-row r vs → Is N.the-row (r .answer) (answers (r .answer))
+pub answer-is : (r : Step) (vs : List Val) → Is S.the-row r vs → Is N.the-row (r .answer) (answers (r .answer))
 answer-is r vs is = LL.owed S.the-type S′.the-laws r vs is .0
 
 module _ {M : Type 1} (𝓤 : URA M) (H : Heap 𝓤) (A : Atoms 𝓤) where

@@ -1,8 +1,8 @@
 -- What each return of the functions gives, as a law in the form of its need: the premises are the facts as the code has
 -- them. The only file, beside the theorems on runs, that opens the definitions of specs/Moments.antt.
 use Prim.Native.Nat.{ℕ, _+_, _-_, _^_, _<_, _≤_}
-use mathlib.Core.Path.{_≡_, refl, sym, _∙_}
-use mathlib.Core.Bool.{Bool, true, false}
+use mathlib.Core.Path.{_≡_, refl, sym, ap, _∙_}
+use mathlib.Core.Bool.{Bool, true, false, not}
 use native.Mathlib.Omega.{arith}
 use lib.Dec.{ltb}
 use borrow.Author.Tests.{lt-ltb, le-ltb, le-leb, lt-leb, eq-eqb, ne-eqb, ltb-true, ltb-false}
@@ -85,17 +85,17 @@ module _ (p : Presence) (t : ℕ) (live : Bool) where
   granted-no e h = rw (sym e ∙ h)
 
   module _ (s : ℕ) where
-    pub checked-prompts : live ≡ isLive (p .touch) (p .w) t → live ≡ false → record { yes = false; presence = promptOpened p s t } ≡ checkedOf p s t
+    pub checked-prompts : live ≡ isLive (p .touch) (p .w) t → not live ≡ true → record { yes = false; presence = promptOpened p s t } ≡ checkedOf p s t
     unfolding checkedOf
-    checked-prompts e h = rw (sym e ∙ h)
+    checked-prompts e h = rw (ap not (sym e) ∙ h)
 
-    pub checked-other : live ≡ isLive (p .touch) (p .w) t → live ≡ true → (p .asker ≡ s → ⊥) → record { yes = false; presence = p } ≡ checkedOf p s t
+    pub checked-other : live ≡ isLive (p .touch) (p .w) t → not live ≡ false → (p .asker ≡ s → ⊥) → record { yes = false; presence = p } ≡ checkedOf p s t
     unfolding checkedOf
-    checked-other e h n = rw (sym e ∙ h, ne-eqb (p .asker) s n)
+    checked-other e h n = rw (ap not (sym e) ∙ h, ne-eqb (p .asker) s n)
 
-    pub checked-own : live ≡ isLive (p .touch) (p .w) t → live ≡ true → p .asker ≡ s → record { yes = true; presence = touchClosed p } ≡ checkedOf p s t
+    pub checked-own : live ≡ isLive (p .touch) (p .w) t → not live ≡ false → p .asker ≡ s → record { yes = true; presence = touchClosed p } ≡ checkedOf p s t
     unfolding checkedOf
-    checked-own e h o = rw (sym e ∙ h, eq-eqb (p .asker) s o)
+    checked-own e h o = rw (ap not (sym e) ∙ h, eq-eqb (p .asker) s o)
 
 -- an answer and a record, told
 pub told-as : (found : Finding) (o : Outcome Bool) → o ≡ Gives (found .yes) → record { outcome = o; presence = found .presence } ≡ gave found

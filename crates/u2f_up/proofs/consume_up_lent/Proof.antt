@@ -1,9 +1,9 @@
--- `u2f_up::consume_up_lent` meets its contract: the walk `steps-meets` of proofs/Lent.antt at `consume_up`. Assumes nothing.
+-- `u2f_up::consume_up_lent` meets its contract: the walk `steps-meets` of proofs/LentSide.antt at `consume_up`. Assumes nothing.
 use contract.Running.{givenOf, tables, tablesOf}
 use denote.Triple.Spec.{tripleOf}
 use denote.Triple.Table.{entered, cited}
 use Rattle.u2f_up_stated.specs.Contracts.{ConsumeUp}
-use Rattle.u2f_up.proofs.Lent.{Stepping, steps-meets}
+use Rattle.u2f_up.proofs.LentSide.{Stepping, steps-meets}
 use Rattle.u2f_up.proofs.consume_up.Symbol as callee
 use Rattle.u2f_up.proofs.consume_up.Met as callee-thm
 use Rattle.u2f_up.proofs.consume_up_lent.Key.{name}
