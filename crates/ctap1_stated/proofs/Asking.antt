@@ -49,7 +49,8 @@ module _ (p : Presence) (t : ℕ) (a : Inputs) where
 
       by : (r : Result) → Answers p t a r → r .answer ≡ Gives (Part n after) → IsPart n after
       by _ (Table.r6 b) x = absurd (r-gives _ _ x)
-      by _ (Table.r1 g b) x = absurd (r-gives _ _ x)
+      by _ (Table.r8 g b) x = absurd (r-gives _ _ x)
+      by _ (Table.r1 g h b) x = absurd (r-gives _ _ x)
       by _ (Table.failed ok y) x = absurd (word-gives _ _ x)
       by _ (Table.forbidden ok y) x = absurd (word-gives _ _ x)
       by _ (Table.frame ok y s z) x = absurd (word-gives _ _ x)
@@ -57,6 +58,7 @@ module _ (p : Presence) (t : ℕ) (a : Inputs) where
       by _ (Table.version ok c h) x = absurd (part-body _ _ _ (sym x))
       by _ (Table.register-short said ok c h) x = absurd (r-gives _ _ x)
       by _ (Table.register-6985 said y m) x = absurd (word-gives _ _ x)
+      by _ (Table.register-other said y o) x = absurd (word-gives _ _ x)
       by _ (Table.not-stored said y l s) x = absurd (word-gives _ _ x)
       by _ (Table.long said y l s k) x = absurd (word-gives _ _ x)
       by _ (Table.missing said y l s k m) x = absurd (word-gives _ _ x)
@@ -66,6 +68,7 @@ module _ (p : Presence) (t : ℕ) (a : Inputs) where
       by _ (Table.check-only said ok c g) x = absurd (word-gives _ _ x)
       by _ (Table.sign-short p1 said ok c g m h) x = absurd (r-gives _ _ x)
       by _ (Table.sign-6985 said y m) x = absurd (word-gives _ _ x)
+      by _ (Table.sign-other said y o) x = absurd (word-gives _ _ x)
       by _ (Table.no-counter-03 said y l k) x = absurd (word-gives _ _ x)
       by _ (Table.signs-03 said m y l k) x = absurd (part-order _ _ (sym x))
       by _ (Table.no-counter-08 said y k) x = absurd (word-gives _ _ x)
@@ -82,7 +85,7 @@ module _ (p : Presence) (t : ℕ) (a : Inputs) where
       → decisionOf p t a ≡ partResult (record { length = takes + 2; remainder = restAfter (a .remainder) (frameLimit (a .frame)) }) (movedTo p t)
   served x g h = sound p t a _ (Table.fetch takes refl x g h)
 
-  pub nothing-left : Passes p t → Comes a GetResponse → a .remainder .count ≡ 0 → decisionOf p t a ≡ wordResult (plainWord 0x6985) (movedTo p t)
+  pub nothing-left : Passes p (a .side) t → Comes a GetResponse → a .remainder .count ≡ 0 → decisionOf p t a ≡ wordResult (plainWord 0x6985) (movedTo p t)
   nothing-left ok c z = sound p t a _ (Table.fetch-nothing ok c z)
 
   module _ (asks : AsksOn a) where
@@ -103,7 +106,8 @@ module _ (p : Presence) (t : ℕ) (a : Inputs) where
       where
         by : (r : Result) → Answers p t a r → Asked r
         by _ (Table.r6 b) = is-refused 6
-        by _ (Table.r1 g b) = is-refused 1
+        by _ (Table.r8 g b) = is-refused 8
+        by _ (Table.r1 g h b) = is-refused 1
         by _ (Table.failed ok y) = is-word _ _
         by _ (Table.forbidden ok y) = is-word _ _
         by _ (Table.frame ok y s e) = is-word s _
@@ -111,6 +115,7 @@ module _ (p : Presence) (t : ℕ) (a : Inputs) where
         by _ (Table.version ok c h) = absurd (no-version (c .1))
         by _ (Table.register-short said ok c h) = is-refused 2
         by _ (Table.register-6985 said x n) = is-word _ _
+        by _ (Table.register-other said x o) = is-word _ _
         by _ (Table.not-stored said x l s) = is-word _ _
         by _ (Table.long said x l s k) = is-word _ _
         by _ (Table.missing said x l s k m) = is-word _ _
@@ -120,6 +125,7 @@ module _ (p : Presence) (t : ℕ) (a : Inputs) where
         by _ (Table.check-only said ok c g) = is-word _ _
         by _ (Table.sign-short p1 said ok c g n h) = is-refused 2
         by _ (Table.sign-6985 said x n) = is-word _ _
+        by _ (Table.sign-other said x o) = is-word _ _
         by _ (Table.no-counter-03 said x l k) = is-word _ _
         by _ (Table.signs-03 said n x l k) = absurd (no-authenticate 0x03 said (x .1 .1))
         by _ (Table.no-counter-08 said x k) = is-word _ _

@@ -47,20 +47,20 @@ enough need room b is-b n = le-ltb room need (leb-true need room (sym is-b ∙ n
 
 -- ---- Version
 module _ (kept settled : Presence) (room : ℕ) (r : Handed) where
-  pub version-short : room < 6 → r ≡ handedOf (refusalResult 2 kept) → r ≡ handedOf (along (versionPath room) kept settled 0)
+  pub version-short : room < 6 → r ≡ handedOf (refusalResult 2 kept) → r ≡ handedOf (along (versionPath room) kept settled 0 0)
   unfolding versionPath
   version-short h e = e ∙ rw (lt-ltb room 6 h)
 
-  pub version-body : 6 ≤ room → r ≡ handedOf (bodyResult 6 settled) → r ≡ handedOf (along (versionPath room) kept settled 0)
+  pub version-body : 6 ≤ room → r ≡ handedOf (bodyResult 6 settled) → r ≡ handedOf (along (versionPath room) kept settled 0 0)
   unfolding versionPath
   version-body h e = e ∙ rw (le-ltb room 6 h)
 
 module _ (kept settled : Presence) (old : List ℕ) where
-  pub version-kept : length old < 6 → old ≡ replyLeft (along (versionPath (length old)) kept settled 0) old
+  pub version-kept : length old < 6 → old ≡ replyLeft (along (versionPath (length old)) kept settled 0 0) old
   unfolding versionPath
   version-kept h = rw (lt-ltb (length old) 6 h)
 
-  pub version-wrote : (new : List ℕ) → 6 ≤ length old → new ≡ laid versionBytes old → new ≡ replyLeft (along (versionPath (length old)) kept settled 0) old
+  pub version-wrote : (new : List ℕ) → 6 ≤ length old → new ≡ laid versionBytes old → new ≡ replyLeft (along (versionPath (length old)) kept settled 0 0) old
   unfolding versionPath
   version-wrote new h e = e ∙ rw (le-ltb (length old) 6 h)
 
@@ -84,35 +84,35 @@ not-there a n = by (ℕ-discrete a 0)
     by (no z) = rw (ne-eqb a 0 z, ne-eqb a 1 n)
 
 -- ---- Register
-module _ (i : Inputs) (kept : Presence) (t : ℕ) (said : Says) (settled : Presence) (old : List ℕ) (b : Bool) (is-b : b ≡ leb (registerRoom (length (i .newHandle)) (length (i .certificate))) (i .room)) where
-  pub register-no-room : (r : Handed) → not b ≡ true → r ≡ handedOf (refusalResult 2 kept) → beside r old ≡ leftOf (along (registerPath i said) kept settled t) old
+module _ (i : Inputs) (kept : Presence) (side t : ℕ) (said : Says) (settled : Presence) (old : List ℕ) (b : Bool) (is-b : b ≡ leb (registerRoom (length (i .newHandle)) (length (i .certificate))) (i .room)) where
+  pub register-no-room : (r : Handed) → not b ≡ true → r ≡ handedOf (refusalResult 2 kept) → beside r old ≡ leftOf (along (registerPath i said) kept settled side t) old
   unfolding registerPath registerEnding
   register-no-room r n e = with-block r _ old e ∙ rw (short (registerRoom (length (i .newHandle)) (length (i .certificate))) (i .room) b is-b n)
 
-  module _ (room : not b ≡ false) (found : Finding) (is-found : found ≡ checkedOf settled t) where
+  module _ (room : not b ≡ false) (found : Finding) (is-found : found ≡ checkedOf settled side t) where
     roomy : ltb (i .room) (registerRoom (length (i .newHandle)) (length (i .certificate))) ≡ false
     roomy = enough (registerRoom (length (i .newHandle)) (length (i .certificate))) (i .room) b is-b room
 
-    pub register-no-touch : (r : Handed) → not (found .yes) ≡ true → r ≡ handedOf (statusResult 0x6985 (found .presence)) → beside r old ≡ leftOf (along (registerPath i said) kept settled t) old
+    pub register-no-touch : (r : Handed) → not (found .yes) ≡ true → r ≡ handedOf (statusResult 0x6985 (found .presence)) → beside r old ≡ leftOf (along (registerPath i said) kept settled side t) old
     unfolding registerPath registerEnding
     register-no-touch r n e = with-block r _ old e ∙ rw (roomy, ← is-found, n)
 
     module _ (touch : not (found .yes) ≡ false) where
-      pub register-not-stored : (r : Handed) → i .hardware .stored ≡ false → r ≡ handedOf (statusResult 0x6f00 (found .presence)) → beside r old ≡ leftOf (along (registerPath i said) kept settled t) old
+      pub register-not-stored : (r : Handed) → i .hardware .stored ≡ false → r ≡ handedOf (statusResult 0x6f00 (found .presence)) → beside r old ≡ leftOf (along (registerPath i said) kept settled side t) old
       unfolding registerPath registerEnding
       register-not-stored r n e = with-block r _ old e ∙ rw (roomy, ← is-found, touch, n)
 
       module _ (stored : i .hardware .stored ≡ true) where
-        pub register-long : (r : Handed) → 255 < length (i .newHandle) → r ≡ handedOf (statusResult 0x6f00 (found .presence)) → beside r old ≡ leftOf (along (registerPath i said) kept settled t) old
+        pub register-long : (r : Handed) → 255 < length (i .newHandle) → r ≡ handedOf (statusResult 0x6f00 (found .presence)) → beside r old ≡ leftOf (along (registerPath i said) kept settled side t) old
         unfolding registerPath registerEnding
         register-long r h e = with-block r _ old e ∙ rw (roomy, ← is-found, touch, stored, lt-ltb 255 (length (i .newHandle)) h)
 
         module _ (fits : length (i .newHandle) ≤ 255) where
-          pub register-no-attestation : (r : Handed) → isPresent (i .hardware .attestation) ≡ false → r ≡ handedOf (statusResult 0x6f00 (found .presence)) → beside r old ≡ leftOf (along (registerPath i said) kept settled t) old
+          pub register-no-attestation : (r : Handed) → isPresent (i .hardware .attestation) ≡ false → r ≡ handedOf (statusResult 0x6f00 (found .presence)) → beside r old ≡ leftOf (along (registerPath i said) kept settled side t) old
           unfolding registerPath registerEnding
           register-no-attestation r n e = with-block r _ old e ∙ rw (roomy, ← is-found, touch, stored, le-ltb 255 (length (i .newHandle)) fits, n)
 
-          pub register-order : (x : WithBlock) → isPresent (i .hardware .attestation) ≡ true → x ≡ leftOf (orderResult (registerOrdered i said) (found .presence) false) old → x ≡ leftOf (along (registerPath i said) kept settled t) old
+          pub register-order : (x : WithBlock) → isPresent (i .hardware .attestation) ≡ true → x ≡ leftOf (orderResult (registerOrdered i said) (found .presence) false) old → x ≡ leftOf (along (registerPath i said) kept settled side t) old
           unfolding registerPath registerEnding
           register-order x n e = e ∙ rw (roomy, ← is-found, touch, stored, le-ltb 255 (length (i .newHandle)) fits, n)
 
@@ -140,20 +140,20 @@ module _ (frame : List ℕ) (said : Says) (present : Bool) (p : Presence) (r : H
   unfolding countedEnding
   counted-order application challenge block h z is-a is-c is-o e = ordered (orderWith h block) (signingOrder frame said present n) p true r old (is-o ∙ rw (is-a, is-c)) e ∙ rw (eq-eqb k 1 z)
 
-module _ (c : Counter) (frame : List ℕ) (said : Says) (settled : Presence) (t : ℕ) (old : List ℕ) (found : Finding) (is-found : found ≡ checkedOf settled t) where
-  pub enforced-no-touch : (r : Handed) → not (found .yes) ≡ true → r ≡ handedOf (statusResult 0x6985 (found .presence)) → beside r old ≡ leftOf (touchChecked (checkedOf settled t) (countedEnding frame said true c)) old
+module _ (c : Counter) (frame : List ℕ) (said : Says) (settled : Presence) (side t : ℕ) (old : List ℕ) (found : Finding) (is-found : found ≡ checkedOf settled side t) where
+  pub enforced-no-touch : (r : Handed) → not (found .yes) ≡ true → r ≡ handedOf (statusResult 0x6985 (found .presence)) → beside r old ≡ leftOf (touchChecked (checkedOf settled side t) (countedEnding frame said true c)) old
   enforced-no-touch r n e = with-block r _ old e ∙ rw (← is-found, n)
 
-  pub enforced-touch : (x : WithBlock) → not (found .yes) ≡ false → x ≡ leftOf (ended (countedEnding frame said true c) (found .presence)) old → x ≡ leftOf (touchChecked (checkedOf settled t) (countedEnding frame said true c)) old
+  pub enforced-touch : (x : WithBlock) → not (found .yes) ≡ false → x ≡ leftOf (ended (countedEnding frame said true c) (found .presence)) old → x ≡ leftOf (touchChecked (checkedOf settled side t) (countedEnding frame said true c)) old
   enforced-touch x n e = e ∙ rw (← is-found, n)
 
-module _ (frame : List ℕ) (hardware : Hardware) (room : ℕ) (kept : Presence) (t : ℕ) (n : ℕ) (said : Says) (settled : Presence) (old : List ℕ) (p1 : ℕ) (is-p1 : p1 ≡ n) where
-  pub auth-bad : (r : Handed) → hardware .good ≡ false → r ≡ handedOf (statusResult 0x6a80 settled) → beside r old ≡ leftOf (along (loginPath frame hardware room n said) kept settled t) old
+module _ (frame : List ℕ) (hardware : Hardware) (room : ℕ) (kept : Presence) (side t : ℕ) (n : ℕ) (said : Says) (settled : Presence) (old : List ℕ) (p1 : ℕ) (is-p1 : p1 ≡ n) where
+  pub auth-bad : (r : Handed) → hardware .good ≡ false → r ≡ handedOf (statusResult 0x6a80 settled) → beside r old ≡ leftOf (along (loginPath frame hardware room n said) kept settled side t) old
   unfolding loginPath
   auth-bad r g e = with-block r _ old e ∙ rw g
 
   module _ (good : hardware .good ≡ true) where
-    pub auth-check-only : (r : Handed) → p1 ≡ 0x07 → r ≡ handedOf (statusResult 0x6985 settled) → beside r old ≡ leftOf (along (loginPath frame hardware room n said) kept settled t) old
+    pub auth-check-only : (r : Handed) → p1 ≡ 0x07 → r ≡ handedOf (statusResult 0x6985 settled) → beside r old ≡ leftOf (along (loginPath frame hardware room n said) kept settled side t) old
     unfolding loginPath
     auth-check-only r z e = with-block r _ old e ∙ rw (good, eq-eqb n 0x07 (sym is-p1 ∙ z))
 
@@ -161,15 +161,15 @@ module _ (frame : List ℕ) (hardware : Hardware) (room : ℕ) (kept : Presence)
       no-check : n ≡ 0x07 → ⊥
       no-check z = signs (is-p1 ∙ z)
 
-      pub auth-no-room : (r : Handed) → not b ≡ true → r ≡ handedOf (refusalResult 2 kept) → beside r old ≡ leftOf (along (loginPath frame hardware room n said) kept settled t) old
+      pub auth-no-room : (r : Handed) → not b ≡ true → r ≡ handedOf (refusalResult 2 kept) → beside r old ≡ leftOf (along (loginPath frame hardware room n said) kept settled side t) old
       unfolding loginPath
       auth-no-room r x e = with-block r _ old e ∙ rw (good, ne-eqb n 0x07 no-check, short authenticateRoom room b is-b x)
 
       module _ (roomy : not b ≡ false) where
-        pub auth-enforced : (x : WithBlock) → p1 ≡ 0x03 → x ≡ leftOf (touchChecked (checkedOf settled t) (countedEnding frame said true (hardware .counter))) old → x ≡ leftOf (along (loginPath frame hardware room n said) kept settled t) old
+        pub auth-enforced : (x : WithBlock) → p1 ≡ 0x03 → x ≡ leftOf (touchChecked (checkedOf settled side t) (countedEnding frame said true (hardware .counter))) old → x ≡ leftOf (along (loginPath frame hardware room n said) kept settled side t) old
         unfolding loginPath
         auth-enforced x z e = e ∙ rw (good, ne-eqb n 0x07 no-check, enough authenticateRoom room b is-b roomy, eq-eqb n 0x03 (sym is-p1 ∙ z))
 
-        pub auth-free : (x : WithBlock) → (p1 ≡ 0x03 → ⊥) → x ≡ leftOf (ended (countedEnding frame said false (hardware .counter)) settled) old → x ≡ leftOf (along (loginPath frame hardware room n said) kept settled t) old
+        pub auth-free : (x : WithBlock) → (p1 ≡ 0x03 → ⊥) → x ≡ leftOf (ended (countedEnding frame said false (hardware .counter)) settled) old → x ≡ leftOf (along (loginPath frame hardware room n said) kept settled side t) old
         unfolding loginPath
         auth-free x z e = e ∙ rw (good, ne-eqb n 0x07 no-check, enough authenticateRoom room b is-b roomy, ne-eqb n 0x03 (λ y. z (is-p1 ∙ y)))

@@ -25,13 +25,14 @@ pub use Rattle.ctap1_stated.proofs.Ruled.{nothingLeft, same-refused, sa
 
 -- whatever holds of these answers holds of every decision's
 pub every-answer : (P : Outcome Given → Type 0) (p : Presence) (t : ℕ) (a : Inputs)
-    → P (R 6) → P (R 1) → P (R 2) → P (SW 0x6f00) → P (SW 0x6986) → P (SW 0x6985) → P (SW 0x6a80) → ((s : StatusWord) → commandOf (a .frame) ≡ Word s → P (Word s))
+    → P (R 6) → P (R 8) → P (R 1) → P (R 2) → P (SW 0x6f00) → P (SW 0x6986) → P (SW 0x6985) → P (SW 0x6a80) → ((s : StatusWord) → commandOf (a .frame) ≡ Word s → P (Word s))
     → P (Gives (Body 6)) → P (Gives Ordered) → ((n : ℕ) (after : Remainder) → P (Gives (Part n after))) → P (decisionOf p t a .answer)
-every-answer P p t a six one two internal forbidden unsatisfied wrong status body order part = by (decisionOf p t a) (row p t a)
+every-answer P p t a six eight one two internal forbidden unsatisfied wrong status body order part = by (decisionOf p t a) (row p t a)
   where
     by : (r : Result) → Answers p t a r → P (r .answer)
     by _ (Table.r6 b) = six
-    by _ (Table.r1 g b) = one
+    by _ (Table.r8 g b) = eight
+    by _ (Table.r1 g h b) = one
     by _ (Table.failed ok y) = internal
     by _ (Table.forbidden ok y) = forbidden
     by _ (Table.frame ok y n e) = status n e
@@ -39,6 +40,7 @@ every-answer P p t a six one two internal forbidden unsatisfied wrong status bod
     by _ (Table.version ok c h) = body
     by _ (Table.register-short said ok c h) = two
     by _ (Table.register-6985 said x n) = unsatisfied
+    by _ (Table.register-other said x o) = unsatisfied
     by _ (Table.not-stored said x l s) = internal
     by _ (Table.long said x l s k) = internal
     by _ (Table.missing said x l s k m) = internal
@@ -48,6 +50,7 @@ every-answer P p t a six one two internal forbidden unsatisfied wrong status bod
     by _ (Table.check-only said ok c g) = unsatisfied
     by _ (Table.sign-short p1 said ok c g n h) = two
     by _ (Table.sign-6985 said x n) = unsatisfied
+    by _ (Table.sign-other said x o) = unsatisfied
     by _ (Table.no-counter-03 said x l k) = wrong
     by _ (Table.signs-03 said n x l k) = order
     by _ (Table.no-counter-08 said x k) = wrong

@@ -4,6 +4,7 @@ pub mod Tops
 pub mod Commands
 pub mod Ways
 pub mod Kept
+pub mod OneSide
 pub mod Ruled
 pub mod Numbers
 pub mod Only

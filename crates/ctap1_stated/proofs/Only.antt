@@ -1,5 +1,5 @@
 -- Only the definition meets each claim.
-use Prim.Native.Nat.{ℕ, zero, suc, _≤_}
+use Prim.Native.Nat.{ℕ, zero, suc, _<_, _≤_}
 use mathlib.Core.Path.{_≡_, refl, sym, ap, _∙_}
 use mathlib.Core.List.{List}
 use mathlib.Core.Logic.{⊎-elim}
@@ -15,13 +15,29 @@ use Rattle.u2f_up_stated.specs.declared.Presence.{Presence}
 use Rattle.ctap1_stated.specs.Words.{Remainder, Inputs, Given, Body, Ordered, Part, Hardware, Result}
 use Rattle.ctap1_stated.specs.Decision.{decisionOf}
 use Rattle.ctap1_stated.specs.Session.{remainderLeft}
-use Rattle.ctap1_stated.specs.Terms.{Decider}
+use Rattle.ctap1_stated.specs.Calls.{PanelCall, callsWith}
+use Rattle.ctap1_stated.specs.OneSide.{sidelessResult}
+use Rattle.ctap1_stated.specs.Terms.{Decider, onSide}
+use Rattle.u2f_up_stated.specs.OneSide.{OnlySide}
+use Rattle.u2f_up_stated.specs.Runs.{after}
 use Rattle.ctap1_stated.specs.Claims
 use Rattle.ctap1_stated.proofs.Ways.{sound}
 use Rattle.ctap1_stated.proofs.Theorems.{part-body, part-order, only-remainder}
 
 pub DecidesExactly : Determines3 Claims.DecidesExactly
 DecidesExactly f g F G p t a = sym (sound p t a (f p t a) (F p t a)) ∙ sound p t a (g p t a) (G p t a)
+
+-- the base's decision, where it can be asked: on records of side 0
+pub BaseDecidesExactly : (f g : Decider) → Claims.BaseDecidesExactly f → Claims.BaseDecidesExactly g → (p : Presence) (t : ℕ) (a : Inputs) → p .asker ≡ 0 → f p t a ≡ g p t a
+BaseDecidesExactly f g F G p t a e =
+    let b = onSide 0 a in
+    sym (F .any-side p t a 0) ∙ sym (sound p t b (f p t b) (F .row p t b e refl)) ∙ sound p t b (g p t b) (G .row p t b e refl) ∙ G .any-side p t a 0
+
+-- on runs with one side, two decisions that are the base's give the same
+pub OneSideIsBase : (f g base : Decider) → Claims.OneSideIsBase f base → Claims.OneSideIsBase g base → (w : ℕ) → 0 < w → w ≤ 60000 → (s : ℕ) → s ≤ 1
+    → (earlier : List PanelCall) → OnlySide (callsWith f) s earlier → OnlySide (callsWith g) s earlier → (t : ℕ) (a : Inputs) → a .side ≡ s
+    → sidelessResult (f (after (callsWith f) w earlier) t a) ≡ sidelessResult (g (after (callsWith g) w earlier) t a)
+OneSideIsBase f g base F G w least most s one earlier only also t a e = F .decisions w least most s one earlier only t a e ∙ sym (G .decisions w least most s one earlier also t a e)
 
 -- what a buffer of the decision's room holds afterwards
 pub RepliesExactly : (decide : Decider) (f g : Result → List ℕ → List ℕ) → Claims.RepliesExactly decide f → Claims.RepliesExactly decide g

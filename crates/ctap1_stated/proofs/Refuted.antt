@@ -3,7 +3,7 @@ use Prim.Native.Nat.{ℕ, _+_, _^_, _<_, _≤_}
 use mathlib.Core.Path.{_≡_, refl, ap, sym, _∙_}
 use mathlib.Core.Bool.{Bool, true, false, true≢false, false≢true}
 use mathlib.Core.List.{List, [], _∷_, _++_}
-use mathlib.Core.Logic.{inr, ⊎-elim}
+use mathlib.Core.Logic.{inl, inr, ⊎-elim}
 use native.Mathlib.Omega.{arith}
 use lib.ListN.{length, replicate}
 use Rattle.outcome.specs.Outcome.{StatusWord, Outcome, R, Word, SW, Gives, plainWord, wrongLength}
@@ -15,7 +15,7 @@ use Rattle.apdu_stated.specs.Reading.{readBy, sayOf, lengthsOf, shortOf, extend
 use Rattle.command_stated.specs.Command.{Register, Authenticate, Version, GetResponse, commandOf, onReading, byInstruction, registerOf, authenticateOf, versionOf, getResponseOf, applicationOf, challengeOf}
 use Rattle.response_stated.specs.Parts.{limitOf, partLength, leftStatus, nextPartOf}
 use Rattle.u2f_up_stated.specs.Moments.{Told, fresh, settleOf, grantedOf, checkedOf, touchOf, checkOf}
-use Rattle.u2f_up_stated.specs.History.{TouchAccepted, TouchIgnored, TouchFound, NoTouchFound, lastMoment, latest, isPromptStanding, unspent, foretold}
+use Rattle.u2f_up_stated.specs.History.{TouchAccepted, TouchIgnored, TouchFound, NoTouchFound, lastMoment, latestPrompt, latestTouch, isPromptStanding, sideAsked, unspent, foretold}
 use Rattle.u2f_up_stated.specs.Runs.{after, history, doneBy}
 use Rattle.u2f_up_stated.specs.Terms.{Passes, HasTouch}
 use Rattle.u2f_up_stated.specs.declared.Presence.{Presence}
@@ -27,7 +27,9 @@ use Rattle.signing_stated.specs.Finishing.{finishOf, roomAsked}
 use Rattle.ctap1_stated.specs.Decision.{decisionOf, replyLeft}
 use Rattle.ctap1_stated.specs.Calls.{TouchAt, CheckAt, DecideAt}
 use Rattle.ctap1_stated.specs.Session.{remainderLeft}
-use Rattle.ctap1_stated.specs.Terms.{Decider, SaysPresent}
+use Rattle.ctap1_stated.specs.OneSide.{baseDecisionOf}
+use Rattle.ctap1_stated.specs.Terms.{Decider, onSide, SaysPresent}
+use Rattle.u2f_up_stated.specs.OneSide.{baseBy, baseSettleOf, baseCheckedOf}
 use Rattle.ctap1_stated.specs.Claims
 use Rattle.ctap1_stated.specs.Wrong
 use Rattle.ctap1_stated.specs.declared.Allowed.the-variants as Allowed′
@@ -51,11 +53,11 @@ abbrev works : Hardware
 works = record { allowed = Allowed′.Yes; stored = true; attestation = Attestation′.Present; good = true; counter = Counter′.Offered 7 }
 
 abbrev lent : List ℕ → Hardware → List ℕ → ℕ → Inputs
-lent frame hardware handle room = record { frame = frame; hardware = hardware; newHandle = handle; certificate = []; x = replicate 32 0; y = replicate 32 0; room = room; remainder = rest 0 0; partRoom = 0 }
+lent frame hardware handle room = record { side = 0; frame = frame; hardware = hardware; newHandle = handle; certificate = []; x = replicate 32 0; y = replicate 32 0; room = room; remainder = rest 0 0; partRoom = 0 }
 
 -- a record with a live touch
 abbrev held : Presence
-held = record { w = 1000; prompt = Closed; touch = Opened 0; last = 0 }
+held = record { w = 1000; prompt = Closed; touch = Opened 0; last = 0; asker = 0 }
 
 -- how the frames are read
 abbrev saidOf : (ins p1 shape lc at : ℕ) → Says
@@ -195,11 +197,71 @@ present08 d =
 
 -- a check at 0 prompts, the touch at 1 is accepted, and P1 03 at 2 and at 3 get an order each
 pub touchKept : Claims.OrdersHaveTheirTouch Wrong.touchKept → ⊥
-unfolding decisionOf pathOf allowedPath commandPath versionPath registerPath loginPath registerEnding countedEnding settleOf checkedOf after history latest touchOf checkOf grantedOf commandOf onReading byInstruction authenticateOf readBy sayOf lengthsOf shortOf extendedOf afterData dataOf partOf
+unfolding decisionOf pathOf allowedPath commandPath versionPath registerPath loginPath registerEnding countedEnding settleOf checkedOf after history latestPrompt latestTouch touchOf checkOf grantedOf commandOf onReading byInstruction authenticateOf readBy sayOf lengthsOf shortOf extendedOf afterData dataOf partOf
 touchKept d =
     let a = lent (signFrame 0x03) works [] 77 in
     let says : SaysPresent (authenticateOrdered a (saidOf 0x02 0x03 3 65 5) true 7) = inr (kind-is a 0x03 (saidOf 0x02 0x03 3 65 5) true 7 read-03, presence-is a 0x03 (saidOf 0x02 0x03 3 65 5) true 7 read-03) in
-    d .apart 1000 (omega arith) (omega arith) (TouchAt 1 ∷ CheckAt 0 ∷ []) [] 2 3 a a (record { number = 1; moment = 1 }) (record { number = 1; moment = 1 }) (refl, says) refl (refl, says) refl refl
+    d .apart 1000 (omega arith) (omega arith) (TouchAt 1 ∷ CheckAt 0 0 ∷ []) [] 2 3 a a (record { number = 1; moment = 1; side = 0 }) (record { number = 1; moment = 1; side = 0 }) (refl, says) refl (refl, says) refl refl
+
+-- ---- sides: 02, E7
+-- beside the live touch of side 0, side 1 comes with P1 03
+abbrev other : Inputs
+other = onSide 1 (lent (signFrame 0x03) works [] 77)
+
+pub servesOther : Claims.OrdersNeedATouch Wrong.servesOther → ⊥
+unfolding decisionOf pathOf allowedPath commandPath versionPath registerPath loginPath registerEnding countedEnding settleOf checkedOf
+servesOther d =
+    omega (arith, d .touch held 7 other (rw read-03 (refl, inr (kind-is other 0x03 (saidOf 0x02 0x03 3 65 5) true 7 read-03, presence-is other 0x03 (saidOf 0x02 0x03 3 65 5) true 7 read-03))) .1)
+
+-- wireless (1) asks at 0, a finger touches at 1, and USB (0) gets an order at 2
+pub servesOtherInARun : Claims.OrdersHaveTheirTouch Wrong.servesOther → ⊥
+unfolding decisionOf pathOf allowedPath commandPath versionPath registerPath loginPath registerEnding countedEnding settleOf checkedOf after history latestPrompt latestTouch touchOf checkOf grantedOf commandOf onReading byInstruction authenticateOf readBy sayOf lengthsOf shortOf extendedOf afterData dataOf partOf
+servesOtherInARun d =
+    let a = lent (signFrame 0x03) works [] 77 in
+    let says : SaysPresent (authenticateOrdered a (saidOf 0x02 0x03 3 65 5) true 7) = inr (kind-is a 0x03 (saidOf 0x02 0x03 3 65 5) true 7 read-03, presence-is a 0x03 (saidOf 0x02 0x03 3 65 5) true 7 read-03) in
+    let k = d .own 1000 (omega arith) (omega arith) (TouchAt 1 ∷ CheckAt 1 0 ∷ []) 2 a (refl, says) in
+    omega (arith, ap sideAsked (k .1), k .3)
+
+-- the record after a decision that keeps to the table
+differ-record : (f : Decider) → Claims.DecidesExactly f → (p : Presence) (t : ℕ) (a : Inputs) → decisionOf p t a .presence ≡ f p t a .presence
+differ-record f F p t a = ap (λ (r : Result). r .presence) (sound p t a (f p t a) (F p t a))
+
+pub otherSidePrompts : Claims.DecidesExactly Wrong.otherSidePrompts → ⊥
+unfolding decisionOf pathOf allowedPath commandPath versionPath registerPath loginPath registerEnding countedEnding settleOf checkedOf
+otherSidePrompts d = closed-open 7 (ap (λ (p : Presence). p .prompt) (rw read-03 at (differ-record Wrong.otherSidePrompts d held 7 other)))
+
+pub otherSideTakes : Claims.DecidesExactly Wrong.otherSideTakes → ⊥
+unfolding decisionOf pathOf allowedPath commandPath versionPath registerPath loginPath registerEnding countedEnding settleOf checkedOf
+otherSideTakes d = let z : _≡_ {A = ℕ} 0 1 = ap (λ (p : Presence). p .asker) (rw read-03 at (differ-record Wrong.otherSideTakes d held 7 other)) in omega arith
+
+-- side 1 asks on a fresh record
+pub askerKept : Claims.DecidesExactly Wrong.askerKept → ⊥
+unfolding decisionOf pathOf allowedPath commandPath versionPath registerPath loginPath registerEnding countedEnding settleOf checkedOf
+askerKept d = let z : _≡_ {A = ℕ} 1 0 = ap (λ (p : Presence). p .asker) (rw read-03 at (differ-record Wrong.askerKept d (fresh 1000) 0 other)) in omega arith
+
+-- and throughout, with P1 03 at 0, the touch at 1, P1 03 at 2
+pub askerKeptThroughout : Claims.OneSideIsBase Wrong.askerKept baseDecisionOf → ⊥
+unfolding decisionOf pathOf allowedPath commandPath versionPath registerPath loginPath registerEnding countedEnding settleOf checkedOf after touchOf grantedOf baseBy baseSettleOf baseCheckedOf baseDecisionOf commandOf onReading byInstruction authenticateOf readBy sayOf lengthsOf shortOf extendedOf afterData dataOf partOf
+askerKeptThroughout d =
+    word-gives (plainWord 0x6985) Ordered (ap (λ (r : Result). r .answer) (d .decisions 1000 (omega arith) (omega arith) 1 (omega arith) (TouchAt 1 ∷ DecideAt 0 other ∷ []) (tt, (refl, tt)) 2 other refl))
+
+r-same : (n m : ℕ) → _≡_ {A = Outcome Given} (R n) (R m) → n ≡ m
+r-same n m e = cc
+
+-- side 2, at a moment that is none
+pub r8AfterR1 : Claims.SideRefusedExactly Wrong.r8AfterR1 → ⊥
+unfolding decisionOf settleOf
+r8AfterR1 d = omega (arith, r-same 1 8 (d (fresh 1000) (2 ^ 48) (onSide 2 (lent versionFrame works [] 6)) .1 (⊎-elim (λ z. omega arith) (λ z. omega arith), inl (omega arith))))
+
+pub versionFirst : Claims.SideRefusedExactly Wrong.versionFirst → ⊥
+unfolding decisionOf pathOf allowedPath commandPath versionPath settleOf commandOf onReading byInstruction versionOf readBy sayOf lengthsOf shortOf extendedOf afterData
+versionFirst d = r-gives 8 _ (sym (d (fresh 1000) 0 (onSide 2 (lent versionFrame works [] 6)) .1 (⊎-elim (λ z. omega arith) (λ z. omega arith), inl (omega arith))))
+
+-- what stands for the base looks at the side after all
+pub baseAsksWhose : Claims.BaseDecidesExactly Wrong.baseAsksWhose → ⊥
+unfolding decisionOf pathOf allowedPath commandPath versionPath registerPath loginPath registerEnding countedEnding settleOf checkedOf
+baseAsksWhose d =
+    word-gives (plainWord 0x6985) Ordered (rw read-03 at (ap (λ (r : Result). r .answer) (d .any-side held 7 (lent (signFrame 0x03) works [] 77) 1)))
 
 -- ---- what each answer leaves
 pub r2Spends : Claims.RefusalChangesNothing Wrong.r2Spends replyLeft → ⊥
@@ -257,7 +319,7 @@ abbrev fetchFrame : List ℕ
 fetchFrame = 0x00 ∷ 0xC0 ∷ 0x00 ∷ 0x00 ∷ []
 
 abbrev fetching : (remainder : Remainder) (partRoom : ℕ) → Inputs
-fetching r partRoom = record { frame = fetchFrame; hardware = works; newHandle = []; certificate = []; x = replicate 32 0; y = replicate 32 0; room = 3; remainder = r; partRoom = partRoom }
+fetching r partRoom = record { side = 0; frame = fetchFrame; hardware = works; newHandle = []; certificate = []; x = replicate 32 0; y = replicate 32 0; room = 3; remainder = r; partRoom = partRoom }
 
 fetch-read : commandOf fetchFrame ≡ Gives GetResponse
 unfolding commandOf onReading byInstruction getResponseOf readBy sayOf lengthsOf shortOf extendedOf afterData
@@ -299,7 +361,7 @@ two-left e = omega (arith, ap (λ (r : Remainder). r .count) e)
 
 -- C0 with P2 1 gets 6a86
 abbrev badFetch : Inputs
-badFetch = record { frame = 0x00 ∷ 0xC0 ∷ 0x00 ∷ 0x01 ∷ []; hardware = works; newHandle = []; certificate = []; x = replicate 32 0; y = replicate 32 0; room = 3; remainder = rest 1 2; partRoom = 4 }
+badFetch = record { side = 0; frame = 0x00 ∷ 0xC0 ∷ 0x00 ∷ 0x01 ∷ []; hardware = works; newHandle = []; certificate = []; x = replicate 32 0; y = replicate 32 0; room = 3; remainder = rest 1 2; partRoom = 4 }
 
 pub refusedFetchDrops : Claims.RemainderExactly decisionOf Wrong.refusedFetchDrops → ⊥
 unfolding decisionOf pathOf allowedPath commandPath versionPath registerPath loginPath registerEnding countedEnding settleOf checkedOf fetchPath nextPartOf frameLimit limitOf partLength commandOf onReading byInstruction getResponseOf readBy sayOf lengthsOf shortOf extendedOf afterData
@@ -309,7 +371,7 @@ refusedFetchDrops exact =
 
 -- a Version in between; and three bytes
 abbrev between : List ℕ → Inputs
-between frame = record { frame = frame; hardware = works; newHandle = []; certificate = []; x = replicate 32 0; y = replicate 32 0; room = 6; remainder = rest 1 2; partRoom = 4 }
+between frame = record { side = 0; frame = frame; hardware = works; newHandle = []; certificate = []; x = replicate 32 0; y = replicate 32 0; room = 6; remainder = rest 1 2; partRoom = 4 }
 
 pub otherInsKeeps : Claims.RemainderExactly decisionOf Wrong.otherInsKeeps → ⊥
 unfolding decisionOf pathOf allowedPath commandPath versionPath registerPath loginPath registerEnding countedEnding settleOf checkedOf fetchPath nextPartOf frameLimit limitOf partLength commandOf onReading byInstruction getResponseOf readBy sayOf lengthsOf shortOf extendedOf afterData versionOf
@@ -321,7 +383,7 @@ otherInsKeeps exact =
 pub otherStatusKeeps : Claims.RemainderExactly decisionOf Wrong.otherStatusKeeps → ⊥
 unfolding decisionOf pathOf allowedPath commandPath versionPath registerPath loginPath registerEnding countedEnding settleOf checkedOf fetchPath nextPartOf frameLimit limitOf partLength commandOf onReading byInstruction getResponseOf readBy sayOf lengthsOf shortOf extendedOf afterData versionOf
 otherStatusKeeps exact =
-    let a : Inputs = record { frame = versionFrame; hardware = forbids; newHandle = []; certificate = []; x = replicate 32 0; y = replicate 32 0; room = 6; remainder = rest 1 2; partRoom = 4 } in
+    let a : Inputs = record { side = 0; frame = versionFrame; hardware = forbids; newHandle = []; certificate = []; x = replicate 32 0; y = replicate 32 0; room = 6; remainder = rest 1 2; partRoom = 4 } in
     two-left (exact .dropped (fresh 1000) 0 a
     (λ asks. let z : _≡_ {A = ℕ} 0x03 0xC0 = ap (λ (s : Says). s .header .ins) (gives-same _ _ (asks .1)) ∙ asks .2 in omega arith) (λ n e. r-word _ _ (sym e)))
 
@@ -331,8 +393,8 @@ damagedKeeps exact =
     two-left (exact .dropped (fresh 1000) 0 (between (0x00 ∷ 0xC0 ∷ 0x00 ∷ []))
     (λ asks. word-gives _ _ (asks .1)) (λ n e. r-word _ _ (sym e)))
 
-passes : (w t : ℕ) → 0 < w → w ≤ 60000 → t < 2 ^ 48 → Passes (fresh w) t
-passes w t a b c = (⊎-elim (λ z. omega arith) (λ z. omega arith), ⊎-elim (λ z. omega arith) (λ z. omega arith))
+passes : (w t : ℕ) → 0 < w → w ≤ 60000 → t < 2 ^ 48 → Passes (fresh w) 0 t
+passes w t a b c = (⊎-elim (λ z. omega arith) (λ z. omega arith), ⊎-elim (λ z. omega arith) (λ z. omega arith), ⊎-elim (λ z. omega arith) (λ z. omega arith))
 
 -- a C0 in the old form, its Le 1
 abbrev oldFetch : Inputs
@@ -467,19 +529,19 @@ accepted-not e = let z : _≡_ {A = ℕ} 0 1 = cc in omega arith
 
 -- a check-only at 0 is said to prompt; the touch at 1 is not accepted
 pub checkOnlyAsCheck : Claims.Demand3OfThePanel Wrong.checkOnlyAsCheck → ⊥
-unfolding decisionOf pathOf allowedPath commandPath versionPath registerPath loginPath registerEnding countedEnding settleOf checkedOf after history foretold isPromptStanding latest lastMoment touchOf grantedOf commandOf onReading byInstruction authenticateOf readBy sayOf lengthsOf shortOf extendedOf afterData dataOf partOf
+unfolding decisionOf pathOf allowedPath commandPath versionPath registerPath loginPath registerEnding countedEnding settleOf checkedOf after history foretold isPromptStanding latestPrompt latestTouch lastMoment touchOf grantedOf commandOf onReading byInstruction authenticateOf readBy sayOf lengthsOf shortOf extendedOf afterData dataOf partOf
 checkOnlyAsCheck d =
     accepted-not (sym (d 1000 (omega arith) (omega arith) (DecideAt 0 (lent (signFrame 0x07) works [] 0) ∷ []) .foretells (TouchAt 1)))
 
 -- a C0 where nothing is left, at 0, is said to prompt; the touch at 1 is not accepted
 pub fetchAsCheck : Claims.Demand3OfThePanel Wrong.fetchAsCheck → ⊥
-unfolding decisionOf pathOf allowedPath commandPath versionPath registerPath loginPath registerEnding countedEnding settleOf checkedOf after history foretold isPromptStanding latest lastMoment touchOf grantedOf commandOf onReading byInstruction authenticateOf readBy sayOf lengthsOf shortOf extendedOf afterData dataOf partOf fetchPath getResponseOf
+unfolding decisionOf pathOf allowedPath commandPath versionPath registerPath loginPath registerEnding countedEnding settleOf checkedOf after history foretold isPromptStanding latestPrompt latestTouch lastMoment touchOf grantedOf commandOf onReading byInstruction authenticateOf readBy sayOf lengthsOf shortOf extendedOf afterData dataOf partOf fetchPath getResponseOf
 fetchAsCheck d =
     accepted-not (sym (d 1000 (omega arith) (omega arith) (DecideAt 0 (fetching (rest 0 0) 0) ∷ []) .foretells (TouchAt 1)))
 
 -- P1 03 at 0 is said not to prompt; the touch at 1 is accepted
 pub touchAsOther : Claims.Demand3OfThePanel Wrong.touchAsOther → ⊥
-unfolding decisionOf pathOf allowedPath commandPath versionPath registerPath loginPath registerEnding countedEnding settleOf checkedOf after history foretold isPromptStanding latest lastMoment touchOf grantedOf commandOf onReading byInstruction authenticateOf readBy sayOf lengthsOf shortOf extendedOf afterData dataOf partOf
+unfolding decisionOf pathOf allowedPath commandPath versionPath registerPath loginPath registerEnding countedEnding settleOf checkedOf after history foretold isPromptStanding latestPrompt latestTouch lastMoment touchOf grantedOf commandOf onReading byInstruction authenticateOf readBy sayOf lengthsOf shortOf extendedOf afterData dataOf partOf
 touchAsOther d =
     accepted-not ((d 1000 (omega arith) (omega arith) (DecideAt 0 (lent (signFrame 0x03) works [] 77) ∷ []) .foretells (TouchAt 1)))
 
@@ -487,7 +549,7 @@ touchAsOther d =
 pub ordersAloneSpend : Claims.Demand3OfThePanel Wrong.ordersAloneSpend → ⊥
 unfolding decisionOf pathOf allowedPath commandPath versionPath registerPath loginPath registerEnding countedEnding settleOf checkedOf after history foretold unspent lastMoment touchOf checkOf grantedOf
 ordersAloneSpend d =
-    found-not (sym (rw register-read at (d 1000 (omega arith) (omega arith) (TouchAt 1 ∷ CheckAt 0 ∷ []) .foretells (DecideAt 2 (lent registerFrame notStored [] 139)))))
+    found-not (sym (rw register-read at (d 1000 (omega arith) (omega arith) (TouchAt 1 ∷ CheckAt 0 0 ∷ []) .foretells (DecideAt 2 (lent registerFrame notStored [] 139)))))
 
 -- ---- the hardware's answers
 pub unknownIsAllowed : Claims.AllowedNumbers Wrong.unknownIsAllowed → ⊥

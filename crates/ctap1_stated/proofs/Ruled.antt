@@ -27,21 +27,21 @@ use Rattle.ctap1_stated.specs.declared.Allowed.the-variants as Allowed�
 -- what is lent, where nothing is left to fetch
 abbrev pub nothingLeft : Inputs → Inputs
 nothingLeft a =
-    record { frame = a .frame; hardware = a .hardware; newHandle = a .newHandle; certificate = a .certificate; x = a .x; y = a .y; room = a .room; remainder = rest 0 0; partRoom = 0 }
+    record { side = a .side; frame = a .frame; hardware = a .hardware; newHandle = a .newHandle; certificate = a .certificate; x = a .x; y = a .y; room = a .room; remainder = rest 0 0; partRoom = 0 }
 
--- C0 looks at no moment
-sent-any : (o : Outcome Sent) (kept settled : Presence) (t : ℕ) → along (sentPath o) kept settled t ≡ along (sentPath o) kept settled 0
-sent-any (R n) kept settled t = refl
-sent-any (Word s) kept settled t = refl
-sent-any (Gives sent) kept settled t = refl
+-- C0 looks at no side and no moment
+sent-any : (o : Outcome Sent) (kept settled : Presence) (side t : ℕ) → along (sentPath o) kept settled side t ≡ along (sentPath o) kept settled 0 0
+sent-any (R n) kept settled side t = refl
+sent-any (Word s) kept settled side t = refl
+sent-any (Gives sent) kept settled side t = refl
 
-fetch-any : (room : ℕ) (r : Remainder) (limit partRoom : ℕ) (kept settled : Presence) (t : ℕ) → along (fetchPath room r limit partRoom) kept settled t ≡ along (fetchPath room r limit partRoom) kept settled 0
+fetch-any : (room : ℕ) (r : Remainder) (limit partRoom : ℕ) (kept settled : Presence) (side t : ℕ) → along (fetchPath room r limit partRoom) kept settled side t ≡ along (fetchPath room r limit partRoom) kept settled 0 0
 unfolding fetchPath
-fetch-any room r limit partRoom kept settled t = by (eqb (r .count) 0)
+fetch-any room r limit partRoom kept settled side t = by (eqb (r .count) 0)
   where
-    by : (b : Bool) → along (if b then Status 0x6985 else sentPath (nextPartOf room r limit partRoom)) kept settled t ≡ along (if b then Status 0x6985 else sentPath (nextPartOf room r limit partRoom)) kept settled 0
+    by : (b : Bool) → along (if b then Status 0x6985 else sentPath (nextPartOf room r limit partRoom)) kept settled side t ≡ along (if b then Status 0x6985 else sentPath (nextPartOf room r limit partRoom)) kept settled 0 0
     by true = refl
-    by false = sent-any (nextPartOf room r limit partRoom) kept settled t
+    by false = sent-any (nextPartOf room r limit partRoom) kept settled side t
 
 -- of a frame that is read with another INS
 no-asking : (frame : List ℕ) (said : Says) (k : ℕ) → readOf frame ≡ Gives said → said .header .ins ≡ k → (k ≡ 0xC0 → ⊥) → asksOn (readOf frame) ≡ false
@@ -56,18 +56,18 @@ module _ (p : Presence) (t : ℕ) (a : Inputs) where
     refusal : (n : ℕ) → Ruled (refusalResult n p) (refusalResult n p)
     word : (w : StatusWord) (q : Presence) → (w .number ≡ 0x6985 → ⊥) → Ruled (wordResult w q) (wordResult w q)
     other : (r : Result) → asksOn (readOf (a .frame)) ≡ false → Ruled r r
-    fetches : (q : Presence) → asksOn (readOf (a .frame)) ≡ true → Ruled (along (fetchPath (a .room) (a .remainder) (frameLimit (a .frame)) (a .partRoom)) p q 0) (statusResult 0x6985 q)
+    fetches : (q : Presence) → asksOn (readOf (a .frame)) ≡ true → Ruled (along (fetchPath (a .room) (a .remainder) (frameLimit (a .frame)) (a .partRoom)) p q 0 0) (statusResult 0x6985 q)
 
-  by-command : (q : Presence) (o : Outcome Command) → commandOf (a .frame) ≡ o → Ruled (along (commandPath a o) p q t) (along (commandPath (nothingLeft a) o) p q t)
+  by-command : (q : Presence) (o : Outcome Command) → commandOf (a .frame) ≡ o → Ruled (along (commandPath a o) p q (a .side) t) (along (commandPath (nothingLeft a) o) p q (a .side) t)
   unfolding commandPath registerPath registerEnding fetchPath
   by-command q (R n) e = absurd (never-refused (a .frame) n e)
   by-command q (Word s) e = word s q (never-6985 (a .frame) s e)
   by-command q (Gives Version) e = let f = VersionExactly (a .frame) .0 e in other _ (no-asking (a .frame) (f .0) 0x03 (f .1) (f .3) (λ z. omega arith))
   by-command q (Gives (Register said)) e = let f = RegisterExactly (a .frame) said .0 e in other _ (no-asking (a .frame) said 0x01 (f .0) (f .2) (λ z. omega arith))
   by-command q (Gives (Authenticate p1 said)) e = let f = AuthenticateExactly (a .frame) p1 said .0 e in other _ (no-asking (a .frame) said 0x02 (f .0) (f .2) (λ z. omega arith))
-  by-command q (Gives GetResponse) e = rw (fetch-any (a .room) (a .remainder) (frameLimit (a .frame)) (a .partRoom) p q t) (let f = GetResponseExactly (a .frame) .0 e in fetches q (asking (a .frame) (f .0) (f .1) (f .3)))
+  by-command q (Gives GetResponse) e = rw (fetch-any (a .room) (a .remainder) (frameLimit (a .frame)) (a .partRoom) p q (a .side) t) (let f = GetResponseExactly (a .frame) .0 e in fetches q (asking (a .frame) (f .0) (f .1) (f .3)))
 
-  by-allowed : (q : Presence) (k : Allowed) → Ruled (along (allowedPath k a) p q t) (along (allowedPath k (nothingLeft a)) p q t)
+  by-allowed : (q : Presence) (k : Allowed) → Ruled (along (allowedPath k a) p q (a .side) t) (along (allowedPath k (nothingLeft a)) p q (a .side) t)
   unfolding allowedPath
   by-allowed q Allowed′.Failed = word (plainWord 0x6f00) q (λ z. omega arith)
   by-allowed q Allowed′.No = word (plainWord 0x6986) q (λ z. omega arith)
@@ -75,11 +75,11 @@ module _ (p : Presence) (t : ℕ) (a : Inputs) where
 
   ruled : Ruled (decisionOf p t a) (decisionOf p t (nothingLeft a))
   unfolding decisionOf pathOf
-  ruled = by (settleOf p t) refl
+  ruled = by (settleOf p (a .side) t) refl
     where
-      by : (o : Outcome Presence) → settleOf p t ≡ o → Ruled (onMoment p t (pathOf a) o) (onMoment p t (pathOf (nothingLeft a)) o)
+      by : (o : Outcome Presence) → settleOf p (a .side) t ≡ o → Ruled (onMoment p (a .side) t (pathOf a) o) (onMoment p (a .side) t (pathOf (nothingLeft a)) o)
       by (R n) e = refusal n
-      by (Word s) e = absurd (settle-no-status p t s e)
+      by (Word s) e = absurd (settle-no-status p (a .side) t s e)
       by (Gives q) e = by-allowed q (a .hardware .allowed)
 
   -- the same, where nothing was asked for or not every check was passed
@@ -121,10 +121,10 @@ module _ (p : Presence) (t : ℕ) (a : Inputs) where
 
   -- and else the next part
   pub fetched-decision : asksOn (readOf (a .frame)) ≡ true → (w : StatusWord) → decisionOf p t (nothingLeft a) .answer ≡ Word w → w .number ≡ 0x6985
-      → decisionOf p t a ≡ along (fetchPath (a .room) (a .remainder) (frameLimit (a .frame)) (a .partRoom)) p (decisionOf p t (nothingLeft a) .presence) 0
+      → decisionOf p t a ≡ along (fetchPath (a .room) (a .remainder) (frameLimit (a .frame)) (a .partRoom)) p (decisionOf p t (nothingLeft a) .presence) 0 0
   fetched-decision asks w e n = by (decisionOf p t a) (decisionOf p t (nothingLeft a)) ruled e
     where
-      by : (r s : Result) → Ruled r s → s .answer ≡ Word w → r ≡ along (fetchPath (a .room) (a .remainder) (frameLimit (a .frame)) (a .partRoom)) p (s .presence) 0
+      by : (r s : Result) → Ruled r s → s .answer ≡ Word w → r ≡ along (fetchPath (a .room) (a .remainder) (frameLimit (a .frame)) (a .partRoom)) p (s .presence) 0 0
       by _ _ (refusal m) x = absurd (r-word _ _ x)
       by _ _ (word v q m) x = absurd (m (ap (λ (u : StatusWord). u .number) (word-same v w x) ∙ n))
       by _ _ (other r m) x = absurd (true≢false (sym asks ∙ m))

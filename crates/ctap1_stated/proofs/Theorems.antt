@@ -22,11 +22,11 @@ use Rattle.response_stated.specs.Parts.{limitOf}
 use Rattle.command_stated.specs.Command.{Command, Register, Authenticate, commandOf}
 use Rattle.command_stated.proofs.Laws.{RegisterExactly, AuthenticateExactly, VersionExactly, GetResponseExactly, CommandPairsExactly, frame-status}
 use Rattle.u2f_up_stated.specs.Moments.{movedTo, touchClosed}
-use Rattle.u2f_up_stated.specs.History.{Role, Mark, Checking, TouchFound, isTouchFound, isNamed, heldAt, serverOf, servers}
+use Rattle.u2f_up_stated.specs.History.{Role, Mark, Checking, TouchFound, sideOf, isTouchFound, isNamed, heldAt, serverOf, servers}
 use Rattle.u2f_up_stated.specs.Runs.{after, comesTo, cameOf, history}
-use Rattle.u2f_up_stated.specs.Terms.{Passes, HasTouch}
+use Rattle.u2f_up_stated.specs.Terms.{BadWindow, BadSide, Passes, HasTouch}
 use Rattle.u2f_up_stated.specs.declared.Presence.{Presence}
-use Rattle.u2f_up_stated.proofs.Laws.{demand-3, servers-next, named-later, named-counts, count, length-those}
+use Rattle.u2f_up_stated.proofs.Laws.{demand-3, r-apart, servers-next, named-later, named-counts, count, length-those}
 use Rattle.signing_stated.specs.Orders.{kindNo, certificateLength, blankOrder, isOfLayout}
 use Rattle.signing_stated.specs.Finishing.{roomAsked}
 use Rattle.ctap1_stated.specs.Words.{Remainder, rest, Inputs, Given, Body, Ordered, Part, Result, Allowed, WithBlock}
@@ -42,7 +42,9 @@ use Rattle.ctap1_stated.specs.declared.Allowed.the-variants as Allowed�
 use Rattle.ctap1_stated.specs.declared.Counter.the-variants as Counter′
 use Rattle.ctap1_stated.proofs.Ways.{Stated, its-own, framed, Way, refused, stated, versioned, fetched, enrolled, signed-03, signed-08, way, row, sound, registering-checks, signing-checks}
 use Rattle.ctap1_stated.proofs.Commands as Commands
+use Rattle.ctap1_stated.specs.OneSide.{baseDecisionOf}
 use Rattle.ctap1_stated.proofs.Kept.{panel-keeps}
+use Rattle.ctap1_stated.proofs.OneSide.{base-decides, one-side-is-base}
 use Rattle.ctap1_stated.proofs.Numbers.{decided-apart, decision-apart}
 
 -- a body and an order are apart
@@ -77,6 +79,43 @@ RepliesExactly p t a old long = go (decisionOf p t a) (way p t a)
     go _ (signed-08 said n x k) = inr (λ n x. body-order _ (sym x), refl)
 
 -- ---- what each answer leaves
+pub SideRefusedExactly : Claims.SideRefusedExactly decisionOf
+SideRefusedExactly p t a = (λ e. due (decisionOf p t a) (row p t a) e, λ b. ap (λ (r : Result). r .answer) (sound p t a _ (Table.r8 (b .0) (b .1))))
+  where
+    apart : (n : ℕ) → (n ≡ 8 → ⊥) → _≡_ {A = Outcome Given} (R n) (R 8) → ⊥
+    apart n d e = r-apart n 8 d e
+
+    due : (r : Result) → Table.Answers p t a r → r .answer ≡ R 8 → (BadWindow (p .w) → ⊥) × BadSide (a .side) (p .asker)
+    due _ (Table.r8 g b) e = (g, b)
+    due _ (Table.r6 b) e = absurd (apart 6 (omega arith) e)
+    due _ (Table.r1 g h b) e = absurd (apart 1 (omega arith) e)
+    due _ (Table.failed ok y) e = absurd (r-word _ _ (sym e))
+    due _ (Table.forbidden ok y) e = absurd (r-word _ _ (sym e))
+    due _ (Table.frame ok y s c) e = absurd (r-word _ _ (sym e))
+    due _ (Table.version-short ok c h) e = absurd (apart 2 (omega arith) e)
+    due _ (Table.version ok c h) e = absurd (r-gives _ _ (sym e))
+    due _ (Table.register-short said ok c h) e = absurd (apart 2 (omega arith) e)
+    due _ (Table.register-6985 said x n) e = absurd (r-word _ _ (sym e))
+    due _ (Table.register-other said x o) e = absurd (r-word _ _ (sym e))
+    due _ (Table.not-stored said x l s) e = absurd (r-word _ _ (sym e))
+    due _ (Table.long said x l s k) e = absurd (r-word _ _ (sym e))
+    due _ (Table.missing said x l s k m) e = absurd (r-word _ _ (sym e))
+    due _ (Table.no-attestation said x l s k m) e = absurd (r-word _ _ (sym e))
+    due _ (Table.enrols said x l s k m) e = absurd (r-gives _ _ (sym e))
+    due _ (Table.bad-handle p1 said ok c g) e = absurd (r-word _ _ (sym e))
+    due _ (Table.check-only said ok c g) e = absurd (r-word _ _ (sym e))
+    due _ (Table.sign-short p1 said ok c g n h) e = absurd (apart 2 (omega arith) e)
+    due _ (Table.sign-6985 said x n) e = absurd (r-word _ _ (sym e))
+    due _ (Table.sign-other said x o) e = absurd (r-word _ _ (sym e))
+    due _ (Table.no-counter-03 said x l k) e = absurd (r-word _ _ (sym e))
+    due _ (Table.signs-03 said n x l k) e = absurd (r-gives _ _ (sym e))
+    due _ (Table.no-counter-08 said x k) e = absurd (r-word _ _ (sym e))
+    due _ (Table.signs-08 said n x k) e = absurd (r-gives _ _ (sym e))
+    due _ (Table.fetch-nothing ok c z) e = absurd (r-word _ _ (sym e))
+    due _ (Table.fetch-short-body x h) e = absurd (apart 2 (omega arith) e)
+    due _ (Table.fetch-short-part x g h) e = absurd (apart 2 (omega arith) e)
+    due _ (Table.fetch n z x g h) e = absurd (r-gives _ _ (sym e))
+
 pub RefusalChangesNothing : Claims.RefusalChangesNothing decisionOf replyLeft
 RefusalChangesNothing p t a n old e = go (decisionOf p t a) (way p t a) e
   where
@@ -171,7 +210,7 @@ module _ (p : Presence) (t : ℕ) (a : Inputs) where
   word-number v w e = ap (λ (x : StatusWord). x .number) (word-same v w e)
 
   carried : (kind place : ℕ) (r : Result) → Way p t a r → r .answer ≡ wrongLength kind place
-      → Passes p t × (a .hardware .allowed ≡ Allowed′.Yes) × (commandOf (a .frame) ≡ wrongLength kind place)
+      → Passes p (a .side) t × (a .hardware .allowed ≡ Allowed′.Yes) × (commandOf (a .frame) ≡ wrongLength kind place)
   carried kind place _ (refused m) x = absurd (r-word _ _ x)
   carried kind place _ (stated s q (its-own n other)) x = absurd (other (word-number _ _ x))
   carried kind place _ (stated s q (framed ok y e)) x = (ok, y, e ∙ ap Word (word-same s _ x))
@@ -294,7 +333,7 @@ RemainderExactly =
     }
 
 -- the old form is in no shape
-module _ (p : Presence) (t : ℕ) (a : Inputs) (old : OldForm (a .frame)) (passes : Passes p t) where
+module _ (p : Presence) (t : ℕ) (a : Inputs) (old : OldForm (a .frame)) (passes : Passes p (a .side) t) where
   old-read : readOf (a .frame) ≡ wrongLength 2 (7 + pairAt (a .frame) 5)
   old-read = old-at (a .frame) Ordinary old
 
@@ -310,7 +349,7 @@ module _ (p : Presence) (t : ℕ) (a : Inputs) (old : OldForm (a .frame)) (passe
 pub OldFormRefused : Claims.OldFormRefused decisionOf remainderLeft
 OldFormRefused = record { answer = old-said; drops = dropped }
   where
-    dropped : (p : Presence) (t : ℕ) (a : Inputs) → OldForm (a .frame) → Passes p t → remainderLeft a (decisionOf p t a) ≡ rest 0 0
+    dropped : (p : Presence) (t : ℕ) (a : Inputs) → OldForm (a .frame) → Passes p (a .side) t → remainderLeft a (decisionOf p t a) ≡ rest 0 0
     dropped p t a old ok = let w = old-word p t a old ok (a .hardware .allowed) refl in rw (w .1, old-read p t a old ok)
 
 -- and whatever meets the claim is that
@@ -360,6 +399,13 @@ KeepsToItsRole = panel-keeps
 pub Demand3OfThePanel : Claims.Demand3OfThePanel panelCalls
 Demand3OfThePanel = demand-3 panelCalls panel-keeps
 
+-- ---- one side
+pub BaseDecidesExactly : Claims.BaseDecidesExactly baseDecisionOf
+BaseDecidesExactly = base-decides
+
+pub OneSideIsBase : Claims.OneSideIsBase decisionOf baseDecisionOf
+OneSideIsBase = one-side-is-base
+
 -- ---- the sentence on the box
 -- one frame is one command
 same-p1 : (a : Inputs) (c d : Command) → commandOf (a .frame) ≡ Gives c → commandOf (a .frame) ≡ Gives d → c ≡ d
@@ -378,13 +424,13 @@ OrdersNeedATouch = record {
   counter = λ p t a p1 said c e. counter p t a p1 said (c .1) (decisionOf p t a) (way p t a) e;
 }
   where
-    touch : (p : Presence) (t : ℕ) (a : Inputs) (r : Result) → Way p t a r → r .answer ≡ Gives Ordered → SaysPresent (r .order) → HasTouch p t × (r .presence ≡ touchClosed (movedTo p t))
+    touch : (p : Presence) (t : ℕ) (a : Inputs) (r : Result) → Way p t a r → r .answer ≡ Gives Ordered → SaysPresent (r .order) → HasTouch p t × (p .asker ≡ a .side) × (r .presence ≡ touchClosed (movedTo p t))
     touch p t a _ (refused m) x o = absurd (r-gives _ _ x)
     touch p t a _ (stated m q w) x o = absurd (word-gives _ _ x)
     touch p t a _ (versioned c room) x o = absurd (body-order _ x)
     touch p t a _ (fetched c sent) x o = absurd (part-order _ _ x)
-    touch p t a _ (enrolled said y l h) x o = (l, refl)
-    touch p t a _ (signed-03 said m y l k) x o = (l, refl)
+    touch p t a _ (enrolled said y l h) x o = (l .0, l .1, refl)
+    touch p t a _ (signed-03 said m y l k) x o = (l .0, l .1, refl)
     touch p t a _ (signed-08 said m y k) x o = absurd (Commands.absent a 0x08 said m (y .1 .1) o)
 
     present : (p : Presence) (t : ℕ) (a : Inputs) (p1 : ℕ) (said : Says) → commandOf (a .frame) ≡ Gives (Authenticate p1 said) → (r : Result) → Way p t a r → r .answer ≡ Gives Ordered
@@ -415,7 +461,7 @@ OrdersNeedATouch = record {
     counter p t a p1 said c _ (signed-08 told m y k) x = (m, k, refl, Commands.counter-is a 0x08 told false m (y .1 .1))
 
 -- such an order comes from a call that reaches the touch check, and the check succeeds
-seen-spending : (p : Presence) (t : ℕ) (a : Inputs) (r : Result) → Way p t a r → r .answer ≡ Gives Ordered → SaysPresent (r .order) → (roleOf a ≡ Checking) × (seen Checking (r .answer) ≡ Gives true)
+seen-spending : (p : Presence) (t : ℕ) (a : Inputs) (r : Result) → Way p t a r → r .answer ≡ Gives Ordered → SaysPresent (r .order) → (roleOf a ≡ Checking (a .side)) × (seen (Checking (a .side)) (r .answer) ≡ Gives true)
 seen-spending p t a _ (refused m) x o = absurd (r-gives _ _ x)
 seen-spending p t a _ (stated m q w) x o = absurd (word-gives _ _ x)
 seen-spending p t a _ (versioned c room) x o = absurd (body-order _ x)
@@ -428,46 +474,49 @@ module _ (w : ℕ) (least : 0 < w) (most : w ≤ 60000) (earlier : List PanelCal
   now : Presence
   now = after panelCalls w earlier
 
-  spending : (roleOf a ≡ Checking) × (seen Checking (decisionOf now t a .answer) ≡ Gives true)
+  spending : (roleOf a ≡ Checking (a .side)) × (seen (Checking (a .side)) (decisionOf now t a .answer) ≡ Gives true)
   unfolding now
   spending = seen-spending now t a (decisionOf now t a) (way now t a) (o .0) (o .1)
 
-  checked : (k : Role) (o : Outcome Given) → k ≡ Checking → seen Checking o ≡ Gives true → cameOf k (seen k o) ≡ TouchFound
-  checked k o e f = rw (e, f)
+  checked : (k : Role) (s : ℕ) (o : Outcome Given) → k ≡ Checking s → seen (Checking s) o ≡ Gives true → cameOf k (seen k o) ≡ TouchFound
+  checked k s o e f = rw (e, f)
 
   found : comesTo panelCalls w earlier (DecideAt t a) ≡ TouchFound
   unfolding now
-  found = checked (roleOf a) (decisionOf now t a .answer) (spending .0) (spending .1)
+  found = checked (roleOf a) (a .side) (decisionOf now t a .answer) (spending .0) (spending .1)
 
-  own : (k : Mark) × (serverOf (history panelCalls w earlier) ≡ some k) × (heldAt w (history panelCalls w earlier) t ≡ k ∷ [])
-  own = demand-3 panelCalls panel-keeps w least most earlier .serves (DecideAt t a) found
+  own : (k : Mark) × (serverOf w (history panelCalls w earlier) ≡ some k) × (heldAt w (history panelCalls w earlier) t ≡ k ∷ []) × (k .side ≡ a .side)
+  unfolding now
+  own =
+      let k = demand-3 panelCalls panel-keeps w least most earlier .serves (DecideAt t a) found in
+      (k .0, k .1, k .2, ap sideOf (sym (k .3) ∙ spending .0))
 
   -- the call names its touch
-  named : (k : Mark) → serverOf (history panelCalls w earlier) ≡ some k → servers (history panelCalls w (DecideAt t a ∷ earlier)) ≡ some k ∷ servers (history panelCalls w earlier)
+  named : (k : Mark) → serverOf w (history panelCalls w earlier) ≡ some k → servers w (history panelCalls w (DecideAt t a ∷ earlier)) ≡ some k ∷ servers w (history panelCalls w earlier)
   unfolding history
-  named k e = servers-next _ (history panelCalls w earlier) true (ap isTouchFound found) ∙ ap (λ (j : Option Mark). j ∷ servers (history panelCalls w earlier)) e
+  named k e = servers-next w _ (history panelCalls w earlier) true (ap isTouchFound found) ∙ ap (λ (j : Option Mark). j ∷ servers w (history panelCalls w earlier)) e
 
 pub OrdersHaveTheirTouch : Claims.OrdersHaveTheirTouch decisionOf
 OrdersHaveTheirTouch = record { own = own; apart = apart }
   where
     apart : (w : ℕ) → 0 < w → w ≤ 60000 → (earlier later : List PanelCall) (t u : ℕ) (a b : Inputs) (j k : Mark)
-        → OrdersPresent (decisionOf (after panelCalls w earlier) t a) → serverOf (history panelCalls w earlier) ≡ some j
-        → OrdersPresent (decisionOf (after panelCalls w (later ++ DecideAt t a ∷ earlier)) u b) → serverOf (history panelCalls w (later ++ DecideAt t a ∷ earlier)) ≡ some k
+        → OrdersPresent (decisionOf (after panelCalls w earlier) t a) → serverOf w (history panelCalls w earlier) ≡ some j
+        → OrdersPresent (decisionOf (after panelCalls w (later ++ DecideAt t a ∷ earlier)) u b) → serverOf w (history panelCalls w (later ++ DecideAt t a ∷ earlier)) ≡ some k
         → j .number ≡ k .number → ⊥
     apart w least most earlier later t u a b j k o e q f same =
         let mid = later ++ DecideAt t a ∷ earlier in
         let n = k .number in
         let first = ap (count (isNamed n)) (named w least most earlier t a o j e) in
         let second = ap (count (isNamed n)) (named w least most mid u b q k f) in
-        let all = servers (history panelCalls w (DecideAt u b ∷ mid)) in
+        let all = servers w (history panelCalls w (DecideAt u b ∷ mid)) in
         omega (
           arith,
           first,
           second,
           length-those (isNamed n) all,
           demand-3 panelCalls panel-keeps w least most (DecideAt u b ∷ mid) .once n,
-          named-counts n j (servers (history panelCalls w earlier)) same,
-          named-counts n k (servers (history panelCalls w mid)) refl,
+          named-counts n j (servers w (history panelCalls w earlier)) same,
+          named-counts n k (servers w (history panelCalls w mid)) refl,
           named-later panelCalls w n later (DecideAt t a ∷ earlier),
         )
 

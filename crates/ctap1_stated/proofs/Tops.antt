@@ -62,109 +62,109 @@ checked-plain f e = by (f .yes)
     by true = ended-plain e (f .presence)
     by false = word _
 
-module _ (kept settled : Presence) (t : ℕ) where
+module _ (kept settled : Presence) (side t : ℕ) where
   IsPlain : Path → Type 0
-  IsPlain x = Plain (along x kept settled t .answer)
+  IsPlain x = Plain (along x kept settled side t .answer)
 
   either : (b : Bool) (x y : Path) → IsPlain x → IsPlain y → IsPlain (if b then x else y)
   either true x y p q = p
   either false x y p q = q
 
-  register-plain : (a : Inputs) (said : Says) → Plain (along (registerPath a said) kept settled t .answer)
+  register-plain : (a : Inputs) (said : Says) → Plain (along (registerPath a said) kept settled side t .answer)
   unfolding registerPath IsPlain
   register-plain a said =
-      either (ltb (a .room) (registerRoom (length (a .newHandle)) (length (a .certificate)))) NoRoom (Touch (registerEnding a said)) (refusal 2) (checked-plain (checkedOf settled t) (registerEnding a said))
+      either (ltb (a .room) (registerRoom (length (a .newHandle)) (length (a .certificate)))) NoRoom (Touch (registerEnding a said)) (refusal 2) (checked-plain (checkedOf settled side t) (registerEnding a said))
 
-  authenticate-plain : (frame : List ℕ) (h : Hardware) (room p1 : ℕ) (said : Says) → Plain (along (loginPath frame h room p1 said) kept settled t .answer)
+  authenticate-plain : (frame : List ℕ) (h : Hardware) (room p1 : ℕ) (said : Says) → Plain (along (loginPath frame h room p1 said) kept settled side t .answer)
   unfolding loginPath IsPlain
   authenticate-plain frame h room p1 said =
       either (not (h .good)) (Status 0x6a80) _ (word _)
       (either (eqb p1 0x07) (Status 0x6985) _ (word _)
       (either (ltb room authenticateRoom) NoRoom _ (refusal 2)
       (either (eqb p1 0x03) (Touch (countedEnding frame said true (h .counter))) (Signs (countedEnding frame said false (h .counter)))
-      (checked-plain (checkedOf settled t) (countedEnding frame said true (h .counter)))
+      (checked-plain (checkedOf settled side t) (countedEnding frame said true (h .counter)))
       (ended-plain (countedEnding frame said false (h .counter)) settled))))
 
--- Version looks at no moment
-version-any : (room : ℕ) (kept settled : Presence) (t : ℕ) → along (versionPath room) kept settled 0 ≡ along (versionPath room) kept settled t
+-- Version looks at no side and no moment
+version-any : (room : ℕ) (kept settled : Presence) (side t : ℕ) → along (versionPath room) kept settled 0 0 ≡ along (versionPath room) kept settled side t
 unfolding versionPath
-version-any room kept settled t = by (ltb room 6)
+version-any room kept settled side t = by (ltb room 6)
   where
-    by : (b : Bool) → along (if b then NoRoom else SixBytes) kept settled 0 ≡ along (if b then NoRoom else SixBytes) kept settled t
+    by : (b : Bool) → along (if b then NoRoom else SixBytes) kept settled 0 0 ≡ along (if b then NoRoom else SixBytes) kept settled side t
     by true = refl
     by false = refl
 
 -- nor does it write the block
-version-lands : (room : ℕ) (kept settled : Presence) (t : ℕ) (old : List ℕ)
-    → _≡_ {A = WithBlock} (record { said = handedOf (along (versionPath room) kept settled 0); block = old }) (leftOf (along (versionPath room) kept settled t) old)
+version-lands : (room : ℕ) (kept settled : Presence) (side t : ℕ) (old : List ℕ)
+    → _≡_ {A = WithBlock} (record { said = handedOf (along (versionPath room) kept settled 0 0); block = old }) (leftOf (along (versionPath room) kept settled side t) old)
 unfolding versionPath
-version-lands room kept settled t old = by (ltb room 6)
+version-lands room kept settled side t old = by (ltb room 6)
   where
     by : (b : Bool)
-        → _≡_ {A = WithBlock} (record { said = handedOf (along (if b then NoRoom else SixBytes) kept settled 0); block = old })
-        (leftOf (along (if b then NoRoom else SixBytes) kept settled t) old)
+        → _≡_ {A = WithBlock} (record { said = handedOf (along (if b then NoRoom else SixBytes) kept settled 0 0); block = old })
+        (leftOf (along (if b then NoRoom else SixBytes) kept settled side t) old)
     by true = refl
     by false = refl
 
 -- a C0 where nothing remains
-nothing-lands : (room : ℕ) (r : Remainder) (limit partRoom : ℕ) (kept settled : Presence) (t : ℕ) → r .count ≡ 0 → statusResult 0x6985 settled ≡ along (fetchPath room r limit partRoom) kept settled t
+nothing-lands : (room : ℕ) (r : Remainder) (limit partRoom : ℕ) (kept settled : Presence) (side t : ℕ) → r .count ≡ 0 → statusResult 0x6985 settled ≡ along (fetchPath room r limit partRoom) kept settled side t
 unfolding fetchPath
-nothing-lands room r limit partRoom kept settled t z = rw (eq-eqb (r .count) 0 z)
+nothing-lands room r limit partRoom kept settled side t z = rw (eq-eqb (r .count) 0 z)
 
 -- ---- by the command
-module _ (i : Inputs) (kept : Presence) (t : ℕ) (settled : Presence) (c : U2fCommand) (is-c : commandSaid c ≡ commandOf (i .frame)) where
-  here : (d : U2fCommand) → c ≡ d → along (commandPath i (commandSaid d)) kept settled t ≡ along (commandPath i (commandOf (i .frame))) kept settled t
-  here d e = ap (λ (x : U2fCommand). along (commandPath i (commandSaid x)) kept settled t) (sym e) ∙ ap (λ (o : Outcome Command). along (commandPath i o) kept settled t) is-c
+module _ (i : Inputs) (kept : Presence) (side t : ℕ) (settled : Presence) (c : U2fCommand) (is-c : commandSaid c ≡ commandOf (i .frame)) where
+  here : (d : U2fCommand) → c ≡ d → along (commandPath i (commandSaid d)) kept settled side t ≡ along (commandPath i (commandOf (i .frame))) kept settled side t
+  here d e = ap (λ (x : U2fCommand). along (commandPath i (commandSaid x)) kept settled side t) (sym e) ∙ ap (λ (o : Outcome Command). along (commandPath i o) kept settled side t) is-c
 
-  kept-here : (d : U2fCommand) (old : List ℕ) → c ≡ d → old ≡ replyLeft (along (commandPath i (commandSaid d)) kept settled t) old → old ≡ replyLeft (along (commandPath i (commandOf (i .frame))) kept settled t) old
+  kept-here : (d : U2fCommand) (old : List ℕ) → c ≡ d → old ≡ replyLeft (along (commandPath i (commandSaid d)) kept settled side t) old → old ≡ replyLeft (along (commandPath i (commandOf (i .frame))) kept settled side t) old
   kept-here d old e k = k ∙ ap (λ (x : Result). replyLeft x old) (here d e)
 
-  lands : (d : U2fCommand) (old : List ℕ) → c ≡ d → leftOf (along (commandPath i (commandSaid d)) kept settled t) old ≡ leftOf (along (commandPath i (commandOf (i .frame))) kept settled t) old
+  lands : (d : U2fCommand) (old : List ℕ) → c ≡ d → leftOf (along (commandPath i (commandSaid d)) kept settled side t) old ≡ leftOf (along (commandPath i (commandOf (i .frame))) kept settled side t) old
   lands d old e = ap (λ (x : Result). leftOf x old) (here d e)
 
   module _ (old : List ℕ) where
-    pub on-status : (r : Handed) → (s : ApduStatusCode) → c ≡ U2fCommand′.Status s → r ≡ handedOf (wordResult (wordOf s) settled) → beside r old ≡ leftOf (along (commandPath i (commandOf (i .frame))) kept settled t) old
+    pub on-status : (r : Handed) → (s : ApduStatusCode) → c ≡ U2fCommand′.Status s → r ≡ handedOf (wordResult (wordOf s) settled) → beside r old ≡ leftOf (along (commandPath i (commandOf (i .frame))) kept settled side t) old
     unfolding commandPath
     on-status r s e q = with-block r _ old q ∙ lands (U2fCommand′.Status s) old e
 
-    pub on-version : (r : Handed) → c ≡ U2fCommand′.Version → r ≡ handedOf (along (versionPath (i .room)) kept settled 0) → beside r old ≡ leftOf (along (commandPath i (commandOf (i .frame))) kept settled t) old
+    pub on-version : (r : Handed) → c ≡ U2fCommand′.Version → r ≡ handedOf (along (versionPath (i .room)) kept settled 0 0) → beside r old ≡ leftOf (along (commandPath i (commandOf (i .frame))) kept settled side t) old
     unfolding commandPath
-    on-version r e q = with-block r _ old q ∙ version-lands (i .room) kept settled t old ∙ lands U2fCommand′.Version old e
+    on-version r e q = with-block r _ old q ∙ version-lands (i .room) kept settled side t old ∙ lands U2fCommand′.Version old e
 
-    pub on-register : (x : WithBlock) → (a : Apdu) → c ≡ U2fCommand′.Register a → x ≡ leftOf (along (registerPath i (saysOf a)) kept settled t) old → x ≡ leftOf (along (commandPath i (commandOf (i .frame))) kept settled t) old
+    pub on-register : (x : WithBlock) → (a : Apdu) → c ≡ U2fCommand′.Register a → x ≡ leftOf (along (registerPath i (saysOf a)) kept settled side t) old → x ≡ leftOf (along (commandPath i (commandOf (i .frame))) kept settled side t) old
     unfolding commandPath
     on-register x a e q = q ∙ lands (U2fCommand′.Register a) old e
 
-    pub on-authenticate : (x : WithBlock) → (f : Ctap1Flags) (a : Apdu) → c ≡ U2fCommand′.Authenticate f a → x ≡ leftOf (along (loginPath (i .frame) (i .hardware) (i .room) (flagsNo f) (saysOf a)) kept settled t) old → x ≡ leftOf (along (commandPath i (commandOf (i .frame))) kept settled t) old
+    pub on-authenticate : (x : WithBlock) → (f : Ctap1Flags) (a : Apdu) → c ≡ U2fCommand′.Authenticate f a → x ≡ leftOf (along (loginPath (i .frame) (i .hardware) (i .room) (flagsNo f) (saysOf a)) kept settled side t) old → x ≡ leftOf (along (commandPath i (commandOf (i .frame))) kept settled side t) old
     unfolding commandPath
     on-authenticate x f a e q = q ∙ lands (U2fCommand′.Authenticate f a) old e
 
-    pub on-fetch : (r : Handed) → c ≡ U2fCommand′.GetResponse → i .remainder .count ≡ 0 → r ≡ handedOf (statusResult 0x6985 settled) → beside r old ≡ leftOf (along (commandPath i (commandOf (i .frame))) kept settled t) old
+    pub on-fetch : (r : Handed) → c ≡ U2fCommand′.GetResponse → i .remainder .count ≡ 0 → r ≡ handedOf (statusResult 0x6985 settled) → beside r old ≡ leftOf (along (commandPath i (commandOf (i .frame))) kept settled side t) old
     unfolding commandPath
     on-fetch r e z q =
-        with-block r _ old q ∙ ap (λ (x : Result). leftOf x old) (nothing-lands (i .room) (i .remainder) (frameLimit (i .frame)) (i .partRoom) kept settled t z)
+        with-block r _ old q ∙ ap (λ (x : Result). leftOf x old) (nothing-lands (i .room) (i .remainder) (frameLimit (i .frame)) (i .partRoom) kept settled side t z)
         ∙ lands U2fCommand′.GetResponse old e
 
   module _ (old : List ℕ) where
-    pub fetch-kept : c ≡ U2fCommand′.GetResponse → i .remainder .count ≡ 0 → old ≡ replyLeft (along (commandPath i (commandOf (i .frame))) kept settled t) old
+    pub fetch-kept : c ≡ U2fCommand′.GetResponse → i .remainder .count ≡ 0 → old ≡ replyLeft (along (commandPath i (commandOf (i .frame))) kept settled side t) old
     unfolding commandPath
-    fetch-kept e z = kept-here U2fCommand′.GetResponse old e (ap (λ (x : Result). replyLeft x old) (nothing-lands (i .room) (i .remainder) (frameLimit (i .frame)) (i .partRoom) kept settled t z))
+    fetch-kept e z = kept-here U2fCommand′.GetResponse old e (ap (λ (x : Result). replyLeft x old) (nothing-lands (i .room) (i .remainder) (frameLimit (i .frame)) (i .partRoom) kept settled side t z))
 
-    pub status-kept : (s : ApduStatusCode) → c ≡ U2fCommand′.Status s → old ≡ replyLeft (along (commandPath i (commandOf (i .frame))) kept settled t) old
+    pub status-kept : (s : ApduStatusCode) → c ≡ U2fCommand′.Status s → old ≡ replyLeft (along (commandPath i (commandOf (i .frame))) kept settled side t) old
     unfolding commandPath
     status-kept s e = kept-here (U2fCommand′.Status s) old e refl
 
-    pub register-kept : (a : Apdu) → c ≡ U2fCommand′.Register a → old ≡ replyLeft (along (commandPath i (commandOf (i .frame))) kept settled t) old
+    pub register-kept : (a : Apdu) → c ≡ U2fCommand′.Register a → old ≡ replyLeft (along (commandPath i (commandOf (i .frame))) kept settled side t) old
     unfolding commandPath
-    register-kept a e = kept-here (U2fCommand′.Register a) old e (plain-reply _ old (register-plain kept settled t i (saysOf a)))
+    register-kept a e = kept-here (U2fCommand′.Register a) old e (plain-reply _ old (register-plain kept settled side t i (saysOf a)))
 
-    pub authenticate-kept : (f : Ctap1Flags) (a : Apdu) → c ≡ U2fCommand′.Authenticate f a → old ≡ replyLeft (along (commandPath i (commandOf (i .frame))) kept settled t) old
+    pub authenticate-kept : (f : Ctap1Flags) (a : Apdu) → c ≡ U2fCommand′.Authenticate f a → old ≡ replyLeft (along (commandPath i (commandOf (i .frame))) kept settled side t) old
     unfolding commandPath
-    authenticate-kept f a e = kept-here (U2fCommand′.Authenticate f a) old e (plain-reply _ old (authenticate-plain kept settled t (i .frame) (i .hardware) (i .room) (flagsNo f) (saysOf a)))
+    authenticate-kept f a e = kept-here (U2fCommand′.Authenticate f a) old e (plain-reply _ old (authenticate-plain kept settled side t (i .frame) (i .hardware) (i .room) (flagsNo f) (saysOf a)))
 
-    pub version-left : (new : List ℕ) → c ≡ U2fCommand′.Version → new ≡ replyLeft (along (versionPath (i .room)) kept settled 0) old → new ≡ replyLeft (along (commandPath i (commandOf (i .frame))) kept settled t) old
+    pub version-left : (new : List ℕ) → c ≡ U2fCommand′.Version → new ≡ replyLeft (along (versionPath (i .room)) kept settled 0 0) old → new ≡ replyLeft (along (commandPath i (commandOf (i .frame))) kept settled side t) old
     unfolding commandPath
-    version-left new e q = q ∙ ap (λ (x : Result). replyLeft x old) (version-any (i .room) kept settled t ∙ here U2fCommand′.Version e)
+    version-left new e q = q ∙ ap (λ (x : Result). replyLeft x old) (version-any (i .room) kept settled side t ∙ here U2fCommand′.Version e)
 
 -- ---- by the moment, and by whether CTAP1 is allowed
 failed-is : (k : ℕ) → 1 < k → allowedOf k ≡ Allowed′.Failed
@@ -183,10 +183,10 @@ yes-is k h n = by (ℕ-discrete k 0)
     by (yes z) = absurd (n z)
     by (no z) = let one : k ≡ 1 = omega arith in rw one
 
-module _ (i : Inputs) (kept : Presence) (t : ℕ) (s : Ready) (is-s : readyOf s ≡ settleOf kept t) where
-  settles : (d : Ready) → s ≡ d → onMoment kept t (pathOf i) (readyOf d) ≡ decisionOf kept t i
+module _ (i : Inputs) (kept : Presence) (t : ℕ) (s : Ready) (is-s : readyOf s ≡ settleOf kept (i .side) t) where
+  settles : (d : Ready) → s ≡ d → onMoment kept (i .side) t (pathOf i) (readyOf d) ≡ decisionOf kept t i
   unfolding decisionOf
-  settles d e = ap (λ (x : Ready). onMoment kept t (pathOf i) (readyOf x)) (sym e) ∙ ap (onMoment kept t (pathOf i)) is-s
+  settles d e = ap (λ (x : Ready). onMoment kept (i .side) t (pathOf i) (readyOf x)) (sym e) ∙ ap (onMoment kept (i .side) t (pathOf i)) is-s
 
   pub not-settled : (why : Refusal) (r : Handed) (old : List ℕ) → s ≡ Ready′.Refused why → r ≡ handedOf (refusalResult (refusalNo why) kept) → beside r old ≡ leftOf (decisionOf kept t i) old
   not-settled why r old e q = with-block r _ old q ∙ ap (λ (x : Result). leftOf x old) (settles (Ready′.Refused why) e)
@@ -195,14 +195,14 @@ module _ (i : Inputs) (kept : Presence) (t : ℕ) (s : Ready) (is-s : readyOf s 
   not-settled-kept why old e = ap (λ (x : Result). replyLeft x old) (settles (Ready′.Refused why) e)
 
   module _ (p : Presence) (e : s ≡ Ready′.Record p) (k : ℕ) (is-k : i .hardware .allowed ≡ allowedOf k) where
-    here-by : (a : Allowed) → i .hardware .allowed ≡ a → along (allowedPath a i) kept p t ≡ decisionOf kept t i
+    here-by : (a : Allowed) → i .hardware .allowed ≡ a → along (allowedPath a i) kept p (i .side) t ≡ decisionOf kept t i
     unfolding pathOf
-    here-by a is = ap (λ (b : Allowed). along (allowedPath b i) kept p t) (sym is) ∙ settles (Ready′.Record p) e
+    here-by a is = ap (λ (b : Allowed). along (allowedPath b i) kept p (i .side) t) (sym is) ∙ settles (Ready′.Record p) e
 
-    lands-by : (a : Allowed) (old : List ℕ) → i .hardware .allowed ≡ a → leftOf (along (allowedPath a i) kept p t) old ≡ leftOf (decisionOf kept t i) old
+    lands-by : (a : Allowed) (old : List ℕ) → i .hardware .allowed ≡ a → leftOf (along (allowedPath a i) kept p (i .side) t) old ≡ leftOf (decisionOf kept t i) old
     lands-by a old is = ap (λ (x : Result). leftOf x old) (here-by a is)
 
-    left-by : (a : Allowed) (old new : List ℕ) → i .hardware .allowed ≡ a → new ≡ replyLeft (along (allowedPath a i) kept p t) old → new ≡ replyLeft (decisionOf kept t i) old
+    left-by : (a : Allowed) (old new : List ℕ) → i .hardware .allowed ≡ a → new ≡ replyLeft (along (allowedPath a i) kept p (i .side) t) old → new ≡ replyLeft (decisionOf kept t i) old
     left-by a old new is q = q ∙ ap (λ (x : Result). replyLeft x old) (here-by a is)
 
     pub allowed-failed : (r : Handed) (old : List ℕ) → 1 < k → r ≡ handedOf (statusResult 0x6f00 p) → beside r old ≡ leftOf (decisionOf kept t i) old
@@ -213,7 +213,7 @@ module _ (i : Inputs) (kept : Presence) (t : ℕ) (s : Ready) (is-s : readyOf s 
     unfolding allowedPath
     allowed-no r old z q = with-block r _ old q ∙ lands-by Allowed′.No old (is-k ∙ no-is k z)
 
-    pub allowed-yes : (x : WithBlock) (old : List ℕ) → k ≤ 1 → (k ≡ 0 → ⊥) → x ≡ leftOf (along (commandPath i (commandOf (i .frame))) kept p t) old → x ≡ leftOf (decisionOf kept t i) old
+    pub allowed-yes : (x : WithBlock) (old : List ℕ) → k ≤ 1 → (k ≡ 0 → ⊥) → x ≡ leftOf (along (commandPath i (commandOf (i .frame))) kept p (i .side) t) old → x ≡ leftOf (decisionOf kept t i) old
     unfolding allowedPath
     allowed-yes x old h n q = q ∙ lands-by Allowed′.Yes old (is-k ∙ yes-is k h n)
 
@@ -225,7 +225,7 @@ module _ (i : Inputs) (kept : Presence) (t : ℕ) (s : Ready) (is-s : readyOf s 
     unfolding allowedPath
     no-kept old z = left-by Allowed′.No old old (is-k ∙ no-is k z) refl
 
-    pub yes-left : (old new : List ℕ) → k ≤ 1 → (k ≡ 0 → ⊥) → new ≡ replyLeft (along (commandPath i (commandOf (i .frame))) kept p t) old → new ≡ replyLeft (decisionOf kept t i) old
+    pub yes-left : (old new : List ℕ) → k ≤ 1 → (k ≡ 0 → ⊥) → new ≡ replyLeft (along (commandPath i (commandOf (i .frame))) kept p (i .side) t) old → new ≡ replyLeft (decisionOf kept t i) old
     unfolding allowedPath
     yes-left old new h n q = left-by Allowed′.Yes old new (is-k ∙ yes-is k h n) q
 

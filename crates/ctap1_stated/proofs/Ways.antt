@@ -4,6 +4,7 @@ use Prim.Native.Nat.{ℕ, _+_, _-_, _<_, _≤_}
 use mathlib.Core.Path.{_≡_, refl, ap, _∙_}
 use mathlib.Core.Bool.{Bool, true, false, not}
 use native.Mathlib.Omega.{arith}
+use native.Mathlib.Decide.{ℕ-discrete}
 use borrow.Author.Tests.{lt-ltb, le-ltb, ltb-true, ltb-false, eqb-true, eqb-false, ne-eqb, not-true, not-false}
 use lib.Dec.{ltb, eqb}
 use lib.ListN.{length}
@@ -13,15 +14,15 @@ use Rattle.apdu_stated.specs.Answers.{Says}
 use Rattle.command_stated.specs.Command.{Command, Register, Authenticate, Version, GetResponse, commandOf}
 use Rattle.u2f_up_stated.specs.Moments.{movedTo, touchClosed, promptOpened}
 use Rattle.u2f_up_stated.specs.History.{Checking}
-use Rattle.u2f_up_stated.specs.Terms.{BadWindow, BadMoment, Passes, HasTouch}
+use Rattle.u2f_up_stated.specs.Terms.{BadWindow, BadSide, BadMoment, Passes, HasTouch}
 use Rattle.u2f_up_stated.specs.declared.Presence.{Presence}
-use Rattle.u2f_up_stated.proofs.Laws.{bad-window, bad-moment, has-touch, settle-r6, settle-r1, settle-moves, checked-live, checked-dead}
+use Rattle.u2f_up_stated.proofs.Laws.{bad-window, bad-side, bad-moment, has-touch, settle-r6, settle-r8, settle-r1, settle-moves, checked-own, checked-other, checked-dead}
 use Rattle.response_stated.specs.Words.{Sent, rest}
 use Rattle.response_stated.specs.Parts.{partLength, nextPartOf}
 use Rattle.ctap1_stated.specs.Words.{Inputs, Result, Allowed, Attestation, Counter, isPresent}
 use Rattle.ctap1_stated.specs.Path.{Ending, Internal, Orders, Path, Touch, frameLimit, sentPath, fetchPath, registerOrdered, authenticateOrdered, enrolmentOrder, registerEnding, countedEnding, loginPath, registerPath, versionPath, authenticatePath, commandPath, allowedPath, pathOf, roleOf}
 use Rattle.ctap1_stated.specs.Decision.{refusalResult, wordResult, statusResult, bodyResult, partResult, orderResult, ended, along, decisionOf}
-use Rattle.ctap1_stated.specs.Terms.{Comes, Fetching, roomOfRegister, Registering, Signing}
+use Rattle.ctap1_stated.specs.Terms.{Comes, Fetching, OwnTouch, OthersTouch, roomOfRegister, Registering, Signing}
 use Rattle.ctap1_stated.specs.Table
 use Rattle.ctap1_stated.specs.Table.{Answers}
 use Rattle.ctap1_stated.specs.declared.Allowed.the-variants as Allowed′
@@ -42,20 +43,24 @@ module _ (a : Inputs) where
   with-p1 p1 k said z c = rw z at c
 
 module _ (p : Presence) (t : ℕ) (a : Inputs) where
-  settled : Passes p t → decisionOf p t a ≡ along (pathOf a) p (movedTo p t) t
+  settled : Passes p (a .side) t → decisionOf p t a ≡ along (pathOf a) p (movedTo p t) (a .side) t
   unfolding decisionOf
-  settled ok = rw (settle-moves p t ok)
+  settled ok = rw (settle-moves p (a .side) t ok)
 
-  came : (c : Command) → Passes p t → Comes a c → decisionOf p t a ≡ along (commandPath a (Gives c)) p (movedTo p t) t
-  came c ok e = settled ok ∙ ap (λ (x : Path). along x p (movedTo p t) t) (comes a c e)
+  came : (c : Command) → Passes p (a .side) t → Comes a c → decisionOf p t a ≡ along (commandPath a (Gives c)) p (movedTo p t) (a .side) t
+  came c ok e = settled ok ∙ ap (λ (x : Path). along x p (movedTo p t) (a .side) t) (comes a c e)
 
   is-r6 : BadWindow (p .w) → decisionOf p t a ≡ refusalResult 6 p
   unfolding decisionOf
-  is-r6 b = rw (settle-r6 p t b)
+  is-r6 b = rw (settle-r6 p (a .side) t b)
 
-  is-r1 : (BadWindow (p .w) → ⊥) → BadMoment (p .last) t → decisionOf p t a ≡ refusalResult 1 p
+  is-r8 : (BadWindow (p .w) → ⊥) → BadSide (a .side) (p .asker) → decisionOf p t a ≡ refusalResult 8 p
   unfolding decisionOf
-  is-r1 g b = rw (settle-r1 p t g b)
+  is-r8 g b = rw (settle-r8 p (a .side) t g b)
+
+  is-r1 : (BadWindow (p .w) → ⊥) → (BadSide (a .side) (p .asker) → ⊥) → BadMoment (p .last) t → decisionOf p t a ≡ refusalResult 1 p
+  unfolding decisionOf
+  is-r1 g h b = rw (settle-r1 p (a .side) t g h b)
 
   -- ---- C0: something remains, and so many bytes go out
   counts : 0 < a .remainder .count → eqb (a .remainder .count) 0 ≡ false
@@ -68,25 +73,28 @@ module _ (p : Presence) (t : ℕ) (a : Inputs) where
   pub sound : (r : Result) → Answers p t a r → decisionOf p t a ≡ r
   unfolding pathOf allowedPath commandPath versionPath registerPath loginPath registerEnding countedEnding enrolmentOrder fetchPath nextPartOf
   sound _ (Table.r6 b) = is-r6 b
-  sound _ (Table.r1 g b) = is-r1 g b
+  sound _ (Table.r8 g b) = is-r8 g b
+  sound _ (Table.r1 g h b) = is-r1 g h b
   sound _ (Table.failed ok y) = settled ok ∙ rw y
   sound _ (Table.forbidden ok y) = settled ok ∙ rw y
   sound _ (Table.frame ok y n e) = settled ok ∙ rw (y, e)
   sound _ (Table.version-short ok c h) = came _ ok c ∙ rw (lt-ltb (a .room) 6 h)
   sound _ (Table.version ok c h) = came _ ok c ∙ rw (le-ltb (a .room) 6 h)
   sound _ (Table.register-short said ok c h) = came _ ok c ∙ rw (lt-ltb (a .room) (roomOfRegister a) h)
-  sound _ (Table.register-6985 said (ok, c, h) n) = came _ ok c ∙ rw (le-ltb (a .room) (roomOfRegister a) h, checked-dead p t n)
-  sound _ (Table.not-stored said (ok, c, h) l s) = came _ ok c ∙ rw (le-ltb (a .room) (roomOfRegister a) h, checked-live p t l, s)
-  sound _ (Table.long said (ok, c, h) l s k) = came _ ok c ∙ rw (le-ltb (a .room) (roomOfRegister a) h, checked-live p t l, s, lt-ltb 255 (length (a .newHandle)) k)
-  sound _ (Table.missing said (ok, c, h) l s k m) = came _ ok c ∙ rw (le-ltb (a .room) (roomOfRegister a) h, checked-live p t l, s, le-ltb 255 (length (a .newHandle)) k, m)
-  sound _ (Table.no-attestation said (ok, c, h) l s k m) = came _ ok c ∙ rw (le-ltb (a .room) (roomOfRegister a) h, checked-live p t l, s, le-ltb 255 (length (a .newHandle)) k, m)
-  sound _ (Table.enrols said (ok, c, h) l s k m) = came _ ok c ∙ rw (le-ltb (a .room) (roomOfRegister a) h, checked-live p t l, s, le-ltb 255 (length (a .newHandle)) k, m)
+  sound _ (Table.register-6985 said (ok, c, h) n) = came _ ok c ∙ rw (le-ltb (a .room) (roomOfRegister a) h, checked-dead p (a .side) t n)
+  sound _ (Table.register-other said (ok, c, h) o) = came _ ok c ∙ rw (le-ltb (a .room) (roomOfRegister a) h, checked-other p (a .side) t (o .0) (o .1))
+  sound _ (Table.not-stored said (ok, c, h) l s) = came _ ok c ∙ rw (le-ltb (a .room) (roomOfRegister a) h, checked-own p (a .side) t (l .0) (l .1), s)
+  sound _ (Table.long said (ok, c, h) l s k) = came _ ok c ∙ rw (le-ltb (a .room) (roomOfRegister a) h, checked-own p (a .side) t (l .0) (l .1), s, lt-ltb 255 (length (a .newHandle)) k)
+  sound _ (Table.missing said (ok, c, h) l s k m) = came _ ok c ∙ rw (le-ltb (a .room) (roomOfRegister a) h, checked-own p (a .side) t (l .0) (l .1), s, le-ltb 255 (length (a .newHandle)) k, m)
+  sound _ (Table.no-attestation said (ok, c, h) l s k m) = came _ ok c ∙ rw (le-ltb (a .room) (roomOfRegister a) h, checked-own p (a .side) t (l .0) (l .1), s, le-ltb 255 (length (a .newHandle)) k, m)
+  sound _ (Table.enrols said (ok, c, h) l s k m) = came _ ok c ∙ rw (le-ltb (a .room) (roomOfRegister a) h, checked-own p (a .side) t (l .0) (l .1), s, le-ltb 255 (length (a .newHandle)) k, m)
   sound _ (Table.bad-handle p1 said ok c g) = came _ ok c ∙ rw g
   sound _ (Table.check-only said ok c g) = came _ ok c ∙ rw g
   sound _ (Table.sign-short p1 said ok c g n h) = came _ ok c ∙ rw (g, ne-eqb p1 0x07 n, lt-ltb (a .room) 77 h)
-  sound _ (Table.sign-6985 said (ok, c, g, h) n) = came _ ok c ∙ rw (g, le-ltb (a .room) 77 h, checked-dead p t n)
-  sound _ (Table.no-counter-03 said (ok, c, g, h) l k) = came _ ok c ∙ rw (g, le-ltb (a .room) 77 h, checked-live p t l, k)
-  sound _ (Table.signs-03 said n (ok, c, g, h) l k) = came _ ok c ∙ rw (g, le-ltb (a .room) 77 h, checked-live p t l, k)
+  sound _ (Table.sign-6985 said (ok, c, g, h) n) = came _ ok c ∙ rw (g, le-ltb (a .room) 77 h, checked-dead p (a .side) t n)
+  sound _ (Table.sign-other said (ok, c, g, h) o) = came _ ok c ∙ rw (g, le-ltb (a .room) 77 h, checked-other p (a .side) t (o .0) (o .1))
+  sound _ (Table.no-counter-03 said (ok, c, g, h) l k) = came _ ok c ∙ rw (g, le-ltb (a .room) 77 h, checked-own p (a .side) t (l .0) (l .1), k)
+  sound _ (Table.signs-03 said n (ok, c, g, h) l k) = came _ ok c ∙ rw (g, le-ltb (a .room) 77 h, checked-own p (a .side) t (l .0) (l .1), k)
   sound _ (Table.no-counter-08 said (ok, c, g, h) k) = came _ ok c ∙ rw (g, le-ltb (a .room) 77 h, k)
   sound _ (Table.signs-08 said n (ok, c, g, h) k) = came _ ok c ∙ rw (g, le-ltb (a .room) 77 h, k)
   sound _ (Table.fetch-nothing ok c e) = came _ ok c ∙ rw e
@@ -95,17 +103,18 @@ module _ (p : Presence) (t : ℕ) (a : Inputs) where
   sound _ (Table.fetch n e (ok, c, some) g h) = came _ ok c ∙ rw (counts some, le-ltb (a .room) (a .remainder .place + a .remainder .count) g, ← e, le-ltb (a .partRoom) (n + 2) h)
 
   -- ---- and what the definition says is a row
-  module _ (ok : Passes p t) where
+  module _ (ok : Passes p (a .side) t) where
     abbrev At : Path → Type 0
-    At x = Answers p t a (along x p (movedTo p t) t)
+    At x = Answers p t a (along x p (movedTo p t) (a .side) t)
 
-    touched : (e : Ending) → ((HasTouch p t → ⊥) → Answers p t a (statusResult 0x6985 (promptOpened (movedTo p t) t)))
-        → (HasTouch p t → Answers p t a (ended e (touchClosed (movedTo p t)))) → At (Touch e)
-    touched e f g = by (has-touch p t)
+    touched : (e : Ending) → ((HasTouch p t → ⊥) → Answers p t a (statusResult 0x6985 (promptOpened (movedTo p t) (a .side) t)))
+        → (OthersTouch p t a → Answers p t a (statusResult 0x6985 (movedTo p t))) → (OwnTouch p t a → Answers p t a (ended e (touchClosed (movedTo p t)))) → At (Touch e)
+    touched e f o g = by (has-touch p t) (ℕ-discrete (p .asker) (a .side))
       where
-        by : Dec (HasTouch p t) → At (Touch e)
-        by (yes h) = rw (checked-live p t h) (g h)
-        by (no h) = rw (checked-dead p t h) (f h)
+        by : Dec (HasTouch p t) → Dec (p .asker ≡ a .side) → At (Touch e)
+        by (yes h) (yes m) = rw (checked-own p (a .side) t h m) (g (h, m))
+        by (yes h) (no m) = rw (checked-other p (a .side) t h m) (o (h, m))
+        by (no h) m = rw (checked-dead p (a .side) t h) (f h)
 
     register-at : (said : Says) → Comes a (Register said) → At (commandPath a (Gives (Register said)))
     unfolding commandPath versionPath registerPath registerEnding enrolmentOrder
@@ -113,7 +122,7 @@ module _ (p : Presence) (t : ℕ) (a : Inputs) where
         split a At (ltb (a .room) (roomOfRegister a)) _ _ (λ h. Table.register-short said ok c (ltb-true (a .room) (roomOfRegister a) h))
         (λ h. let in-room : Registering p t a said = (ok, c, ltb-false (a .room) (roomOfRegister a) h) in
         let signed = if not (isPresent (a .hardware .attestation)) then Internal else Orders (registerOrdered a said) false in
-        touched (registerEnding a said) (λ n. Table.register-6985 said in-room n)
+        touched (registerEnding a said) (λ n. Table.register-6985 said in-room n) (λ o. Table.register-other said in-room o)
         (λ l. split a After (not (a .hardware .stored)) Internal (if ltb 255 (length (a .newHandle)) then Internal else signed) (λ n. Table.not-stored said in-room l (not-true (a .hardware .stored) n))
         (λ n. split a After (ltb 255 (length (a .newHandle))) Internal signed (λ k. Table.long said in-room l (not-false (a .hardware .stored) n) (ltb-true 255 (length (a .newHandle)) k))
         (λ k. by in-room l (not-false (a .hardware .stored) n) (ltb-false 255 (length (a .newHandle)) k) (a .hardware .attestation) refl))))
@@ -121,13 +130,13 @@ module _ (p : Presence) (t : ℕ) (a : Inputs) where
         After : Ending → Type 0
         After e = Answers p t a (ended e (touchClosed (movedTo p t)))
 
-        by : Registering p t a said → HasTouch p t → a .hardware .stored ≡ true → length (a .newHandle) ≤ 255 → (m : Attestation) → a .hardware .attestation ≡ m
+        by : Registering p t a said → OwnTouch p t a → a .hardware .stored ≡ true → length (a .newHandle) ≤ 255 → (m : Attestation) → a .hardware .attestation ≡ m
             → After (if not (isPresent m) then Internal else Orders (registerOrdered a said) false)
         by x l s k Attestation′.Present m = Table.enrols said x l s k m
         by x l s k Attestation′.Missing m = Table.missing said x l s k m
         by x l s k Attestation′.Failed m = Table.no-attestation said x l s k m
 
-    counts-03 : (said : Says) → Signing p t a 0x03 said → HasTouch p t → (c : Counter) → a .hardware .counter ≡ c
+    counts-03 : (said : Says) → Signing p t a 0x03 said → OwnTouch p t a → (c : Counter) → a .hardware .counter ≡ c
         → Answers p t a (ended (countedEnding (a .frame) said true c) (touchClosed (movedTo p t)))
     unfolding countedEnding
     counts-03 said x l Counter′.Failed k = Table.no-counter-03 said x l k
@@ -147,7 +156,7 @@ module _ (p : Presence) (t : ℕ) (a : Inputs) where
         (λ n7. split a At (ltb (a .room) 77) _ _ (λ h. Table.sign-short p1 said ok c g (eqb-false p1 0x07 n7) (ltb-true (a .room) 77 h))
         (λ h. split a At (eqb p1 0x03) _ _
         (λ z. let x : Signing p t a 0x03 said = (ok, with-p1 a p1 0x03 said (eqb-true p1 0x03 z) c, g, ltb-false (a .room) 77 h) in
-        touched (countedEnding (a .frame) said true (a .hardware .counter)) (λ u. Table.sign-6985 said x u) (λ l. counts-03 said x l (a .hardware .counter) refl))
+        touched (countedEnding (a .frame) said true (a .hardware .counter)) (λ u. Table.sign-6985 said x u) (λ o. Table.sign-other said x o) (λ l. counts-03 said x l (a .hardware .counter) refl))
         (λ n3. counts-08 said (ok, with-p1 a p1 0x08 said (p1-08 (a .frame) p1 said (c .1) n7 n3) c, g, ltb-false (a .room) 77 h) (a .hardware .counter) refl))))
 
     fetch-at : Comes a GetResponse → At (fetchPath (a .room) (a .remainder) (frameLimit (a .frame)) (a .partRoom))
@@ -178,26 +187,27 @@ module _ (p : Presence) (t : ℕ) (a : Inputs) where
 
   pub row : Answers p t a (decisionOf p t a)
   unfolding decisionOf pathOf
-  row = at (bad-window (p .w)) (bad-moment (p .last) t)
+  row = at (bad-window (p .w)) (bad-side (a .side) (p .asker)) (bad-moment (p .last) t)
     where
-      at : Dec (BadWindow (p .w)) → Dec (BadMoment (p .last) t) → Answers p t a (decisionOf p t a)
-      at (yes b) m = rw (settle-r6 p t b) (Table.r6 b)
-      at (no w) (yes b) = rw (settle-r1 p t w b) (Table.r1 w b)
-      at (no w) (no m) = rw (settle-moves p t (w, m)) (allowed-at (w, m) (a .hardware .allowed) refl)
+      at : Dec (BadWindow (p .w)) → Dec (BadSide (a .side) (p .asker)) → Dec (BadMoment (p .last) t) → Answers p t a (decisionOf p t a)
+      at (yes b) s m = rw (settle-r6 p (a .side) t b) (Table.r6 b)
+      at (no w) (yes b) m = rw (settle-r8 p (a .side) t w b) (Table.r8 w b)
+      at (no w) (no s) (yes b) = rw (settle-r1 p (a .side) t w s b) (Table.r1 w s b)
+      at (no w) (no s) (no m) = rw (settle-moves p (a .side) t (w, s, m)) (allowed-at (w, s, m) (a .hardware .allowed) refl)
 
   -- ---- the ways that the other claims tell apart
   -- a status word: one of the decision's own, which has no pair, or the frame's
   pub data Stated : StatusWord → Type 0 where
     its-own : (n : ℕ) → (n ≡ 0x6700 → ⊥) → Stated (plainWord n)
-    framed : {s : StatusWord} → Passes p t → a .hardware .allowed ≡ Allowed′.Yes → commandOf (a .frame) ≡ Word s → Stated s
+    framed : {s : StatusWord} → Passes p (a .side) t → a .hardware .allowed ≡ Allowed′.Yes → commandOf (a .frame) ≡ Word s → Stated s
 
   pub data Way : Result → Type 0 where
     refused : (n : ℕ) → Way (refusalResult n p)
     stated : (s : StatusWord) (q : Presence) → Stated s → Way (wordResult s q)
     versioned : Comes a Version → 6 ≤ a .room → Way (bodyResult 6 (movedTo p t))
     fetched : Fetching p t a → (sent : Sent) → Way (partResult sent (movedTo p t))
-    enrolled : (said : Says) → Registering p t a said → HasTouch p t → length (a .newHandle) ≤ 255 → Way (orderResult (registerOrdered a said) (touchClosed (movedTo p t)) false)
-    signed-03 : (said : Says) (n : ℕ) → Signing p t a 0x03 said → HasTouch p t → a .hardware .counter ≡ Counter′.Offered n
+    enrolled : (said : Says) → Registering p t a said → OwnTouch p t a → length (a .newHandle) ≤ 255 → Way (orderResult (registerOrdered a said) (touchClosed (movedTo p t)) false)
+    signed-03 : (said : Says) (n : ℕ) → Signing p t a 0x03 said → OwnTouch p t a → a .hardware .counter ≡ Counter′.Offered n
         → Way (orderResult (authenticateOrdered a said true n) (touchClosed (movedTo p t)) true)
     signed-08 : (said : Says) (n : ℕ) → Signing p t a 0x08 said → a .hardware .counter ≡ Counter′.Offered n
         → Way (orderResult (authenticateOrdered a said false n) (movedTo p t) true)
@@ -208,7 +218,8 @@ module _ (p : Presence) (t : ℕ) (a : Inputs) where
     where
       by : (r : Result) → Answers p t a r → Way r
       by _ (Table.r6 b) = refused 6
-      by _ (Table.r1 g b) = refused 1
+      by _ (Table.r8 g b) = refused 8
+      by _ (Table.r1 g h b) = refused 1
       by _ (Table.failed ok y) = stated _ _ (its-own 0x6f00 (λ e. omega arith))
       by _ (Table.forbidden ok y) = stated _ _ (its-own 0x6986 (λ e. omega arith))
       by _ (Table.frame ok y s e) = stated s _ (framed ok y e)
@@ -216,6 +227,7 @@ module _ (p : Presence) (t : ℕ) (a : Inputs) where
       by _ (Table.version ok c h) = versioned c h
       by _ (Table.register-short said ok c h) = refused 2
       by _ (Table.register-6985 said x n) = stated _ _ (its-own 0x6985 (λ e. omega arith))
+      by _ (Table.register-other said x o) = stated _ _ (its-own 0x6985 (λ e. omega arith))
       by _ (Table.not-stored said x l s) = stated _ _ (its-own 0x6f00 (λ e. omega arith))
       by _ (Table.long said x l s k) = stated _ _ (its-own 0x6f00 (λ e. omega arith))
       by _ (Table.missing said x l s k m) = stated _ _ (its-own 0x6f00 (λ e. omega arith))
@@ -225,6 +237,7 @@ module _ (p : Presence) (t : ℕ) (a : Inputs) where
       by _ (Table.check-only said ok c g) = stated _ _ (its-own 0x6985 (λ e. omega arith))
       by _ (Table.sign-short p1 said ok c g n h) = refused 2
       by _ (Table.sign-6985 said x n) = stated _ _ (its-own 0x6985 (λ e. omega arith))
+      by _ (Table.sign-other said x o) = stated _ _ (its-own 0x6985 (λ e. omega arith))
       by _ (Table.no-counter-03 said x l k) = stated _ _ (its-own 0x6a80 (λ e. omega arith))
       by _ (Table.signs-03 said n x l k) = signed-03 said n x l k
       by _ (Table.no-counter-08 said x k) = stated _ _ (its-own 0x6a80 (λ e. omega arith))
@@ -235,10 +248,10 @@ module _ (p : Presence) (t : ℕ) (a : Inputs) where
       by _ (Table.fetch n e x g h) = fetched x (record { length = n + 2; remainder = rest (a .remainder .place + n) (a .remainder .count - n) })
 
 -- ---- a decision that comes to the touch check has that role
-pub registering-checks : (p : Presence) (t : ℕ) (a : Inputs) (said : Says) → Registering p t a said → roleOf a ≡ Checking
+pub registering-checks : (p : Presence) (t : ℕ) (a : Inputs) (said : Says) → Registering p t a said → roleOf a ≡ Checking (a .side)
 unfolding commandPath registerPath
 registering-checks p t a said (ok, c, h) = rw (comes a _ c) (rw (le-ltb (a .room) (roomOfRegister a) h))
 
-pub signing-checks : (p : Presence) (t : ℕ) (a : Inputs) (said : Says) → Signing p t a 0x03 said → roleOf a ≡ Checking
+pub signing-checks : (p : Presence) (t : ℕ) (a : Inputs) (said : Says) → Signing p t a 0x03 said → roleOf a ≡ Checking (a .side)
 unfolding commandPath loginPath
 signing-checks p t a said (ok, c, g, h) = rw (comes a _ c) (rw (g, le-ltb (a .room) 77 h))

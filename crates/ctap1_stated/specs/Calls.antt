@@ -6,8 +6,8 @@ use Rattle.u2f_up_stated.specs.Moments.{Told, touchOf, checkOf, askOf}
 use Rattle.u2f_up_stated.specs.History.{Role, Touching, Checking, Asking, Settling, Short, Call}
 use Rattle.u2f_up_stated.specs.Runs.{Caller}
 
--- What is seen of a decision, by its role. "a prompting refusal is a touch check that finds no live touch: a 6985 from
--- Register or from P1 03"; "A call spends a touch if the check succeeds, also when a later step answers 6f00 or 6a80"
+-- What is seen of a decision, by its role. "a touch check that finds no live touch: a 6985 from Register or from P1 03" (whether that is
+-- a prompting refusal, its past says: 02, E7); "A call spends a touch if the check succeeds, also when a later step answers 6f00 or 6a80"
 abbrev pub seenOfCheck : Outcome Given → Outcome Bool
 seenOfCheck (R n) = R n
 seenOfCheck (Word s) = Gives (not (eqb (s .number) 0x6985))
@@ -19,32 +19,33 @@ seenOfOther (Word s) = Gives true
 seenOfOther (Gives g) = Gives true
 
 abbrev pub seen : Role → Outcome Given → Outcome Bool
-seen Checking answer = seenOfCheck answer
+seen (Checking s) answer = seenOfCheck answer
 seen Touching answer = seenOfOther answer
 seen Asking answer = seenOfOther answer
-seen Settling answer = seenOfOther answer
-seen Short answer = seenOfOther answer
+seen (Settling s) answer = seenOfOther answer
+seen (Short s) answer = seenOfOther answer
 
 abbrev pub toldBy : Role → Result → Told
 toldBy role r = record { outcome = seen role (r .answer); presence = r .presence }
 
--- a call of the panel: a touch, a direct check or an ask at a moment, or a decision at a moment with all that it is lent
+-- a call of the panel: a touch, a side's direct check or an ask at a moment, or a decision at a moment with all that it is lent, its side
+-- among it
 pub data PanelCall : Type 0 where
   TouchAt : ℕ → PanelCall
-  CheckAt : ℕ → PanelCall
+  CheckAt : (side t : ℕ) → PanelCall
   AskAt : ℕ → PanelCall
   DecideAt : ℕ → Inputs → PanelCall
 
 abbrev pub callOf : PanelCall → Call
 callOf (TouchAt t) = record { role = Touching; moment = t }
-callOf (CheckAt t) = record { role = Checking; moment = t }
+callOf (CheckAt s t) = record { role = Checking s; moment = t }
 callOf (AskAt t) = record { role = Asking; moment = t }
 callOf (DecideAt t a) = record { role = roleOf a; moment = t }
 
 -- with any decision, so that wrong ones can be tried
 abbrev pub panelDoes : (Presence → ℕ → Inputs → Result) → Presence → PanelCall → Told
 panelDoes decide p (TouchAt t) = touchOf p t
-panelDoes decide p (CheckAt t) = checkOf p t
+panelDoes decide p (CheckAt s t) = checkOf p s t
 panelDoes decide p (AskAt t) = askOf p t
 panelDoes decide p (DecideAt t a) = toldBy (roleOf a) (decide p t a)
 

@@ -6,8 +6,9 @@ use mathlib.Core.Option.{some}
 use Rattle.ctap1_stated.specs.Words.{AtMostOne, StatusWord, R, Word, SW, Gives, wrongLength, [], _∷_, _++_, drop, ℕ, _+_, _*_, _<_, _≤_, _≡_, Bool, true, false, List, length, Presence, Ruling, Decided, Remainder, rest, Inputs, Allowed, Attestation, Hardware, HardwareSaid, Body, Ordered, Part, Result, decidedOf}
 use Rattle.ctap1_stated.specs.Numbers.{allowedOf, attestationOf}
 use Rattle.ctap1_stated.specs.Calls.{PanelCall, DecideAt, callsWith}
+use Rattle.ctap1_stated.specs.OneSide.{baseWith, sidelessResult}
 use Rattle.ctap1_stated.specs.Contracts.{Buffers, Decide}
-use Rattle.ctap1_stated.specs.Terms.{Decider, AreBlocks, AsksOn, result, movedAt, spentAt, Comes, OrdersPresent, checkOnlyAnswer}
+use Rattle.ctap1_stated.specs.Terms.{Decider, AreBlocks, AsksOn, result, movedAt, spentAt, onSide, Comes, OrdersPresent, checkOnlyAnswer}
 use Rattle.ctap1_stated.specs.Table.{Answers}
 use Rattle.ctap1_stated.specs.declared.Allowed.the-variants as Allowed′
 use Rattle.ctap1_stated.specs.declared.Attestation.the-variants as Attestation′
@@ -21,33 +22,37 @@ use Rattle.response_stated.specs.Parts.{partResponse}
 use Rattle.command_stated.specs.Command.{Authenticate, commandOf}
 use Rattle.u2f_up_stated.specs.History.{Mark, heldAt, serverOf}
 use Rattle.u2f_up_stated.specs.Runs.{Caller, Keeps, after, history}
-use Rattle.u2f_up_stated.specs.Terms.{Passes, HasTouch}
+use Rattle.u2f_up_stated.specs.OneSide.{OnlySide}
+use Rattle.u2f_up_stated.specs.Terms.{BadWindow, BadSide, Passes, HasTouch}
 use Rattle.u2f_up_stated.specs.Claims as Up
 use Rattle.signing_stated.specs.Orders.{kindNo, certificateLength, blankOrder, isOfLayout}
 use Rattle.signing_stated.specs.Finishing.{Finishing, finishOf}
 
 -- ---- the sentence on the box
 
--- An order that says a person was there is made only where the record holds a live touch, and it is spent. 01, The decision: "for P1 03
+-- An order that says a person was there is made only where the record holds a live touch of the order's side, and it is spent. 01, The decision: "for P1 03
 -- touch check, 6985", "presence byte (01 for P1 03, 00 for 08)", "the offered counter is reported as taken". The order's presence
 -- byte is 01 exactly for P1 03 and 00 exactly for P1 08, and its counter is the offered one. A decision that goes from P1 03
--- straight to the counter (Wrong `straight`) fails it on a fresh record; one that says 01 for P1 08 (`present08`) does there.
+-- straight to the counter (Wrong `straight`) fails it on a fresh record; one that says 01 for P1 08 (`present08`) does there; one that
+-- serves the other side (`servesOther`) fails it beside a live touch that is not its own.
 pub record OrdersNeedATouch (decide : Decider) : Type 0 where
-  pub touch : (p : Presence) (t : ℕ) (a : Inputs) → OrdersPresent (decide p t a) → HasTouch p t × (decide p t a .presence ≡ spentAt p t)
+  pub touch : (p : Presence) (t : ℕ) (a : Inputs) → OrdersPresent (decide p t a) → HasTouch p t × (p .asker ≡ a .side) × (decide p t a .presence ≡ spentAt p t)
   pub present : (p : Presence) (t : ℕ) (a : Inputs) (p1 : ℕ) (said : Says) → Comes a (Authenticate p1 said) → decide p t a .answer ≡ Gives Ordered
       → ((byte (decide p t a .order .bytes) 32 ≡ 0x01) ↔ (p1 ≡ 0x03)) × ((byte (decide p t a .order .bytes) 32 ≡ 0x00) ↔ (p1 ≡ 0x08))
   pub counter : (p : Presence) (t : ℕ) (a : Inputs) (p1 : ℕ) (said : Says) → Comes a (Authenticate p1 said) → decide p t a .answer ≡ Gives Ordered
       → (n : ℕ) × (a .hardware .counter ≡ Counter′.Offered n) × (decide p t a .taken ≡ true)
       × (byte (decide p t a .order .bytes) 33 * 0x1000000 + byte (decide p t a .order .bytes) 34 * 0x10000 + byte (decide p t a .order .bytes) 35 * 256 + byte (decide p t a .order .bytes) 36 ≡ n)
 
--- And over a history: every such order has an accepted touch of its own, the latest before it, which was live; no two share one. A
--- decision that does not spend the touch (`touchKept`) fails it: two orders within W, one touch.
+-- And over a history, E7's headline: "a Register order, or an order whose presence byte is 01, made for a side has its own accepted touch of
+-- that side, and no two orders share one". It is the latest accepted one before it, it was live, and no other was. A decision that does
+-- not spend the touch (`touchKept`) fails it: two orders within W, one touch; one that serves the other side (`servesOther`) fails it
+-- where wireless asked, a finger touched, and USB gets an order.
 pub record OrdersHaveTheirTouch (decide : Decider) : Type 0 where
   pub own : (w : ℕ) → 0 < w → w ≤ 60000 → (earlier : List PanelCall) (t : ℕ) (a : Inputs) → OrdersPresent (decide (after (callsWith decide) w earlier) t a)
-      → (k : Mark) × (serverOf (history (callsWith decide) w earlier) ≡ some k) × (heldAt w (history (callsWith decide) w earlier) t ≡ k ∷ [])
+      → (k : Mark) × (serverOf w (history (callsWith decide) w earlier) ≡ some k) × (heldAt w (history (callsWith decide) w earlier) t ≡ k ∷ []) × (k .side ≡ a .side)
   pub apart : (w : ℕ) → 0 < w → w ≤ 60000 → (earlier later : List PanelCall) (t u : ℕ) (a b : Inputs) (j k : Mark)
-      → OrdersPresent (decide (after (callsWith decide) w earlier) t a) → serverOf (history (callsWith decide) w earlier) ≡ some j
-      → OrdersPresent (decide (after (callsWith decide) w (later ++ DecideAt t a ∷ earlier)) u b) → serverOf (history (callsWith decide) w (later ++ DecideAt t a ∷ earlier)) ≡ some k
+      → OrdersPresent (decide (after (callsWith decide) w earlier) t a) → serverOf w (history (callsWith decide) w earlier) ≡ some j
+      → OrdersPresent (decide (after (callsWith decide) w (later ++ DecideAt t a ∷ earlier)) u b) → serverOf w (history (callsWith decide) w (later ++ DecideAt t a ∷ earlier)) ≡ some k
       → j .number ≡ k .number → ⊥
 
 -- ---- the whole decision
@@ -56,9 +61,17 @@ pub record OrdersHaveTheirTouch (decide : Decider) : Type 0 where
 -- order and counter. So each answer comes exactly under its row's conditions. A decision that looks at the frame before 'allowed'
 -- (`frameFirst`), at the touch before the room (`touchFirst`), at the store before the touch (`storeFirst`), at P1 07 before the
 -- handle (`checkOnlyFirst`), or asks a check-only for room (`roomFirst`) fails it; and so does a C0 whose 6985 opens a prompt
--- (`fetchPrompts`), that finds R2 before 6985 (`roomBeforeNothing`), or whose part is moved one byte too far (`fetchSkips`).
+-- (`fetchPrompts`), that finds R2 before 6985 (`roomBeforeNothing`), or whose part is moved one byte too far (`fetchSkips`); and so does a
+-- decision whose 6985 to the other side opens a prompt (`otherSidePrompts`) or gives that side the touch (`otherSideTakes`), and one whose prompting
+-- refusal keeps the earlier asker (`askerKept`).
 abbrev pub DecidesExactly : Decider → Type 0
 DecidesExactly decide = (p : Presence) (t : ℕ) (a : Inputs) → Answers p t a (decide p t a)
+
+-- 02, E7: "R8 for a side other than 0 or 1, named or in the record, after R6 and before R1"; E7's request: "R8 is asked at every decision:
+-- Version, check-only and C0 too". So it comes exactly then, whatever the frame, the moment and the rest that is lent. A decision that answers
+-- Version first (`versionFirst`) fails it, and one that gives R1 first (`r8AfterR1`).
+abbrev pub SideRefusedExactly : Decider → Type 0
+SideRefusedExactly decide = (p : Presence) (t : ℕ) (a : Inputs) → (decide p t a .answer ≡ R 8) ↔ ((BadWindow (p .w) → ⊥) × BadSide (a .side) (p .asker))
 
 -- The reply buffer. 01, Refusal numbers: "An order and a status word other than 9000 change no reply buffer", "An R refusal changes no
 -- buffer", "A 9000 body fills the front of the buffer; the rest stays"; The decision, 4: "the six bytes 55 32 46 5F 56 32". A
@@ -119,12 +132,12 @@ CertificateOfOrder decide =
 -- ---- where a length went wrong: 02, E1
 
 -- "Command reading, strict reading and decision carry the pair upward": a decision's 6700 is its frame's, with the pair that command
--- reading found, and a frame's 6700 is the decision's where R6, R1 and 'allowed' are passed. A decision that drops the pair
+-- reading found, and a frame's 6700 is the decision's where R6, R8, R1 and 'allowed' are passed. A decision that drops the pair
 -- (`pairDropped`) fails it, and one whose place is a byte on (`pairOneOn`).
 abbrev pub LengthsCarried : Decider → Type 0
 LengthsCarried decide =
     (p : Presence) (t : ℕ) (a : Inputs) (kind place : ℕ) → (decide p t a .answer ≡ wrongLength kind place)
-    ↔ (Passes p t × (a .hardware .allowed ≡ Allowed′.Yes) × (commandOf (a .frame) ≡ wrongLength kind place))
+    ↔ (Passes p (a .side) t × (a .hardware .allowed ≡ Allowed′.Yes) × (commandOf (a .frame) ≡ wrongLength kind place))
 
 -- A 6700 has a pair, and no other status word of a decision has one. `pairDropped` fails it.
 abbrev pub DecisionPairsExactly : Decider → Type 0
@@ -153,13 +166,13 @@ pub record RemainderExactly (decide : Decider) (left : Inputs → Result → Rem
   pub exactly : (p : Presence) (t : ℕ) (a : Inputs) → 0 < a .remainder .count → ((n : ℕ) (after : Remainder) → decide p t a .answer ≡ Gives (Part n after) → ⊥)
       → (left a (decide p t a) ≡ rest 0 0) ↔ ((AsksOn a → ⊥) × ((n : ℕ) → decide p t a .answer ≡ R n → ⊥))
 
--- 02, E13: the old form, an extended Lc with a one-byte Le, is in no shape from now on, whatever its INS: where R6, R1 and 'allowed' are passed a
--- decision gives 6700, surplus at its Le byte, and once R6 and R1 are passed a remainder is dropped (E13's request: "so it drops a remainder of E2, whatever
+-- 02, E13: the old form, an extended Lc with a one-byte Le, is in no shape from now on, whatever its INS: where R6, R8, R1 and 'allowed' are passed a
+-- decision gives 6700, surplus at its Le byte, and once R6, R8 and R1 are passed a remainder is dropped (E13's request: "so it drops a remainder of E2, whatever
 -- its INS"; 02, E2: "A frame with another INS or in no shape drops the remainder"). A decision that still serves it (`oldFormServed`) fails it, and one where a C0 in the old form keeps what remains (`oldFormKeeps`). Bites at 00 C0 00 00 | 00 00 00 01.
 pub record OldFormRefused (decide : Decider) (left : Inputs → Result → Remainder) : Type 0 where
-  pub answer : (p : Presence) (t : ℕ) (a : Inputs) → OldForm (a .frame) → Passes p t → a .hardware .allowed ≡ Allowed′.Yes
+  pub answer : (p : Presence) (t : ℕ) (a : Inputs) → OldForm (a .frame) → Passes p (a .side) t → a .hardware .allowed ≡ Allowed′.Yes
       → decide p t a .answer ≡ wrongLength 2 (7 + pairAt (a .frame) 5)
-  pub drops : (p : Presence) (t : ℕ) (a : Inputs) → OldForm (a .frame) → Passes p t → left a (decide p t a) ≡ rest 0 0
+  pub drops : (p : Presence) (t : ℕ) (a : Inputs) → OldForm (a .frame) → Passes p (a .side) t → left a (decide p t a) ≡ rest 0 0
 
 -- The buffer for part and status: E2's request: "61 XX goes out with its part", the next one of the body that is lent, and no other answer changes it.
 -- This amends 01's "a status word other than 9000 change[s] no reply buffer": the reply buffer, which holds the uncut body, stays
@@ -172,12 +185,12 @@ pub record PartsExactly (decide : Decider) (limit : List ℕ → ℕ) (left : In
 
 -- ---- check-only
 
--- "A check-only answer is the same whatever the touches and counter, once R6 and R1 are passed": it is said from whether
+-- "A check-only answer is the same whatever the touches and counter, once R6 and R1 are passed" (and R8, 02, E7): it is said from whether
 -- CTAP1 is allowed and whether the handle is good. The record moves in its last moment alone. A check-only 6985 that opens a
 -- prompt (`checkOnlyPrompts`) or spends a touch (`checkOnlySpends`) fails it.
 abbrev pub CheckOnlyLooksAtNoTouch : Decider → Type 0
 CheckOnlyLooksAtNoTouch decide =
-    (p : Presence) (t : ℕ) (a : Inputs) (said : Says) → Passes p t → commandOf (a .frame) ≡ Gives (Authenticate 0x07 said)
+    (p : Presence) (t : ℕ) (a : Inputs) (said : Says) → Passes p (a .side) t → commandOf (a .frame) ≡ Gives (Authenticate 0x07 said)
     → decide p t a ≡ result (SW (checkOnlyAnswer (a .hardware .allowed) (a .hardware .good))) (movedAt p t) blankOrder false
 
 -- ---- the record
@@ -195,6 +208,22 @@ KeepsToItsRole decide = Keeps (callsWith decide)
 -- alone (`ordersAloneSpend`).
 abbrev pub Demand3OfThePanel : Caller PanelCall → Type 0
 Demand3OfThePanel 𝒞 = Up.Demand3 𝒞
+
+-- ---- runs with one side only
+
+-- What stands for the decision before sides were: on a record of side 0 and with side 0 named it gives the table's row, where no row of E7's can
+-- come; and it does not look at the side that is named. One that asks whose the touch is (`baseAsksWhose`) fails it.
+pub record BaseDecidesExactly (decide : Decider) : Type 0 where
+  pub row : (p : Presence) (t : ℕ) (a : Inputs) → p .asker ≡ 0 → a .side ≡ 0 → Answers p t a (decide p t a)
+  pub any-side : (p : Presence) (t : ℕ) (a : Inputs) (s : ℕ) → decide p t (onSide s a) ≡ decide p t a
+
+-- E7's request: "from a fresh record, with one side throughout (0 or 1), answers and windows are those of the base", and "Demand 2 compares
+-- such runs": each decision's whole result but for the record's asking side is the one that the decision without sides gives
+-- (specs/OneSide.antt). A decision whose prompting refusal keeps the earlier asker (`askerKept`) fails it, with side 1 throughout.
+pub record OneSideIsBase (decide baseDecide : Decider) : Type 0 where
+  pub calls : Up.OneSideIsBase (callsWith decide) (baseWith baseDecide)
+  pub decisions : (w : ℕ) → 0 < w → w ≤ 60000 → (s : ℕ) → s ≤ 1 → (earlier : List PanelCall) → OnlySide (callsWith decide) s earlier → (t : ℕ) (a : Inputs) → a .side ≡ s
+      → sidelessResult (decide (after (callsWith decide) w earlier) t a) ≡ baseDecide (after (baseWith baseDecide) w earlier) t a
 
 -- ---- the hardware's answers by their numbers
 

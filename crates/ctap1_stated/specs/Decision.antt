@@ -1,4 +1,4 @@
--- Document 01, 'The decision', with the record: R6 and R1, then along the path, with the touch check and its 6985 said once; and
+-- Document 01, 'The decision', with the record: R6, R8 (document 02, E7) and R1, then along the path, with the touch check and its 6985 said once; and
 -- 'Refusal numbers' as far as they speak of the decision; then what the reply buffer and the lent block hold.
 use Rattle.ctap1_stated.specs.Words.{ℕ, Bool, false, not, List, [], _∷_, Presence, Order}
 use Rattle.ctap1_stated.specs.Words.{if_then_else_, StatusWord, Outcome, R, Word, Gives, plainWord, Inputs, Given, Body, Ordered, Part, Result, WithBlock, handedOf}
@@ -44,23 +44,30 @@ touchChecked f e =
     if not (f .yes) then statusResult 0x6985 (f .presence)
     else ended e (f .presence)
 
-abbrev pub along : Path → (kept settled : Presence) (t : ℕ) → Result
-along NoRoom kept settled t = refusalResult 2 kept
-along (Ends s) kept settled t = wordResult s settled
-along SixBytes kept settled t = bodyResult 6 settled
-along (Fetches sent) kept settled t = partResult sent settled
-along (Signs e) kept settled t = ended e settled
-along (Touch e) kept settled t = touchChecked (checkedOf settled t) e
+-- with any touch check, so that the one before there were sides can stand here, too (specs/OneSide.antt)
+abbrev pub alongBy : (Presence → Finding) → Path → (kept settled : Presence) → Result
+alongBy check NoRoom kept settled = refusalResult 2 kept
+alongBy check (Ends s) kept settled = wordResult s settled
+alongBy check SixBytes kept settled = bodyResult 6 settled
+alongBy check (Fetches sent) kept settled = partResult sent settled
+alongBy check (Signs e) kept settled = ended e settled
+alongBy check (Touch e) kept settled = touchChecked (check settled) e
 
--- 1. "R6, R1." (Settling gives no status word.)
-abbrev pub onMoment : Presence → ℕ → Path → Outcome Presence → Result
-onMoment p t path (R n) = refusalResult n p
-onMoment p t path (Word s) = wordResult s p
-onMoment p t path (Gives settled) = along path p settled t
+abbrev pub along : Path → (kept settled : Presence) (side t : ℕ) → Result
+along path kept settled s t = alongBy (λ q. checkedOf q s t) path kept settled
+
+-- 1. "R6, R1.", and R8 between them (02, E7), whatever the frame is. (Settling gives no status word.)
+abbrev pub onSettledBy : (Presence → Finding) → Presence → Path → Outcome Presence → Result
+onSettledBy check p path (R n) = refusalResult n p
+onSettledBy check p path (Word s) = wordResult s p
+onSettledBy check p path (Gives settled) = alongBy check path p settled
+
+abbrev pub onMoment : Presence → (side t : ℕ) → Path → Outcome Presence → Result
+onMoment p s t path o = onSettledBy (λ q. checkedOf q s t) p path o
 
 -- the decision on the record p at moment t
 unfoldable pub decisionOf : Presence → ℕ → Inputs → Result
-decisionOf p t a = onMoment p t (pathOf a) (settleOf p t)
+decisionOf p t a = onMoment p (a .side) t (pathOf a) (settleOf p (a .side) t)
 
 -- ---- the reply buffer
 

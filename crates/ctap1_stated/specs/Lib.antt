@@ -4,6 +4,7 @@ pub mod Path
 pub mod Decision
 pub mod Session
 pub mod Calls
+pub mod OneSide
 pub mod Contracts
 pub mod Terms
 pub mod Table

@@ -1,4 +1,4 @@
--- Document 01, 'The decision', checks 2 to 6, and document 02, E2, the checks of C0, as one path: what is lent in, without the record and the moment, says how far a
+-- Document 01, 'The decision', checks 2 to 6, and document 02, E2, the checks of C0, as one path: what is lent in, without the record, the side and the moment, says how far a
 -- decision comes and with what. What the record adds stands in specs/Decision.antt.
 use Rattle.ctap1_stated.specs.Words.{ℕ, Bool, true, false, not, List, ltb, eqb, length, Order, Allowed, Counter, Hardware}
 use Rattle.ctap1_stated.specs.Words.{if_then_else_, StatusWord, Outcome, R, Word, Gives, plainWord, isPresent, Remainder, Inputs, Enrolment}
@@ -141,14 +141,15 @@ unfoldable pub pathOf : Inputs → Path
 pathOf a = allowedPath (a .hardware .allowed) a
 
 -- 01, Moments and touches, "In history terms": what a decision is to the presence record, read off its path. No line here looks
--- at the record. "never a 6985 from P1 07": that is a status without the touch check, and so is C0's (02, E2: "demand 3 is unchanged")
-abbrev pub roleOfPath : Path → Role
-roleOfPath NoRoom = Short
-roleOfPath (Ends s) = Settling
-roleOfPath SixBytes = Settling
-roleOfPath (Fetches sent) = Settling
-roleOfPath (Signs e) = Settling
-roleOfPath (Touch e) = Checking
+-- at the record. "never a 6985 from P1 07": that is a status without the touch check, and so is C0's (02, E2: "demand 3 is unchanged"). Each
+-- with the side that the decision names
+abbrev pub roleOfPath : (side : ℕ) → Path → Role
+roleOfPath side NoRoom = Short side
+roleOfPath side (Ends s) = Settling side
+roleOfPath side SixBytes = Settling side
+roleOfPath side (Fetches sent) = Settling side
+roleOfPath side (Signs e) = Settling side
+roleOfPath side (Touch e) = Checking side
 
 abbrev pub roleOf : Inputs → Role
-roleOf a = roleOfPath (pathOf a)
+roleOf a = roleOfPath (a .side) (pathOf a)

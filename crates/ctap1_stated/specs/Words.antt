@@ -24,8 +24,9 @@ pub use Rattle.ctap1_stated.specs.declared.Decision.{Decision}
 pub use Rattle.ctap1_stated.specs.declared.Ruling.{Ruling}
 
 -- 01, The decision: "Lent in: frame, moment, whether CTAP1 is allowed .., reply buffer, and the hardware's answers": all of it but
--- the moment, which stands apart with the record
+-- the moment, which stands apart with the record; and 02, E7: "every decision .. names its side"
 pub record Inputs : Type 0 where
+  pub side : ℕ
   pub frame : List ℕ
   pub hardware : Hardware  -- allowed; new handle stored; attestation; given handle good; counter
   pub newHandle : List ℕ

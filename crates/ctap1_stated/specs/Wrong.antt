@@ -7,10 +7,10 @@ use Rattle.ctap1_stated.specs.Words.{ℕ, _+_, Bool, true, false, not, L
 use Rattle.ctap1_stated.specs.Words.{Presence, Order, Inputs, Hardware, HardwareSaid, Allowed, Attestation, Counter, Remainder, rest, Given, Body, Ordered, Part, Result, isPresent}
 use Rattle.ctap1_stated.specs.Numbers.{allowedOf, attestationOf, hardwareOf}
 use Rattle.ctap1_stated.specs.Path.{Ending, Internal, WrongData, Orders, Path, NoRoom, Ends, Status, SixBytes, Fetches, Signs, Touch, registerOrdered, registerEnding, countedEnding, registerPath, authenticatePath, frameLimit, commandPath, pathOf}
-use Rattle.ctap1_stated.specs.Decision.{refusalResult, wordResult, statusResult, ended, along, onMoment, decisionOf}
+use Rattle.ctap1_stated.specs.Decision.{refusalResult, wordResult, statusResult, ended, alongBy, along, onMoment, decisionOf}
 use Rattle.ctap1_stated.specs.Session.{asksOn}
 use Rattle.ctap1_stated.specs.Calls.{PanelCall, TouchAt, CheckAt, AskAt, DecideAt, callOf, panelDoes, toldBy}
-use Rattle.ctap1_stated.specs.Terms.{Decider}
+use Rattle.ctap1_stated.specs.Terms.{Decider, onSide}
 use Rattle.ctap1_stated.specs.declared.Allowed.the-variants as Allowed′
 use Rattle.ctap1_stated.specs.declared.Attestation.the-variants as Attestation′
 use Rattle.ctap1_stated.specs.declared.Counter.the-variants as Counter′
@@ -19,7 +19,7 @@ use Rattle.apdu_stated.specs.Answers.{Says}
 use Rattle.apdu_stated.specs.Reading.{readOf}
 use Rattle.response_stated.specs.Parts.{limitOf, restAfter, partResponse}
 use Rattle.command_stated.specs.Command.{Command, Register, Authenticate, Version, GetResponse, commandOf, challengeOf, applicationOf}
-use Rattle.u2f_up_stated.specs.Moments.{Told, settleOf, checkedOf, touchClosed, promptOpened}
+use Rattle.u2f_up_stated.specs.Moments.{Told, isLive, isR6, isR1, settleOf, checkedOf, touchClosed, promptOpened}
 use Rattle.u2f_up_stated.specs.History.{Role, Checking, Settling, Short, Call}
 use Rattle.u2f_up_stated.specs.Runs.{Caller}
 use Rattle.u2f_up_stated.specs.declared.Finding.{Finding}
@@ -27,7 +27,7 @@ use Rattle.signing_stated.specs.Orders.{blankOrder, registerOrderOf, authentica
 
 -- ---- another path
 abbrev decideBy : (Inputs → Path) → Decider
-decideBy path p t a = onMoment p t (path a) (settleOf p t)
+decideBy path p t a = onMoment p (a .side) t (path a) (settleOf p (a .side) t)
 
 -- "2. failed gives 6f00, no gives 6986. 3. the frame's status": the frame's status first
 abbrev onFrame : Inputs → Outcome Command → Path
@@ -191,69 +191,72 @@ abbrev pub notTaken : Decider
 notTaken = decideBy (λ a. untaken (pathOf a))
 
 -- ---- another walk along the path
-abbrev onWalk : (Path → Presence → Presence → ℕ → Result) → Presence → ℕ → Path → Outcome Presence → Result
-onWalk walk p t path (R n) = refusalResult n p
-onWalk walk p t path (Word s) = wordResult s p
-onWalk walk p t path (Gives settled) = walk path p settled t
+abbrev Walk : Type 0
+Walk = Path → (kept settled : Presence) (side t : ℕ) → Result
 
-abbrev decideAlong : (Path → Presence → Presence → ℕ → Result) → Decider
-decideAlong walk p t a = onWalk walk p t (pathOf a) (settleOf p t)
+abbrev onWalk : Walk → Presence → (side t : ℕ) → Path → Outcome Presence → Result
+onWalk walk p side t path (R n) = refusalResult n p
+onWalk walk p side t path (Word s) = wordResult s p
+onWalk walk p side t path (Gives settled) = walk path p settled side t
 
-abbrev shortAs : (Presence → Presence → ℕ → Result) → Path → Presence → Presence → ℕ → Result
-shortAs short NoRoom kept settled t = short kept settled t
-shortAs short (Ends s) kept settled t = along (Ends s) kept settled t
-shortAs short SixBytes kept settled t = along SixBytes kept settled t
-shortAs short (Fetches sent) kept settled t = along (Fetches sent) kept settled t
-shortAs short (Signs e) kept settled t = along (Signs e) kept settled t
-shortAs short (Touch e) kept settled t = along (Touch e) kept settled t
+abbrev decideAlong : Walk → Decider
+decideAlong walk p t a = onWalk walk p (a .side) t (pathOf a) (settleOf p (a .side) t)
+
+abbrev shortAs : ((kept settled : Presence) (side t : ℕ) → Result) → Walk
+shortAs short NoRoom kept settled side t = short kept settled side t
+shortAs short (Ends s) kept settled side t = along (Ends s) kept settled side t
+shortAs short SixBytes kept settled side t = along SixBytes kept settled side t
+shortAs short (Fetches sent) kept settled side t = along (Fetches sent) kept settled side t
+shortAs short (Signs e) kept settled side t = along (Signs e) kept settled side t
+shortAs short (Touch e) kept settled side t = along (Touch e) kept settled side t
 
 -- "R2 ..; touch check, 6985": the touch check first, and R2 after it
 abbrev pub touchFirst : Decider
-touchFirst = decideAlong (shortAs (λ kept settled t. if not (checkedOf settled t .yes) then statusResult 0x6985 (checkedOf settled t .presence) else refusalResult 2 kept))
+touchFirst = decideAlong (shortAs (λ kept settled side t. if not (checkedOf settled side t .yes) then statusResult 0x6985 (checkedOf settled side t .presence) else refusalResult 2 kept))
 
 -- "R2 found after the touch is spent", "or the counter taken"; or the last moment moved
 abbrev pub r2Spends : Decider
-r2Spends = decideAlong (shortAs (λ kept settled t. refusalResult 2 (checkedOf settled t .presence)))
+r2Spends = decideAlong (shortAs (λ kept settled side t. refusalResult 2 (checkedOf settled side t .presence)))
 
 abbrev pub r2Takes : Decider
-r2Takes = decideAlong (shortAs (λ kept settled t. record { answer = R 2; presence = kept; order = blankOrder; taken = true }))
+r2Takes = decideAlong (shortAs (λ kept settled side t. record { answer = R 2; presence = kept; order = blankOrder; taken = true }))
 
 abbrev pub r2Moves : Decider
-r2Moves = decideAlong (shortAs (λ kept settled t. refusalResult 2 settled))
+r2Moves = decideAlong (shortAs (λ kept settled side t. refusalResult 2 settled))
 
-abbrev statusAs : (StatusWord → Presence → Presence → ℕ → Result) → Path → Presence → Presence → ℕ → Result
-statusAs status NoRoom kept settled t = along NoRoom kept settled t
-statusAs status (Ends s) kept settled t = status s kept settled t
-statusAs status SixBytes kept settled t = along SixBytes kept settled t
-statusAs status (Fetches sent) kept settled t = along (Fetches sent) kept settled t
-statusAs status (Signs e) kept settled t = along (Signs e) kept settled t
-statusAs status (Touch e) kept settled t = along (Touch e) kept settled t
+abbrev statusAs : (StatusWord → (kept settled : Presence) (side t : ℕ) → Result) → Walk
+statusAs status NoRoom kept settled side t = along NoRoom kept settled side t
+statusAs status (Ends s) kept settled side t = status s kept settled side t
+statusAs status SixBytes kept settled side t = along SixBytes kept settled side t
+statusAs status (Fetches sent) kept settled side t = along (Fetches sent) kept settled side t
+statusAs status (Signs e) kept settled side t = along (Signs e) kept settled side t
+statusAs status (Touch e) kept settled side t = along (Touch e) kept settled side t
 
 -- "each .. decision sets the last moment to t": a status leaves it
 abbrev pub statusLeaves : Decider
-statusLeaves = decideAlong (statusAs (λ s kept settled t. wordResult s kept))
+statusLeaves = decideAlong (statusAs (λ s kept settled side t. wordResult s kept))
 
 -- 02, E1: "carry the pair upward": here the pair is dropped between command reading and decision; and here it is told one byte on
 abbrev pub pairDropped : Decider
-pairDropped = decideAlong (statusAs (λ s kept settled t. statusResult (s .number) settled))
+pairDropped = decideAlong (statusAs (λ s kept settled side t. statusResult (s .number) settled))
 
 abbrev pub pairOneOn : Decider
-pairOneOn = decideAlong (statusAs (λ s kept settled t. wordResult (record { number = s .number; kind = s .kind; place = s .place + 1 }) settled))
+pairOneOn = decideAlong (statusAs (λ s kept settled side t. wordResult (record { number = s .number; kind = s .kind; place = s .place + 1 }) settled))
 
 -- "A check-only 6985 opening a prompt, or spending a touch"
 abbrev pub checkOnlyPrompts : Decider
-checkOnlyPrompts = decideAlong (statusAs (λ s kept settled t. wordResult s (if eqb (s .number) 0x6985 then promptOpened settled t else settled)))
+checkOnlyPrompts = decideAlong (statusAs (λ s kept settled side t. wordResult s (if eqb (s .number) 0x6985 then promptOpened settled side t else settled)))
 
 abbrev pub checkOnlySpends : Decider
-checkOnlySpends = decideAlong (statusAs (λ s kept settled t. wordResult s (if eqb (s .number) 0x6985 then touchClosed settled else settled)))
+checkOnlySpends = decideAlong (statusAs (λ s kept settled side t. wordResult s (if eqb (s .number) 0x6985 then touchClosed settled else settled)))
 
-abbrev touchAs : (Finding → Presence → Ending → Result) → Path → Presence → Presence → ℕ → Result
-touchAs touch NoRoom kept settled t = along NoRoom kept settled t
-touchAs touch (Ends s) kept settled t = along (Ends s) kept settled t
-touchAs touch SixBytes kept settled t = along SixBytes kept settled t
-touchAs touch (Fetches sent) kept settled t = along (Fetches sent) kept settled t
-touchAs touch (Signs e) kept settled t = along (Signs e) kept settled t
-touchAs touch (Touch e) kept settled t = touch (checkedOf settled t) settled e
+abbrev touchAs : (Finding → Presence → Ending → Result) → Walk
+touchAs touch NoRoom kept settled side t = along NoRoom kept settled side t
+touchAs touch (Ends s) kept settled side t = along (Ends s) kept settled side t
+touchAs touch SixBytes kept settled side t = along SixBytes kept settled side t
+touchAs touch (Fetches sent) kept settled side t = along (Fetches sent) kept settled side t
+touchAs touch (Signs e) kept settled side t = along (Signs e) kept settled side t
+touchAs touch (Touch e) kept settled side t = touch (checkedOf settled side t) settled e
 
 -- "The counter taken for P1 03 without a touch": it is reported at the 6985
 abbrev pub takesAt6985 : Decider
@@ -275,6 +278,53 @@ touchKept = decideAlong (touchAs (λ f settled e. if not (f .yes) then statusRes
 -- 6985 with a touch, and on without
 abbrev pub touchTurned : Decider
 touchTurned = decideAlong (touchAs (λ f settled e. if f .yes then statusResult 0x6985 (f .presence) else ended e (f .presence)))
+
+-- 02, E7: "nothing is opened or spent, and that is no prompting refusal": at a touch of the other side it is served, a prompt opens, or the
+-- touch is given to the side that checks; "in place of any earlier": the earlier asker stays
+abbrev checkAs : (Presence → (side t : ℕ) → Finding) → Walk
+checkAs check path kept settled side t = alongBy (λ q. check q side t) path kept settled
+
+abbrev besideOr : (Presence → (side t : ℕ) → Finding) → Presence → (side t : ℕ) → Finding
+besideOr other p s t =
+    if not (isLive (p .touch) (p .w) t) then checkedOf p s t
+    else if eqb (p .asker) s then checkedOf p s t
+    else other p s t
+
+abbrev pub servesOther : Decider
+servesOther = decideAlong (checkAs (besideOr (λ p s t. record { yes = true; presence = touchClosed p })))
+
+abbrev pub otherSidePrompts : Decider
+otherSidePrompts = decideAlong (checkAs (besideOr (λ p s t. record { yes = false; presence = promptOpened p (p .asker) t })))
+
+abbrev pub otherSideTakes : Decider
+otherSideTakes = decideAlong (checkAs (besideOr (λ p s t. record { yes = false; presence = record { w = p .w; prompt = p .prompt; touch = p .touch; last = p .last; asker = s } })))
+
+abbrev pub askerKept : Decider
+askerKept = decideAlong (checkAs (λ p s t. if not (isLive (p .touch) (p .w) t) then record { yes = false; presence = promptOpened p (p .asker) t } else checkedOf p s t))
+
+-- ---- another settling
+-- R8 "before R1": after it
+abbrev pub r8AfterR1 : Decider
+r8AfterR1 p t a =
+    if isR6 (p .w) then refusalResult 6 p
+    else if isR1 (p .last) t then refusalResult 1 p
+    else decisionOf p t a
+
+-- "R8 is asked at every decision: Version .. too": a Version names no side
+abbrev asVersion : Inputs → Path → Inputs
+asVersion a NoRoom = a
+asVersion a (Ends s) = a
+asVersion a SixBytes = onSide 0 a
+asVersion a (Fetches sent) = a
+asVersion a (Signs e) = a
+asVersion a (Touch e) = a
+
+abbrev pub versionFirst : Decider
+versionFirst p t a = decisionOf p t (asVersion a (pathOf a))
+
+-- what stands for the base: it asks whose the touch is
+abbrev pub baseAsksWhose : Decider
+baseAsksWhose = decisionOf
 
 -- ---- another reply
 -- "the six bytes 55 32 46 5F 56 32": U2F_V1
@@ -345,7 +395,7 @@ widened frame = if isOld frame then take (7 + pairAt frame 5) frame ++ 0x00 ∷ 
 abbrev pub oldFormServed : Decider
 oldFormServed p t a =
     decisionOf p t
-    (record { frame = widened (a .frame); hardware = a .hardware; newHandle = a .newHandle; certificate = a .certificate; x = a .x; y = a .y; room = a .room; remainder = a .remainder; partRoom = a .partRoom })
+    (record { side = a .side; frame = widened (a .frame); hardware = a .hardware; newHandle = a .newHandle; certificate = a .certificate; x = a .x; y = a .y; room = a .room; remainder = a .remainder; partRoom = a .partRoom })
 
 -- "A frame with another INS or in no shape drops the remainder; a refused C0 or any R refusal keeps it": one word of it turned each
 abbrev leftBy : (refused : Remainder → Remainder) → (status : Bool → Remainder → Remainder) → (other : Remainder → Remainder) → Outcome Given → Bool → Remainder → Remainder
@@ -402,29 +452,29 @@ abbrev pub partAgain : Inputs → Result → (body old : List ℕ) → List ℕ
 partAgain a r body old = partBy (λ (l : List ℕ). l) (laid (partResponse body (rest 0 (a .remainder .count)) (frameLimit (a .frame)))) (r .answer) old
 
 -- ---- another role in the history
-abbrev rolesBy : (Path → Role) → PanelCall → Call
+abbrev rolesBy : (ℕ → Path → Role) → PanelCall → Call
 rolesBy role (TouchAt t) = callOf (TouchAt t)
-rolesBy role (CheckAt t) = callOf (CheckAt t)
+rolesBy role (CheckAt s t) = callOf (CheckAt s t)
 rolesBy role (AskAt t) = callOf (AskAt t)
-rolesBy role (DecideAt t a) = record { role = role (pathOf a); moment = t }
+rolesBy role (DecideAt t a) = record { role = role (a .side) (pathOf a); moment = t }
 
-abbrev doesBy : (Path → Result → Told) → Presence → PanelCall → Told
+abbrev doesBy : (ℕ → Path → Result → Told) → Presence → PanelCall → Told
 doesBy told p (TouchAt t) = panelDoes decisionOf p (TouchAt t)
-doesBy told p (CheckAt t) = panelDoes decisionOf p (CheckAt t)
+doesBy told p (CheckAt s t) = panelDoes decisionOf p (CheckAt s t)
 doesBy told p (AskAt t) = panelDoes decisionOf p (AskAt t)
-doesBy told p (DecideAt t a) = told (pathOf a) (decisionOf p t a)
+doesBy told p (DecideAt t a) = told (a .side) (pathOf a) (decisionOf p t a)
 
-abbrev callsBy : (Path → Role) → Caller PanelCall
-callsBy role = record { asCall = rolesBy role; does = doesBy (λ x r. toldBy (role x) r) }
+abbrev callsBy : (ℕ → Path → Role) → Caller PanelCall
+callsBy role = record { asCall = rolesBy role; does = doesBy (λ side x r. toldBy (role side x) r) }
 
 -- "never a 6985 from P1 07": it is taken for a prompting refusal
-abbrev roleOf07 : Path → Role
-roleOf07 NoRoom = Short
-roleOf07 (Ends s) = if eqb (s .number) 0x6985 then Checking else Settling
-roleOf07 SixBytes = Settling
-roleOf07 (Fetches sent) = Settling
-roleOf07 (Signs e) = Settling
-roleOf07 (Touch e) = Checking
+abbrev roleOf07 : ℕ → Path → Role
+roleOf07 side NoRoom = Short side
+roleOf07 side (Ends s) = if eqb (s .number) 0x6985 then Checking side else Settling side
+roleOf07 side SixBytes = Settling side
+roleOf07 side (Fetches sent) = Settling side
+roleOf07 side (Signs e) = Settling side
+roleOf07 side (Touch e) = Checking side
 
 abbrev pub checkOnlyAsCheck : Caller PanelCall
 checkOnlyAsCheck = callsBy roleOf07
@@ -434,13 +484,13 @@ abbrev pub fetchAsCheck : Caller PanelCall
 fetchAsCheck = callsBy roleOf07
 
 -- "a 6985 from Register or from P1 03": it is taken for an answer without the touch check
-abbrev roleOfTouch : Path → Role
-roleOfTouch NoRoom = Short
-roleOfTouch (Ends s) = Settling
-roleOfTouch SixBytes = Settling
-roleOfTouch (Fetches sent) = Settling
-roleOfTouch (Signs e) = Settling
-roleOfTouch (Touch e) = Settling
+abbrev roleOfTouch : ℕ → Path → Role
+roleOfTouch side NoRoom = Short side
+roleOfTouch side (Ends s) = Settling side
+roleOfTouch side SixBytes = Settling side
+roleOfTouch side (Fetches sent) = Settling side
+roleOfTouch side (Signs e) = Settling side
+roleOfTouch side (Touch e) = Settling side
 
 abbrev pub touchAsOther : Caller PanelCall
 touchAsOther = callsBy roleOfTouch
@@ -452,7 +502,7 @@ orderSeen (Word s) = Gives false
 orderSeen (Gives g) = Gives true
 
 abbrev pub ordersAloneSpend : Caller PanelCall
-ordersAloneSpend = record { asCall = callOf; does = doesBy (λ x r. record { outcome = orderSeen (r .answer); presence = r .presence }) }
+ordersAloneSpend = record { asCall = callOf; does = doesBy (λ side x r. record { outcome = orderSeen (r .answer); presence = r .presence }) }
 
 -- ---- the hardware's answers
 -- "yes, no, failed": a number that is neither yes nor no counts as allowed

@@ -7,7 +7,8 @@ use mathlib.Core.List.{List, [], _∷_}
 use mathlib.Core.Logic.{_⊎_, inl, inr, ⊎-elim}
 use native.Mathlib.Omega.{arith}
 use borrow.Author.Tests.{le-ltb, eq-eqb}
-use Rattle.outcome.specs.Outcome.{Outcome, R, Gives}
+use Rattle.outcome.specs.Outcome.{StatusWord, Outcome, R, Word, Gives}
+use Rattle.outcome.proofs.Laws.{r-word, word-gives}
 use Rattle.u2f_up_stated.specs.Words.{Presence, Closed}
 use Rattle.u2f_up_stated.specs.Moments.{Told, isLive, isR6, isR8, isR1, movedTo, settleOf, grantedOf, checkedOf, gave, refused}
 use Rattle.u2f_up_stated.specs.History.{Role, Touching, Checking, Asking, Settling, Short}
@@ -18,12 +19,12 @@ use Rattle.u2f_up_stated.proofs.Cases.{settle-r6, settle-r1, settled}
 use Rattle.u2f_up_stated.proofs.Roles.{settledAs, done-refused, done-touching, done-checking, done-asking, done-settling, done-short}
 
 -- the asker is this side, or nobody has asked yet
-abbrev Mine : ℕ → Presence → Type 0
+abbrev pub Mine : ℕ → Presence → Type 0
 Mine s p = (p .asker ≡ s) ⊎ ((p .asker ≡ 0) × (p .prompt ≡ Closed) × (p .touch ≡ Closed))
 
 -- ---- what the base's calls give, by what its settling gave
 module _ (p : Presence) (t : ℕ) where
-  base-refused : (n : ℕ) → baseSettleOf p t ≡ R n → (k : Role) → baseBy k p t ≡ refused n p
+  pub base-refused : (n : ℕ) → baseSettleOf p t ≡ R n → (k : Role) → baseBy k p t ≡ refused n p
   unfolding baseBy
   base-refused n e Touching = rw e
   base-refused n e (Checking s) = rw e
@@ -43,16 +44,25 @@ module _ (p : Presence) (t : ℕ) where
   unfolding baseSettleOf
   base-moves e f = rw (e, f)
 
+  -- its settling gives no status word
+  pub base-no-status : (w : StatusWord) → baseSettleOf p t ≡ Word w → ⊥
+  base-no-status w e = go (isR6 (p .w)) refl (isR1 (p .last) t) refl
+    where
+      go : (c : Bool) → isR6 (p .w) ≡ c → (d : Bool) → isR1 (p .last) t ≡ d → ⊥
+      go true x d y = r-word _ _ (sym (base-r6 x) ∙ e)
+      go false x true y = r-word _ _ (sym (base-r1 x y) ∙ e)
+      go false x false y = word-gives _ _ (sym e ∙ base-moves x y)
+
 module _ (s : ℕ) (one : s ≤ 1) (p : Presence) (mine : Mine s p) (t : ℕ) where
   -- the record of the base
   abbrev b : Presence
   b = sideless p
 
   -- a call does the same to both, but for the asker
-  record Same (o u : Told) : Type 0 where
-    outcome : o .outcome ≡ u .outcome
-    presence : sideless (o .presence) ≡ u .presence
-    still-mine : Mine s (o .presence)
+  pub record Same (o u : Told) : Type 0 where
+    pub outcome : o .outcome ≡ u .outcome
+    pub presence : sideless (o .presence) ≡ u .presence
+    pub still-mine : Mine s (o .presence)
 
   asker-small : p .asker ≤ 1
   asker-small = ⊎-elim (λ e. omega arith) (λ e. omega (arith, e .0)) mine
@@ -96,7 +106,29 @@ module _ (s : ℕ) (one : s ≤ 1) (p : Presence) (mine : Mine s p) (t : ℕ) wh
     does (Settling r) n = rw (n, done-settling p t (movedTo p t) s (settles s one), base-moves b t in-range timely) (record { outcome = refl; presence = refl; still-mine = mine })
     does (Short r) n = rw (n, done-short p t (movedTo p t) s (settles s one), base-moves b t in-range timely) (refuses 2)
 
-  same : (k : Role) → NamesOnly s k → Same (doneBy k p t) (baseBy k b t)
+  -- for a crate above: both settle alike, and the touch check then finds the same
+  pub data SettledSame : Type 0 where
+    refusing : (n : ℕ) → settleOf p s t ≡ R n → baseSettleOf b t ≡ R n → SettledSame
+    moving : settleOf p s t ≡ Gives (movedTo p t) → baseSettleOf b t ≡ Gives (movedTo b t) → SettledSame
+
+  pub settled-same : SettledSame
+  settled-same = go (isR6 (p .w)) refl (isR1 (p .last) t) refl
+    where
+      go : (c : Bool) → isR6 (p .w) ≡ c → (d : Bool) → isR1 (p .last) t ≡ d → SettledSame
+      go true e d f = refusing 6 (sym (settle-r6 p s t (isR6 (p .w)) refl e)) (base-r6 b t e)
+      go false e true f = refusing 1 (sym (settle-r1 p s t (isR6 (p .w)) (isR8 s (p .asker)) (isR1 (p .last) t) refl e refl (no-r8 s one) refl f)) (base-r1 b t e f)
+      go false e false f = moving (settles e f s one) (base-moves b t e f)
+
+  pub checked-same : (checkedOf (movedTo p t) s t .yes ≡ baseCheckedOf (movedTo b t) t .yes) × (sideless (checkedOf (movedTo p t) s t .presence) ≡ baseCheckedOf (movedTo b t) t .presence)
+  unfolding checkedOf baseCheckedOf
+  checked-same = go (isLive (p .touch) (p .w) t) refl
+    where
+      go : (live : Bool) → isLive (p .touch) (p .w) t ≡ live
+          → (checkedOf (movedTo p t) s t .yes ≡ baseCheckedOf (movedTo b t) t .yes) × (sideless (checkedOf (movedTo p t) s t .presence) ≡ baseCheckedOf (movedTo b t) t .presence)
+      go true e = rw (e, eq-eqb (p .asker) s (own e)) (refl, refl)
+      go false e = rw e (refl, refl)
+
+  pub same : (k : Role) → NamesOnly s k → Same (doneBy k p t) (baseBy k b t)
   same k n = go (isR6 (p .w)) refl (isR1 (p .last) t) refl
     where
       r6 : isR6 (p .w) ≡ true → settleOf p (settledAs p k) t ≡ R 6
@@ -118,7 +150,7 @@ module _ {D : Type 0} (𝒞 ℬ : Caller D) (keeping : Keeps 𝒞) (based : Keep
       let x = same s one p mine (𝒞 .asCall d .moment) (𝒞 .asCall d .role) n in
       rw (keeping p d, based q d, ← e, ← alike d) (x .presence, x .still-mine, x .outcome)
 
-  run : (ds : List D) → OnlySide 𝒞 s ds → (sideless (after 𝒞 w ds) ≡ after ℬ w ds) × Mine s (after 𝒞 w ds)
+  pub run : (ds : List D) → OnlySide 𝒞 s ds → (sideless (after 𝒞 w ds) ≡ after ℬ w ds) × Mine s (after 𝒞 w ds)
   unfolding after
   run [] only = (refl, inr (refl, refl, refl))
   run (d ∷ ds) only = let r = run ds (only .1) in let x = step (after 𝒞 w ds) (after ℬ w ds) (r .1) (r .0) d (only .0) in (x .0, x .1)
