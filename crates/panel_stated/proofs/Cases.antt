@@ -229,11 +229,11 @@ module _ (window : Window) where
     greatest-numbered e = rw (z, e)
 
 pub record-lent : (n : PresenceRecord) (prompt touch : Window) → prompt ≡ windowOf (n .prompt) → touch ≡ windowOf (n .touch)
-    → _≡_ {A = Presence} (record { w = n .w; prompt = prompt; touch = touch; last = n .last }) (presenceOf n)
+    → _≡_ {A = Presence} (record { w = n .w; prompt = prompt; touch = touch; last = n .last; asker = n .asker }) (presenceOf n)
 record-lent n prompt touch p t = rw (p, t)
 
 pub record-numbered : (p : Presence) (prompt touch : ℕ) → prompt ≡ windowNo (p .prompt) → touch ≡ windowNo (p .touch)
-    → _≡_ {A = PresenceRecord} (record { w = p .w; prompt = prompt; touch = touch; last = p .last }) (presenceNumbers p)
+    → _≡_ {A = PresenceRecord} (record { w = p .w; prompt = prompt; touch = touch; last = p .last; asker = p .asker }) (presenceNumbers p)
 record-numbered p prompt touch is-prompt is-touch = rw (is-prompt, is-touch)
 
 module _ (ready : Ready) where
@@ -263,8 +263,8 @@ module _ (n : PresenceRecord) (p : Presence) (t : ℕ) (is-p : p ≡ presenceOf 
     pub touch-at : toldOf s ≡ touchOf p t → r ≡ stepNumbers (touchOf (presenceOf n) t)
     touch-at does = is ∙ ap stepNumbers (does ∙ ap (λ (q : Presence). touchOf q t) is-p)
 
-    pub check-at : toldOf s ≡ checkOf p t → r ≡ stepNumbers (checkOf (presenceOf n) t)
-    check-at does = is ∙ ap stepNumbers (does ∙ ap (λ (q : Presence). checkOf q t) is-p)
+    pub check-at : (side : ℕ) → toldOf s ≡ checkOf p side t → r ≡ stepNumbers (checkOf (presenceOf n) side t)
+    check-at side does = is ∙ ap stepNumbers (does ∙ ap (λ (q : Presence). checkOf q side t) is-p)
 
   pub ask-at : (a : Answer) (r : Asked) → r ≡ askedNumbers (outcomeOf a) → outcomeOf a ≡ askOf p t .outcome → r ≡ askedNumbers (askOf (presenceOf n) t .outcome)
   ask-at a r is does = is ∙ ap askedNumbers (does ∙ ap (λ (q : Presence). askOf q t .outcome) is-p)
@@ -349,7 +349,7 @@ never-other bodyRoom k limit room n e = by (ltb bodyRoom (k .place + k .count)) 
 
 module _ (kept settled : Presence) (k : Remainder) (limit : ℕ) (body old : List ℕ) where
   abbrev fetched : Result
-  fetched = along (fetchPath (length body) k limit (length old)) kept settled 0
+  fetched = along (fetchPath (length body) k limit (length old)) kept settled 0 0
 
   abbrev Fetched : DecisionSaid → Type 0
   Fetched r = r ≡ decisionNumbers fetched (remainderAfter (fetched .answer) true k) limit
@@ -370,9 +370,9 @@ module _ (kept settled : Presence) (k : Remainder) (limit : ℕ) (body old : Lis
     fetched-kept = ap (λ (x : Result). partAfter (x .answer) (partResponse body k limit) old) nothing-is
 
   module _ (more : k .count ≡ 0 → ⊥) (next : NextPart) (is-next : partSent next ≡ nextPartOf (length body) k limit (length old)) where
-    sent-is : (n : NextPart) → next ≡ n → along (sentPath (partSent n)) kept settled 0 ≡ fetched
+    sent-is : (n : NextPart) → next ≡ n → along (sentPath (partSent n)) kept settled 0 0 ≡ fetched
     unfolding fetchPath
-    sent-is n z = ap (λ (x : NextPart). along (sentPath (partSent x)) kept settled 0) (sym z) ∙ rw (ne-eqb (k .count) 0 more, ← is-next)
+    sent-is n z = ap (λ (x : NextPart). along (sentPath (partSent x)) kept settled 0 0) (sym z) ∙ rw (ne-eqb (k .count) 0 more, ← is-next)
 
     pub fetched-refused : (why : Refusal) (r : DecisionSaid) → next ≡ NextPart′.Refused why → r ≡ decidedNumbers (R (refusalNo why)) noOrder false kept k limit → Fetched r
     fetched-refused why r z is =
@@ -386,7 +386,7 @@ module _ (kept settled : Presence) (k : Remainder) (limit : ℕ) (body old : Lis
     unfolding fetchPath
     fetched-wrote new is = is ∙ by (nextPartOf (length body) k limit (length old)) ∙ rw (ne-eqb (k .count) 0 more)
       where
-        by : (o : Outcome Sent) → partLaid o (partResponse body k limit) old ≡ partAfter (along (sentPath o) kept settled 0 .answer) (partResponse body k limit) old
+        by : (o : Outcome Sent) → partLaid o (partResponse body k limit) old ≡ partAfter (along (sentPath o) kept settled 0 0 .answer) (partResponse body k limit) old
         by (R n) = refl
         by (Word s) = refl
         by (Gives sent) = refl
@@ -431,7 +431,7 @@ module _ (s : ApduStatusCode) (b taken : Bool) (kept settled : Presence) (k : Re
       fetched-laid new e = e ∙ rw (not-false b m, eq-eqb (statusNo s) 0x6985 (sym is-number ∙ so-far))
 
 -- neither the reply nor the block is written
-sent-leaves : (kept settled : Presence) (old : List ℕ) (o : Outcome Sent) → (old ≡ replyLeft (along (sentPath o) kept settled 0) old) × (old ≡ blockLeft (along (sentPath o) kept settled 0) old)
+sent-leaves : (kept settled : Presence) (old : List ℕ) (o : Outcome Sent) → (old ≡ replyLeft (along (sentPath o) kept settled 0 0) old) × (old ≡ blockLeft (along (sentPath o) kept settled 0 0) old)
 sent-leaves kept settled old (R n) = (refl, refl)
 sent-leaves kept settled old (Word w) = (refl, refl)
 sent-leaves kept settled old (Gives sent) = (refl, refl)
@@ -441,23 +441,23 @@ unfolding fetchPath
 fetched-leaves kept settled k limit body part old = by (eqb (k .count) 0)
   where
     by : (b : Bool)
-        → (old ≡ replyLeft (along (if b then Status 0x6985 else sentPath (nextPartOf (length body) k limit (length part))) kept settled 0) old)
-        × (old ≡ blockLeft (along (if b then Status 0x6985 else sentPath (nextPartOf (length body) k limit (length part))) kept settled 0) old)
+        → (old ≡ replyLeft (along (if b then Status 0x6985 else sentPath (nextPartOf (length body) k limit (length part))) kept settled 0 0) old)
+        × (old ≡ blockLeft (along (if b then Status 0x6985 else sentPath (nextPartOf (length body) k limit (length part))) kept settled 0 0) old)
     by true = (refl, refl)
     by false = sent-leaves kept settled old (nextPartOf (length body) k limit (length part))
 
 -- ---- a decision on lent numbers is the decision on the record that they stand for; and a ruling, where nothing is left, is the decision, but
 -- for a C0 that comes so far
-abbrev asked : (frame : List ℕ) (k : Hardware) (handle certificate x y : List ℕ) (room : ℕ) (left : Remainder) (partRoom : ℕ) → Inputs
-asked frame k handle certificate x y room left partRoom =
-    record { frame = frame; hardware = k; newHandle = handle; certificate = certificate; x = x; y = y; room = room; remainder = left; partRoom = partRoom }
+abbrev asked : (side : ℕ) (frame : List ℕ) (k : Hardware) (handle certificate x y : List ℕ) (room : ℕ) (left : Remainder) (partRoom : ℕ) → Inputs
+asked side frame k handle certificate x y room left partRoom =
+    record { side = side; frame = frame; hardware = k; newHandle = handle; certificate = certificate; x = x; y = y; room = room; remainder = left; partRoom = partRoom }
 
-module _ (frame : List ℕ) (t : ℕ) (handle certificate x y : List ℕ) (n : PresenceRecord) (k : Hardware) (p : Presence) (is-p : p ≡ presenceOf n) (reply : List ℕ) (left : Remainder) (part : List ℕ) where
+module _ (frame : List ℕ) (side t : ℕ) (handle certificate x y : List ℕ) (n : PresenceRecord) (k : Hardware) (p : Presence) (is-p : p ≡ presenceOf n) (reply : List ℕ) (left : Remainder) (part : List ℕ) where
   abbrev lent : Inputs
-  lent = asked frame k handle certificate x y (length reply) left (length part)
+  lent = asked side frame k handle certificate x y (length reply) left (length part)
 
   abbrev bare : Result
-  bare = decisionOf p t (asked frame k handle certificate x y (length reply) (rest 0 0) 0)
+  bare = decisionOf p t (asked side frame k handle certificate x y (length reply) (rest 0 0) 0)
 
   abbrev whole : Result
   whole = decisionOf (presenceOf n) t lent

@@ -59,12 +59,12 @@ KindNumbers f g p q (suc (suc zero)) = p .authenticate ∙ sym (q .authenticate)
 KindNumbers f g p q (suc (suc (suc n))) = p .none (suc (suc (suc n))) (inr (omega arith)) ∙ sym (q .none (suc (suc (suc n))) (inr (omega arith)))
 
 -- ---- records
-presence-equal : (a b : Presence) → a .w ≡ b .w → a .prompt ≡ b .prompt → a .touch ≡ b .touch → a .last ≡ b .last → a ≡ b
-presence-equal a b w p t l = λ d. record { w = w d; prompt = p d; touch = t d; last = l d }
+presence-equal : (a b : Presence) → a .w ≡ b .w → a .prompt ≡ b .prompt → a .touch ≡ b .touch → a .last ≡ b .last → a .asker ≡ b .asker → a ≡ b
+presence-equal a b w p t l k = λ d. record { w = w d; prompt = p d; touch = t d; last = l d; asker = k d }
 
 pub RecordNumbers : Determines Claims.RecordNumbers
 RecordNumbers f g p q n =
-    presence-equal (f n) (g n) (p .w n ∙ sym (q .w n)) (by-prompt (n .prompt) refl) (by-touch (n .touch) refl) (p .last n ∙ sym (q .last n))
+    presence-equal (f n) (g n) (p .w n ∙ sym (q .w n)) (by-prompt (n .prompt) refl) (by-touch (n .touch) refl) (p .last n ∙ sym (q .last n)) (p .asker n ∙ sym (q .asker n))
   where
     by-prompt : (k : ℕ) → n .prompt ≡ k → f n .prompt ≡ g n .prompt
     by-prompt zero e = p .prompt-closed n e ∙ sym (q .prompt-closed n e)

@@ -17,7 +17,7 @@ use Rattle.apdu_stated.specs.Writing.{Parts, frameOf, writeBy}
 use Rattle.apdu_stated.specs.declared.Lengths.{Lengths}
 use Rattle.apdu_stated.specs.declared.Lengths.the-variants as Lengths′
 use Rattle.command_stated.specs.Command.{Command, Register, Authenticate, Version, GetResponse, isControl, registerOf, authenticateOf, versionOf, getResponseOf, byInstruction, onReading, commandOf}
-use Rattle.u2f_up_stated.specs.Moments.{isR6, isR1, onSettled, Told, newOf, settleOf, checkedOf, touchOf, checkOf, askOf}
+use Rattle.u2f_up_stated.specs.Moments.{isR6, isR8, isR1, onSettled, Told, newOf, settleOf, checkedOf, touchOf, checkOf, askOf}
 use Rattle.u2f_up_stated.specs.declared.Presence.{Presence}
 use Rattle.signing_stated.specs.Orders.{isOfLayout, certificateLength}
 use Rattle.signing_stated.specs.Finishing.{Finishing, finishOf, roomAsked, registerRoom, authenticateRoom}
@@ -99,9 +99,9 @@ pub new-said : (w : ℕ) → IsNumbered (newOf w)
 unfolding newOf
 new-said w = test (isR6 w) _ _ (omega arith, omega arith) tt
 
-pub settle-said : (p : Presence) (t : ℕ) → IsNumbered (settleOf p t)
+pub settle-said : (p : Presence) (s t : ℕ) → IsNumbered (settleOf p s t)
 unfolding settleOf
-settle-said p t = test (isR6 (p .w)) _ _ (omega arith, omega arith) (test (isR1 (p .last) t) _ _ (omega arith, omega arith) tt)
+settle-said p s t = test (isR6 (p .w)) _ _ (omega arith, omega arith) (test (isR8 s (p .asker)) _ _ (omega arith, omega arith) (test (isR1 (p .last) t) _ _ (omega arith, omega arith) tt))
 
 on-settled : (p : Presence) (o : Outcome Presence) (go : Presence → Told) → IsNumbered o → ((q : Presence) → IsNumbered (go q .outcome)) → IsNumbered (onSettled p o go .outcome)
 on-settled p (R n) go h k = h
@@ -111,15 +111,15 @@ on-settled p (Gives q) go h k = k q
 module _ (p : Presence) (t : ℕ) where
   pub touch-said : IsNumbered (touchOf p t .outcome)
   unfolding touchOf
-  touch-said = on-settled p (settleOf p t) _ (settle-said p t) (λ q. tt)
+  touch-said = on-settled p (settleOf p (p .asker) t) _ (settle-said p (p .asker) t) (λ q. tt)
 
-  pub check-said : IsNumbered (checkOf p t .outcome)
+  pub check-said : (s : ℕ) → IsNumbered (checkOf p s t .outcome)
   unfolding checkOf
-  check-said = on-settled p (settleOf p t) _ (settle-said p t) (λ q. tt)
+  check-said s = on-settled p (settleOf p s t) _ (settle-said p s t) (λ q. tt)
 
   pub ask-said : IsNumbered (askOf p t .outcome)
   unfolding askOf
-  ask-said = on-settled p (settleOf p t) _ (settle-said p t) (λ q. tt)
+  ask-said = on-settled p (settleOf p (p .asker) t) _ (settle-said p (p .asker) t) (λ q. tt)
 
 -- ---- responses and parts
 pub write-response-said : (body : List ℕ) (room : ℕ) → IsNumbered (writeResponseOf body room)
@@ -191,22 +191,22 @@ touch-numbered : (yes : Bool) (e : Ending) (p : Presence) → IsNumbered ((if no
 touch-numbered true e p = ended-numbered e p
 touch-numbered false e p = (omega arith, omega arith)
 
-along-numbered : (path : Path) → OfPath path → (kept settled : Presence) (t : ℕ) → IsNumbered (along path kept settled t .answer)
-along-numbered NoRoom h kept settled t = (omega arith, omega arith)
-along-numbered (Ends s) h kept settled t = h
-along-numbered SixBytes h kept settled t = tt
-along-numbered (Fetches sent) h kept settled t = tt
-along-numbered (Signs e) h kept settled t = ended-numbered e settled
-along-numbered (Touch e) h kept settled t = touch-numbered (checkedOf settled t .yes) e (checkedOf settled t .presence)
+along-numbered : (path : Path) → OfPath path → (kept settled : Presence) (side t : ℕ) → IsNumbered (along path kept settled side t .answer)
+along-numbered NoRoom h kept settled side t = (omega arith, omega arith)
+along-numbered (Ends s) h kept settled side t = h
+along-numbered SixBytes h kept settled side t = tt
+along-numbered (Fetches sent) h kept settled side t = tt
+along-numbered (Signs e) h kept settled side t = ended-numbered e settled
+along-numbered (Touch e) h kept settled side t = touch-numbered (checkedOf settled side t .yes) e (checkedOf settled side t .presence)
 
 pub decision-said : (p : Presence) (t : ℕ) (a : Inputs) → IsNumbered (decisionOf p t a .answer)
 unfolding decisionOf
-decision-said p t a = by-moment (settleOf p t) (settle-said p t)
+decision-said p t a = by-moment (settleOf p (a .side) t) (settle-said p (a .side) t)
   where
-    by-moment : (o : Outcome Presence) → IsNumbered o → IsNumbered (onMoment p t (pathOf a) o .answer)
+    by-moment : (o : Outcome Presence) → IsNumbered o → IsNumbered (onMoment p (a .side) t (pathOf a) o .answer)
     by-moment (R n) h = h
     by-moment (Word s) h = h
-    by-moment (Gives settled) h = along-numbered (pathOf a) (path-numbered a) p settled t
+    by-moment (Gives settled) h = along-numbered (pathOf a) (path-numbered a) p settled (a .side) t
 
 -- a refused decision hands back the record that it was lent
 ended-refused : (e : Ending) (p : Presence) (k : ℕ) → ended e p .answer ≡ R k → ⊥
@@ -218,22 +218,22 @@ touch-refused : (yes : Bool) (e : Ending) (p : Presence) (k : ℕ) → (if not y
 touch-refused true e p k z = ended-refused e p k z
 touch-refused false e p k z = r-word _ _ (sym z)
 
-along-refused : (path : Path) (kept settled : Presence) (t k : ℕ) → along path kept settled t .answer ≡ R k → along path kept settled t .presence ≡ kept
-along-refused NoRoom kept settled t k e = refl
-along-refused (Ends s) kept settled t k e = absurd (r-word _ _ (sym e))
-along-refused SixBytes kept settled t k e = absurd (r-gives _ _ (sym e))
-along-refused (Fetches sent) kept settled t k e = absurd (r-gives _ _ (sym e))
-along-refused (Signs x) kept settled t k e = absurd (ended-refused x settled k e)
-along-refused (Touch x) kept settled t k e = absurd (touch-refused (checkedOf settled t .yes) x (checkedOf settled t .presence) k e)
+along-refused : (path : Path) (kept settled : Presence) (side t k : ℕ) → along path kept settled side t .answer ≡ R k → along path kept settled side t .presence ≡ kept
+along-refused NoRoom kept settled side t k e = refl
+along-refused (Ends s) kept settled side t k e = absurd (r-word _ _ (sym e))
+along-refused SixBytes kept settled side t k e = absurd (r-gives _ _ (sym e))
+along-refused (Fetches sent) kept settled side t k e = absurd (r-gives _ _ (sym e))
+along-refused (Signs x) kept settled side t k e = absurd (ended-refused x settled k e)
+along-refused (Touch x) kept settled side t k e = absurd (touch-refused (checkedOf settled side t .yes) x (checkedOf settled side t .presence) k e)
 
 pub decision-refused : (p : Presence) (t : ℕ) (a : Inputs) (k : ℕ) → decisionOf p t a .answer ≡ R k → decisionOf p t a .presence ≡ p
 unfolding decisionOf
-decision-refused p t a k = by-moment (settleOf p t)
+decision-refused p t a k = by-moment (settleOf p (a .side) t)
   where
-    by-moment : (o : Outcome Presence) → onMoment p t (pathOf a) o .answer ≡ R k → onMoment p t (pathOf a) o .presence ≡ p
+    by-moment : (o : Outcome Presence) → onMoment p (a .side) t (pathOf a) o .answer ≡ R k → onMoment p (a .side) t (pathOf a) o .presence ≡ p
     by-moment (R n) e = refl
     by-moment (Word s) e = refl
-    by-moment (Gives settled) e = along-refused (pathOf a) p settled t k e
+    by-moment (Gives settled) e = along-refused (pathOf a) p settled (a .side) t k e
 
 -- ---- finishing
 pub finish-said : (i : Finishing) → IsNumbered (finishOf i)

@@ -2,7 +2,7 @@
 use Prim.Native.Nat.{ℕ, _≤_}
 use mathlib.Core.Bool.{Bool, true, false}
 use mathlib.Core.Path.{_≡_, refl, ap, sym, _∙_}
-use mathlib.Core.Logic.{inl, inr}
+use mathlib.Core.Logic.{inl, inr, ⊎-elim}
 use mathlib.Core.List.{List, [], _∷_}
 use native.Mathlib.Omega.{arith}
 use lib.ListN.{length, replicate}
@@ -36,8 +36,8 @@ use Rattle.signing_stated.specs.Orders.{isAuthenticateLayout, registerOrderOf, 
 use Rattle.signing_stated.specs.Finishing.{finishOf}
 use Rattle.signing_stated.specs.declared.Kind.the-variants as Kind′
 use Rattle.panel_stated.specs.Words.{Ordinary, Strict, Instruction, Lc3DataLe2, Window, Made, PresenceRecord, OrderNumbers, FrameSaid, CommandSaid, Wrote, Stepped, Asked, Order, ResponseSaid, PartSaid, HardwareSaid, Remainder}
-use Rattle.panel_stated.specs.Numbers.{answerNo, decidedNo, presenceNumbers, shapeOf, kindOf}
-use Rattle.panel_stated.specs.Exports.{ToWrite, ToDecide, writeNumbered, finishNumbered, saidBy, statedOf, commandNumbers}
+use Rattle.panel_stated.specs.Numbers.{answerNo, decidedNo, presenceOf, presenceNumbers, shapeOf, kindOf}
+use Rattle.panel_stated.specs.Exports.{ToWrite, ToDecide, writeNumbered, finishNumbered, saidBy, stepNumbers, decidesOf, statedOf, commandNumbers}
 use Rattle.panel_stated.specs.Claims
 use Rattle.panel_stated.specs.Wrong
 use Rattle.panel_stated.specs.declared.Kinded.the-variants as Kinded′
@@ -58,7 +58,7 @@ orderIs0 p = p .decision (Gives Ordered) tt refl
 
 -- ---- records
 abbrev oneOpened : PresenceRecord
-oneOpened = record { w = 5000; prompt = 0; touch = 8; last = 9 }
+oneOpened = record { w = 5000; prompt = 0; touch = 8; last = 9; asker = 0 }
 
 pub windowsSwapped : Claims.NumbersBack Wrong.windowsSwapped presenceNumbers → ⊥
 windowsSwapped p = let e : _≡_ {A = ℕ} 8 0 = ap (λ (n : PresenceRecord). n .prompt) (p oneOpened (omega arith, omega arith)) in omega arith
@@ -69,7 +69,7 @@ swappedBothWays p =
 
 -- the natural way to begin in C, `{.w = 5000}`: at moment 100 there would be a touch
 abbrev zeroed : PresenceRecord
-zeroed = record { w = 5000; prompt = 0; touch = 0; last = 0 }
+zeroed = record { w = 5000; prompt = 0; touch = 0; last = 0; asker = 0 }
 
 pub greatestIsClosed : Claims.RecordNumbers Wrong.greatestIsClosed → ⊥
 greatestIsClosed p =
@@ -77,7 +77,7 @@ greatestIsClosed p =
 
 -- a prompt opened at moment 0
 abbrev promptedAt0 : Presence
-promptedAt0 = record { w = 5000; prompt = Opened 0; touch = Closed; last = 0 }
+promptedAt0 = record { w = 5000; prompt = Opened 0; touch = Closed; last = 0; asker = 0 }
 
 -- a record's numbers with open windows numbered by their moment, and a making that gives them
 abbrev itsMoment : Window → ℕ
@@ -85,7 +85,7 @@ itsMoment Closed = 0
 itsMoment (Opened m) = m
 
 abbrev asItsMoment : Presence → PresenceRecord
-asItsMoment p = record { w = p .w; prompt = itsMoment (p .prompt); touch = itsMoment (p .touch); last = p .last }
+asItsMoment p = record { w = p .w; prompt = itsMoment (p .prompt); touch = itsMoment (p .touch); last = p .last; asker = p .asker }
 
 abbrev madeAsItsMoment : ℕ → Made
 madeAsItsMoment w = record { answer = 0x9000; presence = asItsMoment (fresh w) }
@@ -94,7 +94,7 @@ pub openedAtItsNumber : Claims.RecordsBack Wrong.openedAtItsNumber asItsMoment �
 openedAtItsNumber p =
     let e : Closed ≡ Opened 0 = ap (λ (q : Presence). q .prompt) (p promptedAt0 (omega arith) tt) in let z : _≡_ {A = ℕ} 0 1 = cc in omega arith
 
-pub refusedMoves : Claims.RefusalHandsBack Wrong.refusedMoves Wrong.refusedMoves saidBy → ⊥
+pub refusedMoves : Claims.RefusalHandsBack Wrong.refusedMoves (λ n s t. Wrong.refusedMoves n t) saidBy → ⊥
 refusedMoves p = let e : _≡_ {A = ℕ} 8 9 = ap (λ (n : PresenceRecord). n .last) (p .grant-up oneOpened 8 (omega arith, omega arith) (omega arith)) in omega arith
 
 -- ---- numbers that stand for cases
@@ -230,7 +230,7 @@ partForgets p = let e : _≡_ {A = ℕ} 5 1 = ap (λ (r : PartSaid). r .remainde
 
 -- a check at moment 0 on a fresh record
 abbrev checkedAt0 : List Call
-checkedAt0 = record { role = Checking; moment = 0 } ∷ []
+checkedAt0 = record { role = Checking 0; moment = 0 } ∷ []
 
 pub runsAtItsNumber : Claims.RunsOverNumbers madeAsItsMoment Wrong.runsAtItsNumber asItsMoment → ⊥
 unfolding after numbersAfter doneBy checkOf settleOf checkedOf
@@ -259,11 +259,11 @@ hardware n = record { allowed = n; stored = 1; attestation = 1; good = 1; counte
 
 -- with a live touch
 abbrev touched : PresenceRecord
-touched = record { w = 5000; prompt = 0; touch = 1; last = 0 }
+touched = record { w = 5000; prompt = 0; touch = 1; last = 0; asker = 0 }
 
 abbrev lending : (frame : List ℕ) (allowed : ℕ) (reply : List ℕ) → Remainder → (part : List ℕ) → ToDecide
 lending frame n reply r part =
-    record { frame = frame; moment = 1; presence = touched; hardware = hardware n; newHandle = []; certificate = []; x = replicate 32 1; y = replicate 32 2; reply = reply; block = []; remainder = r; part = part }
+    record { frame = frame; side = 0; moment = 1; presence = touched; hardware = hardware n; newHandle = []; certificate = []; x = replicate 32 1; y = replicate 32 2; reply = reply; block = []; remainder = r; part = part }
 
 abbrev fetchFrame : List ℕ
 fetchFrame = 0x00 ∷ 0xC0 ∷ 0x00 ∷ 0x00 ∷ []
@@ -397,4 +397,22 @@ pub parametersSwapped : Claims.WriteStrictExported Wrong.parametersSwapped → �
 unfolding writeBy bufferBy carriedBy lcFits leFits frameOf payloadOf shapeOf
 parametersSwapped p =
     let e : _≡_ {A = ℕ} 2 1 = ap (λ (l : List ℕ). byte l 2) (p .given (writingBy Strict) (write-exactly Strict) (toWrite 1 (replicate 4 0)) Instruction 4 refl refl .1) in
+    omega arith
+
+-- ---- sides: 256 is cut down to 0
+abbrev askedBy256 : PresenceRecord
+askedBy256 = record { w = 5000; prompt = 0; touch = 0; last = 0; asker = 256 }
+
+pub askerCut : Claims.RecordNumbers Wrong.askerCut → ⊥
+askerCut d = omega (arith, d .asker askedBy256)
+
+pub sideCutInCheck : Claims.SideCrosses Wrong.sideCutInCheck decidesOf → ⊥
+unfolding checkOf settleOf checkedOf
+sideCutInCheck d = let z : _≡_ {A = ℕ} 0x9000 8 = d .checked zeroed 256 0 .1 (⊎-elim (λ z. omega arith) (λ z. omega arith), inl (omega arith)) in omega arith
+
+-- three bytes from side 256
+pub sideCutInDecide : Claims.SideCrosses (λ n s t. stepNumbers (checkOf (presenceOf n) s t)) Wrong.sideCutInDecide → ⊥
+unfolding decisionOf pathOf allowedPath commandPath settleOf commandOf onReading readBy allowedOf
+sideCutInDecide d =
+    let z : _≡_ {A = ℕ} 0x6a80 8 = d .decided (record { frame = []; side = 256; moment = 1; presence = touched; hardware = hardware 1; newHandle = []; certificate = []; x = []; y = []; reply = []; block = []; remainder = rest 0 0; part = [] }) .1 (⊎-elim (λ z. omega arith) (λ z. omega arith), inl (omega arith)) in
     omega arith

@@ -15,7 +15,7 @@ use Rattle.signing_stated.specs.Orders.{kindNo, blankOrder}
 use Rattle.ctap1_stated.specs.Words.{Given, Body, Ordered, Part}
 use Rattle.panel_stated.specs.Numbers.{answerNo, decidedNo, faultNo, placeNo, greatestNo, windowOf, windowNo, presenceOf, presenceNumbers, shapeOf, kindOf}
 use Rattle.ctap1_stated.specs.Decision.{blockAfter}
-use Rattle.panel_stated.specs.Exports.{ToWrite, ToFinish, inputsOf, writeAs, finishAs, writeNumbered, readsOf, writesOf, finishNumbered, orderAfter, frameNumbers, commandNumbers, lengthNumbers, askedNumbers, stepNumbers, madeNumbers, decisionNumbers, decidedBy, saidBy, responseNumbers, partNumbers, statedOf, respondsOf, nextsOf, decidesOf, bodyLength}
+use Rattle.panel_stated.specs.Exports.{ToWrite, ToDecide, ToFinish, inputsOf, writeAs, finishAs, writeNumbered, readsOf, writesOf, finishNumbered, orderAfter, frameNumbers, commandNumbers, lengthNumbers, askedNumbers, stepNumbers, madeNumbers, decisionNumbers, decidedBy, saidBy, responseNumbers, partNumbers, statedOf, respondsOf, nextsOf, decidesOf, bodyLength}
 use Rattle.panel_stated.specs.Claims
 use Rattle.panel_stated.specs.Terms.{NoShape, nought, retired, above, IsNumbered, IsOfMoment, AfterWriting, AfterDeciding, AfterPart, AfterFetching, Carries, register, authenticate}
 use Rattle.panel_stated.specs.declared.Shaped.{Shaped}
@@ -34,13 +34,16 @@ use Rattle.apdu_stated.specs.Reading.{dataOf}
 use Rattle.apdu_stated.proofs.Laws.{data-within}
 use Rattle.command_stated.specs.Command.{Command, commandOf, challengeOf, applicationOf, handleOf}
 use Rattle.command_stated.proofs.Laws.{RegisterExactly, AuthenticateExactly}
+use Rattle.u2f_up_stated.specs.Terms.{BadWindow, BadSide}
+use Rattle.u2f_up_stated.proofs.Theorems.{ChecksExactly}
+use Rattle.ctap1_stated.proofs.Theorems.{SideRefusedExactly}
 use Rattle.u2f_up_stated.specs.Moments.{newOf, fresh, Told, settleOf, onSettled, touchOf, checkOf}
 use Rattle.u2f_up_stated.specs.declared.Presence.{Presence}
 use Rattle.ctap1_stated.specs.Words.{Inputs, Result}
 use Rattle.ctap1_stated.specs.Session.{remainderLeft}
 use Rattle.response_stated.specs.declared.Remainder.{Remainder}
 use Rattle.ctap1_stated.specs.Decision.{decisionOf}
-use Rattle.panel_stated.specs.Words.{Kind, Order, OrderNumbers, Entry, Ordinary, Strict}
+use Rattle.panel_stated.specs.Words.{Kind, Order, PresenceRecord, OrderNumbers, Entry, Ordinary, Strict}
 
 -- ---- one answer number says which answer it is
 pub EveryOutcomeNumbered : Claims.EveryOutcomeNumbered
@@ -52,7 +55,7 @@ EveryOutcomeNumbered =
       write = λ entry w. write entry (shapeOf (w .shape)) w;
       new = Outcomes.new-said;
       grant-up = Outcomes.touch-said;
-      consume-up = Outcomes.check-said;
+      consume-up = λ p s t. Outcomes.check-said p t s;
       is-up-needed = Outcomes.ask-said;
       decide = λ i. Outcomes.decision-said (presenceOf (i .presence)) (i .moment) (inputsOf i);
       finish = λ i. finish (kindOf (i .order .kind)) i;
@@ -185,6 +188,7 @@ RecordNumbers =
     record {
       w = λ n. refl;
       last = λ n. refl;
+      asker = λ n. refl;
       prompt-closed = λ n. closed-at (n .prompt);
       prompt-opened = λ n. opened-back (n .prompt);
       touch-closed = λ n. closed-at (n .touch);
@@ -346,12 +350,27 @@ remainder-kept a r (Gives (Body n)) e h low high = absurd (omega arith)
 remainder-kept a r (Gives Ordered) e h low high = absurd (omega arith)
 remainder-kept a r (Gives (Part n k)) e h low high = absurd (omega arith)
 
-pub RefusalHandsBack : Claims.RefusalHandsBack (λ n t. stepNumbers (touchOf (presenceOf n) t)) (λ n t. stepNumbers (checkOf (presenceOf n) t)) saidBy
+pub SideCrosses : Claims.SideCrosses (λ n s t. stepNumbers (checkOf (presenceOf n) s t)) decidesOf
+SideCrosses = record { checked = checked; decided = decided }
+  where
+    checked : (n : PresenceRecord) (s t : ℕ) → (answerNo (checkOf (presenceOf n) s t .outcome) ≡ 8) ↔ ((BadWindow (n .w) → ⊥) × BadSide s (n .asker))
+    checked n s t =
+        let told = AnswerTells .refused (checkOf (presenceOf n) s t .outcome) (Outcomes.check-said (presenceOf n) t s) 8 (omega arith) in
+        let exactly = ChecksExactly .settles s .r8 (presenceOf n) t in
+        (λ e. exactly .0 (told .0 e), λ b. told .1 (exactly .1 b))
+
+    decided : (i : ToDecide) → (decidedNo (decidedBy i .answer) ≡ 8) ↔ ((BadWindow (i .presence .w) → ⊥) × BadSide (i .side) (i .presence .asker))
+    decided i =
+        let told = DecisionTells .refused (decidedBy i .answer) (Outcomes.decision-said (presenceOf (i .presence)) (i .moment) (inputsOf i)) 8 (omega arith) (omega arith) in
+        let exactly = SideRefusedExactly (presenceOf (i .presence)) (i .moment) (inputsOf i) in
+        (λ e. exactly .0 (told .0 e), λ b. told .1 (exactly .1 b))
+
+pub RefusalHandsBack : Claims.RefusalHandsBack (λ n t. stepNumbers (touchOf (presenceOf n) t)) (λ n s t. stepNumbers (checkOf (presenceOf n) s t)) saidBy
 unfolding touchOf checkOf
 RefusalHandsBack =
     record {
-      grant-up = λ n t h low. ap presenceNumbers (refused-record (presenceOf n) (settleOf (presenceOf n) t) _ (Outcomes.settle-said (presenceOf n) t) (λ q. (_, refl)) low) ∙ NumbersBack n h;
-      consume-up = λ n t h low. ap presenceNumbers (refused-record (presenceOf n) (settleOf (presenceOf n) t) _ (Outcomes.settle-said (presenceOf n) t) (λ q. (_, refl)) low) ∙ NumbersBack n h;
+      grant-up = λ n t h low. ap presenceNumbers (refused-record (presenceOf n) (settleOf (presenceOf n) (n .asker) t) _ (Outcomes.settle-said (presenceOf n) (n .asker) t) (λ q. (_, refl)) low) ∙ NumbersBack n h;
+      consume-up = λ n s t h low. ap presenceNumbers (refused-record (presenceOf n) (settleOf (presenceOf n) s t) _ (Outcomes.settle-said (presenceOf n) s t) (λ q. (_, refl)) low) ∙ NumbersBack n h;
       decided =
           λ i h low high. (
             ap presenceNumbers (decision-kept (presenceOf (i .presence)) (i .moment) (inputsOf i) (decidedBy i .answer) refl (EveryOutcomeNumbered .decide i) low high) ∙ NumbersBack (i .presence) h,
@@ -454,7 +473,7 @@ ResultsDetermined =
       brinecandle-read-command = λ frame a b. both-are a b;
       brinecandle-new = λ w a b. both-are a b;
       brinecandle-grant-up = λ n t a b. both-are a b;
-      brinecandle-consume-up = λ n t a b. both-are a b;
+      brinecandle-consume-up = λ n s t a b. both-are a b;
       brinecandle-is-up-needed = λ n t a b. both-are a b;
       brinecandle-decide = λ i a b p q. decided a b (both-are _ _ (p .0) (q .0)) (both-are _ _ (p .1) (q .1)) (both-are _ _ (p .2) (q .2)) (both-are _ _ (p .3) (q .3));
       brinecandle-finish = λ i a b p q. written a b (both-are _ _ (p .0) (q .0)) (both-are _ _ (p .1) (q .1));

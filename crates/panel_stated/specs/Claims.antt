@@ -23,6 +23,7 @@ use Rattle.ctap1_stated.specs.Table.{Answers}
 use Rattle.response_stated.specs.Claims as Responses
 use Rattle.response_stated.specs.Terms.{Sender, Writer, sending}
 use Rattle.signing_stated.specs.Orders.{blankOrder}
+use Rattle.u2f_up_stated.specs.Terms.{BadWindow, BadSide}
 use Rattle.u2f_up_stated.specs.Runs.{Caller, Keeps, after, next}
 use Rattle.panel_stated.specs.Terms.{numbersAfter, NoShape, IsNumbered, IsOfMoment, AreOf64Bits, Carries, AfterWriting, AfterDeciding, AfterPart, AfterFetching, Reports}
 use Rattle.outcome.specs.declared.ApduStatusCode.{ApduStatusCode}
@@ -52,7 +53,7 @@ pub record EveryOutcomeNumbered : Type 0 where
   pub write : (entry : Entry) (w : ToWrite) → IsNumbered (writeNumbered entry w)
   pub new : (w : ℕ) → IsNumbered (newOf w)
   pub grant-up : (p : Presence) (t : ℕ) → IsNumbered (touchOf p t .outcome)
-  pub consume-up : (p : Presence) (t : ℕ) → IsNumbered (checkOf p t .outcome)
+  pub consume-up : (p : Presence) (s t : ℕ) → IsNumbered (checkOf p s t .outcome)
   pub is-up-needed : (p : Presence) (t : ℕ) → IsNumbered (askOf p t .outcome)
   pub decide : (i : ToDecide) → IsNumbered (decidedBy i .answer)
   pub finish : (i : ToFinish) → IsNumbered (finishNumbered i)
@@ -97,13 +98,14 @@ NumbersBack lend plain = (n : PresenceRecord) → AreOf64Bits n → plain (lend 
 abbrev pub RecordsBack : (PresenceRecord → Presence) → (Presence → PresenceRecord) → Type 0
 RecordsBack lend plain = (p : Presence) → IsOfMoment (p .prompt) → IsOfMoment (p .touch) → lend (plain p) ≡ p
 
--- What the four numbers stand for: 0 is a closed window, so that a record of zeros with W set is a closed one, and any number above
+-- What the five numbers stand for: 0 is a closed window, so that a record of zeros with W set is a closed one, and any number above
 -- it a window opened at the moment before. Ours; DECISIONS, "a window as one number". Windows that change places on both ways
 -- (`swappedBothWays`) fail it, and closed windows under the greatest number (`greatestIsClosed`): a record of zeros with W set would have
--- a touch that there was not.
+-- a touch that there was not. The asking side is the number itself: one that is cut down to 8 bits (`askerCut`) fails it, at 256.
 pub record RecordNumbers (lend : PresenceRecord → Presence) : Type 0 where
   pub w : (n : PresenceRecord) → lend n .w ≡ n .w
   pub last : (n : PresenceRecord) → lend n .last ≡ n .last
+  pub asker : (n : PresenceRecord) → lend n .asker ≡ n .asker
   pub prompt-closed : (n : PresenceRecord) → n .prompt ≡ 0 → lend n .prompt ≡ Closed
   pub prompt-opened : (n : PresenceRecord) (m : ℕ) → n .prompt ≡ m + 1 → lend n .prompt ≡ Opened m
   pub touch-closed : (n : PresenceRecord) → n .touch ≡ 0 → lend n .touch ≡ Closed
@@ -122,10 +124,17 @@ pub record RunsOverNumbers (made : ℕ → Made) (lend : PresenceRecord → Pres
 -- "An R refusal changes no buffer and no record", said of the numbers: beside a refusal's number stands the record that was lent,
 -- number by number, and after a decision the remainder too (02, E2: "any R refusal keeps it"). A check that moves the last moment all
 -- the same (`refusedMoves`) fails it, before the last moment.
-pub record RefusalHandsBack (touch check : PresenceRecord → ℕ → Stepped) (decide : ToDecide → DecisionSaid) : Type 0 where
+pub record RefusalHandsBack (touch : PresenceRecord → ℕ → Stepped) (check : PresenceRecord → (side t : ℕ) → Stepped) (decide : ToDecide → DecisionSaid) : Type 0 where
   pub grant-up : (n : PresenceRecord) (t : ℕ) → AreOf64Bits n → touch n t .answer ≤ lastRefusal → touch n t .presence ≡ n
-  pub consume-up : (n : PresenceRecord) (t : ℕ) → AreOf64Bits n → check n t .answer ≤ lastRefusal → check n t .presence ≡ n
+  pub consume-up : (n : PresenceRecord) (s t : ℕ) → AreOf64Bits n → check n s t .answer ≤ lastRefusal → check n s t .presence ≡ n
   pub decided : (i : ToDecide) → AreOf64Bits (i .presence) → 1 ≤ decide i .answer → decide i .answer ≤ lastRefusal → (decide i .presence ≡ i .presence) × (decide i .remainder ≡ i .remainder)
+
+-- 02, E7: "R8 for a side other than 0 or 1, named or in the record"; its request: "The side crosses as a number wide enough that 256 or -1 in C is
+-- not cut down to a valid one". So a check and a decision answer 8 exactly for such a number, as it was lent, once W is right. An export that
+-- looks at 8 bits of the side (`sideCutInCheck`, `sideCutInDecide`) fails it, at 256.
+pub record SideCrosses (check : PresenceRecord → (side t : ℕ) → Stepped) (decide : ToDecide → AfterDeciding) : Type 0 where
+  pub checked : (n : PresenceRecord) (s t : ℕ) → (check n s t .answer ≡ 8) ↔ ((BadWindow (n .w) → ⊥) × BadSide s (n .asker))
+  pub decided : (i : ToDecide) → (decide i .said .answer ≡ 8) ↔ ((BadWindow (i .presence .w) → ⊥) × BadSide (i .side) (i .presence .asker))
 
 -- ---- numbers that stand for cases
 
@@ -260,8 +269,8 @@ pub record StepNumbers (plain : Told → Stepped) : Type 0 where
 -- 01: "a refused making hands back no record": four zeros, which no call takes, since W is 0. A making that hands back a fresh record
 -- beside its refusal (`madeBesideRefusal`) fails it, as does one that never hands one back (`madeWithoutRecord`).
 pub record MadeNumbers (plain : Outcome Presence → Made) : Type 0 where
-  pub refused : (n : ℕ) → plain (R n) ≡ record { answer = n; presence = record { w = 0; prompt = 0; touch = 0; last = 0 } }
-  pub status : (s : StatusWord) → plain (Word s) ≡ record { answer = s .number; presence = record { w = 0; prompt = 0; touch = 0; last = 0 } }
+  pub refused : (n : ℕ) → plain (R n) ≡ record { answer = n; presence = record { w = 0; prompt = 0; touch = 0; last = 0; asker = 0 } }
+  pub status : (s : StatusWord) → plain (Word s) ≡ record { answer = s .number; presence = record { w = 0; prompt = 0; touch = 0; last = 0; asker = 0 } }
   pub given : (p : Presence) → plain (Gives p) ≡ record { answer = 0x9000; presence = presenceNumbers p }
 
 -- The numbers of a decision's order: kind 1 or 2, the number of bytes to sign, the certificate length; zeros where there is none.
@@ -302,7 +311,7 @@ pub record StatedExactly (stated : StatusWord → (asks taken : Bool) → (kept 
   pub other : (w : StatusWord) (asks taken : Bool) (kept settled : Presence) (room : ℕ) (k : Remainder) (limit partRoom : ℕ) → (w .number ≡ 0x6985 → ⊥)
       → stated w asks taken kept settled room k limit partRoom ≡ record { answer = Word w; presence = settled; order = blankOrder; taken = taken }
   pub fetched : (w : StatusWord) (taken : Bool) (kept settled : Presence) (room : ℕ) (k : Remainder) (limit partRoom : ℕ) → w .number ≡ 0x6985
-      → stated w true taken kept settled room k limit partRoom ≡ along (fetchPath room k limit partRoom) kept settled 0
+      → stated w true taken kept settled room k limit partRoom ≡ along (fetchPath room k limit partRoom) kept settled 0 0
 
 -- The exported decision as a whole, of what C lends under each name: a row of document 01's table and E2's (`row`), on what is lent, its numbers, and
 -- what the call leaves. 02, E2: "a refused C0 or any R refusal keeps it"; "A frame with another INS or in no shape drops the remainder". E2's request: "the
@@ -314,7 +323,7 @@ pub record DecideExported (decide : ToDecide → AfterDeciding) : Type 0 where
   pub row : (i : ToDecide)
       → (r : Result)
       × Answers (presenceOf (i .presence)) (i .moment)
-      (record { frame = i .frame; hardware = hardwareOf (i .hardware); newHandle = i .newHandle; certificate = i .certificate; x = i .x; y = i .y; room = length (i .reply); remainder = i .remainder; partRoom = length (i .part) }) r
+      (record { side = i .side; frame = i .frame; hardware = hardwareOf (i .hardware); newHandle = i .newHandle; certificate = i .certificate; x = i .x; y = i .y; room = length (i .reply); remainder = i .remainder; partRoom = length (i .part) }) r
       × Reports (decide i .said) r
       × (decide i .said .answer ≡ 0x0100 → decide i .block ≡ r .order .bytes)
   pub limit : (i : ToDecide) (limit : List ℕ → ℕ) → Decision.LimitsExactly limit → decide i .said .limit ≡ limit (i .frame)
@@ -455,7 +464,7 @@ pub record ResultsDetermined : Type 0 where
   pub brinecandle-read-command : (frame : List ℕ) → AtMostOne (BrinecandleReadCommand frame)
   pub brinecandle-new : (w : ℕ) → AtMostOne (BrinecandleNew w)
   pub brinecandle-grant-up : (n : PresenceRecord) (t : ℕ) → AtMostOne (BrinecandleGrantUp n t)
-  pub brinecandle-consume-up : (n : PresenceRecord) (t : ℕ) → AtMostOne (BrinecandleConsumeUp n t)
+  pub brinecandle-consume-up : (n : PresenceRecord) (s t : ℕ) → AtMostOne (BrinecandleConsumeUp n s t)
   pub brinecandle-is-up-needed : (n : PresenceRecord) (t : ℕ) → AtMostOne (BrinecandleIsUpNeeded n t)
   pub brinecandle-decide : (i : ToDecide) → AtMostOne (λ (r : AfterDeciding). BrinecandleDecide i (r .said) (r .reply) (r .block) (r .part))
   pub brinecandle-finish : (i : ToFinish) → AtMostOne (λ (r : AfterWriting). BrinecandleFinish i (r .said) (r .buffer))

@@ -122,8 +122,8 @@ BrinecandleNew w r = r ≡ madeNumbers (newOf w)
 abbrev pub BrinecandleGrantUp : PresenceRecord → ℕ → Stepped → Type 0
 BrinecandleGrantUp n t r = r ≡ stepNumbers (touchOf (presenceOf n) t)
 
-abbrev pub BrinecandleConsumeUp : PresenceRecord → ℕ → Stepped → Type 0
-BrinecandleConsumeUp n t r = r ≡ stepNumbers (checkOf (presenceOf n) t)
+abbrev pub BrinecandleConsumeUp : PresenceRecord → (side t : ℕ) → Stepped → Type 0
+BrinecandleConsumeUp n s t r = r ≡ stepNumbers (checkOf (presenceOf n) s t)
 
 abbrev pub BrinecandleIsUpNeeded : PresenceRecord → ℕ → Asked → Type 0
 BrinecandleIsUpNeeded n t r = r ≡ askedNumbers (askOf (presenceOf n) t .outcome)

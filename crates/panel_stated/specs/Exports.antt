@@ -117,9 +117,9 @@ commandNumbers (Word s) = bareCommand s 0
 commandNumbers (Gives c) = commandGiven c
 
 -- ---- presence
--- "a refused making hands back no record": four zeros, which no call takes, since W is 0
+-- "a refused making hands back no record": five zeros, which no call takes, since W is 0
 abbrev pub noRecord : PresenceRecord
-noRecord = record { w = 0; prompt = 0; touch = 0; last = 0 }
+noRecord = record { w = 0; prompt = 0; touch = 0; last = 0; asker = 0 }
 
 abbrev pub recordIn : Outcome Presence → PresenceRecord
 recordIn (R n) = noRecord
@@ -223,12 +223,13 @@ decisionNumbers r left limit = handedNumbers (handedOf r) left limit
 -- gets the next part of the body, if there is one. `room` and `partRoom` are the two buffers' lengths
 unfoldable pub statedOf : StatusWord → (asks taken : Bool) → (kept settled : Presence) → (room : ℕ) → Remainder → (limit partRoom : ℕ) → Result
 statedOf w asks taken kept settled room k limit partRoom =
-    if asks && eqb (w .number) 0x6985 then along (fetchPath room k limit partRoom) kept settled 0
+    if asks && eqb (w .number) 0x6985 then along (fetchPath room k limit partRoom) kept settled 0 0
     else record { answer = Word w; presence = settled; order = blankOrder; taken = taken }
 
 -- what the decision is lent, the record and the hardware's answers as numbers
 pub record ToDecide : Type 0 where
   pub frame : List ℕ
+  pub side : ℕ
   pub moment : ℕ
   pub presence : PresenceRecord
   pub hardware : HardwareSaid
@@ -245,6 +246,7 @@ pub record ToDecide : Type 0 where
 abbrev pub inputsOf : ToDecide → Inputs
 inputsOf i =
     record {
+      side = i .side;
       frame = i .frame;
       hardware = hardwareOf (i .hardware);
       newHandle = i .newHandle;

@@ -49,13 +49,13 @@ abbrev pub windowNo : Window → ℕ
 windowNo Closed = 0
 windowNo (Opened m) = if eqb m greatestNo then greatestNo else m + 1
 
--- the record that four numbers stand for
+-- the record that five numbers stand for; the asking side is its own number, whatever that is: R8 is for the call to say
 abbrev pub presenceOf : PresenceRecord → Presence
-presenceOf n = record { w = n .w; prompt = windowOf (n .prompt); touch = windowOf (n .touch); last = n .last }
+presenceOf n = record { w = n .w; prompt = windowOf (n .prompt); touch = windowOf (n .touch); last = n .last; asker = n .asker }
 
 -- the numbers that a record goes out as
 abbrev pub presenceNumbers : Presence → PresenceRecord
-presenceNumbers p = record { w = p .w; prompt = windowNo (p .prompt); touch = windowNo (p .touch); last = p .last }
+presenceNumbers p = record { w = p .w; prompt = windowNo (p .prompt); touch = windowNo (p .touch); last = p .last; asker = p .asker }
 
 -- 01, 'Eight frame shapes', the column "no"; ours: OPEN POINTS, "a shape number outside 1..8 is R5"; 02, E13: shape 6 is retired, "the writer
 -- R5"; its request: "The other shapes keep their numbers"

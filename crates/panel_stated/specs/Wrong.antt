@@ -2,8 +2,8 @@
 -- its claim.
 use Rattle.panel_stated.specs.Words.{ℕ, _+_, Bool, true, false, eqb, List, if_then_else_, StatusWord, Outcome, R, Word, Gives, Window, Closed, Opened, Presence, Order, Instruction, Lc3DataLe2}
 use Rattle.panel_stated.specs.Words.{DecisionSaid, PresenceRecord, OrderNumbers, FrameSaid, CommandSaid, Wrote, Made, Stepped, Asked, ResponseSaid, PartSaid, Shaped, Kinded}
-use Rattle.panel_stated.specs.Words.{Says, Command, Register, Authenticate, Version, GetResponse, Told, Result, Given, Body, Ordered, Part, toSign, certificateLength, Remainder, rest, Response, Sent}
-use Rattle.panel_stated.specs.Numbers.{greatestNo, presenceOf, presenceNumbers, shapeOf, kindOf}
+use Rattle.panel_stated.specs.Words.{Says, Command, Register, Authenticate, Version, GetResponse, Told, checkOf, Result, Given, Body, Ordered, Part, toSign, certificateLength, Remainder, rest, Response, Sent}
+use Rattle.panel_stated.specs.Numbers.{greatestNo, windowOf, presenceOf, presenceNumbers, shapeOf, kindOf}
 use Rattle.panel_stated.specs.Exports.{ToFinish, finishNumbered, frameNumbers, commandNumbers, lengthNumbers, madeNumbers, askedNumbers, orderAfter, decisionNumbers, stepNumbers, responseNumbers, partNumbers, statedOf}
 use Rattle.panel_stated.specs.Words.{Entry, Ordinary, Strict}
 use Rattle.panel_stated.specs.Exports.{ToWrite, writeNumbered, readsOf, writesOf, ToDecide, inputsOf, decidedBy, decidesOf, nextsOf, respondsOf, AfterWriting, AfterPart, AfterDeciding}
@@ -13,6 +13,7 @@ use Rattle.signing_stated.specs.Orders.{blankOrder}
 use Rattle.signing_stated.specs.declared.Kind.the-variants as Kind′
 use Rattle.panel_stated.specs.declared.Shaped.the-variants as Shaped′
 use Rattle.panel_stated.specs.declared.Kinded.the-variants as Kinded′
+use Prim.Native.Nat.{_%_}
 use lib.Dec.{leb}
 use lib.ListN.{length, replicate}
 
@@ -50,7 +51,7 @@ orderIs0 (Gives (Part n after)) = 0x0200
 -- ---- records
 -- the touch window taken for the prompt window, on the way in
 abbrev pub windowsSwapped : PresenceRecord → Presence
-windowsSwapped n = let p = presenceOf n in record { w = p .w; prompt = p .touch; touch = p .prompt; last = p .last }
+windowsSwapped n = let p = presenceOf n in record { w = p .w; prompt = p .touch; touch = p .prompt; last = p .last; asker = p .asker }
 
 -- the same on both ways: this is the way in, and the claim asks for no other
 abbrev pub swappedBothWays : PresenceRecord → Presence
@@ -61,18 +62,29 @@ abbrev itsNumber : ℕ → Window
 itsNumber n = if eqb n 0 then Closed else Opened n
 
 abbrev pub openedAtItsNumber : PresenceRecord → Presence
-openedAtItsNumber n = record { w = n .w; prompt = itsNumber (n .prompt); touch = itsNumber (n .touch); last = n .last }
+openedAtItsNumber n = record { w = n .w; prompt = itsNumber (n .prompt); touch = itsNumber (n .touch); last = n .last; asker = n .asker }
 
 -- "a window as one number": a closed window under the greatest number, so that 0 is a window opened at moment 0
 abbrev unlessGreatest : ℕ → Window
 unlessGreatest n = if eqb n greatestNo then Closed else Opened n
 
 abbrev pub greatestIsClosed : PresenceRecord → Presence
-greatestIsClosed n = record { w = n .w; prompt = unlessGreatest (n .prompt); touch = unlessGreatest (n .touch); last = n .last }
+greatestIsClosed n = record { w = n .w; prompt = unlessGreatest (n .prompt); touch = unlessGreatest (n .touch); last = n .last; asker = n .asker }
 
 -- "An R refusal changes no buffer and no record": the last moment moves all the same
 abbrev pub refusedMoves : PresenceRecord → ℕ → Stepped
-refusedMoves n t = record { answer = 1; yes = false; presence = record { w = n .w; prompt = n .prompt; touch = n .touch; last = t } }
+refusedMoves n t = record { answer = 1; yes = false; presence = record { w = n .w; prompt = n .prompt; touch = n .touch; last = t; asker = n .asker } }
+
+-- 02, E7: "wide enough that 256 or -1 in C is not cut down to a valid one": 8 bits of a side are looked at, in the record, in a check, in a
+-- decision
+abbrev pub askerCut : PresenceRecord → Presence
+askerCut n = record { w = n .w; prompt = windowOf (n .prompt); touch = windowOf (n .touch); last = n .last; asker = n .asker % 256 }
+
+abbrev pub sideCutInCheck : PresenceRecord → (side t : ℕ) → Stepped
+sideCutInCheck n s t = stepNumbers (checkOf (presenceOf n) (s % 256) t)
+
+abbrev pub sideCutInDecide : ToDecide → AfterDeciding
+sideCutInDecide i = decidesOf (record { frame = i .frame; side = i .side % 256; moment = i .moment; presence = i .presence; hardware = i .hardware; newHandle = i .newHandle; certificate = i .certificate; x = i .x; y = i .y; reply = i .reply; block = i .block; remainder = i .remainder; part = i .part })
 
 -- ---- numbers that stand for cases
 -- "a shape number outside 1..8 is R5": 0 taken for Instruction
@@ -155,7 +167,7 @@ abbrev pub lastMomentLost : Told → Stepped
 lastMomentLost told =
     let step = stepNumbers told in
     let p = step .presence in
-    record { answer = step .answer; yes = step .yes; presence = record { w = p .w; prompt = p .prompt; touch = p .touch; last = 0 } }
+    record { answer = step .answer; yes = step .yes; presence = record { w = p .w; prompt = p .prompt; touch = p .touch; last = 0; asker = p .asker } }
 
 abbrev pub stepYesBesideRefusal : Told → Stepped
 stepYesBesideRefusal told =
@@ -164,13 +176,13 @@ stepYesBesideRefusal told =
 
 -- "a refused making hands back no record": one that a call would take
 abbrev pub madeBesideRefusal : Outcome Presence → Made
-madeBesideRefusal (R n) = record { answer = n; presence = record { w = 1; prompt = 0; touch = 0; last = 0 } }
+madeBesideRefusal (R n) = record { answer = n; presence = record { w = 1; prompt = 0; touch = 0; last = 0; asker = 0 } }
 madeBesideRefusal (Word s) = madeNumbers (Word s)
 madeBesideRefusal (Gives p) = madeNumbers (Gives p)
 
 -- a making that hands back no record, whether refused or not
 abbrev pub madeWithoutRecord : Outcome Presence → Made
-madeWithoutRecord o = record { answer = madeNumbers o .answer; presence = record { w = 0; prompt = 0; touch = 0; last = 0 } }
+madeWithoutRecord o = record { answer = madeNumbers o .answer; presence = record { w = 0; prompt = 0; touch = 0; last = 0; asker = 0 } }
 
 -- every order numbered as a Register
 abbrev pub ordersAlike : Outcome Given → Order → OrderNumbers
@@ -302,7 +314,7 @@ limitOfBodiesAlone i =
 abbrev pub roomsSwapped : ToDecide → AfterDeciding
 roomsSwapped i =
     let a =
-    decidesOf (record { frame = i .frame; moment = i .moment; presence = i .presence; hardware = i .hardware; newHandle = i .newHandle; certificate = i .certificate; x = i .x; y = i .y; reply = i .part; block = i .block; remainder = i .remainder; part = i .reply }) in
+    decidesOf (record { frame = i .frame; side = i .side; moment = i .moment; presence = i .presence; hardware = i .hardware; newHandle = i .newHandle; certificate = i .certificate; x = i .x; y = i .y; reply = i .part; block = i .block; remainder = i .remainder; part = i .reply }) in
     record { said = a .said; reply = a .part; block = a .block; part = a .reply }
 
 -- "a refused C0 .. keeps it": a status word drops it
@@ -322,7 +334,7 @@ partOverTheBody i = let a = decidesOf i in record { said = a .said; reply = part
 -- "x, y" of the new key's point: y, x
 abbrev pub pointSwapped : ToDecide → AfterDeciding
 pointSwapped i =
-    decidesOf (record { frame = i .frame; moment = i .moment; presence = i .presence; hardware = i .hardware; newHandle = i .newHandle; certificate = i .certificate; x = i .y; y = i .x; reply = i .reply; block = i .block; remainder = i .remainder; part = i .part })
+    decidesOf (record { frame = i .frame; side = i .side; moment = i .moment; presence = i .presence; hardware = i .hardware; newHandle = i .newHandle; certificate = i .certificate; x = i .y; y = i .x; reply = i .reply; block = i .block; remainder = i .remainder; part = i .part })
 
 -- "an R refusal keeps remainder and buffer": nothing is left after it
 abbrev pub nextForgets : (body : List ℕ) → Remainder → (limit : ℕ) (old : List ℕ) → AfterPart

@@ -43,6 +43,7 @@ body = 7 ∷ 8 ∷ 9 ∷ []
 abbrev lent : Remainder → Inputs
 lent r =
     record {
+      side = 0;
       frame = oneByte;
       hardware = record { allowed = Allowed′.Yes; stored = true; attestation = Attestation′.Present; good = true; counter = Counter′.Failed };
       newHandle = [];
@@ -101,8 +102,8 @@ forgets c =
     not-two (c (fresh 1000) 0 (lent (rest 1 2)) body (replicate 4 0) 3 (rest 1 2) (8 ∷ []) 0x6101 refl refl refl (record { sw1 = 0x61; sw2 = 0x01; are = refl; is = refl })) refl
 
 -- three bytes, one at a time: three parts, and here two
-ok : Passes (fresh 1000) 0
-ok = (λ b. ⊎-elim (λ e. omega (arith, e)) (λ h. omega (arith, h)) b, λ b. ⊎-elim (λ h. omega (arith, h)) (λ h. omega (arith, h)) b)
+ok : Passes (fresh 1000) 0 0
+ok = (λ b. ⊎-elim (λ e. omega (arith, e)) (λ h. omega (arith, h)) b, λ b. ⊎-elim (λ h. omega (arith, h)) (λ h. omega (arith, h)) b, λ b. ⊎-elim (λ h. omega (arith, h)) (λ h. omega (arith, h)) b)
 
 pub takes256InSession : Claims.SessionParts Wrong.takes256 frameLimit remainderLeft partLeft sendingOf → ⊥
 unfolding decisionOf pathOf allowedPath commandPath fetchPath settleOf nextPartOf frameLimit limitOf partLength leftStatus commandOf onReading byInstruction getResponseOf readBy sayOf lengthsOf shortOf extendedOf afterData

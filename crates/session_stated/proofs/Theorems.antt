@@ -120,6 +120,7 @@ module _ (p : Presence) (t : ℕ) (a : Inputs) (n : ℕ) (after : Remainder) (e 
 abbrev longest : Inputs
 longest =
     record {
+      side = 0;
       frame = 0x00 ∷ 0xC0 ∷ 0x00 ∷ 0x00 ∷ [];
       hardware = record { allowed = Allowed′.Yes; stored = true; attestation = Attestation′.Present; good = true; counter = Counter′.Failed };
       newHandle = [];

@@ -1,6 +1,6 @@
 -- A session with a reader: a first part, and then decisions on frames that ask for the next one. Each takes the remainder that the last one gave
 -- back, and the reply buffer holds the body all the while. Of any decision, and any body. Whatever else is lent may differ from visit to visit:
--- record, moment, hardware, the buffer for part and status.
+-- record, moment, side (02, E7's request: "A remainder belongs to no side"), hardware, the buffer for part and status.
 use Prim.Native.Nat.{ℕ, _+_, _≤_}
 use mathlib.Core.Path.{_≡_}
 use mathlib.Core.List.{List, [], _∷_, _++_}
@@ -25,6 +25,7 @@ pub record Visit : Type 0 where
 abbrev pub lentIn : (body : List ℕ) → Remainder → Visit → Inputs
 lentIn body r v =
     record {
+      side = v .lent .side;
       frame = v .lent .frame;
       hardware = v .lent .hardware;
       newHandle = v .lent .newHandle;
@@ -93,4 +94,4 @@ Asks v = AsksOn (v .lent)
 
 -- a C0 that nothing stands against, that takes L bytes at a time, and with room for them
 abbrev pub Serves : (limit : List ℕ → ℕ) → (L : ℕ) → Visit → Type 0
-Serves limit L v = Passes (v .presence) (v .moment) × Comes (v .lent) GetResponse × (limit (v .lent .frame) ≡ L) × (L + 2 ≤ length (v .buffer))
+Serves limit L v = Passes (v .presence) (v .lent .side) (v .moment) × Comes (v .lent) GetResponse × (limit (v .lent .frame) ≡ L) × (L + 2 ≤ length (v .buffer))
