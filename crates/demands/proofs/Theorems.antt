@@ -39,6 +39,8 @@ answered =
       responses-read = Responses.ReadsExactly;
       next-parts = Responses.NextExactly;
       decision = Decision.DecidesExactly;
+      sides-refused = Decision.SideRefusedExactly;
+      sides-cross = Panel.SideCrosses;
       finishing = Signing.FinishesExactly;
       refusals-change-nothing = Decision.RefusalChangesNothing;
       replies = Decision.RepliesExactly;
@@ -61,6 +63,11 @@ answered =
 pub documents : AsTheDocumentsSay
 documents =
     record {
+      base-presence = Presence.BaseExactly;
+      base-decisions = Decision.BaseDecidesExactly;
+      one-side = Presence.OneSideIsBase;
+      one-side-decided = Decision.OneSideIsBase;
+      lent-records-differ = Presence.LentRecordDiffers;
       reading = Frames.ReadingExactly;
       strict = Frames.StrictExactly;
       iso = Frames.IsoExactly;

@@ -19,6 +19,9 @@ use Rattle.response_stated.specs.Responses.{readResponseOf, responseBodyOf}
 use Rattle.response_stated.specs.Terms.{writingOf as respondingOf, sendingOf}
 use Rattle.u2f_up_stated.specs.Claims as Presence
 use Rattle.u2f_up_stated.specs.Moments.{newOf, settleOf, touchOf, checkOf, askOf}
+use Rattle.u2f_up_stated.specs.History.{Checking}
+use Rattle.u2f_up_stated.specs.Runs.{own}
+use Rattle.u2f_up_stated.specs.OneSide.{base, baseBy, baseSettleOf, baseCheckedOf}
 use Rattle.signing_stated.specs.Claims as Signing
 use Rattle.signing_stated.specs.Orders.{registerOrderOf, authenticateOrderFor}
 use Rattle.signing_stated.specs.Finishing.{finishOf, endOf}
@@ -28,6 +31,7 @@ use Rattle.ctap1_stated.specs.Decision.{decisionOf, replyLeft, blockAfter}
 use Rattle.ctap1_stated.specs.Session.{remainderLeft, partLeft}
 use Rattle.session_stated.specs.Claims as Sessions
 use Rattle.ctap1_stated.specs.Calls.{panelCalls}
+use Rattle.ctap1_stated.specs.OneSide.{baseDecisionOf}
 use Rattle.panel_stated.specs.Claims as Panel
 use Rattle.panel_stated.specs.Numbers.{presenceOf, presenceNumbers}
 use Rattle.panel_stated.specs.Exports.{madeNumbers, stepNumbers, saidBy, frameNumbers, commandNumbers, readsOf, writesOf, decidesOf, nextsOf, respondsOf}
@@ -45,7 +49,7 @@ pub record EveryInputIsAnswered : Type 0 where
   pub signing-determined : Signing.ResultsDetermined
   pub decision-determined : Decision.ResultsDetermined
   pub exports-determined : Panel.ResultsDetermined
-  -- "Each refusal comes exactly under its stated condition": R6 and R1, making and settling a record; touch, check, ask
+  -- "Each refusal comes exactly under its stated condition": R6, R8 (02, E7) and R1, making and settling a record; touch, check, ask
   pub records : Presence.MakesExactly newOf
   pub moments : Presence.SettlesExactly settleOf
   pub touches : Presence.TouchesExactly touchOf
@@ -65,8 +69,11 @@ pub record EveryInputIsAnswered : Type 0 where
   pub responses-written : Responses.WritesExactly respondingOf
   pub responses-read : Responses.ReadsExactly readResponseOf
   pub next-parts : Responses.NextExactly sendingOf
-  -- every answer of the decision, by document 01's table and E2's rows: R6, R1, R2, 6f00, 6986, 6985, 6a80, the frame's own, bodies, orders, parts
+  -- every answer of the decision, by document 01's table, E2's rows and E7's: R6, R8, R1, R2, 6f00, 6986, 6985, 6a80, the frame's own, bodies, orders, parts
   pub decision : Decision.DecidesExactly decisionOf
+  -- 02, E7: R8 at every decision, and over plain numbers for every number that is no side's, as it was lent
+  pub sides-refused : Decision.SideRefusedExactly decisionOf
+  pub sides-cross : Panel.SideCrosses (λ n s t. stepNumbers (checkOf (presenceOf n) s t)) decidesOf
   -- R7, R4, R2, 6f00, R3 and the bodies of finishing
   pub finishing : Signing.FinishesExactly endOf
   -- "and leaves buffers and records as stated"
@@ -83,7 +90,7 @@ pub record EveryInputIsAnswered : Type 0 where
   pub exported-responses : Panel.ResponseExported respondsOf
   -- what meets an export's contract meets its claim
   pub exports-as-claimed : Panel.ContractsAsClaimed
-  pub refusals-hand-back : Panel.RefusalHandsBack (λ n t. stepNumbers (touchOf (presenceOf n) t)) (λ n t. stepNumbers (checkOf (presenceOf n) t)) saidBy
+  pub refusals-hand-back : Panel.RefusalHandsBack (λ n t. stepNumbers (touchOf (presenceOf n) t)) (λ n s t. stepNumbers (checkOf (presenceOf n) s t)) saidBy
   -- 02, E2: the remainder is dropped exactly when the document says, and only a part changes the buffer for part and status
   pub remainder : Decision.RemainderExactly decisionOf remainderLeft
   pub part-buffer : Decision.PartsExactly decisionOf frameLimit partLeft
@@ -92,10 +99,16 @@ pub record EveryInputIsAnswered : Type 0 where
   -- the enrolment that was lost: an order has asked for its room before the touch was spent
   pub room-was-asked : Decision.RoomWasAsked decisionOf
 
--- 2. "Results equal the Rust's", statuses by their number alone, bodies uncut, and without INS C0 (02, E2) and the old form (E13): that is run, not proved (oracle/compare, and the Rust's own answers in
+-- 2. "Results equal the Rust's", statuses by their number alone, bodies uncut, without INS C0 (02, E2) and the old form (E13), and with one side throughout (E7): that is run, not proved (oracle/compare, and the Rust's own answers in
 -- crates/lines/data/rust).
 -- Proved is what stands below.
 pub record AsTheDocumentsSay : Type 0 where
+  -- 02, E7: "demand 2 compares runs with one side only": from a fresh record, with one side throughout, calls and decisions are those of the base, which had no sides
+  pub base-presence : Presence.BaseExactly baseSettleOf baseCheckedOf
+  pub base-decisions : Decision.BaseDecidesExactly baseDecisionOf
+  pub one-side : Presence.OneSideIsBase own base
+  pub one-side-decided : Decision.OneSideIsBase decisionOf baseDecisionOf
+  pub lent-records-differ : Presence.LentRecordDiffers checkOf (baseBy (Checking 1))
   -- "Frame reading and writing are proved against the ISO 7816-3 case table with the tolerated forms listed": since 02, E13, one form
   pub reading : Frames.ReadingExactly InTable readOf
   pub strict : Frames.StrictExactly strictOf
@@ -153,11 +166,12 @@ pub record AsTheDocumentsSay : Type 0 where
 pub record TouchesAreAsTheHistorySays : Type 1 where
   -- (decisions on C0 among them: 02, E2, "demand 3 is unchanged")
   -- "a call that reaches the touch check finds a touch exactly when history holds an accepted one, unspent and younger than the
-  -- touch window. No touch serves two calls. Touches accepted = calls that spent one + lapsed touches + at most one still live"
+  -- touch window. No touch serves two calls. Touches accepted = calls that spent one + lapsed touches + at most one still live"; 02, E7: "a touch
+  -- of its own side, totals kept per side"
   pub over-every-run : Decision.Demand3OfThePanel panelCalls
   -- a decision does nothing else to a record, whatever record is lent
   pub decisions-keep : Decision.KeepsToItsRole decisionOf
-  -- the sentence on the box: no order says that a person was there but for a touch of its own
+  -- the sentence on the box: no order says that a person was there but for a touch of its own, of its own side
   pub orders-need-a-touch : Decision.OrdersNeedATouch decisionOf
   pub orders-have-their-touch : Decision.OrdersHaveTheirTouch decisionOf
   -- the same over the numbers that the firmware holds, from `brinecandle_new` on

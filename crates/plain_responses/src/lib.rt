@@ -81,8 +81,8 @@ fn fetched_numbers(
     reply: &[u8],
     part: &mut [u8],
 ) -> DecisionSaid
-    ensures { λ r. ⌜ r ≡ decisionNumbers (along (fetchPath (length (now (reply .entry))) remainder limit (length (now (part .entry)))) kept settled 0) (remainderAfter (along (fetchPath (length (now (reply .entry))) remainder limit (length (now (part .entry)))) kept settled 0 .answer) true remainder) limit ⌝ }
-    ensures { λ _. ⌜ now (part .exit) ≡ partAfter (along (fetchPath (length (now (reply .entry))) remainder limit (length (now (part .entry)))) kept settled 0 .answer) (partResponse (now (reply .entry)) remainder limit) (now (part .entry)) ⌝ }
+    ensures { λ r. ⌜ r ≡ decisionNumbers (along (fetchPath (length (now (reply .entry))) remainder limit (length (now (part .entry)))) kept settled 0 0) (remainderAfter (along (fetchPath (length (now (reply .entry))) remainder limit (length (now (part .entry)))) kept settled 0 0 .answer) true remainder) limit ⌝ }
+    ensures { λ _. ⌜ now (part .exit) ≡ partAfter (along (fetchPath (length (now (reply .entry))) remainder limit (length (now (part .entry)))) kept settled 0 0 .answer) (partResponse (now (reply .entry)) remainder limit) (now (part .entry)) ⌝ }
 {
     if remainder.count == 0 {
         let nothing = ApduStatusCode::CondUseNotSatisfied;
