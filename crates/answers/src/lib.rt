@@ -1,40 +1,44 @@
 // Answers of the pipe panel, as values: a crate that answers calls makes one of numbers alone, and `said` puts it into words.
 
-// The words, and their numbers from 8 on. The numbers below are those of refusals, and 0 is no word; all others are status words.
+// The words, and their numbers from 32 on: above all refusals, with room for more of them. 0 is no word; what is above the words is a
+// status word.
 const WORDS: [u8; 154] =
     *b"ok;yes;no;version;register ;authenticate ;order ;part;? no such call;? another number of words;? a word that it does not take;? no record yet;getresponse;";
 
 // What a 6700 goes on with, by its kind; nothing for 0.
 const KINDS: [u8; 26] = *b"; missing ; surplus ; lc ;";
 
-pub const OK: u16 = 8;
+// Refusals are known by their numbers, from 1 up to this.
+pub const LAST_REFUSAL: u16 = 8;
 
-pub const YES: u16 = 9;
+pub const OK: u16 = 32;
 
-pub const NO: u16 = 10;
+pub const YES: u16 = 33;
 
-pub const VERSION: u16 = 11;
+pub const NO: u16 = 34;
 
-pub const REGISTER: u16 = 12;
+pub const VERSION: u16 = 35;
 
-pub const AUTHENTICATE: u16 = 13;
+pub const REGISTER: u16 = 36;
 
-pub const ORDER: u16 = 14;
+pub const AUTHENTICATE: u16 = 37;
 
-pub const PART: u16 = 15;
+pub const ORDER: u16 = 38;
 
-pub const NO_CALL: u16 = 16;
+pub const PART: u16 = 39;
 
-pub const OTHER_COUNT: u16 = 17;
+pub const NO_CALL: u16 = 40;
 
-pub const OTHER_WORD: u16 = 18;
+pub const OTHER_COUNT: u16 = 41;
 
-pub const NO_RECORD: u16 = 19;
+pub const OTHER_WORD: u16 = 42;
 
-pub const GET_RESPONSE: u16 = 20;
+pub const NO_RECORD: u16 = 43;
+
+pub const GET_RESPONSE: u16 = 44;
 
 // No word, but the presence record: the second and the third of its numbers are moments at which a window was opened, or NOTHING.
-pub const RECORD: u16 = 21;
+pub const RECORD: u16 = 45;
 
 // What goes out stands in one lent buffer: the reply buffer first, then the block of the order that is held, then the answer in
 // words. The buffer for part and status is lent apart from it, as the core asks for both at once.
@@ -119,9 +123,9 @@ pub fn status(word: u16, fault: u16, place: usize) -> Answer {
 
 fn word(out: &mut [u8], word: u16) -> usize {
     match word {
-        0 | 21 => SAID,
-        1..=7 => spell::numbers(out, SAID, b"R", &[word as u64], 1),
-        8..=20 => spell::put(out, SAID, lists::item(&WORDS, (word - 8) as usize)),
+        0 | 45 => SAID,
+        1..=8 => spell::numbers(out, SAID, b"R", &[word as u64], 1),
+        32..=44 => spell::put(out, SAID, lists::item(&WORDS, (word - OK) as usize)),
         _ => spell::bytes(out, SAID, b"", &[(word / 256) as u8, (word % 256) as u8]),
     }
 }
@@ -156,7 +160,7 @@ fn record(out: &mut [u8], at: usize, numbers: [u64; 5]) -> usize {
     let w = spell::numbers(out, at, b"", &numbers, 1);
     let prompt = window(out, w, numbers[1]);
     let touch = window(out, prompt, numbers[2]);
-    spell::numbers(out, touch, b" ", &[numbers[3]], 1)
+    spell::numbers(out, touch, b" ", &[numbers[3], numbers[4]], 2)
 }
 
 fn within(out: &mut [u8], at: usize, from: usize, answer: Answer) -> usize {

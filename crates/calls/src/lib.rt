@@ -5,15 +5,15 @@ pub use words::given;
 
 // Each call's name, and a letter for each of its words: `words` says what they stand for. The crates that answer calls know them by
 // their places here, from 0 on.
-const CALLS: [u8; 302] =
-    *b"new n;touch n;check n;ask n;record ;resume nwwn;room r;fill b;reply ;read x;strict x;command x;write bbbb44x;decide n4xx4x4kk444;finish x4x;hold 4nno;data x;parts x;outroom r;outfill b;out ;ramp b;remainder ;remain nn;limit ;cut n;next 4;respond 2x;response x;writestrict bbbb44x;table x;tablestrict x;";
+const CALLS: [u8; 310] =
+    *b"new n;touch n;check n;ask n;record ;resume nwwn4;room r;fill b;reply ;read x;strict x;command x;write bbbb44x;decide n4xx4x4kk444;finish x4x;hold 4nno;data x;parts x;outroom r;outfill b;out ;ramp b;remainder ;remain nn;limit ;cut n;next 4;respond 2x;response x;writestrict bbbb44x;table x;tablestrict x;side 4;";
 
 // The numbers of the words (`answers` has them) for a line that is no call.
-const NO_CALL: u16 = 16;
+const NO_CALL: u16 = 40;
 
-const OTHER_COUNT: u16 = 17;
+const OTHER_COUNT: u16 = 41;
 
-const OTHER_WORD: u16 = 18;
+const OTHER_WORD: u16 = 42;
 
 // A call's place in the list, or the number of the words that say why it is none.
 pub struct Call {

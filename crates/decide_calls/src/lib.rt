@@ -39,7 +39,7 @@ fn decided(desk: &mut Desk, decision: DecisionSaid) -> Answer {
     let remainder = decision.remainder;
     held::keep(desk, presence);
     held::keep_remainder(desk, remainder);
-    if decision.answer <= 7 {
+    if decision.answer <= answers::LAST_REFUSAL {
         return answers::status(decision.answer, decision.fault, decision.place);
     }
     held::keep_order(
@@ -74,6 +74,7 @@ fn asked(
     octets::put(&mut y, calls::given(space, desk, 8));
     panel::brinecandle_decide(
         calls::given(space, desk, 2),
+        held::side(desk),
         desk[0] as u64,
         held::presence(desk),
         hardware(desk),

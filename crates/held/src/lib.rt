@@ -1,5 +1,6 @@
-// What the pipe panel holds: on the desk, behind the words of the line, the presence record, an order and what of a body is still to be
-// fetched, and in the lent buffer that order's block (`answers` says where); and the calls on the reply buffer itself.
+// What the pipe panel holds: on the desk, behind the words of the line, the presence record, the side that calls are made for, an order
+// and what of a body is still to be fetched, and in the lent buffer that order's block (`answers` says where); and the calls on the reply
+// buffer itself.
 use answers::Answer;
 use answers::OUT_ROOM;
 use answers::ROOM;
@@ -8,7 +9,7 @@ use panel_stated::PresenceRecord;
 use response_stated::Remainder;
 use text::Desk;
 
-// The presence record's four numbers.
+// The presence record's five numbers.
 const W: usize = 48;
 
 const PROMPT: usize = 49;
@@ -16,6 +17,11 @@ const PROMPT: usize = 49;
 const TOUCH: usize = 50;
 
 const LAST: usize = 51;
+
+const ASKER: usize = 62;
+
+// The side that a check or a decision names.
+const SIDE: usize = 63;
 
 // The three numbers of the order that is held, but for its block.
 pub const KIND: usize = 53;
@@ -45,6 +51,7 @@ pub fn presence(desk: &Desk) -> PresenceRecord {
         prompt: desk[PROMPT] as u64,
         touch: desk[TOUCH] as u64,
         last: desk[LAST] as u64,
+        asker: (desk[ASKER] % 0x1_0000_0000) as u32,
     }
 }
 
@@ -53,6 +60,17 @@ pub fn keep(desk: &mut Desk, p: PresenceRecord) {
     desk[PROMPT] = p.prompt as usize;
     desk[TOUCH] = p.touch as usize;
     desk[LAST] = p.last as usize;
+    desk[ASKER] = p.asker as usize;
+}
+
+pub fn side(desk: &Desk) -> u32 {
+    (desk[SIDE] % 0x1_0000_0000) as u32
+}
+
+// The side stays until another is named: it is no part of the record, and a fresh one does not set it back.
+pub fn name_side(desk: &mut Desk) -> Answer {
+    desk[SIDE] = desk[0];
+    answers::bare(answers::OK)
 }
 
 pub fn remainder(desk: &Desk) -> Remainder {

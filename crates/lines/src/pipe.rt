@@ -14,6 +14,7 @@ fn answered(desk: &mut Desk, call: usize, space: &[u8], out: &mut [u8], part: &m
         14 => order_calls::finish(desk, space, out),
         15 => order_calls::hold(desk, space, out),
         18..=24 => panel_calls::on_buffers(desk, call, out, part),
+        32 => held::name_side(desk),
         _ => panel_calls::on_responses(desk, call, space, out, part),
     }
 }

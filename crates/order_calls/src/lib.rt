@@ -54,7 +54,7 @@ pub fn finish(desk: &mut Desk, space: &[u8], out: &mut [u8]) -> Answer {
         calls::given(space, desk, 2),
         &mut out[0..room],
     );
-    if said.answer <= 7 {
+    if said.answer <= answers::LAST_REFUSAL {
         return answers::bare(said.answer);
     }
     held::keep_order(desk, 0, 0, 0);

@@ -21,13 +21,19 @@ fn stepped(desk: &mut Desk, touched: Stepped) -> Answer {
     yes(touched.answer, touched.yes)
 }
 
-// Four zeros are no record: there was no making yet, or none but refused ones.
+// Five zeros are no record: there was no making yet, or none but refused ones.
 fn record(p: PresenceRecord) -> Answer {
-    if p.w == 0 && p.prompt == 0 && p.touch == 0 && p.last == 0 {
+    if p.w == 0 && p.prompt == 0 && p.touch == 0 && p.last == 0 && p.asker == 0 {
         return answers::bare(answers::NO_RECORD);
     }
-    let four = [p.w, moment(p.prompt), moment(p.touch), p.last, 0];
-    answers::with_numbers(answers::RECORD, 4, four)
+    let five = [
+        p.w,
+        moment(p.prompt),
+        moment(p.touch),
+        p.last,
+        p.asker as u64,
+    ];
+    answers::with_numbers(answers::RECORD, 5, five)
 }
 
 // A refused making keeps the old record.
@@ -67,6 +73,7 @@ fn resume(desk: &mut Desk) -> Answer {
         prompt: window(desk[1] as u64),
         touch: window(desk[2] as u64),
         last: desk[3] as u64,
+        asker: (desk[4] % 0x1_0000_0000) as u32,
     };
     keep(desk, kept);
     answers::bare(answers::OK)
@@ -79,7 +86,7 @@ pub fn on_record(desk: &mut Desk, call: usize) -> Answer {
     match call {
         0 => made(desk, panel::brinecandle_new(n)),
         1 => stepped(desk, panel::brinecandle_grant_up(p, n)),
-        2 => stepped(desk, panel::brinecandle_consume_up(p, n)),
+        2 => stepped(desk, panel::brinecandle_consume_up(p, held::side(desk), n)),
         3 => ask(p, n),
         4 => record(p),
         _ => resume(desk),
