@@ -31,6 +31,7 @@ pub struct Presence {
     pub prompt: u64,
     pub touch: u64,
     pub last: u64,
+    pub asker: u32,
 }
 
 #[repr(C)]
@@ -126,11 +127,12 @@ extern "C" {
     ) -> Wrote;
     pub fn brinecandle_new(w: u64) -> Made;
     pub fn brinecandle_grant_up(presence: Presence, t: u64) -> Touch;
-    pub fn brinecandle_consume_up(presence: Presence, t: u64) -> Touch;
+    pub fn brinecandle_consume_up(presence: Presence, side: u32, t: u64) -> Touch;
     pub fn brinecandle_is_up_needed(presence: Presence, t: u64) -> Asked;
     pub fn brinecandle_decide(
         frame: *const u8,
         frame_length: usize,
+        side: u32,
         t: u64,
         presence: Presence,
         hardware: Hardware,
