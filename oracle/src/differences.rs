@@ -318,7 +318,7 @@ fn against_upstream() -> Vec<Difference> {
                     command(2, frame(6, [0, 1, 0, 0], &[7; 64], 0), enrolling(64, 300)),
                 ),
                 "9000, 501 bytes, touch spent",
-                &["6700 surplus 71", "R7", "30000 - 1 2"],
+                &["6700 surplus 71", "R7", "30000 - 1 2 0"],
             ),
         ),
         show(
