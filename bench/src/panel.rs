@@ -106,6 +106,7 @@ pub const ORDER: u16 = 0x0100;
 pub const PART: u16 = 0x0200;
 pub const OK: u16 = 0x9000;
 pub const WRONG_LENGTH: u16 = 0x6700;
+pub const COND_USE_NOT_SATISFIED: u16 = 0x6985;
 pub const BLOCK: usize = 385;
 
 extern "C" {
