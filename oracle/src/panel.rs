@@ -124,6 +124,13 @@ pub fn put_call(out: &mut Vec<u8>, call: &Call) {
     out.push(b'\n');
 }
 
+/// The line that names another side than 0, which upstream has not.
+pub fn put_side(out: &mut Vec<u8>, side: u32) {
+    out.extend_from_slice(b"side");
+    then(out, side);
+    out.push(b'\n');
+}
+
 /// The line for the strict reading, which upstream has not.
 pub fn put_strict(out: &mut Vec<u8>, frame: &[u8]) {
     out.extend_from_slice(b"strict");
