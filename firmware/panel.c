@@ -6,9 +6,12 @@
  * header's four bytes and all byte strings are in hex, `-` is the empty byte string. Moments T are in milliseconds.
  *
  *   new W                                  ok                     a fresh record with touch window W; a refusal keeps the old
+ *   side N                                 ok                     check, decide and try come from this side from now on, of 32 bits (0 at
+ *                                                                 first); it stays across `new`. Sides are 0 and 1: every other is R8
  *   touch T   check T   ask T              yes | no
- *   record                                 W PROMPT TOUCH LAST    the record as it stands; a closed window is `-`; before the first
- *                                          | ? no record yet      making that was not refused there is none (four zeros)
+ *   record                                 W PROMPT TOUCH LAST ASKER
+ *                                                                 the record as it stands; a closed window is `-`; before the first
+ *                                          | ? no record yet      making that was not refused there is none (five zeros)
  *   room N                                 ok                     the reply buffer has N bytes from now on (1024 at first)
  *   read FRAME   strict FRAME              SHAPE LC LE START END  data from START, up to and without END
  *   table FRAME   tablestrict FRAME        the same, by the second reader
@@ -25,7 +28,8 @@
  *
  * and, to look closer and to come to any state:
  *
- *   resume W PROMPT TOUCH LAST             ok                     the record from now on, of any values; a closed window is `-`
+ *   resume W PROMPT TOUCH LAST ASKER       ok                     the record from now on, of any values; a closed window is `-`, and
+ *                                                                 ASKER has 32 bits
  *   hold KIND TOSIGN CERTIFICATELENGTH BLOCK   ok                 the order from now on, of any numbers, with a block of 385 bytes
  *   fill BYTE                              ok                     every byte of the reply buffer, beyond its room too
  *   reply                                  ok BYTES               what stands in the room of the reply buffer
@@ -46,7 +50,7 @@
  *   respond STATUS BODY                    9000 RESPONSE          body and status, of 16 bits
  *   response RESPONSE                      STATUS LENGTH          of a response that was read
  *
- * Any of them may be refused, `R1` to `R7`, or answered with a status word, as `6985`. A 6700 (read, strict, table, tablestrict,
+ * Any of them may be refused, `R1` to `R8`, or answered with a status word, as `6985`. A 6700 (read, strict, table, tablestrict,
  * command, decide and try answer it) goes on with what is wrong with the length, and where, counted from the frame's start:
  *
  *   6700 missing PLACE                     the frame ends before its Lc field or its data does; PLACE is its length
@@ -76,6 +80,7 @@ enum { ROOM = 1024, ROOM_MOST = 131072, LINE_MOST = 1048576, WORDS_MOST = 13, PI
 /* ---- the panel's state */
 
 static struct brinecandle_panel panel;
+static uint32_t side; /* that check, decide and try come from */
 static uint8_t reply[ROOM_MOST];
 static size_t room = ROOM;
 static uint8_t out[ROOM_MOST]; /* part and status */
@@ -277,6 +282,16 @@ static bool call_new(char **word)
     return true;
 }
 
+static bool call_side(char **word)
+{
+    uint32_t named;
+    if (!number32(word[0], &named))
+        return false;
+    side = named;
+    put_text("ok");
+    return true;
+}
+
 static void put_yes(struct brinecandle_asked said)
 {
     if (said.answer == BRINECANDLE_OK)
@@ -299,7 +314,7 @@ static bool call_check(char **word)
     uint64_t t;
     if (!number(word[0], UINT64_MAX, &t))
         return false;
-    put_yes(brinecandle_panel_check(&panel, t));
+    put_yes(brinecandle_panel_check(&panel, side, t));
     return true;
 }
 
@@ -324,7 +339,7 @@ static bool call_record(char **word)
 {
     struct brinecandle_presence presence = panel.presence;
     (void)word;
-    if (!presence.w && !presence.prompt && !presence.touch && !presence.last) {
+    if (!presence.w && !presence.prompt && !presence.touch && !presence.last && !presence.asker) {
         put_text("? no record yet");
         return true;
     }
@@ -332,6 +347,7 @@ static bool call_record(char **word)
     then_window(presence.prompt);
     then_window(presence.touch);
     then_number(presence.last);
+    then_number(presence.asker);
     return true;
 }
 
@@ -478,7 +494,7 @@ static bool call_decide(char **word)
     struct brinecandle_lent with;
     if (!lent(word, &with))
         return false;
-    struct brinecandle_decided decided = brinecandle_panel_decide(&panel, with);
+    struct brinecandle_decided decided = brinecandle_panel_decide(&panel, side, with);
     if (decided.answer == BRINECANDLE_PART) {
         put_text("part");
         then_bytes(out, decided.length);
@@ -505,7 +521,7 @@ static bool call_try(char **word)
     if (!lent(word, &with))
         return false;
     with.part = scratch;
-    struct brinecandle_decided decided = brinecandle_panel_try(&panel, with);
+    struct brinecandle_decided decided = brinecandle_panel_try(&panel, side, with);
     if (decided.answer == BRINECANDLE_PART) {
         put_text("part");
         return true;
@@ -563,7 +579,7 @@ static bool call_resume(char **word)
 {
     struct brinecandle_presence kept;
     if (!number(word[0], UINT64_MAX, &kept.w) || !window(word[1], &kept.prompt) || !window(word[2], &kept.touch)
-        || !number(word[3], UINT64_MAX, &kept.last))
+        || !number(word[3], UINT64_MAX, &kept.last) || !number32(word[4], &kept.asker))
         return false;
     panel.presence = kept;
     put_text("ok");
@@ -774,12 +790,12 @@ static const struct call {
     {"new", 1, call_new},         {"touch", 1, call_touch},    {"check", 1, call_check},   {"ask", 1, call_ask},
     {"record", 0, call_record},   {"room", 1, call_room},      {"read", 1, call_read},     {"strict", 1, call_strict},
     {"write", 7, call_write},     {"command", 1, call_command}, {"decide", 12, call_decide}, {"finish", 3, call_finish},
-    {"resume", 4, call_resume},   {"hold", 4, call_hold},      {"fill", 1, call_fill},     {"reply", 0, call_reply},
+    {"resume", 5, call_resume},   {"hold", 4, call_hold},      {"fill", 1, call_fill},     {"reply", 0, call_reply},
     {"data", 1, call_data},       {"parts", 1, call_parts},    {"try", 12, call_try},      {"outroom", 1, call_outroom},
     {"outfill", 1, call_outfill}, {"out", 0, call_out},        {"ramp", 1, call_ramp},     {"remainder", 0, call_remainder},
     {"remain", 2, call_remain},   {"limit", 0, call_limit},    {"cut", 1, call_cut},       {"next", 1, call_next},
     {"respond", 2, call_respond}, {"response", 1, call_response}, {"writestrict", 7, call_writestrict},
-    {"table", 1, call_table},     {"tablestrict", 1, call_tablestrict},
+    {"table", 1, call_table},     {"tablestrict", 1, call_tablestrict}, {"side", 1, call_side},
 };
 
 /* ---- the pipe */

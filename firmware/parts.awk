@@ -184,6 +184,14 @@ BEGIN {
     decide("2 " frame("c0", ABSENT), "6f00")
     ask("decide 0 1 " frame("c0", ABSENT) " - 0 - 0 " x " " y " 0 0 0", "R1")
     ask("decide 0 1 " frame("03", 7) " - 0 - 0 " x " " y " 0 0 0", "R1")
+    # E7's R8 is one of them, at C0 as at every frame
+    for (i = split("2 4294967295", no_side, " "); i > 0; i--) {
+        ask("side " no_side[i], "ok")
+        decided(frame("c0", ABSENT), "R8")
+        decided(frame("03", 7), "R8")
+        decided("00c0000000000005", "R8")
+    }
+    ask("side 0", "ok")
     ask("limit", 256)
     ask("room 5", "ok")
     decided(frame("03", ABSENT), "R2")
@@ -198,8 +206,11 @@ BEGIN {
     ask("finish - 1 30", "R7")
     kept()
     fetch(ABSENT)
+    # what remains belongs to no side: the other one, lent it, fetches the rest
+    ask("side 1", "ok")
     fetch(ABSENT)
     nothing_left()
+    ask("side 0", "ok")
 
     # "A frame with another INS or in no shape drops the remainder", whatever it is answered
     drops = split("00040000 01030000 00030100 00010000 00020000 00a40000 000300 00c000 00c000000001 00c00000030707 00c0000001aa0000 -", frame_of, " ")

@@ -2,11 +2,12 @@
  * shares its core part with the panel on a pipe: include/brinecandle_panel.h keeps record, order, block and remainder for both.
  *
  * Above the line `the board` stands what a firmware needs: the clock widened, the press handed in once, the dry run, the counter
- * written down before anything is signed, and what the host is told, in parts where its frame takes no more. It serves a wireless
- * reader too, whose applet selection firmware/reader.h answers. Below it stands in for the hardware, over a pipe, so that it
- * can be tried on any machine: for each message it gets a tick, whether the button was pressed, and a frame,
+ * written down before anything is signed, and what the host is told, in parts where its frame takes no more. USB and a wireless reader,
+ * whose applet selection firmware/reader.h answers, share its button: each frame is decided on for the side that it came from, and each
+ * side has a body of its own. Below it stands in for the hardware, over a pipe, so that it can be tried on any machine: for each message
+ * it gets a tick, whether the button was pressed, and a frame with its side,
  *
- *   TICK (4, big-endian)  PRESSED (1)  LENGTH (2, big-endian; 0: no frame)  FRAME
+ *   TICK (4, big-endian)  PRESSED (1)  SIDE (1: 0 USB, 1 wireless)  LENGTH (2, big-endian; 0: no frame)  FRAME
  *
  * and it answers
  *
@@ -19,6 +20,9 @@
 
 #include "brinecandle_panel.h"
 #include "reader.h"
+
+/* The sides, by the numbers that the core has for them: what a driver hands in is its own side's. */
+enum { USB = 0, WIRELESS = 1, SIDES = 2 };
 
 enum {
     WINDOW = 5000,  /* a touch is good for so many milliseconds */
@@ -34,9 +38,16 @@ enum {
 static uint32_t board_tick(void); /* milliseconds, of 32 bits: wraps after 49.7 days */
 static bool board_pressed(void);  /* a press, once */
 static void board_light(bool blinks);
-static size_t board_receive(uint8_t *to, size_t most); /* a frame's length, which may be more than is received; 0: none */
 static void board_send(const uint8_t *bytes, size_t length);
 static bool board_goes_on(void);
+
+/* A frame as it came: its side, one of the two, and its length, which may be more than is received; 0: none. */
+struct received {
+    uint32_t side;
+    size_t length;
+};
+
+static struct received board_receive(uint8_t *to, size_t most);
 
 /* A new key: its handle, and x and y of its public key. One struct, since three pointers could be swapped unseen. */
 struct new_key {
@@ -76,8 +87,9 @@ static struct {
     uint8_t frame[FRAME];
     struct new_key key;
     uint8_t signature[SIGNATURE];
-    uint8_t reply[REPLY];    /* bodies, uncut: one stays until all of it is fetched */
-    uint8_t part[REPLY + 2]; /* what goes out: a frame may take the whole body, and its status word */
+    uint8_t reply[SIDES][REPLY];                   /* bodies, uncut: one stays until all of it is fetched, and */
+    struct brinecandle_remainder remainder[SIDES]; /* what the other side does drops nothing of it */
+    uint8_t part[REPLY + 2];                       /* what goes out: a frame may take the whole body, and its status word */
 } token;
 
 _Static_assert(sizeof token < 4096, "the token is meant to be small");
@@ -92,14 +104,14 @@ static uint64_t now(void)
     return token.turns + tick;
 }
 
-/* What a decision or a finishing came to, as the host gets it. A refusal is not for the host. */
-static void tell(uint16_t answer, size_t length)
+/* What a decision or a finishing came to, as the host of that side gets it. A refusal is not for the host. */
+static void tell(uint32_t side, uint16_t answer, size_t length)
 {
     struct brinecandle_wrote wrote = brinecandle_panel_respond(&token.panel, (struct brinecandle_answered){
         .answer = brinecandle_is_refusal(answer) ? BRINECANDLE_INTERNAL_EXCEPTION : answer,
         .length = length,
-        .reply = token.reply,
-        .reply_length = sizeof token.reply,
+        .reply = token.reply[side],
+        .reply_length = REPLY,
         .part = token.part,
         .part_length = sizeof token.part,
     });
@@ -114,7 +126,7 @@ static void drop_rest(void)
 }
 
 /* The frame still stands where it was decided on, and its handle with it. */
-static void sign_and_tell(struct brinecandle_decided decided, struct brinecandle_command command, uint32_t counter)
+static void sign_and_tell(uint32_t side, struct brinecandle_decided decided, struct brinecandle_command command, uint32_t counter)
 {
     bool is_register = token.panel.order.kind == BRINECANDLE_KIND_REGISTER;
     size_t signed_length = 0;
@@ -133,18 +145,18 @@ static void sign_and_tell(struct brinecandle_decided decided, struct brinecandle
         .is_signed = signed_length ? BRINECANDLE_YES : 0,
         .signature = token.signature,
         .signature_length = signed_length,
-        .reply = token.reply,
-        .reply_length = sizeof token.reply,
+        .reply = token.reply[side],
+        .reply_length = REPLY,
     });
-    tell(wrote.answer, wrote.length);
+    tell(side, wrote.answer, wrote.length);
 }
 
 /* Answers token.frame, which nothing writes to while this runs. */
-static void answer(size_t length, uint64_t t)
+static void answer(struct received got, uint64_t t)
 {
     struct brinecandle_lent lent = {
         .frame = token.frame,
-        .frame_length = length,
+        .frame_length = got.length,
         .t = t,
         .hardware = {.allowed = BRINECANDLE_YES, .attestation = BRINECANDLE_YES},
         .handle = token.key.handle,
@@ -153,12 +165,12 @@ static void answer(size_t length, uint64_t t)
         .certificate_length = CERTIFICATE,
         .x = token.key.x,
         .y = token.key.y,
-        .reply = token.reply,
-        .reply_length = sizeof token.reply,
+        .reply = token.reply[got.side],
+        .reply_length = REPLY,
         .part = token.part,
         .part_length = sizeof token.part,
     };
-    struct brinecandle_command command = brinecandle_read_command(token.frame, length);
+    struct brinecandle_command command = brinecandle_read_command(token.frame, got.length);
     const uint8_t *application = token.frame + command.application;
     if (command.command == BRINECANDLE_U2F_AUTHENTICATE) {
         if (board_is_ours(application, token.frame + command.handle, command.handle_end - command.handle))
@@ -169,32 +181,41 @@ static void answer(size_t length, uint64_t t)
     if (command.command == BRINECANDLE_U2F_REGISTER) {
         /* a key is made only for a Register that comes to an order */
         lent.hardware.stored = BRINECANDLE_YES;
-        if (brinecandle_panel_try(&token.panel, lent).answer == BRINECANDLE_ORDER
+        if (brinecandle_panel_try(&token.panel, got.side, lent).answer == BRINECANDLE_ORDER
             && !board_make_key(application, &token.key))
             lent.hardware.stored = 0;
     }
-    struct brinecandle_decided decided = brinecandle_panel_decide(&token.panel, lent);
+    struct brinecandle_decided decided = brinecandle_panel_decide(&token.panel, got.side, lent);
     if (decided.answer == BRINECANDLE_ORDER)
-        sign_and_tell(decided, command, lent.hardware.counter);
+        sign_and_tell(got.side, decided, command, lent.hardware.counter);
     else
-        tell(decided.answer, decided.length);
+        tell(got.side, decided.answer, decided.length);
 }
 
-/* A frame as it was received. */
-static void serve(size_t length, uint64_t t)
+/* Applet selection is the reader's: nobody selects on USB. */
+static bool selects(struct received got)
 {
-    if (FRAME < length) { /* no command, and more than there is room for */
+    if (got.side != WIRELESS)
+        return false;
+    struct brinecandle_wrote selected = reader_selected(token.frame, got.length, token.part, sizeof token.part);
+    if (selected.answer != BRINECANDLE_OK)
+        return false;
+    drop_rest();
+    board_send(token.part, selected.length);
+    return true;
+}
+
+/* A frame as it was received. The panel keeps one remainder: while a frame is served it is that of the frame's side. */
+static void serve(struct received got, uint64_t t)
+{
+    token.panel.remainder = token.remainder[got.side];
+    if (FRAME < got.length) { /* no command, and more than there is room for */
         drop_rest();
-        tell(BRINECANDLE_WRONG_LENGTH, 0);
-        return;
+        tell(got.side, BRINECANDLE_WRONG_LENGTH, 0);
+    } else if (!selects(got)) {
+        answer(got, t);
     }
-    struct brinecandle_wrote selected = reader_selected(token.frame, length, token.part, sizeof token.part);
-    if (selected.answer == BRINECANDLE_OK) {
-        drop_rest();
-        board_send(token.part, selected.length);
-        return;
-    }
-    answer(length, t);
+    token.remainder[got.side] = token.panel.remainder;
 }
 
 int main(void)
@@ -210,9 +231,9 @@ int main(void)
         /* once for each press; whether it is accepted shows in what the host is told next */
         if (board_pressed())
             said = brinecandle_panel_touch(&token.panel, t);
-        size_t length = board_receive(token.frame, FRAME);
-        if (length)
-            serve(length, t);
+        struct received got = board_receive(token.frame, FRAME);
+        if (got.length)
+            serve(got, t);
         said = brinecandle_panel_ask(&token.panel, t);
         board_light(said.answer == BRINECANDLE_OK && said.yes);
     }
@@ -222,7 +243,7 @@ int main(void)
 /* ---- the board: a pipe, and bytes of no meaning */
 
 static struct {
-    uint8_t message[7];
+    uint8_t message[8];
     uint8_t sent[REPLY + 2];
     size_t sent_length;
     uint32_t counter;
@@ -272,14 +293,16 @@ static bool board_pressed(void)
     return board.message[4] == 1;
 }
 
-static size_t board_receive(uint8_t *to, size_t most)
+static struct received board_receive(uint8_t *to, size_t most)
 {
-    size_t length = (size_t)board.message[5] << 8 | board.message[6];
+    struct received got = {board.message[5], (size_t)board.message[6] << 8 | board.message[7]};
     uint8_t lost;
-    for (size_t i = 0; i < length; i++)
+    if (SIDES <= got.side) /* this board has no such driver */
+        _exit(1);
+    for (size_t i = 0; i < got.length; i++)
         if (!board_get(i < most ? to + i : &lost, 1))
             _exit(1);
-    return length;
+    return got;
 }
 
 static void board_send(const uint8_t *bytes, size_t length)

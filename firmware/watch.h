@@ -1,7 +1,7 @@
 /* For firmware/test: every call of the panel is looked at as a whole. What a case file does not see, since the panel does not say
  * it, is held to the header here: fields that an answer has no use for are 0, a refusal hands back the record and the remainder that
- * were lent, and buffers and block hold what they held wherever the header does not say that they are written. A call that does
- * otherwise ends the panel, so that its answers are missing.
+ * were lent, and buffers and block hold what they held wherever the header does not say that they are written. Of the record every number
+ * is held to what the header says of touches and sides. A call that does otherwise ends the panel, so that its answers are missing.
  */
 #ifndef WATCH_H
 #define WATCH_H
@@ -49,7 +49,7 @@ static bool no_order(struct brinecandle_order order)
 
 static bool same_record(struct brinecandle_presence a, struct brinecandle_presence b)
 {
-    return a.w == b.w && a.prompt == b.prompt && a.touch == b.touch && a.last == b.last;
+    return a.w == b.w && a.prompt == b.prompt && a.touch == b.touch && a.last == b.last && a.asker == b.asker;
 }
 
 typedef struct brinecandle_frame reading(const uint8_t *frame, size_t length);
@@ -190,33 +190,78 @@ static struct brinecandle_made watched_new(uint64_t w)
 {
     struct brinecandle_made said = brinecandle_new(w);
     held(said.presence.w == (said.answer == BRINECANDLE_OK ? w : 0), "new: another window");
-    held(!said.presence.prompt && !said.presence.touch && !said.presence.last, "new: not a closed record");
+    held(!said.presence.prompt && !said.presence.touch && !said.presence.last && !said.presence.asker, "new: not a closed record");
     return said;
 }
 
-static struct brinecandle_touch watched_touch(struct brinecandle_touch said, struct brinecandle_presence before, uint64_t t)
+/* What a call on this record is refused with, R6 before R8 before R1; 0x9000 where it is not. A call that names no side names the
+ * record's own. */
+static uint16_t before_all(struct brinecandle_presence presence, uint32_t side, uint64_t t)
 {
-    if (said.answer != BRINECANDLE_OK)
-        held(is_refused(said.answer) && !said.yes && same_record(said.presence, before), "touch: a refusal and more");
-    else
-        held(said.presence.w == before.w && said.presence.last == t, "touch: window or last moment");
-    return said;
+    if (!presence.w || 60000 < presence.w)
+        return BRINECANDLE_R6;
+    if ((side != 0 && side != 1) || (presence.asker != 0 && presence.asker != 1))
+        return BRINECANDLE_R8;
+    return t >> 48 || t < presence.last ? BRINECANDLE_R1 : BRINECANDLE_OK;
+}
+
+/* `number` is a window's, `lasts` how long it is open. */
+static bool is_live(uint64_t number, uint64_t lasts, uint64_t t)
+{
+    return number && (t < number - 1 || t - (number - 1) < lasts);
+}
+
+/* The record after a touch, and after a touch check: `yes` is whether it was accepted, or found. */
+static struct brinecandle_presence after_touch(struct brinecandle_presence presence, uint64_t t, bool *yes)
+{
+    presence.last = t;
+    *yes = is_live(presence.prompt, 10000, t);
+    if (*yes) {
+        presence.prompt = 0;
+        presence.touch = t + 1;
+    }
+    return presence;
+}
+
+static struct brinecandle_presence after_check(struct brinecandle_presence presence, uint32_t side, uint64_t t, bool *yes)
+{
+    bool is_touched = is_live(presence.touch, presence.w, t);
+    presence.last = t;
+    *yes = is_touched && presence.asker == side;
+    if (*yes) {
+        presence.touch = 0;
+    } else if (!is_touched) {
+        presence.prompt = t + 1;
+        presence.asker = side;
+    }
+    return presence;
 }
 
 static struct brinecandle_touch watched_grant_up(struct brinecandle_presence presence, uint64_t t)
 {
-    return watched_touch(brinecandle_grant_up(presence, t), presence, t);
+    struct brinecandle_touch said = brinecandle_grant_up(presence, t);
+    bool yes = false;
+    held(said.answer == before_all(presence, presence.asker, t), "touch: the answer");
+    held(same_record(said.presence, said.answer == BRINECANDLE_OK ? after_touch(presence, t, &yes) : presence), "touch: the record");
+    held(said.yes == yes, "touch: yes or no");
+    return said;
 }
 
-static struct brinecandle_touch watched_consume_up(struct brinecandle_presence presence, uint64_t t)
+static struct brinecandle_touch watched_consume_up(struct brinecandle_presence presence, uint32_t side, uint64_t t)
 {
-    return watched_touch(brinecandle_consume_up(presence, t), presence, t);
+    struct brinecandle_touch said = brinecandle_consume_up(presence, side, t);
+    bool yes = false;
+    held(said.answer == before_all(presence, side, t), "check: the answer");
+    held(same_record(said.presence, said.answer == BRINECANDLE_OK ? after_check(presence, side, t, &yes) : presence), "check: the record");
+    held(said.yes == yes, "check: yes or no");
+    return said;
 }
 
 static struct brinecandle_asked watched_is_up_needed(struct brinecandle_presence presence, uint64_t t)
 {
     struct brinecandle_asked said = brinecandle_is_up_needed(presence, t);
-    held(said.answer == BRINECANDLE_OK || (is_refused(said.answer) && !said.yes), "ask: a refusal and more");
+    held(said.answer == before_all(presence, presence.asker, t), "ask: the answer");
+    held(said.yes == (said.answer == BRINECANDLE_OK && is_live(presence.prompt, 10000, t)), "ask: yes or no");
     return said;
 }
 
@@ -300,7 +345,35 @@ static void watched_session(struct brinecandle_decision said, const uint8_t *fra
     held(same_remainder(said.remainder, asks_on || is_refused(said.answer) ? before : nothing), "decide: what remains");
 }
 
-static struct brinecandle_decision watched_decide(const uint8_t *frame, size_t frame_length, uint64_t t,
+/* Of the decision, what has to do with the record. An order of a Register, or of a login with P1 03, has spent a touch of its side's. A
+ * 0x6985 to either has come to the check, and found none. Every other answer moves the last moment alone, but where counter, store or
+ * attestation failed after the check: the touch is spent then. */
+static void watched_presence(struct brinecandle_decision said, const uint8_t *frame, size_t frame_length, uint32_t side, uint64_t t,
+                             struct brinecandle_presence before)
+{
+    struct brinecandle_command command = brinecandle_read_command(frame, frame_length);
+    bool is_for_touch = command.command == BRINECANDLE_U2F_REGISTER
+        || (command.command == BRINECANDLE_U2F_AUTHENTICATE && command.p1 == BRINECANDLE_ENFORCE_UP_AND_SIGN);
+    uint16_t first = before_all(before, side, t);
+    bool yes = false;
+    held(first == BRINECANDLE_OK ? said.answer != BRINECANDLE_R6 && said.answer != BRINECANDLE_R8 && said.answer != BRINECANDLE_R1
+                                 : said.answer == first,
+         "decide: R6, R8 or R1");
+    if (is_refused(said.answer)) {
+        held(same_record(said.presence, before), "decide: a refusal and another record");
+        return;
+    }
+    struct brinecandle_presence checked = after_check(before, side, t, &yes);
+    before.last = t;
+    if (is_for_touch && said.answer == BRINECANDLE_ORDER)
+        held(yes && same_record(said.presence, checked), "decide: an order without a touch of its side's");
+    else if (is_for_touch && said.answer == BRINECANDLE_COND_USE_NOT_SATISFIED)
+        held(!yes && same_record(said.presence, checked), "decide: 6985, and the record");
+    else
+        held(same_record(said.presence, before) || (is_for_touch && yes && same_record(said.presence, checked)), "decide: the record");
+}
+
+static struct brinecandle_decision watched_decide(const uint8_t *frame, size_t frame_length, uint32_t side, uint64_t t,
                                                   struct brinecandle_presence presence, struct brinecandle_hardware hardware,
                                                   const uint8_t *handle, size_t handle_length, const uint8_t *certificate,
                                                   size_t certificate_length, const uint8_t *x, const uint8_t *y,
@@ -310,7 +383,7 @@ static struct brinecandle_decision watched_decide(const uint8_t *frame, size_t f
     keep(watched_buffer, reply, room);
     keep(watched_part, part, part_room);
     keep(watched_block, block, BRINECANDLE_BLOCK);
-    struct brinecandle_decision said = brinecandle_decide(frame, frame_length, t, presence, hardware, handle, handle_length,
+    struct brinecandle_decision said = brinecandle_decide(frame, frame_length, side, t, presence, hardware, handle, handle_length,
                                                           certificate, certificate_length, x, y, remainder, reply, room, block,
                                                           part, part_room);
     size_t written = said.answer == BRINECANDLE_OK ? 6 : 0;
@@ -321,10 +394,7 @@ static struct brinecandle_decision watched_decide(const uint8_t *frame, size_t f
     held(said.answer == BRINECANDLE_PART || said.length == written, "decide: a length");
     held(written <= room && same_from(written, reply, watched_buffer, room), "decide: the reply");
     watched_session(said, frame, frame_length, remainder, reply, part, part_room);
-    if (is_refused(said.answer))
-        held(same_record(said.presence, presence), "decide: a refusal and another record");
-    else
-        held(said.presence.w == presence.w && said.presence.last == t, "decide: window or last moment");
+    watched_presence(said, frame, frame_length, side, t, presence);
     if (said.answer != BRINECANDLE_ORDER) {
         held(!said.taken && no_order(said.order), "decide: an order beside another answer");
         held(same_from(0, block, watched_block, BRINECANDLE_BLOCK), "decide: the block");

@@ -1,5 +1,6 @@
-/* For firmware/test: what no line of the panel on a pipe can lend. Null pointers with length 0, and memory of zeros as record, order and
- * panel: the header says what each of them is answered, and that none of it makes an order. The first that is not so is named. */
+/* For firmware/test: what no line of the panel on a pipe can lend. Null pointers with length 0, memory of zeros as record, order and panel,
+ * and sides as a C program may come to them, in an int or a wider number: the header says what each of them is answered, and that none of
+ * it makes an order. The first that is not so is named. */
 #include <unistd.h>
 
 #include "brinecandle_panel.h"
@@ -25,7 +26,7 @@ static const struct brinecandle_remainder nothing;
 static struct brinecandle_decision enrolled(struct brinecandle_presence presence, uint8_t *to, size_t room)
 {
     const struct brinecandle_hardware yes = {.allowed = BRINECANDLE_YES, .attestation = BRINECANDLE_YES, .stored = BRINECANDLE_YES};
-    return brinecandle_decide(enrol, sizeof enrol, 100, presence, yes, 0, 0, 0, 0, x, y, nothing, to, room, block, 0, 0);
+    return brinecandle_decide(enrol, sizeof enrol, 0, 100, presence, yes, 0, 0, 0, 0, x, y, nothing, to, room, block, 0, 0);
 }
 
 /* A GET RESPONSE with no buffer at all. */
@@ -34,13 +35,13 @@ static uint16_t fetched(struct brinecandle_remainder remainder)
     static const uint8_t fetch[4] = {0, BRINECANDLE_GET_RESPONSE};
     const struct brinecandle_presence presence = {.w = 5000};
     const struct brinecandle_hardware yes = {.allowed = BRINECANDLE_YES};
-    return brinecandle_decide(fetch, sizeof fetch, 100, presence, yes, 0, 0, 0, 0, x, y, remainder, 0, 0, block, 0, 0).answer;
+    return brinecandle_decide(fetch, sizeof fetch, 0, 100, presence, yes, 0, 0, 0, 0, x, y, remainder, 0, 0, block, 0, 0).answer;
 }
 
 static struct brinecandle_decision no_frame(struct brinecandle_presence presence, uint64_t t)
 {
     const struct brinecandle_hardware yes = {.allowed = BRINECANDLE_YES};
-    return brinecandle_decide(0, 0, t, presence, yes, 0, 0, 0, 0, x, y, nothing, 0, 0, block, 0, 0);
+    return brinecandle_decide(0, 0, 0, t, presence, yes, 0, 0, 0, 0, x, y, nothing, 0, 0, block, 0, 0);
 }
 
 static void null_pointers(void)
@@ -90,7 +91,8 @@ static void zeros(void)
     held(brinecandle_finish(decision.order, block, 0, 0, BRINECANDLE_YES, 0, 0, reply, sizeof reply).answer == BRINECANDLE_R7, "an order of zeros");
     held(brinecandle_panel_touch(&panel, 1).answer == BRINECANDLE_R6, "a panel of zeros, touched");
     held(brinecandle_panel_ask(&panel, 1).answer == BRINECANDLE_R6, "a panel of zeros, asked");
-    held(brinecandle_panel_try(&panel, (struct brinecandle_lent){.x = x, .y = y}).answer == BRINECANDLE_R6, "a panel of zeros, tried");
+    held(brinecandle_panel_check(&panel, 2, 1).answer == BRINECANDLE_R6, "a panel of zeros, checked by no side");
+    held(brinecandle_panel_try(&panel, 0, (struct brinecandle_lent){.x = x, .y = y}).answer == BRINECANDLE_R6, "a panel of zeros, tried");
     held(brinecandle_panel_finish(&panel, (struct brinecandle_signed){.is_signed = BRINECANDLE_YES}).answer == BRINECANDLE_R7,
          "a panel of zeros, finished");
     held(brinecandle_panel_respond(&panel, (struct brinecandle_answered){.part = part, .part_length = sizeof part}).answer == 0,
@@ -99,9 +101,30 @@ static void zeros(void)
          "an order, told");
 }
 
+/* Numbers that end in a byte of 0 or 1, or are none of 32 bits, and are no side for that. */
+static void sides(void)
+{
+    const struct brinecandle_presence touched = {.w = 5000, .touch = 51, .last = 50};
+    const int numbers[] = {-1, 2, 256, 257, 65536, 65537};
+    for (size_t i = 0; i < sizeof numbers / sizeof numbers[0]; i++) {
+        const uint32_t side = (uint32_t)numbers[i];
+        const struct brinecandle_presence asked_by = {.w = 5000, .touch = 51, .last = 50, .asker = side};
+        held(brinecandle_consume_up(touched, side, 100).answer == BRINECANDLE_R8, "checked by no side");
+        held(brinecandle_consume_up(asked_by, 0, 100).answer == BRINECANDLE_R8, "checked, and asked for by no side");
+        held(brinecandle_grant_up(asked_by, 100).answer == BRINECANDLE_R8, "touched, and asked for by no side");
+        held(brinecandle_is_up_needed(asked_by, 100).answer == BRINECANDLE_R8, "asked, and asked for by no side");
+        held(enrolled(asked_by, reply, sizeof reply).answer == BRINECANDLE_R8, "decided, and asked for by no side");
+        held(brinecandle_decide(enrol, sizeof enrol, side, 100, touched, (struct brinecandle_hardware){.allowed = BRINECANDLE_YES}, 0, 0,
+                                0, 0, x, y, nothing, reply, sizeof reply, block, 0, 0).answer == BRINECANDLE_R8, "decided for no side");
+    }
+    held(brinecandle_consume_up(touched, 0, 100).yes, "a touch of side 0");
+    held(!brinecandle_consume_up(touched, 1, 100).yes, "a touch of side 0, and side 1");
+}
+
 int main(void)
 {
     null_pointers();
     zeros();
+    sides();
     return 0;
 }

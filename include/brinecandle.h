@@ -15,7 +15,7 @@
  *
  * An answer is one number:
  *   0             none: no call answers it, so memory of zeros is no answer
- *   1 .. 7        a refusal, R1 to R7: nothing was decided and nothing was changed
+ *   1 .. 8        a refusal, R1 to R8: nothing was decided and nothing was changed
  *   0x0100        an order to sign (brinecandle_decide alone)
  *   0x0200        a part of an earlier body, as a response with its status inside (brinecandle_decide alone)
  *   0x9000        done
@@ -27,18 +27,18 @@
  *   R1  moment 2^48 or more, or before the record's last moment     R5  shape cannot carry this data length or Le
  *   R2  buffer too short                                            R6  touch window 0 or above 60,000
  *   R3  signature longer than 72 bytes                              R7  order not of either layout
- *   R4  certificate length is not the order's
+ *   R4  certificate length is not the order's                       R8  side other than 0 or 1, named or in the record
  *
  * A refusal is for the firmware and no status word: never send it. Put right what was wrong and decide the same frame again, or
  * tell the host 0x6f00. What the host gets is a response, a body and the status word's two bytes, the high one first: see
  * 'responses'. A body goes there cut by what the frame takes; every other status goes out with no body.
  *
- * Whatever a function's own text does not name stays as it was: after R1 to R7 every buffer, the record and the remainder, after an
+ * Whatever a function's own text does not name stays as it was: after R1 to R8 every buffer, the record and the remainder, after an
  * order or a status word other than 0x9000 every buffer but an order's block. The status 61 XX is no call's answer: it goes out with
  * its part, inside the response, and changes the buffer for part and status, never the uncut body. Numbers that an answer has no use
  * for are 0.
  *
- * Not told apart by the compiler: handle and certificate, x and y, two lengths. Take the wrapper, where they have names; of a
+ * Not told apart by the compiler: handle and certificate, x and y, two lengths, side and moment. Take the wrapper, where they have names; of a
  * decision and a finishing it also has the bare calls with names (brinecandle_decide_lent, brinecandle_finish_signed).
  */
 #ifndef BRINECANDLE_H
@@ -46,8 +46,8 @@
 
 /* docs/CHANGES.md says when these move */
 #define BRINECANDLE_VERSION_MAJOR 0
-#define BRINECANDLE_VERSION_MINOR 9
-#define BRINECANDLE_VERSION "0.9"
+#define BRINECANDLE_VERSION_MINOR 10
+#define BRINECANDLE_VERSION "0.10"
 
 #include <stdbool.h>
 #include <stddef.h>
@@ -83,11 +83,12 @@ enum {
     BRINECANDLE_R5 = 5, /* the shape */
     BRINECANDLE_R6 = 6, /* the touch window: most often a record that was never made */
     BRINECANDLE_R7 = 7, /* the order */
-    BRINECANDLE_LAST_REFUSAL = 7, /* refusals are 1 up to this */
+    BRINECANDLE_R8 = 8, /* the side */
+    BRINECANDLE_LAST_REFUSAL = 8, /* refusals are 1 up to this */
     BRINECANDLE_ORDER = 0x0100,
     BRINECANDLE_PART = 0x0200,
     BRINECANDLE_WRONG_LENGTH = 0x6700,
-    BRINECANDLE_COND_USE_NOT_SATISFIED = 0x6985, /* no touch yet; check only, and the handle is good; or nothing is left to fetch */
+    BRINECANDLE_COND_USE_NOT_SATISFIED = 0x6985, /* no touch of this side's; check only, and the handle is good; or nothing is left to fetch */
     BRINECANDLE_COMMAND_NOT_ALLOWED = 0x6986,
     BRINECANDLE_WRONG_DATA = 0x6a80,
     BRINECANDLE_INCORRECT_P1P2 = 0x6a86, /* of GET RESPONSE alone */
@@ -204,15 +205,25 @@ struct brinecandle_command brinecandle_read_command(const uint8_t *frame, size_t
 /* ---- presence. Moments are milliseconds, below 2^48 and never going back. They must not wrap: a tick of 32 bits is widened
  * first, since from its wrap on every call would be R1. A wild moment ends the record: after a call at 2^48 - 1 every other moment
  * lies before the last one, R1, and the way out is a fresh record. A prompt lasts 10,000 ms from the latest 0x6985 or check that
- * opened it, a touch W ms from its acceptance, and for one call. */
+ * opened it, a touch W ms from its acceptance, and for one call.
+ *
+ * Two sides may share the pad, as USB and wireless do, and a touch that the one asked for does not serve the other. So every decision and
+ * every check names the side that it comes from, 0 or 1. Which of the two is which is the firmware's to say, once and for all; with one
+ * transport name 0 throughout. A touch and an ask name none. Every other number is R8, named or in the record, after R6 and before R1. A
+ * side has 32 bits for that: 256, or -1, is not cut down to one of the two on its way.
+ *   the asker         the side of the latest 0x6985 or check that opened a prompt, in place of any earlier; 0 in a fresh record
+ *   a touch           is accepted for the asker, and is its own: it serves that side and no other
+ *   the other side    gets 0x6985 while the touch is live, or `no` at a check. Nothing is opened or spent and the asker stays: only the
+ *                     last moment moves. Once the touch is spent or has lapsed it opens a prompt like any other, and is the asker then */
 
-/* The presence record: touch window W, the prompt and the touch window, the last moment. A window is 0 where it is
+/* The presence record: touch window W, the prompt and the touch window, the last moment, the asker's side. A window is 0 where it is
  * closed, and otherwise the moment at which it was opened and one more: a record of zeros with w set is a fresh one. */
 struct brinecandle_presence {
     uint64_t w;
     uint64_t prompt;
     uint64_t touch;
     uint64_t last;
+    uint32_t asker; /* 0 or 1: the prompt is for this side, and the touch is its own */
 };
 
 struct brinecandle_made {
@@ -220,7 +231,7 @@ struct brinecandle_made {
     struct brinecandle_presence presence;
 };
 
-/* A fresh record with the touch window `w`, both windows closed, last moment 0; after R6 four zeros, which every call
+/* A fresh record with the touch window `w`, both windows closed, last moment 0, asker 0; after R6 five zeros, which every call
  * answers with R6. */
 BRINECANDLE_TAKE_IT
 struct brinecandle_made brinecandle_new(uint64_t w);
@@ -228,25 +239,28 @@ struct brinecandle_made brinecandle_new(uint64_t w);
 /* `presence` is the record to go on with; after a refusal it is the one that came in. Take it over from every call: a touch
  * serves again in a record that was spent and not taken over. */
 struct brinecandle_touch {
-    uint16_t answer; /* 0x9000, R6, R1 */
+    uint16_t answer; /* 0x9000, R6, R8, R1 */
     bool yes;
     struct brinecandle_presence presence;
 };
 
-/* A finger touches at t: `yes` where it is accepted, that is where a prompt is live. */
+/* A finger touches at t: `yes` where it is accepted, that is where a prompt is live. It is the asker's then. R8 is for the record's
+ * asker alone. */
 BRINECANDLE_TAKE_IT
 struct brinecandle_touch brinecandle_grant_up(struct brinecandle_presence presence, uint64_t t);
 
-/* The touch check at t: `yes` where there was a live touch, which is spent now; if not, a prompt opens. */
+/* The touch check at t, for the side that checks: `yes` where there was a live touch of its own, which is spent now. At a live touch of
+ * the other side `no`, and the touch stays; with no live touch `no`, and a prompt opens for the side that checks. */
 BRINECANDLE_TAKE_IT
-struct brinecandle_touch brinecandle_consume_up(struct brinecandle_presence presence, uint64_t t);
+struct brinecandle_touch brinecandle_consume_up(struct brinecandle_presence presence, uint32_t side, uint64_t t);
 
 struct brinecandle_asked {
-    uint16_t answer; /* 0x9000, R6, R1 */
+    uint16_t answer; /* 0x9000, R6, R8, R1 */
     bool yes;
 };
 
-/* `yes` where a prompt is live at t: the panel's light should blink. It changes nothing, not even the last moment. */
+/* `yes` where a prompt is live at t: the panel's light should blink, for the asker. It changes nothing, not even the last moment. R8 is
+ * for the record's asker alone. */
 BRINECANDLE_TAKE_IT
 struct brinecandle_asked brinecandle_is_up_needed(struct brinecandle_presence presence, uint64_t t);
 
@@ -260,8 +274,8 @@ struct brinecandle_asked brinecandle_is_up_needed(struct brinecandle_presence pr
  * for 256 and more. Every other status goes out by brinecandle_write_response, not as a first part. */
 
 /* What of a body was not yet sent: from which place on, and how many bytes. Nothing where `count` is 0: a GET RESPONSE then gets
- * 0x6985 whatever `place` is, and zeros say so best. It belongs to the one who asks: firmware with USB and wireless may hold one for
- * each, with a body for each. */
+ * 0x6985 whatever `place` is, and zeros say so best. It belongs to no side: it is lent, and a GET RESPONSE of either side fetches from the
+ * one that it is lent. Firmware with USB and wireless holds one for each, with a body for each, and lends a frame its own side's. */
 struct brinecandle_remainder {
     size_t place;
     size_t count;
@@ -324,7 +338,7 @@ struct brinecandle_order {
 /* `taken` asks of the firmware: write down that this number of the counter is used up, before anything is signed and whatever
  * becomes of the order, so that it is never offered again. */
 struct brinecandle_decision {
-    uint16_t answer; /* 0x0100 order; 0x0200 part; 0x9000 Version's body; R6, R1, R2; status word */
+    uint16_t answer; /* 0x0100 order; 0x0200 part; 0x9000 Version's body; R6, R8, R1, R2; status word */
     uint16_t fault;  /* with 0x6700 what brinecandle_read_command says of this frame; else 0 */
     bool taken;      /* the offered counter stands in the order */
     size_t length;   /* of the body; with 0x0200 of the part's response */
@@ -335,9 +349,13 @@ struct brinecandle_decision {
     uint32_t limit;                         /* the frame's, whatever the answer is; 0 for bytes in no shape */
 };
 
-/* Decides what a frame is answered at moment t. `handle` and `certificate` are the new handle and the attestation
- * certificate that a Register would use, x and y its public key. `block` is written, all of it, where the answer is
- * BRINECANDLE_ORDER, and stays as it was otherwise. With 0x9000 the body is at the front of `reply` and the rest of it is left.
+/* Decides what a frame that came from `side` is answered at moment t. Where no check before it answers, a Register and an Authenticate
+ * with P1 03 come to the touch check for that side, as brinecandle_consume_up has it: 0x6985 for its `no`. R8 is asked at every frame,
+ * Version, check only and GET RESPONSE too.
+ *
+ * `handle` and `certificate` are the new handle and the attestation certificate that a Register would use, x and y its public key. `block`
+ * is written, all of it, where the answer is BRINECANDLE_ORDER, and stays as it was otherwise. With 0x9000 the body is at the front of
+ * `reply` and the rest of it is left.
  * R2 where `reply` is too short for the longest reply to this command: 6 for Version, 139 and the lengths of handle and
  * certificate for Register, 77 for Authenticate. It comes before a touch is spent or the counter is taken.
  *
@@ -347,11 +365,11 @@ struct brinecandle_decision {
  * `reply` after a GET RESPONSE. Lend both at every decision, apart from each other; of `part` 258 bytes are enough for frames in shape 1
  * to 4, and two more than the longest body for all.
  *
- * GET RESPONSE is a decision like any other: R6, R1, `allowed` and the frame's shape come first, and it moves the last moment. Then
+ * GET RESPONSE is a decision like any other: R6, R8, R1, `allowed` and the frame's shape come first, and it moves the last moment. Then
  * 0x6e00 for CLA, 0x6a86 for P1 or P2 not 0, 0x6700 for Lc not 0, 0x6985 where nothing remains, which opens no prompt, and R2 as
  * brinecandle_next_part has it. What it gets is the next part of `remainder` at the limit of its own frame.
  *
- * The remainder handed back is the one that came in after R6, R1 and R2 to any frame, and after a status word to a GET RESPONSE in any
+ * The remainder handed back is the one that came in after R6, R8, R1 and R2 to any frame, and after a status word to a GET RESPONSE in any
  * shape; after a part it is what that left. Any other frame, in a shape with another INS or in no shape, leaves nothing, (0, 0),
  * whatever status word, body or order it is answered with. Touches, checks and finishing have nothing to do with it.
  *
@@ -361,7 +379,7 @@ struct brinecandle_decision {
  * on the old record at the same moment. Where it is 0x9000 or a part, it stands in scratch: decide again on the buffers themselves. Any
  * other answer is the answer: take over its record and remainder. */
 BRINECANDLE_TAKE_IT
-struct brinecandle_decision brinecandle_decide(const uint8_t *frame, size_t frame_length, uint64_t t,
+struct brinecandle_decision brinecandle_decide(const uint8_t *frame, size_t frame_length, uint32_t side, uint64_t t,
                                                struct brinecandle_presence presence,
                                                struct brinecandle_hardware hardware,
                                                const uint8_t *handle, size_t handle_length,
@@ -417,14 +435,15 @@ BRINECANDLE_AT(presence, w, 0);
 BRINECANDLE_AT(presence, prompt, 8);
 BRINECANDLE_AT(presence, touch, 16);
 BRINECANDLE_AT(presence, last, 24);
-BRINECANDLE_SIZE(presence, 32);
+BRINECANDLE_AT(presence, asker, 32);
+BRINECANDLE_SIZE(presence, 40);
 BRINECANDLE_AT(made, answer, 0);
 BRINECANDLE_AT(made, presence, 8);
-BRINECANDLE_SIZE(made, 40);
+BRINECANDLE_SIZE(made, 48);
 BRINECANDLE_AT(touch, answer, 0);
 BRINECANDLE_AT(touch, yes, 2);
 BRINECANDLE_AT(touch, presence, 8);
-BRINECANDLE_SIZE(touch, 40);
+BRINECANDLE_SIZE(touch, 48);
 BRINECANDLE_AT(asked, answer, 0);
 BRINECANDLE_AT(asked, yes, 2);
 BRINECANDLE_SIZE(asked, 4);
@@ -456,10 +475,10 @@ BRINECANDLE_AT(decision, taken, 4);
 BRINECANDLE_AT(decision, length, 8);
 BRINECANDLE_AT(decision, order, 16);
 BRINECANDLE_AT(decision, presence, 40);
-BRINECANDLE_AT(decision, place, 72);
-BRINECANDLE_AT(decision, remainder, 80);
-BRINECANDLE_AT(decision, limit, 96);
-BRINECANDLE_SIZE(decision, 104);
+BRINECANDLE_AT(decision, place, 80);
+BRINECANDLE_AT(decision, remainder, 88);
+BRINECANDLE_AT(decision, limit, 104);
+BRINECANDLE_SIZE(decision, 112);
 
 #if defined(__cplusplus)
 }

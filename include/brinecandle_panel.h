@@ -10,6 +10,9 @@
  *   brinecandle_panel_respond                              what the host gets, of either
  *
  * All calls on one panel belong in one thread of control: a touch that an interrupt reports is put aside for the main loop.
+ *
+ * The side that a check, a dry run or a decision comes from is an argument, and no field of what is lent by name: a field that is left out
+ * is 0, which is a side, and the other side's login would go out on this one's touch. An argument that is left out does not compile.
  */
 #ifndef BRINECANDLE_PANEL_H
 #define BRINECANDLE_PANEL_H
@@ -21,7 +24,7 @@ struct brinecandle_panel {
     struct brinecandle_order order;
     uint8_t block[BRINECANDLE_BLOCK];       /* the bytes to sign, where the order's kind is not 0 */
     uint32_t limit;                         /* of the frame whose body is to be sent next */
-    struct brinecandle_remainder remainder; /* of the body in the reply buffer. For a second side keep a second one, and put in its own */
+    struct brinecandle_remainder remainder; /* of the body in the reply buffer. With two sides keep one for each, and put in the frame's own */
 };
 
 /* What a decision is lent, by name. `handle`, `certificate`, `x` and `y` are those that a Register would use, x and y of 32 bytes. */
@@ -98,18 +101,18 @@ static inline struct brinecandle_asked brinecandle_panel_goes_on(struct brinecan
     return said;
 }
 
-/* A finger touches at t: once for each press. */
+/* A finger touches at t, for the side that asked: once for each press. */
 BRINECANDLE_TAKE_IT
 static inline struct brinecandle_asked brinecandle_panel_touch(struct brinecandle_panel *panel, uint64_t t)
 {
     return brinecandle_panel_goes_on(panel, brinecandle_grant_up(panel->presence, t));
 }
 
-/* The touch check at t. */
+/* The touch check at t, for the side that checks. */
 BRINECANDLE_TAKE_IT
-static inline struct brinecandle_asked brinecandle_panel_check(struct brinecandle_panel *panel, uint64_t t)
+static inline struct brinecandle_asked brinecandle_panel_check(struct brinecandle_panel *panel, uint32_t side, uint64_t t)
 {
-    return brinecandle_panel_goes_on(panel, brinecandle_consume_up(panel->presence, t));
+    return brinecandle_panel_goes_on(panel, brinecandle_consume_up(panel->presence, side, t));
 }
 
 /* Whether a prompt is live at t. */
@@ -122,11 +125,11 @@ static inline struct brinecandle_asked brinecandle_panel_ask(const struct brinec
 /* brinecandle_decide and brinecandle_finish, lent by name: for a firmware that keeps record and order by itself, since nothing is
  * kept here. */
 BRINECANDLE_TAKE_IT
-static inline struct brinecandle_decision brinecandle_decide_lent(struct brinecandle_presence presence,
+static inline struct brinecandle_decision brinecandle_decide_lent(uint32_t side, struct brinecandle_presence presence,
                                                                   struct brinecandle_remainder remainder, struct brinecandle_lent lent,
                                                                   uint8_t block[BRINECANDLE_BLOCK])
 {
-    return brinecandle_decide(lent.frame, lent.frame_length, lent.t, presence, lent.hardware, lent.handle, lent.handle_length,
+    return brinecandle_decide(lent.frame, lent.frame_length, side, lent.t, presence, lent.hardware, lent.handle, lent.handle_length,
                               lent.certificate, lent.certificate_length, lent.x, lent.y, remainder, lent.reply, lent.reply_length,
                               block, lent.part, lent.part_length);
 }
@@ -151,25 +154,28 @@ static inline struct brinecandle_decided brinecandle_decided_so(struct brinecand
  * a Version's six bytes are put back. The buffer for part and status holds what a GET RESPONSE would leave there. For a Register lend
  * handle and certificate of the lengths that they will have and `stored` 1. */
 BRINECANDLE_TAKE_IT
-static inline struct brinecandle_decided brinecandle_panel_try(const struct brinecandle_panel *panel, struct brinecandle_lent lent)
+static inline struct brinecandle_decided brinecandle_panel_try(const struct brinecandle_panel *panel, uint32_t side,
+                                                               struct brinecandle_lent lent)
 {
     uint8_t block[BRINECANDLE_BLOCK];
     uint8_t front[6];
     size_t kept = lent.reply_length < sizeof front ? lent.reply_length : sizeof front;
     for (size_t i = 0; i < kept; i++)
         front[i] = lent.reply[i];
-    struct brinecandle_decision decision = brinecandle_decide_lent(panel->presence, panel->remainder, lent, block);
+    struct brinecandle_decision decision = brinecandle_decide_lent(side, panel->presence, panel->remainder, lent, block);
     for (size_t i = 0; i < kept; i++)
         lent.reply[i] = front[i];
     return brinecandle_decided_so(decision);
 }
 
-/* Decides. With BRINECANDLE_ORDER sign the first panel->order.to_sign bytes of panel->block. A refusal keeps the order that waits for
- * its signature, and the limit that its body is cut by; every other answer puts its own, or none, in the place. */
+/* Decides, for the side that the frame came from. With BRINECANDLE_ORDER sign the first panel->order.to_sign bytes of panel->block. A
+ * refusal keeps the order that waits for its signature, and the limit that its body is cut by; every other answer puts its own, or none,
+ * in the place. */
 BRINECANDLE_TAKE_IT
-static inline struct brinecandle_decided brinecandle_panel_decide(struct brinecandle_panel *panel, struct brinecandle_lent lent)
+static inline struct brinecandle_decided brinecandle_panel_decide(struct brinecandle_panel *panel, uint32_t side,
+                                                                  struct brinecandle_lent lent)
 {
-    struct brinecandle_decision decision = brinecandle_decide_lent(panel->presence, panel->remainder, lent, panel->block);
+    struct brinecandle_decision decision = brinecandle_decide_lent(side, panel->presence, panel->remainder, lent, panel->block);
     panel->presence = decision.presence;
     panel->remainder = decision.remainder;
     if (!brinecandle_is_refusal(decision.answer)) {

@@ -1,5 +1,5 @@
-"""The hardware beside the panel, played with real keys: clock, finger, key store, attestation, counter, signer. The host's
-side is fido2's `CtapDevice`: a frame goes in, a response comes out."""
+"""The hardware beside the panel, played with real keys: clock, finger, key store, attestation, counter, signer. On USB the host has
+it as fido2's `CtapDevice`: a frame goes in, a response comes out. `answer` is for every transport, and each names its side there."""
 
 import os
 from datetime import datetime
@@ -13,7 +13,7 @@ from cryptography.hazmat.primitives.serialization import Encoding
 from fido2.ctap import CtapDevice
 from fido2.hid import CTAPHID
 
-from panel import Panel, given
+from panel import USB, Panel, given
 
 TOUCH_WINDOW = 5000
 STEP = 100  # milliseconds between one call and the next
@@ -88,6 +88,7 @@ class Device(CtapDevice):
         self.keys = KeyStore()
         self.counter = 1
         self.now = 0
+        self.side = USB  # the panel's own at first
         self.panel = Panel()
         self.panel.call("new", TOUCH_WINDOW)
 
@@ -116,9 +117,17 @@ class Device(CtapDevice):
     def call(self, cmd, data=b"", event=None, on_keepalive=None):
         if cmd != CTAPHID.MSG:
             raise ValueError("a panel takes CTAP1 messages only")
-        return self.answer(data)
+        return self.answer(data, USB)
 
-    def answer(self, frame):
+    def comes_from(self, side):
+        """The next frame does. The panel has one buffer for bodies: what is left there for the other side is not for this one."""
+        if side != self.side:
+            self.side = side
+            self.panel.call("side", side)
+            self.panel.call("remain", 0, 0)
+
+    def answer(self, frame, side):
+        self.comes_from(side)
         now = self.clock()
         key, handle = self.key_for(frame, now)
         decided = self.panel.call("decide", *self.lent(frame, now, key, handle))

@@ -7,9 +7,13 @@ from pathlib import Path
 ROOT = Path(__file__).resolve().parent.parent
 PANEL = os.environ.get("PANEL") or str(ROOT / "firmware" / "run")
 
+# the two sides that share the panel's pad: a transport names its own at every frame
+USB = 0
+WIRELESS = 1
+
 
 class Refusal(Exception):
-    """R1 to R7: the core decided nothing and changed nothing. It is for the firmware; a host never sees it."""
+    """R1 to R8: the core decided nothing and changed nothing. It is for the firmware; a host never sees it."""
 
 
 class Panel:

@@ -14,7 +14,7 @@ from fido2.ctap1 import APDU, ApduError, Ctap1, SignatureData
 
 from building import quietly
 from hardware import HANDLE, Attestation, Device
-from panel import Refusal
+from panel import USB, WIRELESS, Refusal
 from server import ORIGIN, Server, is_known, server_enrolment, server_login
 from wireless import Daemon, Unavailable, laid_on
 
@@ -141,7 +141,7 @@ def wrong_lengths(device):
     for command, data in (ins.VERSION, bytes(1)), (ins.REGISTER, bytes(63)), (ins.AUTHENTICATE, bytes(64)):
         assert status(lambda: client.send_apdu(ins=command, data=data)) == 0x6700
     for frame in "00 03 00 00 00 01", "00 03 00 00 01 aa 00 00":
-        assert device.answer(bytes.fromhex(frame)) == bytes.fromhex("6700")
+        assert device.answer(bytes.fromhex(frame), USB) == bytes.fromhex("6700")
     say("Version, Register and Authenticate with another Lc, bytes missing, bytes too many: 6700")
 
 
@@ -301,6 +301,56 @@ def wireless_fetching(device):
     say("the applet selected anew: 6985")
 
 
+def login_by(device, key):
+    """A login with this key, by this way to the panel, verified; it says its counter."""
+    challenge = os.urandom(32)
+    reply = Ctap1(device).authenticate(challenge, APPLICATION, key.key_handle)
+    reply.verify(APPLICATION, challenge, key.public_key)
+    assert reply.user_presence == 1
+    return reply.counter
+
+
+def asked_by(device, key, side):
+    """A login by this way is told that a finger is needed, and the panel asks for its side."""
+    assert status(lambda: login_by(device, key)) == 0x6985 and device.asks()
+    assert device.record()[4] == str(side)
+
+
+def kept_out(device, key):
+    """A login by this way finds the other side's touch: 6985, the light does not ask, and of the record the last moment alone moves."""
+    held = device.record()
+    assert held[2] != "-" and status(lambda: login_by(device, key)) == 0x6985 and not device.asks()
+    after = device.record()
+    assert after[:3] + after[4:] == held[:3] + held[4:] and after[3] != held[3]
+
+
+def two_sides(wireless):
+    """on USB and by the reader, on one pad: a touch serves the side that asked for it"""
+    usb = wireless.device
+    key = enrolled(usb)
+    asked_by(wireless, key, WIRELESS)
+    assert usb.touch()
+    kept_out(usb, key)
+    assert status(lambda: Ctap1(usb).register(os.urandom(32), APPLICATION)) == 0x6985 and usb.keys.made == 1
+    say("by the reader 6985, a touch; on USB a login and an enrolment: 6985, and the touch is still there")
+    assert login_by(wireless, key) == 1
+    say("by the reader again: 9000, verified by fido2")
+
+    asked_by(wireless, key, WIRELESS)
+    asked_by(usb, key, USB)
+    assert usb.touch()
+    kept_out(wireless, key)
+    assert login_by(usb, key) == 2
+    say("by the reader 6985, then on USB 6985, a touch: by the reader 6985; on USB 9000, verified by fido2")
+
+    asked_by(wireless, key, WIRELESS)
+    assert usb.touch()
+    usb.now += 5000
+    asked_by(usb, key, USB)
+    assert usb.touch() and login_by(usb, key) == 3
+    say("by the reader 6985, a touch, five seconds: on USB 6985, and the light asks; a touch, 9000")
+
+
 CASES = [
     (version, 300),
     (enrolment_and_logins, 300),
@@ -319,12 +369,13 @@ CASES = [
 ]
 
 # by the virtual reader; with a certificate of 600 bytes the enrolment takes four parts
-WIRELESS = [
+BY_READER = [
     (wireless_version, 300),
     (wireless_enrolment_and_logins, 300),
     (wireless_enrolment_and_logins, 600),
     (wireless_changed_replies, 600),
     (wireless_fetching, 300),
+    (two_sides, 300),
 ]
 
 
@@ -351,11 +402,11 @@ def main():
     passed = sum(passes(case, length) for case, length in CASES)
     try:
         with Daemon():
-            passed += sum(passes(case, length, laid_on) for case, length in WIRELESS)
+            passed += sum(passes(case, length, laid_on) for case, length in BY_READER)
     except Unavailable as why:
-        print(f"no wireless reader, so none of {len(WIRELESS)} cases: {why}")
+        print(f"no wireless reader, so none of {len(BY_READER)} cases: {why}")
         say("FAILED")
-    total = len(CASES) + len(WIRELESS)
+    total = len(CASES) + len(BY_READER)
     print(f"peers: {passed} of {total} passed")
     return passed != total
 

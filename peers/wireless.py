@@ -12,7 +12,7 @@ from contextlib import contextmanager
 from fido2.ctap import CtapDevice
 from fido2.pcsc import AID_FIDO, CtapPcscDevice
 
-from panel import given
+from panel import WIRELESS, given
 
 DAEMON = "/usr/sbin/pcscd"
 CONFIG = "/etc/reader.conf.d/vpcd"  # Debian's own: it names reader, driver and port
@@ -117,7 +117,7 @@ class Card(threading.Thread):
 
     def response(self, frame):
         selected = self.selected(frame)
-        return self.device.answer(frame) if selected is None else selected
+        return self.device.answer(frame, WIRELESS) if selected is None else selected
 
     def selected(self, frame):
         """What firmware/reader.h does: applet selection is not the core's. After it nothing is left to fetch."""

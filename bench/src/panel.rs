@@ -31,6 +31,7 @@ pub struct Presence {
     pub prompt: u64,
     pub touch: u64,
     pub last: u64,
+    pub asker: u32,
 }
 
 #[repr(C)]
@@ -105,6 +106,7 @@ pub const ORDER: u16 = 0x0100;
 pub const PART: u16 = 0x0200;
 pub const OK: u16 = 0x9000;
 pub const WRONG_LENGTH: u16 = 0x6700;
+pub const COND_USE_NOT_SATISFIED: u16 = 0x6985;
 pub const BLOCK: usize = 385;
 
 extern "C" {
@@ -126,11 +128,12 @@ extern "C" {
     ) -> Wrote;
     pub fn brinecandle_new(w: u64) -> Made;
     pub fn brinecandle_grant_up(presence: Presence, t: u64) -> Touch;
-    pub fn brinecandle_consume_up(presence: Presence, t: u64) -> Touch;
+    pub fn brinecandle_consume_up(presence: Presence, side: u32, t: u64) -> Touch;
     pub fn brinecandle_is_up_needed(presence: Presence, t: u64) -> Asked;
     pub fn brinecandle_decide(
         frame: *const u8,
         frame_length: usize,
+        side: u32,
         t: u64,
         presence: Presence,
         hardware: Hardware,

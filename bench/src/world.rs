@@ -14,6 +14,9 @@ const ROOM: usize = 1024;
 /// A prompt opens at 0, the finger comes at TOUCH, and the measured call at NOW.
 const TOUCH: u64 = 500;
 const NOW: u64 = 1000;
+/// The side that asked for the touch, and the other one. The Rust knows no sides.
+const ASKER: u32 = 0;
+const OTHER: u32 = 1;
 
 #[derive(Clone, Copy, PartialEq)]
 enum Kind {
@@ -31,6 +34,8 @@ enum Kind {
     Ask,
     /// A command that comes to no signature.
     Answered,
+    /// One of the side that did not ask, at a live touch (document 02, E7): 6985, and the touch stays. The Rust would serve it.
+    KeptOut,
     Register,
     Authenticate,
 }
@@ -150,6 +155,12 @@ impl Row {
             Row::new("register", Kind::Register, Before::Touch, register),
             answered("authenticate-03-untouched", authenticate(3)),
             Row::new("authenticate-03", Kind::Authenticate, Before::Touch, authenticate(3)),
+            Row::new(
+                "authenticate-03-other-side",
+                Kind::KeptOut,
+                Before::Touch,
+                authenticate(3),
+            ),
             answered("authenticate-07", authenticate(7)),
             Row::new("authenticate-08", Kind::Authenticate, Before::Nothing, authenticate(8)),
             answered("authenticate-00", authenticate(0)),
@@ -217,6 +228,8 @@ type Presences = U2fUserPresenceState<Lent>;
 /// The upstream's functions are called through pointers, as the core's are through their symbols: neither is inlined.
 pub struct World {
     row: Row,
+    /// That the measured call names.
+    side: u32,
     presence: Presence,
     hardware: Hardware,
     order: Order,
@@ -243,7 +256,7 @@ impl World {
         let mut env = Lent { now: 0 };
         let mut state = CtapState::new();
         if row.before != Before::Nothing {
-            presence = unsafe { panel::brinecandle_consume_up(presence, 0) }.presence;
+            presence = unsafe { panel::brinecandle_consume_up(presence, ASKER, 0) }.presence;
             state.u2f_up_state.consume_up(&mut env);
         }
         if row.before == Before::Touch {
@@ -266,6 +279,7 @@ impl World {
             remainder,
             said: unsafe { panel::brinecandle_read(row.frame.as_ptr(), row.frame.len()) },
             out: vec![0; row.frame.len()],
+            side: if row.kind == Kind::KeptOut { OTHER } else { ASKER },
             row,
             presence,
             hardware: Hardware {
@@ -316,7 +330,7 @@ impl World {
             ("rust", Kind::Ask) => Some(|w| {
                 (w.needed)(&mut w.state.u2f_up_state, &mut w.env);
             }),
-            ("core" | "decide", Kind::Answered) => Some(|w| drop(w.decided())),
+            ("core" | "decide", Kind::Answered | Kind::KeptOut) => Some(|w| drop(w.decided())),
             ("core", Kind::Register | Kind::Authenticate) => Some(|w| {
                 w.order = w.decided().order;
                 w.finished();
@@ -381,7 +395,7 @@ impl World {
 
     #[inline(always)]
     fn checked(&self) -> Touch {
-        unsafe { panel::brinecandle_consume_up(self.presence, NOW) }
+        unsafe { panel::brinecandle_consume_up(self.presence, self.side, NOW) }
     }
 
     #[inline(always)]
@@ -409,6 +423,7 @@ impl World {
             panel::brinecandle_decide(
                 self.row.frame.as_ptr(),
                 self.row.frame.len(),
+                self.side,
                 NOW,
                 self.presence,
                 self.hardware,
@@ -456,7 +471,8 @@ impl World {
         (self.process)(&mut self.env, self.row.frame, &mut state)
     }
 
-    /// Both sides say the same of the row's frame, but for the old form, where the core has to say 6700; the process ends where they do not.
+    /// Core and Rust say the same of the row's frame, but for the old form, where the core has to say 6700, and for what the Rust has not; the
+    /// process ends where they do not.
     pub fn compare(&mut self) {
         let (core, rust) = match self.row.kind {
             Kind::Read => (self.core_reading(), self.rust_reading()),
@@ -464,6 +480,10 @@ impl World {
             Kind::Write => (self.core_writing(), (panel::OK, self.row.frame.to_vec(), [0, 0])),
             Kind::Next(_) | Kind::Fetch => (self.core_part(), self.whole_part()),
             Kind::Touch | Kind::Check | Kind::Ask => (self.core_presence(), self.rust_presence()),
+            Kind::KeptOut => (
+                self.core_kept_out(),
+                (panel::COND_USE_NOT_SATISFIED, Vec::new(), [0, 1]),
+            ),
             _ => (self.core_answer(), self.rust_answer()),
         };
         assert!(
@@ -540,9 +560,19 @@ impl World {
         };
         let is_live = [
             unsafe { panel::brinecandle_is_up_needed(after, NOW) }.yes,
-            unsafe { panel::brinecandle_consume_up(after, NOW) }.yes,
+            unsafe { panel::brinecandle_consume_up(after, ASKER, NOW) }.yes,
         ];
         (answer, vec![yes.into()], is_live.map(u32::from))
+    }
+
+    /// What the decision says, and whether a prompt and the touch are live after it, for the side that asked.
+    fn core_kept_out(&mut self) -> (u16, Vec<u8>, [u32; 2]) {
+        let decision = self.decided();
+        let is_live = [
+            unsafe { panel::brinecandle_is_up_needed(decision.presence, NOW) }.yes,
+            unsafe { panel::brinecandle_consume_up(decision.presence, ASKER, NOW) }.yes,
+        ];
+        (decision.answer, Vec::new(), is_live.map(u32::from))
     }
 
     fn rust_presence(&mut self) -> (u16, Vec<u8>, [u32; 2]) {

@@ -3,7 +3,7 @@
 //! held to document 02 instead, and counted apart; what the call leaves is compared with upstream's there too. So it is with the old
 //! form, which upstream reads as shape 6 and serves: the panel is held to document 02's E13, 6700 with its pair. Were upstream to decide
 //! on such a frame it could spend a touch or count where the panel does not, so in a history it gets that frame with two bytes more,
-//! which it refuses for the length as well, and at the same point: both sides stay in step.
+//! which it refuses for the length as well, and at the same point: both stay in step. All calls come from side 0 (document 02, E7).
 
 use crate::device::{amended, old_form, read, reading_name, yes_name, Answer, Call, Device, Outcome, Touch, ANSWERS};
 use crate::generate::{all, all_count, boundary, damaged, Aimed, Dice, History, ALL_UP_TO};

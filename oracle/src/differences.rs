@@ -3,7 +3,7 @@
 use crate::device::{Answer, Call, Device, Touch};
 use crate::generate::{frame, ROOM};
 use crate::lent::{Allowed, Counter, Hardware};
-use crate::panel::{next_line, put_call, put_finish, put_strict, Panel};
+use crate::panel::{next_line, put_call, put_finish, put_side, put_strict, Panel};
 use std::io::Write;
 
 #[derive(Clone)]
@@ -13,10 +13,12 @@ struct Difference {
     room: usize,
     /// The last one shows the difference; the others lead up to it.
     calls: Vec<Call>,
-    /// Lines that the panel alone gets after it.
+    /// The side that the panel gets the last one from; the others are of side 0.
+    side: u32,
+    /// Lines that the panel alone gets after it. All differences are shown on one panel: after another side they name side 0 again.
     more: &'static str,
     rust: &'static str,
-    /// The panel's answers to the last call: three to a read (reading, command and strict reading), and one more where
+    /// The panel's answers to the naming of another side, and to the last call: three to a read (reading, command and strict reading), and one more where
     /// upstream came to a signature, to the finish; then those to what it gets alone.
     panel: &'static [&'static str],
 }
@@ -80,6 +82,7 @@ fn show(name: &'static str, calls: Vec<Call>, rust: &'static str, panel: &'stati
         name,
         room: ROOM,
         calls,
+        side: 0,
         more: "",
         rust,
         panel,
@@ -92,6 +95,10 @@ fn within(room: usize, difference: Difference) -> Difference {
 
 fn then(more: &'static str, difference: Difference) -> Difference {
     Difference { more, ..difference }
+}
+
+fn from(side: u32, difference: Difference) -> Difference {
+    Difference { side, ..difference }
 }
 
 fn fresh(frame: Vec<u8>, hardware: Hardware) -> Vec<Call> {
@@ -318,7 +325,7 @@ fn against_upstream() -> Vec<Difference> {
                     command(2, frame(6, [0, 1, 0, 0], &[7; 64], 0), enrolling(64, 300)),
                 ),
                 "9000, 501 bytes, touch spent",
-                &["6700 surplus 71", "R7", "30000 - 1 2"],
+                &["6700 surplus 71", "R7", "30000 - 1 2 0"],
             ),
         ),
         show(
@@ -326,6 +333,42 @@ fn against_upstream() -> Vec<Difference> {
             fresh(frame(6, [0, 0xc0, 0, 0], &[], 1), Hardware::default()),
             "6d00",
             &["6700 surplus 7"],
+        ),
+        from(
+            1,
+            then(
+                "record\nside 0\n",
+                show(
+                    "a check finds the touch that the other side asked for",
+                    after(touched(), Call::Check(2)),
+                    "yes",
+                    &["ok", "no", "30000 - 1 2 0", "ok"],
+                ),
+            ),
+        ),
+        from(
+            1,
+            then(
+                "record\nside 0\n",
+                show(
+                    "an enrolment finds the touch that the other side asked for",
+                    enrol(64, 300),
+                    "9000, 501 bytes, touch spent",
+                    &["ok", "6985", "R7", "30000 - 1 2 0", "ok"],
+                ),
+            ),
+        ),
+        from(
+            2,
+            then(
+                "side 0\n",
+                show(
+                    "a side that there is not",
+                    fresh(version(0), Hardware::default()),
+                    "9000, 6 bytes",
+                    &["ok", "R8", "ok"],
+                ),
+            ),
         ),
         show("a moment of 2^48", vec![Call::New, Call::Check(1 << 48)], "no", &["R1"]),
     ]
@@ -377,9 +420,12 @@ fn lines(difference: &Difference) -> (Vec<u8>, usize, Answer) {
     let mut lines = format!("room {}\n", difference.room).into_bytes();
     let mut answer = Answer::Fresh;
     let mut before = 0;
-    for call in &difference.calls {
+    for (at, call) in difference.calls.iter().enumerate() {
         answer = device.answer(call);
         before = count(&lines);
+        if difference.side != 0 && at + 1 == difference.calls.len() {
+            put_side(&mut lines, difference.side);
+        }
         put_call(&mut lines, call);
     }
     match (difference.calls.last(), &answer) {

@@ -2,7 +2,7 @@
 //! no Rust at hand when it is run. Bytes that nothing looks at count up, so that names can stand for them. Of a 6700 the sample holds
 //! the status alone: upstream does not say what is wrong with the length, so the line ends in ` ..`, which lets the answer go on. Commands
 //! with INS C0 are left out, and so are frames of the old form, read or commanded, which upstream reads as shape 6: upstream's answers to
-//! them are amended (document 02, E2 and E13).
+//! them are amended (document 02, E2 and E13). All calls come from side 0, which a panel begins with (E7).
 
 use crate::device::{amended, old_form, reading_name, yes_name, Answer, Call, Device, Outcome, ANSWERS};
 use crate::generate::{all, all_count, boundary, damaged, frame, hardware, plain, Dice, History, LONG};
