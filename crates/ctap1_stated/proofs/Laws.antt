@@ -15,7 +15,7 @@ use Rattle.ctap1_stated.specs.Table
 use Rattle.ctap1_stated.specs.Table.{Answers}
 use Rattle.ctap1_stated.proofs.Ways.{row}
 pub use Rattle.ctap1_stated.proofs.Theorems.{RefusalChangesNothing, KeepsToItsRole, Demand3OfThePanel}
-pub use Rattle.ctap1_stated.proofs.Theorems.{LimitsExactly as limits-exactly, RemainderExactly as remainder-exactly, RepliesExactly as replies-exactly}
+pub use Rattle.ctap1_stated.proofs.Theorems.{LimitsExactly as limits-exactly, RemainderExactly as remainder-exactly, RepliesExactly as replies-exactly, SideRefusedExactly as side-refused-exactly}
 pub use Rattle.ctap1_stated.proofs.Kept.{panel-keeps}
 pub use Rattle.ctap1_stated.proofs.Ways.{sound}
 pub use Rattle.ctap1_stated.proofs.Ways.{row}

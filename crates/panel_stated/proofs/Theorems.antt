@@ -35,8 +35,8 @@ use Rattle.apdu_stated.proofs.Laws.{data-within}
 use Rattle.command_stated.specs.Command.{Command, commandOf, challengeOf, applicationOf, handleOf}
 use Rattle.command_stated.proofs.Laws.{RegisterExactly, AuthenticateExactly}
 use Rattle.u2f_up_stated.specs.Terms.{BadWindow, BadSide}
-use Rattle.u2f_up_stated.proofs.Theorems.{ChecksExactly}
-use Rattle.ctap1_stated.proofs.Theorems.{SideRefusedExactly}
+use Rattle.u2f_up_stated.proofs.Laws.{checks-exactly}
+use Rattle.ctap1_stated.proofs.Laws.{side-refused-exactly}
 use Rattle.u2f_up_stated.specs.Moments.{newOf, fresh, Told, settleOf, onSettled, touchOf, checkOf}
 use Rattle.u2f_up_stated.specs.declared.Presence.{Presence}
 use Rattle.ctap1_stated.specs.Words.{Inputs, Result}
@@ -356,13 +356,13 @@ SideCrosses = record { checked = checked; decided = decided }
     checked : (n : PresenceRecord) (s t : ℕ) → (answerNo (checkOf (presenceOf n) s t .outcome) ≡ 8) ↔ ((BadWindow (n .w) → ⊥) × BadSide s (n .asker))
     checked n s t =
         let told = AnswerTells .refused (checkOf (presenceOf n) s t .outcome) (Outcomes.check-said (presenceOf n) t s) 8 (omega arith) in
-        let exactly = ChecksExactly .settles s .r8 (presenceOf n) t in
+        let exactly = checks-exactly .settles s .r8 (presenceOf n) t in
         (λ e. exactly .0 (told .0 e), λ b. told .1 (exactly .1 b))
 
     decided : (i : ToDecide) → (decidedNo (decidedBy i .answer) ≡ 8) ↔ ((BadWindow (i .presence .w) → ⊥) × BadSide (i .side) (i .presence .asker))
     decided i =
         let told = DecisionTells .refused (decidedBy i .answer) (Outcomes.decision-said (presenceOf (i .presence)) (i .moment) (inputsOf i)) 8 (omega arith) (omega arith) in
-        let exactly = SideRefusedExactly (presenceOf (i .presence)) (i .moment) (inputsOf i) in
+        let exactly = side-refused-exactly (presenceOf (i .presence)) (i .moment) (inputsOf i) in
         (λ e. exactly .0 (told .0 e), λ b. told .1 (exactly .1 b))
 
 pub RefusalHandsBack : Claims.RefusalHandsBack (λ n t. stepNumbers (touchOf (presenceOf n) t)) (λ n s t. stepNumbers (checkOf (presenceOf n) s t)) saidBy
