@@ -266,7 +266,7 @@ pub record StepNumbers (plain : Told → Stepped) : Type 0 where
   pub status : (s : StatusWord) (p : Presence) → plain (record { outcome = Word s; presence = p }) ≡ record { answer = s .number; yes = false; presence = presenceNumbers p }
   pub given : (b : Bool) (p : Presence) → plain (record { outcome = Gives b; presence = p }) ≡ record { answer = 0x9000; yes = b; presence = presenceNumbers p }
 
--- 01: "a refused making hands back no record": four zeros, which no call takes, since W is 0. A making that hands back a fresh record
+-- 01: "a refused making hands back no record": five zeros, which no call takes, since W is 0. A making that hands back a fresh record
 -- beside its refusal (`madeBesideRefusal`) fails it, as does one that never hands one back (`madeWithoutRecord`).
 pub record MadeNumbers (plain : Outcome Presence → Made) : Type 0 where
   pub refused : (n : ℕ) → plain (R n) ≡ record { answer = n; presence = record { w = 0; prompt = 0; touch = 0; last = 0; asker = 0 } }
