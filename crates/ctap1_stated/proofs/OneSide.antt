@@ -71,9 +71,9 @@ module _ (s : ℕ) (one : s ≤ 1) (p : Presence) (mine : Mine s p) (t : ℕ) wh
 
   pub decision-same : (a : Inputs) → a .side ≡ s → sidelessResult (decisionOf p t a) ≡ baseDecisionOf (sideless p) t a
   unfolding decisionOf baseDecisionOf
-  decision-same a e = ap (λ (j : ℕ). sidelessResult (onSettledBy (λ q. checkedOf q j t) p (pathOf a) (settleOf p j t))) e ∙ by (settled-same s one p mine t)
+  decision-same a e = ap (λ (j : ℕ). sidelessResult (onSettledBy (λ q. checkedOf q j t) p (pathOf a) (settleOf p j t))) e ∙ by (settled-same s one p mine t s one)
     where
-      by : SettledSame s one p mine t
+      by : SettledSame s one p mine t s
           → sidelessResult (onSettledBy (λ q. checkedOf q s t) p (pathOf a) (settleOf p s t)) ≡ onSettledBy (λ q. baseCheckedOf q t) (sideless p) (pathOf a) (baseSettleOf (sideless p) t)
       by (refusing n x y) = rw (x, y)
       by (moving x y) = rw (x, y) (along-same (pathOf a))

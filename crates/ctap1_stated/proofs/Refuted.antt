@@ -222,6 +222,15 @@ servesOtherInARun d =
     let k = d .own 1000 (omega arith) (omega arith) (TouchAt 1 ∷ CheckAt 1 0 ∷ []) 2 a (refl, says) in
     omega (arith, ap sideAsked (k .1), k .3)
 
+-- USB gets 6985 at 2, and the touch with it: an order at 3
+pub otherSideTakesInARun : Claims.OrdersHaveTheirTouch Wrong.otherSideTakes → ⊥
+unfolding decisionOf pathOf allowedPath commandPath versionPath registerPath loginPath registerEnding countedEnding settleOf checkedOf after history latestPrompt latestTouch unspent touchOf checkOf grantedOf commandOf onReading byInstruction authenticateOf readBy sayOf lengthsOf shortOf extendedOf afterData dataOf partOf
+otherSideTakesInARun d =
+    let a = lent (signFrame 0x03) works [] 77 in
+    let says : SaysPresent (authenticateOrdered a (saidOf 0x02 0x03 3 65 5) true 7) = inr (kind-is a 0x03 (saidOf 0x02 0x03 3 65 5) true 7 read-03, presence-is a 0x03 (saidOf 0x02 0x03 3 65 5) true 7 read-03) in
+    let k = d .own 1000 (omega arith) (omega arith) (DecideAt 2 a ∷ TouchAt 1 ∷ CheckAt 1 0 ∷ []) 3 a (refl, says) in
+    omega (arith, ap sideAsked (k .1), k .3)
+
 -- the record after a decision that keeps to the table
 differ-record : (f : Decider) → Claims.DecidesExactly f → (p : Presence) (t : ℕ) (a : Inputs) → decisionOf p t a .presence ≡ f p t a .presence
 differ-record f F p t a = ap (λ (r : Result). r .presence) (sound p t a (f p t a) (F p t a))
@@ -253,13 +262,17 @@ pub r8AfterR1 : Claims.SideRefusedExactly Wrong.r8AfterR1 → ⊥
 unfolding decisionOf settleOf
 r8AfterR1 d = omega (arith, r-same 1 8 (d (fresh 1000) (2 ^ 48) (onSide 2 (lent versionFrame works [] 6)) .1 (⊎-elim (λ z. omega arith) (λ z. omega arith), inl (omega arith))))
 
-pub versionFirst : Claims.SideRefusedExactly Wrong.versionFirst → ⊥
+pub versionUnasked : Claims.SideRefusedExactly Wrong.versionUnasked → ⊥
 unfolding decisionOf pathOf allowedPath commandPath versionPath settleOf commandOf onReading byInstruction versionOf readBy sayOf lengthsOf shortOf extendedOf afterData
-versionFirst d = r-gives 8 _ (sym (d (fresh 1000) 0 (onSide 2 (lent versionFrame works [] 6)) .1 (⊎-elim (λ z. omega arith) (λ z. omega arith), inl (omega arith))))
+versionUnasked d = r-gives 8 _ (sym (d (fresh 1000) 0 (onSide 2 (lent versionFrame works [] 6)) .1 (⊎-elim (λ z. omega arith) (λ z. omega arith), inl (omega arith))))
+
+pub checkOnlyUnasked : Claims.SideRefusedExactly Wrong.checkOnlyUnasked → ⊥
+unfolding decisionOf pathOf allowedPath commandPath loginPath settleOf commandOf onReading byInstruction authenticateOf readBy sayOf lengthsOf shortOf extendedOf afterData dataOf partOf
+checkOnlyUnasked d = r-word 8 _ (sym (d (fresh 1000) 0 (onSide 2 (lent (signFrame 0x07) works [] 0)) .1 (⊎-elim (λ z. omega arith) (λ z. omega arith), inl (omega arith))))
 
 -- what stands for the base looks at the side after all
 pub baseAsksWhose : Claims.BaseDecidesExactly Wrong.baseAsksWhose → ⊥
-unfolding decisionOf pathOf allowedPath commandPath versionPath registerPath loginPath registerEnding countedEnding settleOf checkedOf
+unfolding pathOf allowedPath commandPath versionPath registerPath loginPath registerEnding countedEnding baseSettleOf baseCheckedOf
 baseAsksWhose d =
     word-gives (plainWord 0x6985) Ordered (rw read-03 at (ap (λ (r : Result). r .answer) (d .any-side held 7 (lent (signFrame 0x03) works [] 77) 1)))
 
@@ -324,6 +337,11 @@ fetching r partRoom = record { side = 0; frame = fetchFrame; hardware = works; n
 fetch-read : commandOf fetchFrame ≡ Gives GetResponse
 unfolding commandOf onReading byInstruction getResponseOf readBy sayOf lengthsOf shortOf extendedOf afterData
 fetch-read = refl
+
+-- a C0 of side 2
+pub fetchUnasked : Claims.SideRefusedExactly Wrong.fetchUnasked → ⊥
+unfolding decisionOf pathOf allowedPath commandPath settleOf fetchPath nextPartOf frameLimit limitOf partLength commandOf onReading byInstruction getResponseOf readBy sayOf lengthsOf shortOf extendedOf afterData
+fetchUnasked d = r-gives 8 _ (sym (d (fresh 1000) 0 (onSide 2 (fetching (rest 1 2) 4)) .1 (⊎-elim (λ z. omega arith) (λ z. omega arith), inl (omega arith))))
 
 pub fetchPrompts : Claims.DecidesExactly Wrong.fetchPrompts → ⊥
 unfolding decisionOf pathOf allowedPath commandPath versionPath registerPath loginPath registerEnding countedEnding settleOf checkedOf fetchPath nextPartOf frameLimit limitOf partLength commandOf onReading byInstruction getResponseOf readBy sayOf lengthsOf shortOf extendedOf afterData
@@ -550,6 +568,11 @@ pub ordersAloneSpend : Claims.Demand3OfThePanel Wrong.ordersAloneSpend → ⊥
 unfolding decisionOf pathOf allowedPath commandPath versionPath registerPath loginPath registerEnding countedEnding settleOf checkedOf after history foretold unspent lastMoment touchOf checkOf grantedOf
 ordersAloneSpend d =
     found-not (sym (rw register-read at (d 1000 (omega arith) (omega arith) (TouchAt 1 ∷ CheckAt 0 0 ∷ []) .foretells (DecideAt 2 (lent registerFrame notStored [] 139)))))
+
+-- side 1's P1 03 at 0, said to be side 0's; the touch at 1; side 0 at 2 finds nothing, and its history says that it should
+pub sideLost : Claims.Demand3OfThePanel Wrong.sideLost → ⊥
+unfolding decisionOf pathOf allowedPath commandPath versionPath registerPath loginPath registerEnding countedEnding settleOf checkedOf after history foretold unspent latestPrompt lastMoment touchOf grantedOf commandOf onReading byInstruction authenticateOf readBy sayOf lengthsOf shortOf extendedOf afterData dataOf partOf
+sideLost d = found-not (sym (d 1000 (omega arith) (omega arith) (TouchAt 1 ∷ DecideAt 0 other ∷ []) .foretells (DecideAt 2 (lent (signFrame 0x03) works [] 77))))
 
 -- ---- the hardware's answers
 pub unknownIsAllowed : Claims.AllowedNumbers Wrong.unknownIsAllowed → ⊥

@@ -46,7 +46,7 @@ pub record OrdersNeedATouch (decide : Decider) : Type 0 where
 -- And over a history, E7's headline: "a Register order, or an order whose presence byte is 01, made for a side has its own accepted touch of
 -- that side, and no two orders share one". It is the latest accepted one before it, it was live, and no other was. A decision that does
 -- not spend the touch (`touchKept`) fails it: two orders within W, one touch; one that serves the other side (`servesOther`) fails it
--- where wireless asked, a finger touched, and USB gets an order.
+-- where wireless asked, a finger touched, and USB gets an order, and so does one that gives USB the touch at its 6985 (`otherSideTakes`).
 pub record OrdersHaveTheirTouch (decide : Decider) : Type 0 where
   pub own : (w : ℕ) → 0 < w → w ≤ 60000 → (earlier : List PanelCall) (t : ℕ) (a : Inputs) → OrdersPresent (decide (after (callsWith decide) w earlier) t a)
       → (k : Mark) × (serverOf w (history (callsWith decide) w earlier) ≡ some k) × (heldAt w (history (callsWith decide) w earlier) t ≡ k ∷ []) × (k .side ≡ a .side)
@@ -68,8 +68,8 @@ abbrev pub DecidesExactly : Decider → Type 0
 DecidesExactly decide = (p : Presence) (t : ℕ) (a : Inputs) → Answers p t a (decide p t a)
 
 -- 02, E7: "R8 for a side other than 0 or 1, named or in the record, after R6 and before R1"; E7's request: "R8 is asked at every decision:
--- Version, check-only and C0 too". So it comes exactly then, whatever the frame, the moment and the rest that is lent. A decision that answers
--- Version first (`versionFirst`) fails it, and one that gives R1 first (`r8AfterR1`).
+-- Version, check-only and C0 too". So it comes exactly then, whatever the frame, the moment and the rest that is lent. A decision that does
+-- not ask it of a Version (`versionUnasked`), a check-only (`checkOnlyUnasked`) or a C0 (`fetchUnasked`) fails it, and one that gives R1 first (`r8AfterR1`).
 abbrev pub SideRefusedExactly : Decider → Type 0
 SideRefusedExactly decide = (p : Presence) (t : ℕ) (a : Inputs) → (decide p t a .answer ≡ R 8) ↔ ((BadWindow (p .w) → ⊥) × BadSide (a .side) (p .asker))
 
@@ -205,7 +205,7 @@ KeepsToItsRole decide = Keeps (callsWith decide)
 -- back, for any sequence of calls. The sentences stand in u2f_up's specs/Demand.antt; what a decision is to the record is
 -- `roleOf`, and what is seen of it `seen`.
 -- A 6985 from P1 07 that counts as a prompting refusal (`checkOnlyAsCheck`) fails it, as do one from a C0 that does (`fetchAsCheck`) and a touch seen to be spent by orders
--- alone (`ordersAloneSpend`).
+-- alone (`ordersAloneSpend`), and decisions that are all taken for side 0's (`sideLost`).
 abbrev pub Demand3OfThePanel : Caller PanelCall → Type 0
 Demand3OfThePanel 𝒞 = Up.Demand3 𝒞
 

@@ -1,13 +1,14 @@
 -- Wrong programs, each with one fault. proofs/Refuted.antt shows of each that a claim is false of it.
 use Prim.Native.Nat.{_-_, _%_}
+use mathlib.Core.Bool.{_&&_}
 use lib.Dec.{leb}
 use mathlib.Core.List.{_++_}
 use lib.ListN.{take, drop}
 use Rattle.ctap1_stated.specs.Words.{ℕ, _+_, Bool, true, false, not, List, [], _∷_, ltb, eqb, length, if_then_else_, StatusWord, Outcome, R, Word, SW, Gives, plainWord}
 use Rattle.ctap1_stated.specs.Words.{Presence, Order, Inputs, Hardware, HardwareSaid, Allowed, Attestation, Counter, Remainder, rest, Given, Body, Ordered, Part, Result, isPresent}
 use Rattle.ctap1_stated.specs.Numbers.{allowedOf, attestationOf, hardwareOf}
-use Rattle.ctap1_stated.specs.Path.{Ending, Internal, WrongData, Orders, Path, NoRoom, Ends, Status, SixBytes, Fetches, Signs, Touch, registerOrdered, registerEnding, countedEnding, registerPath, authenticatePath, frameLimit, commandPath, pathOf}
-use Rattle.ctap1_stated.specs.Decision.{refusalResult, wordResult, statusResult, ended, alongBy, along, onMoment, decisionOf}
+use Rattle.ctap1_stated.specs.Path.{Ending, Internal, WrongData, Orders, Path, NoRoom, Ends, Status, SixBytes, Fetches, Signs, Touch, registerOrdered, registerEnding, countedEnding, registerPath, authenticatePath, frameLimit, commandPath, pathOf, roleOfPath}
+use Rattle.ctap1_stated.specs.Decision.{refusalResult, wordResult, statusResult, ended, alongBy, along, onSettledBy, onMoment, decisionOf}
 use Rattle.ctap1_stated.specs.Session.{asksOn}
 use Rattle.ctap1_stated.specs.Calls.{PanelCall, TouchAt, CheckAt, AskAt, DecideAt, callOf, panelDoes, toldBy}
 use Rattle.ctap1_stated.specs.Terms.{Decider, onSide}
@@ -22,6 +23,7 @@ use Rattle.command_stated.specs.Command.{Command, Register, Authenticate, Versi
 use Rattle.u2f_up_stated.specs.Moments.{Told, isLive, isR6, isR1, settleOf, checkedOf, touchClosed, promptOpened}
 use Rattle.u2f_up_stated.specs.History.{Role, Checking, Settling, Short, Call}
 use Rattle.u2f_up_stated.specs.Runs.{Caller}
+use Rattle.u2f_up_stated.specs.OneSide.{baseSettleOf, baseCheckedOf}
 use Rattle.u2f_up_stated.specs.declared.Finding.{Finding}
 use Rattle.signing_stated.specs.Orders.{blankOrder, registerOrderOf, authenticateOrderOf}
 
@@ -310,21 +312,46 @@ r8AfterR1 p t a =
     else if isR1 (p .last) t then refusalResult 1 p
     else decisionOf p t a
 
--- "R8 is asked at every decision: Version .. too": a Version names no side
-abbrev asVersion : Inputs → Path → Inputs
-asVersion a NoRoom = a
-asVersion a (Ends s) = a
-asVersion a SixBytes = onSide 0 a
-asVersion a (Fetches sent) = a
-asVersion a (Signs e) = a
-asVersion a (Touch e) = a
+-- "R8 is asked at every decision: Version, check-only and C0 too": such a frame is decided as side 0's, whichever it names
+abbrev unaskedAt : (Path → Bool) → Decider
+unaskedAt test p t a = decisionOf p t (if test (pathOf a) then onSide 0 a else a)
 
-abbrev pub versionFirst : Decider
-versionFirst p t a = decisionOf p t (asVersion a (pathOf a))
+abbrev isSixBytes : Path → Bool
+isSixBytes NoRoom = false
+isSixBytes (Ends s) = false
+isSixBytes SixBytes = true
+isSixBytes (Fetches sent) = false
+isSixBytes (Signs e) = false
+isSixBytes (Touch e) = false
 
--- what stands for the base: it asks whose the touch is
+abbrev is6985 : Path → Bool
+is6985 NoRoom = false
+is6985 (Ends s) = eqb (s .number) 0x6985
+is6985 SixBytes = false
+is6985 (Fetches sent) = false
+is6985 (Signs e) = false
+is6985 (Touch e) = false
+
+abbrev isFetching : Path → Bool
+isFetching NoRoom = false
+isFetching (Ends s) = false
+isFetching SixBytes = false
+isFetching (Fetches sent) = true
+isFetching (Signs e) = false
+isFetching (Touch e) = false
+
+abbrev pub versionUnasked : Decider
+versionUnasked = unaskedAt isSixBytes
+
+abbrev pub checkOnlyUnasked : Decider
+checkOnlyUnasked = unaskedAt is6985
+
+abbrev pub fetchUnasked : Decider
+fetchUnasked = unaskedAt isFetching
+
+-- what stands for the base: the touch check asks whose the touch is
 abbrev pub baseAsksWhose : Decider
-baseAsksWhose = decisionOf
+baseAsksWhose p t a = onSettledBy (λ q. if isLive (q .touch) (q .w) t && not (eqb (q .asker) (a .side)) then record { yes = false; presence = q } else baseCheckedOf q t) p (pathOf a) (baseSettleOf p t)
 
 -- ---- another reply
 -- "the six bytes 55 32 46 5F 56 32": U2F_V1
@@ -494,6 +521,10 @@ roleOfTouch side (Touch e) = Settling side
 
 abbrev pub touchAsOther : Caller PanelCall
 touchAsOther = callsBy roleOfTouch
+
+-- 02, E7: "every decision .. names its side": each is taken for side 0's
+abbrev pub sideLost : Caller PanelCall
+sideLost = record { asCall = rolesBy (λ side x. roleOfPath 0 x); does = doesBy (λ side x r. toldBy (roleOfPath 0 x) r) }
 
 -- "A call spends a touch if the check succeeds, also when a later step answers 6f00 or 6a80": seen to spend by orders alone
 abbrev orderSeen : Outcome Given → Outcome Bool

@@ -34,7 +34,7 @@ use Rattle.ctap1_stated.specs.Calls.{panelCalls}
 use Rattle.ctap1_stated.specs.OneSide.{baseDecisionOf}
 use Rattle.panel_stated.specs.Claims as Panel
 use Rattle.panel_stated.specs.Numbers.{presenceOf, presenceNumbers}
-use Rattle.panel_stated.specs.Exports.{madeNumbers, stepNumbers, saidBy, frameNumbers, commandNumbers, readsOf, writesOf, decidesOf, nextsOf, respondsOf}
+use Rattle.panel_stated.specs.Exports.{madeNumbers, askedNumbers, stepNumbers, saidBy, frameNumbers, commandNumbers, readsOf, writesOf, decidesOf, nextsOf, respondsOf}
 
 -- 1. "Every frame, moment, answer and buffer length gets an answer. Nothing is asked of the caller beforehand." Every function ends and
 -- meets its contract on every input: the check of its crate. That none has a `requires`: the gate's look at the contracts.
@@ -73,7 +73,7 @@ pub record EveryInputIsAnswered : Type 0 where
   pub decision : Decision.DecidesExactly decisionOf
   -- 02, E7: R8 at every decision, and over plain numbers for every number that is no side's, as it was lent
   pub sides-refused : Decision.SideRefusedExactly decisionOf
-  pub sides-cross : Panel.SideCrosses (λ n s t. stepNumbers (checkOf (presenceOf n) s t)) decidesOf
+  pub sides-cross : Panel.SideCrosses (λ n t. stepNumbers (touchOf (presenceOf n) t)) (λ n t. askedNumbers (askOf (presenceOf n) t .outcome)) (λ n s t. stepNumbers (checkOf (presenceOf n) s t)) decidesOf
   -- R7, R4, R2, 6f00, R3 and the bodies of finishing
   pub finishing : Signing.FinishesExactly endOf
   -- "and leaves buffers and records as stated"
@@ -166,8 +166,8 @@ pub record AsTheDocumentsSay : Type 0 where
 pub record TouchesAreAsTheHistorySays : Type 1 where
   -- (decisions on C0 among them: 02, E2, "demand 3 is unchanged")
   -- "a call that reaches the touch check finds a touch exactly when history holds an accepted one, unspent and younger than the
-  -- touch window. No touch serves two calls. Touches accepted = calls that spent one + lapsed touches + at most one still live"; 02, E7: "a touch
-  -- of its own side, totals kept per side"
+  -- touch window. No touch serves two calls. Touches accepted = calls that spent one + lapsed touches + at most one still live"; 02, E7: 'a touch
+  -- of its own side', "totals kept per side"
   pub over-every-run : Decision.Demand3OfThePanel panelCalls
   -- a decision does nothing else to a record, whatever record is lent
   pub decisions-keep : Decision.KeepsToItsRole decisionOf

@@ -16,7 +16,7 @@ use Rattle.apdu_stated.specs.Reading.{readBy, lengthsOf, sayOf, shortOf, extend
 use Rattle.u2f_up_stated.specs.History.{Call, Checking}
 use Rattle.u2f_up_stated.specs.Runs.{own, after, doneBy}
 use Rattle.panel_stated.specs.Terms.{numbersAfter, nought, retired, above}
-use Rattle.u2f_up_stated.specs.Moments.{checkOf, settleOf, checkedOf, fresh, movedTo}
+use Rattle.u2f_up_stated.specs.Moments.{touchOf, checkOf, askOf, settleOf, grantedOf, checkedOf, fresh, movedTo}
 use Rattle.u2f_up_stated.specs.declared.Window.the-variants.{Closed, Opened}
 use Rattle.u2f_up_stated.specs.declared.Presence.{Presence}
 use Rattle.ctap1_stated.specs.Words.{Ordered, Part, Result}
@@ -37,7 +37,7 @@ use Rattle.signing_stated.specs.Finishing.{finishOf}
 use Rattle.signing_stated.specs.declared.Kind.the-variants as Kind′
 use Rattle.panel_stated.specs.Words.{Ordinary, Strict, Instruction, Lc3DataLe2, Window, Made, PresenceRecord, OrderNumbers, FrameSaid, CommandSaid, Wrote, Stepped, Asked, Order, ResponseSaid, PartSaid, HardwareSaid, Remainder}
 use Rattle.panel_stated.specs.Numbers.{answerNo, decidedNo, presenceOf, presenceNumbers, shapeOf, kindOf}
-use Rattle.panel_stated.specs.Exports.{ToWrite, ToDecide, writeNumbered, finishNumbered, saidBy, stepNumbers, decidesOf, statedOf, commandNumbers}
+use Rattle.panel_stated.specs.Exports.{ToWrite, ToDecide, writeNumbered, finishNumbered, saidBy, askedNumbers, stepNumbers, decidesOf, statedOf, commandNumbers}
 use Rattle.panel_stated.specs.Claims
 use Rattle.panel_stated.specs.Wrong
 use Rattle.panel_stated.specs.declared.Kinded.the-variants as Kinded′
@@ -406,12 +406,22 @@ askedBy256 = record { w = 5000; prompt = 0; touch = 0; last = 0; asker = 256 }
 pub askerCut : Claims.RecordNumbers Wrong.askerCut → ⊥
 askerCut d = omega (arith, d .asker askedBy256)
 
-pub sideCutInCheck : Claims.SideCrosses Wrong.sideCutInCheck decidesOf → ⊥
+abbrev touch : PresenceRecord → ℕ → Stepped
+touch n t = stepNumbers (touchOf (presenceOf n) t)
+
+abbrev ask : PresenceRecord → ℕ → Asked
+ask n t = askedNumbers (askOf (presenceOf n) t .outcome)
+
+pub touchAnySide : Claims.SideCrosses Wrong.touchAnySide ask (λ n s t. stepNumbers (checkOf (presenceOf n) s t)) decidesOf → ⊥
+unfolding touchOf settleOf grantedOf
+touchAnySide d = let z : _≡_ {A = ℕ} 0x9000 8 = d .touched askedBy256 0 .1 (⊎-elim (λ z. omega arith) (λ z. omega arith), omega arith) in omega arith
+
+pub sideCutInCheck : Claims.SideCrosses touch ask Wrong.sideCutInCheck decidesOf → ⊥
 unfolding checkOf settleOf checkedOf
 sideCutInCheck d = let z : _≡_ {A = ℕ} 0x9000 8 = d .checked zeroed 256 0 .1 (⊎-elim (λ z. omega arith) (λ z. omega arith), inl (omega arith)) in omega arith
 
--- three bytes from side 256
-pub sideCutInDecide : Claims.SideCrosses (λ n s t. stepNumbers (checkOf (presenceOf n) s t)) Wrong.sideCutInDecide → ⊥
+-- no byte at all, from side 256
+pub sideCutInDecide : Claims.SideCrosses touch ask (λ n s t. stepNumbers (checkOf (presenceOf n) s t)) Wrong.sideCutInDecide → ⊥
 unfolding decisionOf pathOf allowedPath commandPath settleOf commandOf onReading readBy allowedOf
 sideCutInDecide d =
     let z : _≡_ {A = ℕ} 0x6a80 8 = d .decided (record { frame = []; side = 256; moment = 1; presence = touched; hardware = hardware 1; newHandle = []; certificate = []; x = []; y = []; reply = []; block = []; remainder = rest 0 0; part = [] }) .1 (⊎-elim (λ z. omega arith) (λ z. omega arith), inl (omega arith)) in

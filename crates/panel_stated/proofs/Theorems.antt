@@ -1,7 +1,7 @@
 -- The definitions meet the claims of specs/Claims.antt, each under the claim's own name.
 use Prim.Native.Nat.{ℕ, zero, suc, _≤_, _<_, _^_, _+_}
 use mathlib.Core.Path.{_≡_, refl, ap, sym, subst, _∙_}
-use mathlib.Core.Logic.{_↔_, _⊎_, inl, inr}
+use mathlib.Core.Logic.{_↔_, _⊎_, inl, inr, ⊎-elim}
 use native.Mathlib.Omega.{arith}
 use borrow.Author.Tests.{ne-eqb, le-ltb}
 use lib.ListN.{length}
@@ -35,9 +35,9 @@ use Rattle.apdu_stated.proofs.Laws.{data-within}
 use Rattle.command_stated.specs.Command.{Command, commandOf, challengeOf, applicationOf, handleOf}
 use Rattle.command_stated.proofs.Laws.{RegisterExactly, AuthenticateExactly}
 use Rattle.u2f_up_stated.specs.Terms.{BadWindow, BadSide}
-use Rattle.u2f_up_stated.proofs.Laws.{checks-exactly}
+use Rattle.u2f_up_stated.proofs.Laws.{touches-exactly, checks-exactly, asks-exactly}
 use Rattle.ctap1_stated.proofs.Laws.{side-refused-exactly}
-use Rattle.u2f_up_stated.specs.Moments.{newOf, fresh, Told, settleOf, onSettled, touchOf, checkOf}
+use Rattle.u2f_up_stated.specs.Moments.{newOf, fresh, Told, settleOf, onSettled, touchOf, checkOf, askOf}
 use Rattle.u2f_up_stated.specs.declared.Presence.{Presence}
 use Rattle.ctap1_stated.specs.Words.{Inputs, Result}
 use Rattle.ctap1_stated.specs.Session.{remainderLeft}
@@ -350,14 +350,21 @@ remainder-kept a r (Gives (Body n)) e h low high = absurd (omega arith)
 remainder-kept a r (Gives Ordered) e h low high = absurd (omega arith)
 remainder-kept a r (Gives (Part n k)) e h low high = absurd (omega arith)
 
-pub SideCrosses : Claims.SideCrosses (λ n s t. stepNumbers (checkOf (presenceOf n) s t)) decidesOf
-SideCrosses = record { checked = checked; decided = decided }
+pub SideCrosses : Claims.SideCrosses (λ n t. stepNumbers (touchOf (presenceOf n) t)) (λ n t. askedNumbers (askOf (presenceOf n) t .outcome)) (λ n s t. stepNumbers (checkOf (presenceOf n) s t)) decidesOf
+SideCrosses = record {
+  touched = λ n t. unnamed n (touchOf (presenceOf n) t .outcome) (Outcomes.touch-said (presenceOf n) t) (touches-exactly .settles .r8 (presenceOf n) t);
+  asked = λ n t. unnamed n (askOf (presenceOf n) t .outcome) (Outcomes.ask-said (presenceOf n) t) (asks-exactly .settles .r8 (presenceOf n) t);
+  checked = λ n s t. through (checkOf (presenceOf n) s t .outcome) (Outcomes.check-said (presenceOf n) t s) (checks-exactly .settles s .r8 (presenceOf n) t);
+  decided = decided;
+}
   where
-    checked : (n : PresenceRecord) (s t : ℕ) → (answerNo (checkOf (presenceOf n) s t .outcome) ≡ 8) ↔ ((BadWindow (n .w) → ⊥) × BadSide s (n .asker))
-    checked n s t =
-        let told = AnswerTells .refused (checkOf (presenceOf n) s t .outcome) (Outcomes.check-said (presenceOf n) t s) 8 (omega arith) in
-        let exactly = checks-exactly .settles s .r8 (presenceOf n) t in
-        (λ e. exactly .0 (told .0 e), λ b. told .1 (exactly .1 b))
+    -- the number 8 is R8
+    through : {A : Type 0} (o : Outcome Bool) → IsNumbered o → (o ≡ R 8) ↔ A → (answerNo o ≡ 8) ↔ A
+    through o said exactly = let told = AnswerTells .refused o said 8 (omega arith) in (λ e. exactly .0 (told .0 e), λ b. told .1 (exactly .1 b))
+
+    -- what names no side counts as naming the record's
+    unnamed : (n : PresenceRecord) (o : Outcome Bool) → IsNumbered o → (o ≡ R 8) ↔ ((BadWindow (n .w) → ⊥) × BadSide (n .asker) (n .asker)) → (answerNo o ≡ 8) ↔ ((BadWindow (n .w) → ⊥) × (1 < n .asker))
+    unnamed n o said exactly = let x = through o said exactly in (λ e. (x .0 e .0, ⊎-elim (λ h. h) (λ h. h) (x .0 e .1)), λ b. x .1 (b .0, inl (b .1)))
 
     decided : (i : ToDecide) → (decidedNo (decidedBy i .answer) ≡ 8) ↔ ((BadWindow (i .presence .w) → ⊥) × BadSide (i .side) (i .presence .asker))
     decided i =

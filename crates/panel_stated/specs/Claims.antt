@@ -130,9 +130,12 @@ pub record RefusalHandsBack (touch : PresenceRecord → ℕ → Stepped) (check 
   pub decided : (i : ToDecide) → AreOf64Bits (i .presence) → 1 ≤ decide i .answer → decide i .answer ≤ lastRefusal → (decide i .presence ≡ i .presence) × (decide i .remainder ≡ i .remainder)
 
 -- 02, E7: "R8 for a side other than 0 or 1, named or in the record"; its request: "The side crosses as a number wide enough that 256 or -1 in C is
--- not cut down to a valid one". So a check and a decision answer 8 exactly for such a number, as it was lent, once W is right. An export that
--- looks at 8 bits of the side (`sideCutInCheck`, `sideCutInDecide`) fails it, at 256.
-pub record SideCrosses (check : PresenceRecord → (side t : ℕ) → Stepped) (decide : ToDecide → AfterDeciding) : Type 0 where
+-- not cut down to a valid one". So a check and a decision answer 8 exactly for such a number, as it was lent, once W is right; touch and ask, which name
+-- none, exactly for the record's. An export that looks at 8 bits of the side (`sideCutInCheck`, `sideCutInDecide`) fails it, at 256, and a touch that does
+-- not look at the record's (`touchAnySide`).
+pub record SideCrosses (touch : PresenceRecord → ℕ → Stepped) (ask : PresenceRecord → ℕ → Asked) (check : PresenceRecord → (side t : ℕ) → Stepped) (decide : ToDecide → AfterDeciding) : Type 0 where
+  pub touched : (n : PresenceRecord) (t : ℕ) → (touch n t .answer ≡ 8) ↔ ((BadWindow (n .w) → ⊥) × (1 < n .asker))
+  pub asked : (n : PresenceRecord) (t : ℕ) → (ask n t .answer ≡ 8) ↔ ((BadWindow (n .w) → ⊥) × (1 < n .asker))
   pub checked : (n : PresenceRecord) (s t : ℕ) → (check n s t .answer ≡ 8) ↔ ((BadWindow (n .w) → ⊥) × BadSide s (n .asker))
   pub decided : (i : ToDecide) → (decide i .said .answer ≡ 8) ↔ ((BadWindow (i .presence .w) → ⊥) × BadSide (i .side) (i .presence .asker))
 

@@ -2,7 +2,7 @@
 -- its claim.
 use Rattle.panel_stated.specs.Words.{ℕ, _+_, Bool, true, false, eqb, List, if_then_else_, StatusWord, Outcome, R, Word, Gives, Window, Closed, Opened, Presence, Order, Instruction, Lc3DataLe2}
 use Rattle.panel_stated.specs.Words.{DecisionSaid, PresenceRecord, OrderNumbers, FrameSaid, CommandSaid, Wrote, Made, Stepped, Asked, ResponseSaid, PartSaid, Shaped, Kinded}
-use Rattle.panel_stated.specs.Words.{Says, Command, Register, Authenticate, Version, GetResponse, Told, checkOf, Result, Given, Body, Ordered, Part, toSign, certificateLength, Remainder, rest, Response, Sent}
+use Rattle.panel_stated.specs.Words.{Says, Command, Register, Authenticate, Version, GetResponse, Told, touchOf, checkOf, Result, Given, Body, Ordered, Part, toSign, certificateLength, Remainder, rest, Response, Sent}
 use Rattle.panel_stated.specs.Numbers.{greatestNo, windowOf, presenceOf, presenceNumbers, shapeOf, kindOf}
 use Rattle.panel_stated.specs.Exports.{ToFinish, finishNumbered, frameNumbers, commandNumbers, lengthNumbers, madeNumbers, askedNumbers, orderAfter, decisionNumbers, stepNumbers, responseNumbers, partNumbers, statedOf}
 use Rattle.panel_stated.specs.Words.{Entry, Ordinary, Strict}
@@ -75,10 +75,14 @@ greatestIsClosed n = record { w = n .w; prompt = unlessGreatest (n .prompt); tou
 abbrev pub refusedMoves : PresenceRecord → ℕ → Stepped
 refusedMoves n t = record { answer = 1; yes = false; presence = record { w = n .w; prompt = n .prompt; touch = n .touch; last = t; asker = n .asker } }
 
--- 02, E7: "wide enough that 256 or -1 in C is not cut down to a valid one": 8 bits of a side are looked at, in the record, in a check, in a
+-- E7's request: "wide enough that 256 or -1 in C is not cut down to a valid one": 8 bits of a side are looked at, in the record, in a check, in a
 -- decision
 abbrev pub askerCut : PresenceRecord → Presence
 askerCut n = record { w = n .w; prompt = windowOf (n .prompt); touch = windowOf (n .touch); last = n .last; asker = n .asker % 256 }
+
+-- "named or in the record": a touch takes any record
+abbrev pub touchAnySide : PresenceRecord → ℕ → Stepped
+touchAnySide n t = stepNumbers (touchOf (presenceOf (record { w = n .w; prompt = n .prompt; touch = n .touch; last = n .last; asker = 0 })) t)
 
 abbrev pub sideCutInCheck : PresenceRecord → (side t : ℕ) → Stepped
 sideCutInCheck n s t = stepNumbers (checkOf (presenceOf n) (s % 256) t)

@@ -11,7 +11,7 @@ use lib.ListN.{length, length-append}
 use Rattle.outcome.specs.Notation.{if_then_else_}
 use Rattle.outcome.specs.Outcome.{Outcome, R, Gives}
 use Rattle.u2f_up_stated.specs.Words.{Presence, Opened}
-use Rattle.u2f_up_stated.specs.Moments.{Told, isLive, isR6, isNoSide, isR1, movedTo, grantedOf, checkedOf}
+use Rattle.u2f_up_stated.specs.Moments.{Told, isLive, isR6, isBadSide, isR1, movedTo, grantedOf, checkedOf}
 use Rattle.u2f_up_stated.specs.History.{Role, Touching, Checking, Asking, Settling, Short, RefusedBy, TouchAccepted, TouchIgnored, TouchFound, NoTouchFound, PromptStands, NoPromptStands, Event, Mark, touchMark, sideOf, those, isYoung, isFound, isAny, heldAt, heldFor, lastMoment, latestPrompt, unspent, askerOf, isPromptStanding, unrefused, foretold, serverOf}
 use Rattle.u2f_up_stated.specs.Runs.{Caller, Keeps, after, comesTo, cameOf, history, doneBy}
 use Rattle.u2f_up_stated.proofs.Roles.{settledAs, done-refused, done-touching, done-checking, done-asking, done-settling, done-short}
@@ -49,7 +49,7 @@ module _ (w : ℕ) (h : List Event) (t : ℕ) (within : isR6 w ≡ false) (i : I
   yes-checked s true false e f = rw (e, f)
   yes-checked s false c e f = rw e
 
-  outcome-given : isR1 (lastMoment h) t ≡ false → (k : Role) → isNoSide (sideOf k) ≡ false → doneBy k p t .outcome ≡ gives k
+  outcome-given : isR1 (lastMoment h) t ≡ false → (k : Role) → isBadSide (sideOf k) ≡ false → doneBy k p t .outcome ≡ gives k
   outcome-given e Touching n =
       ap outcome (done-touching p t (movedTo p t) (settles w h t within (i .real) (askerOf w h) (i .real) e)) ∙ ap {B = Outcome Bool} Gives (yes-granted (isLive (promptOf w h) 10000 t) refl)
   outcome-given e (Checking s) n =
@@ -78,9 +78,9 @@ module _ (w : ℕ) (h : List Event) (t : ℕ) (within : isR6 w ≡ false) (i : I
 
   pub outcome-foretold : (k : Role) → cameOf k (doneBy k p t .outcome) ≡ foretold w h (record { role = k; moment = t })
   unfolding foretold
-  outcome-foretold k = go (isNoSide (sideOf k)) refl (isR1 (lastMoment h) t) refl
+  outcome-foretold k = go (isBadSide (sideOf k)) refl (isR1 (lastMoment h) t) refl
     where
-      go : (c : Bool) → isNoSide (sideOf k) ≡ c → (b : Bool) → isR1 (lastMoment h) t ≡ b
+      go : (c : Bool) → isBadSide (sideOf k) ≡ c → (b : Bool) → isR1 (lastMoment h) t ≡ b
           → cameOf k (doneBy k p t .outcome) ≡ (if c then RefusedBy 8 else if b then RefusedBy 1 else unrefused w h k t)
       go true n b e = ap (λ (s : Told). cameOf k (s .outcome)) (done-refused p t 8 k (settles-as-r8 w h t within (i .real) k n))
       go false n true e = ap (λ (s : Told). cameOf k (s .outcome)) (done-refused p t 1 k (settles-r1 w h t within (i .real) (settledAs p k) (real-as w h t within (i .real) k n) e))

@@ -10,9 +10,9 @@ use lib.Dec.{ltb, leb}
 use lib.ListN.{length}
 use borrow.Author.Tests.{ltb-true, leb-true, lt-ltb}
 use Rattle.outcome.specs.Notation.{if_then_else_}
-use Rattle.u2f_up_stated.specs.Moments.{isNoSide, isR1}
+use Rattle.u2f_up_stated.specs.Moments.{isBadSide, isR1}
 use Rattle.u2f_up_stated.specs.History.{Role, Touching, Checking, Asking, Settling, Short, Came, RefusedBy, TouchAccepted, TouchIgnored, TouchFound, NoTouchFound, PromptStands, NoPromptStands, Event, Mark, sideOf, isAny, heldFor, lastMoment, isPromptStanding, latestPrompt, latestTouch, isAfter, isStandingBy, unrefused, foretold}
-use Rattle.u2f_up_stated.specs.Terms.{RefusedAt, NamesNoSide}
+use Rattle.u2f_up_stated.specs.Terms.{RefusedAt, NamesBadSide}
 use Rattle.u2f_up_stated.proofs.Cases.{r1-beyond}
 
 both : (a b : Bool) → a && b ≡ true → (a ≡ true) × (b ≡ true)
@@ -75,84 +75,98 @@ module _ (h : List Event) (t : ℕ) where
   passed e r = true≢false (sym (refused-r1 r) ∙ e)
 
 -- a side that is none
-named-none : (n : ℕ) → isNoSide n ≡ true → 1 < n
+named-none : (n : ℕ) → isBadSide n ≡ true → 1 < n
 named-none n e = ltb-true 1 n e
 
-none-named : (n : ℕ) → 1 < n → isNoSide n ≡ true
+none-named : (n : ℕ) → 1 < n → isBadSide n ≡ true
 none-named n h = lt-ltb 1 n h
 
-named-one : (n : ℕ) → isNoSide n ≡ false → 1 < n → ⊥
+named-one : (n : ℕ) → isBadSide n ≡ false → 1 < n → ⊥
 named-one n e h = true≢false (sym (none-named n h) ∙ e)
 
-module _ (w : ℕ) (h : List Event) (t : ℕ) (o : Came) (k : Role) (f : o ≡ foretold w h (record { role = k; moment = t })) where
-  -- a foretold outcome, by whether side and moment pass
-  foretold-r8 : isNoSide (sideOf k) ≡ true → o ≡ RefusedBy 8
-  unfolding foretold
-  foretold-r8 n = f ∙ rw n
+number-same : (n m : ℕ) → RefusedBy n ≡ RefusedBy m → n ≡ m
+number-same n m e = cc
 
-  foretold-r1 : isNoSide (sideOf k) ≡ false → isR1 (lastMoment h) t ≡ true → o ≡ RefusedBy 1
-  unfolding foretold
-  foretold-r1 n e = f ∙ rw (n, e)
-
-  foretold-given : isNoSide (sideOf k) ≡ false → isR1 (lastMoment h) t ≡ false → o ≡ unrefused w h k t
-  unfolding foretold
-  foretold-given n e = f ∙ rw (n, e)
-
--- once side and moment have passed, a refusal is R2
-module _ (w : ℕ) (h : List Event) (t : ℕ) where
-  unrefused-no-r : (n : ℕ) → (2 ≡ n → ⊥) → (k : Role) → unrefused w h k t ≡ RefusedBy n → ⊥
+module _ (w : ℕ) (h : List Event) (t : ℕ) (k : Role) where
+  -- once side and moment have passed, a refusal is R2
+  unrefused-no-r : (n : ℕ) → (2 ≡ n → ⊥) → (j : Role) → unrefused w h j t ≡ RefusedBy n → ⊥
   unrefused-no-r n d Touching e = no-refusal TouchAccepted TouchIgnored accepted-refusal ignored-refusal ignored-accepted n (isPromptStanding w h t) e
   unrefused-no-r n d (Checking s) e = no-refusal TouchFound NoTouchFound found-refusal not-found-refusal not-found-found n (isAny (heldFor w h s t)) e
   unrefused-no-r n d Asking e = no-refusal PromptStands NoPromptStands stands-refusal stands-not-refusal stands-not-stands n (isPromptStanding w h t) e
   unrefused-no-r n d (Settling s) e = let z : _≡_ {A = ℕ} 0 1 = cc in omega arith
   unrefused-no-r n d (Short s) e = d (cc)
 
-number-same : (n m : ℕ) → RefusedBy n ≡ RefusedBy m → n ≡ m
-number-same n m e = cc
+  -- what is foretold of a call: R8, R1, or what comes once both have passed
+  data Way : Came → Type 0 where
+    r8 : NamesBadSide k → Way (RefusedBy 8)
+    r1 : (NamesBadSide k → ⊥) → RefusedAt h t → Way (RefusedBy 1)
+    given : (NamesBadSide k → ⊥) → (RefusedAt h t → ⊥) → Way (unrefused w h k t)
 
-module _ (w : ℕ) (h : List Event) (t : ℕ) (o : Came) (k : Role) (f : o ≡ foretold w h (record { role = k; moment = t })) where
-  pub refuses-side : (o ≡ RefusedBy 8) ↔ NamesNoSide k
-  refuses-side = (go (isNoSide (sideOf k)) refl (isR1 (lastMoment h) t) refl, λ n. foretold-r8 w h t o k f (none-named (sideOf k) n))
+  way : Way (foretold w h (record { role = k; moment = t }))
+  unfolding foretold
+  way = go (isBadSide (sideOf k)) refl (isR1 (lastMoment h) t) refl
     where
-      go : (c : Bool) → isNoSide (sideOf k) ≡ c → (b : Bool) → isR1 (lastMoment h) t ≡ b → o ≡ RefusedBy 8 → NamesNoSide k
-      go true n b e q = named-none (sideOf k) n
-      go false n true e q = absurd (omega (arith, number-same 1 8 (sym (foretold-r1 w h t o k f n e) ∙ q)))
-      go false n false e q = absurd (unrefused-no-r w h t 8 (omega arith) k (sym (foretold-given w h t o k f n e) ∙ q))
+      go : (c : Bool) → isBadSide (sideOf k) ≡ c → (b : Bool) → isR1 (lastMoment h) t ≡ b → Way (if c then RefusedBy 8 else if b then RefusedBy 1 else unrefused w h k t)
+      go true n b e = r8 (named-none (sideOf k) n)
+      go false n true e = r1 (named-one (sideOf k) n) (r1-refused h t e)
+      go false n false e = given (named-one (sideOf k) n) (passed h t e)
 
-  pub refuses : (o ≡ RefusedBy 1) ↔ ((NamesNoSide k → ⊥) × RefusedAt h t)
-  refuses = (go (isNoSide (sideOf k)) refl (isR1 (lastMoment h) t) refl, back (isNoSide (sideOf k)) refl)
-    where
-      go : (c : Bool) → isNoSide (sideOf k) ≡ c → (b : Bool) → isR1 (lastMoment h) t ≡ b → o ≡ RefusedBy 1 → (NamesNoSide k → ⊥) × RefusedAt h t
-      go true n b e q = absurd (omega (arith, number-same 8 1 (sym (foretold-r8 w h t o k f n) ∙ q)))
-      go false n true e q = (named-one (sideOf k) n, r1-refused h t e)
-      go false n false e q = absurd (unrefused-no-r w h t 1 (omega arith) k (sym (foretold-given w h t o k f n e) ∙ q))
+  module _ (o : Came) (f : o ≡ foretold w h (record { role = k; moment = t })) where
+    abbrev told : Came
+    told = foretold w h (record { role = k; moment = t })
 
-      back : (c : Bool) → isNoSide (sideOf k) ≡ c → (NamesNoSide k → ⊥) × RefusedAt h t → o ≡ RefusedBy 1
-      back true n r = absurd (r .0 (named-none (sideOf k) n))
-      back false n r = foretold-r1 w h t o k f n (refused-r1 h t (r .1))
+    pub refuses-side : (o ≡ RefusedBy 8) ↔ NamesBadSide k
+    refuses-side = (λ q. due told way (sym f ∙ q), λ n. f ∙ back told way n)
+      where
+        due : (c : Came) → Way c → c ≡ RefusedBy 8 → NamesBadSide k
+        due _ (r8 n) e = n
+        due _ (r1 n r) e = absurd (omega (arith, number-same 1 8 e))
+        due _ (given n p) e = absurd (unrefused-no-r 8 (omega arith) k e)
 
-  pub refuses-no-window : o ≡ RefusedBy 6 → ⊥
-  refuses-no-window = go (isNoSide (sideOf k)) refl (isR1 (lastMoment h) t) refl
-    where
-      go : (c : Bool) → isNoSide (sideOf k) ≡ c → (b : Bool) → isR1 (lastMoment h) t ≡ b → o ≡ RefusedBy 6 → ⊥
-      go true n b e q = omega (arith, number-same 8 6 (sym (foretold-r8 w h t o k f n) ∙ q))
-      go false n true e q = omega (arith, number-same 1 6 (sym (foretold-r1 w h t o k f n e) ∙ q))
-      go false n false e q = unrefused-no-r w h t 6 (omega arith) k (sym (foretold-given w h t o k f n e) ∙ q)
+        back : (c : Came) → Way c → NamesBadSide k → c ≡ RefusedBy 8
+        back _ (r8 n) m = refl
+        back _ (r1 n r) m = absurd (n m)
+        back _ (given n p) m = absurd (n m)
 
-  -- yes: side and moment pass, and what was asked is so
-  yes : (b : Bool) (y n : Came) → ((m : ℕ) → RefusedBy m ≡ y → ⊥) → ((m : ℕ) → RefusedBy m ≡ n → ⊥) → (n ≡ y → ⊥) → unrefused w h k t ≡ (if b then y else n)
-      → (o ≡ y) ↔ ((NamesNoSide k → ⊥) × (RefusedAt h t → ⊥) × (b ≡ true))
-  yes b y n ry rn apart u = (go (isNoSide (sideOf k)) refl (isR1 (lastMoment h) t) refl, back (isNoSide (sideOf k)) refl (isR1 (lastMoment h) t) refl)
-    where
-      go : (d : Bool) → isNoSide (sideOf k) ≡ d → (c : Bool) → isR1 (lastMoment h) t ≡ c → o ≡ y → (NamesNoSide k → ⊥) × (RefusedAt h t → ⊥) × (b ≡ true)
-      go true g c e q = absurd (ry 8 (sym (foretold-r8 w h t o k f g) ∙ q))
-      go false g true e q = absurd (ry 1 (sym (foretold-r1 w h t o k f g e) ∙ q))
-      go false g false e q = (named-one (sideOf k) g, passed h t e, is-yes y n ry rn apart b (sym u ∙ sym (foretold-given w h t o k f g e) ∙ q))
+    pub refuses : (o ≡ RefusedBy 1) ↔ ((NamesBadSide k → ⊥) × RefusedAt h t)
+    refuses = (λ q. due told way (sym f ∙ q), λ n. f ∙ back told way n)
+      where
+        due : (c : Came) → Way c → c ≡ RefusedBy 1 → (NamesBadSide k → ⊥) × RefusedAt h t
+        due _ (r8 n) e = absurd (omega (arith, number-same 8 1 e))
+        due _ (r1 n r) e = (n, r)
+        due _ (given n p) e = absurd (unrefused-no-r 1 (omega arith) k e)
 
-      back : (d : Bool) → isNoSide (sideOf k) ≡ d → (c : Bool) → isR1 (lastMoment h) t ≡ c → (NamesNoSide k → ⊥) × (RefusedAt h t → ⊥) × (b ≡ true) → o ≡ y
-      back true g c e q = absurd (q .0 (named-none (sideOf k) g))
-      back false g true e q = absurd (q .1 (r1-refused h t e))
-      back false g false e q = foretold-given w h t o k f g e ∙ u ∙ ap (λ (c : Bool). if c then y else n) (q .2)
+        back : (c : Came) → Way c → (NamesBadSide k → ⊥) × RefusedAt h t → c ≡ RefusedBy 1
+        back _ (r8 n) m = absurd (m .0 n)
+        back _ (r1 n r) m = refl
+        back _ (given n p) m = absurd (p (m .1))
+
+    pub refuses-no-window : o ≡ RefusedBy 6 → ⊥
+    refuses-no-window q = due told way (sym f ∙ q)
+      where
+        due : (c : Came) → Way c → c ≡ RefusedBy 6 → ⊥
+        due _ (r8 n) e = omega (arith, number-same 8 6 e)
+        due _ (r1 n r) e = omega (arith, number-same 1 6 e)
+        due _ (given n p) e = unrefused-no-r 6 (omega arith) k e
+
+    -- something else than a refusal: side and moment have passed, and it is what comes then
+    passes : (y : Came) → ((m : ℕ) → RefusedBy m ≡ y → ⊥) → o ≡ y → (NamesBadSide k → ⊥) × (RefusedAt h t → ⊥) × (unrefused w h k t ≡ y)
+    passes y ry q = due told way (sym f ∙ q)
+      where
+        due : (c : Came) → Way c → c ≡ y → (NamesBadSide k → ⊥) × (RefusedAt h t → ⊥) × (unrefused w h k t ≡ y)
+        due _ (r8 n) e = absurd (ry 8 e)
+        due _ (r1 n r) e = absurd (ry 1 e)
+        due _ (given n p) e = (n, p, e)
+
+    -- yes: side and moment pass, and what was asked is so
+    yes : (b : Bool) (y n : Came) → ((m : ℕ) → RefusedBy m ≡ y → ⊥) → ((m : ℕ) → RefusedBy m ≡ n → ⊥) → (n ≡ y → ⊥) → unrefused w h k t ≡ (if b then y else n)
+        → (o ≡ y) ↔ ((NamesBadSide k → ⊥) × (RefusedAt h t → ⊥) × (b ≡ true))
+    yes b y n ry rn apart u = (λ q. let x = passes y ry q in (x .0, x .1, is-yes y n ry rn apart b (sym u ∙ x .2)), λ q. f ∙ back told way q)
+      where
+        back : (c : Came) → Way c → (NamesBadSide k → ⊥) × (RefusedAt h t → ⊥) × (b ≡ true) → c ≡ y
+        back _ (r8 m) q = absurd (q .0 m)
+        back _ (r1 m r) q = absurd (q .1 r)
+        back _ (given m p) q = u ∙ ap (λ (c : Bool). if c then y else n) (q .2)
 
 -- a standing prompt, in the document's words
 abbrev Standing : ℕ → List Event → ℕ → Type 0
@@ -177,16 +191,16 @@ only (k ∷ (j ∷ ks)) b = (λ e. absurd (omega arith), λ s. refl)
 
 module _ (w : ℕ) (h : List Event) (t : ℕ) (o : Came) where
   -- a touch names no side
-  nobody : NamesNoSide Touching → ⊥
+  nobody : NamesBadSide Touching → ⊥
   nobody n = omega arith
 
   pub accepts : o ≡ foretold w h (record { role = Touching; moment = t }) → (o ≡ TouchAccepted) ↔ ((RefusedAt h t → ⊥) × Standing w h t)
-  accepts f = let y = yes w h t o Touching f (isPromptStanding w h t) TouchAccepted TouchIgnored accepted-refusal ignored-refusal ignored-accepted refl in
+  accepts f = let y = yes w h t Touching o f (isPromptStanding w h t) TouchAccepted TouchIgnored accepted-refusal ignored-refusal ignored-accepted refl in
       (λ q. (y .0 q .1, standing w h t .0 (y .0 q .2)), λ s. y .1 (nobody, s .0, standing w h t .1 (s .1)))
 
   pub finds : (s : ℕ) → (lastMoment h ≤ t → length (heldFor w h s t) ≤ 1) → o ≡ foretold w h (record { role = Checking s; moment = t })
-      → (o ≡ TouchFound) ↔ ((NamesNoSide (Checking s) → ⊥) × (RefusedAt h t → ⊥) × ((k : Mark) × (heldFor w h s t ≡ k ∷ [])))
-  finds s one f = let y = yes w h t o (Checking s) f (isAny (heldFor w h s t)) TouchFound NoTouchFound found-refusal not-found-refusal not-found-found refl in (
+      → (o ≡ TouchFound) ↔ ((NamesBadSide (Checking s) → ⊥) × (RefusedAt h t → ⊥) × ((k : Mark) × (heldFor w h s t ≡ k ∷ [])))
+  finds s one f = let y = yes w h t (Checking s) o f (isAny (heldFor w h s t)) TouchFound NoTouchFound found-refusal not-found-refusal not-found-found refl in (
     λ q. (y .0 q .0, y .0 q .1, only (heldFor w h s t) (one (late (y .0 q .1))) .0 (y .0 q .2)),
     λ g. y .1 (g .0, g .1, only (heldFor w h s t) (one (late (g .1))) .1 (g .2)),
   )
@@ -199,12 +213,7 @@ module _ (w : ℕ) (h : List Event) (t : ℕ) (o : Came) where
           go false e = borrow.Author.Tests.ltb-false t (lastMoment h) e
 
   other : (k : Role) → o ≡ foretold w h (record { role = k; moment = t }) → (unrefused w h k t ≡ TouchFound → ⊥) → o ≡ TouchFound → ⊥
-  other k f never q = go (isNoSide (sideOf k)) refl (isR1 (lastMoment h) t) refl
-    where
-      go : (c : Bool) → isNoSide (sideOf k) ≡ c → (b : Bool) → isR1 (lastMoment h) t ≡ b → ⊥
-      go true n b e = found-refusal 8 (sym (foretold-r8 w h t o k f n) ∙ q)
-      go false n true e = found-refusal 1 (sym (foretold-r1 w h t o k f n e) ∙ q)
-      go false n false e = never (sym (foretold-given w h t o k f n e) ∙ q)
+  other k f never q = never (passes w h t k o f TouchFound found-refusal q .2)
 
   -- only a check finds a touch
   pub checks : (k : Role) → o ≡ foretold w h (record { role = k; moment = t }) → o ≡ TouchFound → (s : ℕ) × (k ≡ Checking s)

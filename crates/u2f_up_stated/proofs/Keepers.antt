@@ -11,7 +11,7 @@ use borrow.Author.Tests.{le-ltb}
 use Rattle.u2f_up_stated.specs.Words.{Opened, Presence}
 use Rattle.u2f_up_stated.specs.Moments.{isR6}
 use Rattle.u2f_up_stated.specs.History.{Role, Touching, Checking, TouchFound, Event, Mark, sideOf, isOf, lastMoment, heldAt, heldFor, serverOf, foretold}
-use Rattle.u2f_up_stated.specs.Terms.{RefusedAt, NamesNoSide}
+use Rattle.u2f_up_stated.specs.Terms.{RefusedAt, NamesBadSide}
 use Rattle.u2f_up_stated.specs.Runs.{Caller, Keeps, after, comesTo, history}
 use Rattle.u2f_up_stated.specs.Demand.{RunMeets}
 use Rattle.u2f_up_stated.specs.Claims.{Demand3}
@@ -36,7 +36,7 @@ module _ {D : Type 0} (𝒞 : Caller D) (keeping : Keeps 𝒞) (w : ℕ) (within
   foretold-own d = foretold-as d (𝒞 .asCall d .role) refl
 
   finds : (d : D) (s : ℕ) (k : Role) → 𝒞 .asCall d .role ≡ k → k ≡ Checking s → (comesTo 𝒞 w ds d ≡ TouchFound)
-      ↔ ((NamesNoSide k → ⊥) × (RefusedAt past (moment d) → ⊥) × ((m : Mark) × (heldFor w past s (moment d) ≡ m ∷ [])))
+      ↔ ((NamesBadSide k → ⊥) × (RefusedAt past (moment d) → ⊥) × ((m : Mark) × (heldFor w past s (moment d) ≡ m ∷ [])))
   finds d s k e f =
       let g = Exactly.finds w past (moment d) (comesTo 𝒞 w ds d) s (Demand.one-found-at 𝒞 keeping w within ds s (moment d)) (foretold-as d (Checking s) (e ∙ f)) in
       rw f g
@@ -56,13 +56,13 @@ module _ {D : Type 0} (𝒞 : Caller D) (keeping : Keeps 𝒞) (w : ℕ) (within
   met : RunMeets 𝒞 w ds
   met = record {
     foretells = Demand.foretells 𝒞 keeping w within ds;
-    refuses-side = λ d. Exactly.refuses-side w past (moment d) (comesTo 𝒞 w ds d) (𝒞 .asCall d .role) (foretold-own d);
-    refuses = λ d. Exactly.refuses w past (moment d) (comesTo 𝒞 w ds d) (𝒞 .asCall d .role) (foretold-own d);
-    refuses-no-window = λ d. Exactly.refuses-no-window w past (moment d) (comesTo 𝒞 w ds d) (𝒞 .asCall d .role) (foretold-own d);
+    refuses-side = λ d. Exactly.refuses-side w past (moment d) (𝒞 .asCall d .role) (comesTo 𝒞 w ds d) (foretold-own d);
+    refuses = λ d. Exactly.refuses w past (moment d) (𝒞 .asCall d .role) (comesTo 𝒞 w ds d) (foretold-own d);
+    refuses-no-window = λ d. Exactly.refuses-no-window w past (moment d) (𝒞 .asCall d .role) (comesTo 𝒞 w ds d) (foretold-own d);
     accepts = λ d e. Exactly.accepts w past (moment d) (comesTo 𝒞 w ds d) (foretold-as d Touching e);
     finds = λ d s e. finds d s (𝒞 .asCall d .role) refl e;
     holds = holds;
-    asks = ap (λ (q : Presence). q .asker) (Demand.exact 𝒞 keeping w within ds);
+    asker = ap (λ (q : Presence). q .asker) (Demand.exact 𝒞 keeping w within ds);
     serves = serves;
     once = Served.serves-once w past (Demand.owned 𝒞 keeping w within ds);
     side-totals = λ s. Ledger.side-totals w past s (Demand.balanced 𝒞 keeping w within (isOf s) ds) (Demand.one-each 𝒞 keeping w within ds);

@@ -10,5 +10,5 @@ pub use Rattle.u2f_up_stated.proofs.Lists.{count, length-those}
 pub use Rattle.u2f_up_stated.proofs.Ways.{bad-window, bad-side, bad-moment, has-touch, settle-r6, settle-r8, settle-r1, settle-moves, SettleWay, settle-way, settle-no-status, checked-own, checked-other, checked-dead, r-apart}
 -- Runs with one side, against the base.
 pub use Rattle.u2f_up_stated.proofs.OneSide.{Mine, base-refused, base-no-status, SettledSame, refusing, moving, settled-same, checked-same, same, run, one-side}
--- Which refusal a check gives, exactly.
-pub use Rattle.u2f_up_stated.proofs.Theorems.{ChecksExactly as checks-exactly}
+-- Which refusal a touch, a check and an ask give, exactly.
+pub use Rattle.u2f_up_stated.proofs.Theorems.{TouchesExactly as touches-exactly, ChecksExactly as checks-exactly, AsksExactly as asks-exactly}

@@ -8,7 +8,7 @@ use lib.Dec.{eqb}
 use lib.ListN.{length}
 use borrow.Author.Tests.{eq-eqb, ltb-false}
 use Rattle.outcome.specs.Notation.{if_then_else_}
-use Rattle.u2f_up_stated.specs.Moments.{isLive, isNoSide}
+use Rattle.u2f_up_stated.specs.Moments.{isLive, isBadSide}
 use Rattle.u2f_up_stated.specs.History.{Event, Mark, touchMark, sideOf, those, isSpending, isSpendingFor, isYoung, isOf, isFound, isAny, heldAt, heldFor, lapsed, lastMoment, unspent, accepted, askerOf, served, spenders, spendersOf}
 use Rattle.u2f_up_stated.proofs.Lists.{one, count, count-next, count-append, count-split, count-all, length-those}
 use Rattle.u2f_up_stated.proofs.Runs.{heldOf, Sorted, Effect, still, moved, touched, spent, prompted}
@@ -100,7 +100,7 @@ module _ (w : ℕ) (h : List Event) (e : Event) (i : Inv w h) (two : TwoSides w 
   passes-two : {m s p : Bool} → Sorted w h e m false s p → TwoSides w (e ∷ h)
   passes-two x = rw (accepted-next h w x) two
 
-  one-of : (a : ℕ) → isNoSide a ≡ false → (ks : List Mark) (n : ℕ) → length ks ≡ count (isOf 0) ks + count (isOf 1) ks
+  one-of : (a : ℕ) → isBadSide a ≡ false → (ks : List Mark) (n : ℕ) → length ks ≡ count (isOf 0) ks + count (isOf 1) ks
       → suc (length ks) ≡ count (isOf 0) (record { number = n; moment = e .call .moment; side = a } ∷ ks) + count (isOf 1) (record { number = n; moment = e .call .moment; side = a } ∷ ks)
   one-of zero real ks n q = omega arith
   one-of (suc zero) real ks n q = omega arith

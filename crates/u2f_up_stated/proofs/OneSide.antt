@@ -8,7 +8,7 @@ use mathlib.Core.Logic.{_⊎_, inl, inr, ⊎-elim}
 use native.Mathlib.Omega.{arith}
 use borrow.Author.Tests.{le-ltb, eq-eqb}
 use Rattle.outcome.specs.Outcome.{StatusWord, Outcome, R, Word, Gives}
-use Rattle.outcome.proofs.Laws.{r-word, word-gives}
+use Rattle.outcome.proofs.Laws.{r-word, r-gives, word-gives}
 use Rattle.u2f_up_stated.specs.Words.{Presence, Closed}
 use Rattle.u2f_up_stated.specs.Moments.{Told, isLive, isR6, isR8, isR1, movedTo, settleOf, grantedOf, checkedOf, gave, refused}
 use Rattle.u2f_up_stated.specs.History.{Role, Touching, Checking, Asking, Settling, Short}
@@ -88,59 +88,53 @@ module _ (s : ℕ) (one : s ≤ 1) (p : Presence) (mine : Mine s p) (t : ℕ) wh
   own : isLive (p .touch) (p .w) t ≡ true → p .asker ≡ s
   own e = ⊎-elim (λ m. m) (λ m. absurd (false≢true (ap (λ x. isLive x (p .w) t) (sym (m .2)) ∙ e))) mine
 
+  -- both settle alike, as whichever side
+  pub data SettledSame (r : ℕ) : Type 0 where
+    refusing : (n : ℕ) → settleOf p r t ≡ R n → baseSettleOf b t ≡ R n → SettledSame r
+    moving : settleOf p r t ≡ Gives (movedTo p t) → baseSettleOf b t ≡ Gives (movedTo b t) → SettledSame r
+
+  pub settled-same : (r : ℕ) → r ≤ 1 → SettledSame r
+  settled-same r m = go (isR6 (p .w)) refl (isR1 (p .last) t) refl
+    where
+      none : isR8 r (p .asker) ≡ false
+      none = no-r8 r m
+
+      go : (c : Bool) → isR6 (p .w) ≡ c → (d : Bool) → isR1 (p .last) t ≡ d → SettledSame r
+      go true e d f = refusing 6 (sym (settle-r6 p r t (isR6 (p .w)) refl e)) (base-r6 b t e)
+      go false e true f = refusing 1 (sym (settle-r1 p r t (isR6 (p .w)) (isR8 r (p .asker)) (isR1 (p .last) t) refl e refl none refl f)) (base-r1 b t e f)
+      go false e false f = moving (sym (settled p r t (isR6 (p .w)) (isR8 r (p .asker)) (isR1 (p .last) t) refl e refl none refl f)) (base-moves b t e f)
+
+  -- and the touch check then finds the same
   checks : (live : Bool) → isLive (p .touch) (p .w) t ≡ live → Same (gave (checkedOf (movedTo p t) s t)) (gave (baseCheckedOf (movedTo b t) t))
   unfolding checkedOf baseCheckedOf
   checks true e = rw (e, eq-eqb (p .asker) s (own e)) (record { outcome = refl; presence = refl; still-mine = inl (own e) })
   checks false e = rw e (record { outcome = refl; presence = refl; still-mine = inl refl })
 
-  -- both settle
-  module _ (in-range : isR6 (p .w) ≡ false) (timely : isR1 (p .last) t ≡ false) where
-    settles : (r : ℕ) → r ≤ 1 → settleOf p r t ≡ Gives (movedTo p t)
-    settles r m = sym (settled p r t (isR6 (p .w)) (isR8 r (p .asker)) (isR1 (p .last) t) refl in-range refl (no-r8 r m) refl timely)
-
-    does : (k : Role) → NamesOnly s k → Same (doneBy k p t) (baseBy k b t)
-    unfolding baseBy
-    does Touching n = rw (done-touching p t (movedTo p t) (settles (p .asker) asker-small), base-moves b t in-range timely) (touches (isLive (p .prompt) 10000 t) refl)
-    does (Checking r) n = rw (n, done-checking p t (movedTo p t) s (settles s one), base-moves b t in-range timely) (checks (isLive (p .touch) (p .w) t) refl)
-    does Asking n = rw (done-asking p t (movedTo p t) (settles (p .asker) asker-small), base-moves b t in-range timely) (record { outcome = refl; presence = refl; still-mine = mine })
-    does (Settling r) n = rw (n, done-settling p t (movedTo p t) s (settles s one), base-moves b t in-range timely) (record { outcome = refl; presence = refl; still-mine = mine })
-    does (Short r) n = rw (n, done-short p t (movedTo p t) s (settles s one), base-moves b t in-range timely) (refuses 2)
-
-  -- for a crate above: both settle alike, and the touch check then finds the same
-  pub data SettledSame : Type 0 where
-    refusing : (n : ℕ) → settleOf p s t ≡ R n → baseSettleOf b t ≡ R n → SettledSame
-    moving : settleOf p s t ≡ Gives (movedTo p t) → baseSettleOf b t ≡ Gives (movedTo b t) → SettledSame
-
-  pub settled-same : SettledSame
-  settled-same = go (isR6 (p .w)) refl (isR1 (p .last) t) refl
-    where
-      go : (c : Bool) → isR6 (p .w) ≡ c → (d : Bool) → isR1 (p .last) t ≡ d → SettledSame
-      go true e d f = refusing 6 (sym (settle-r6 p s t (isR6 (p .w)) refl e)) (base-r6 b t e)
-      go false e true f = refusing 1 (sym (settle-r1 p s t (isR6 (p .w)) (isR8 s (p .asker)) (isR1 (p .last) t) refl e refl (no-r8 s one) refl f)) (base-r1 b t e f)
-      go false e false f = moving (settles e f s one) (base-moves b t e f)
-
   pub checked-same : (checkedOf (movedTo p t) s t .yes ≡ baseCheckedOf (movedTo b t) t .yes) × (sideless (checkedOf (movedTo p t) s t .presence) ≡ baseCheckedOf (movedTo b t) t .presence)
-  unfolding checkedOf baseCheckedOf
-  checked-same = go (isLive (p .touch) (p .w) t) refl
+  checked-same = let x = checks (isLive (p .touch) (p .w) t) refl in (given (x .outcome), x .presence)
     where
-      go : (live : Bool) → isLive (p .touch) (p .w) t ≡ live
-          → (checkedOf (movedTo p t) s t .yes ≡ baseCheckedOf (movedTo b t) t .yes) × (sideless (checkedOf (movedTo p t) s t .presence) ≡ baseCheckedOf (movedTo b t) t .presence)
-      go true e = rw (e, eq-eqb (p .asker) s (own e)) (refl, refl)
-      go false e = rw e (refl, refl)
+      given : {a c : Bool} → _≡_ {A = Outcome Bool} (Gives a) (Gives c) → a ≡ c
+      given e = cc
+
+  does : settleOf p s t ≡ Gives (movedTo p t) → settleOf p (p .asker) t ≡ Gives (movedTo p t) → baseSettleOf b t ≡ Gives (movedTo b t) → (k : Role) → NamesOnly s k → Same (doneBy k p t) (baseBy k b t)
+  unfolding baseBy
+  does e own-e f Touching n = rw (done-touching p t (movedTo p t) own-e, f) (touches (isLive (p .prompt) 10000 t) refl)
+  does e own-e f (Checking r) n = rw (n, done-checking p t (movedTo p t) s e, f) (checks (isLive (p .touch) (p .w) t) refl)
+  does e own-e f Asking n = rw (done-asking p t (movedTo p t) own-e, f) (record { outcome = refl; presence = refl; still-mine = mine })
+  does e own-e f (Settling r) n = rw (n, done-settling p t (movedTo p t) s e, f) (record { outcome = refl; presence = refl; still-mine = mine })
+  does e own-e f (Short r) n = rw (n, done-short p t (movedTo p t) s e, f) (refuses 2)
 
   pub same : (k : Role) → NamesOnly s k → Same (doneBy k p t) (baseBy k b t)
-  same k n = go (isR6 (p .w)) refl (isR1 (p .last) t) refl
+  same k n = go (settled-same (settledAs p k) (named k n)) (settled-same s one) (settled-same (p .asker) asker-small)
     where
-      r6 : isR6 (p .w) ≡ true → settleOf p (settledAs p k) t ≡ R 6
-      r6 e = sym (settle-r6 p (settledAs p k) t (isR6 (p .w)) refl e)
+      apart : {m : ℕ} {q : Presence} → baseSettleOf b t ≡ R m → baseSettleOf b t ≡ Gives q → ⊥
+      apart e f = r-gives _ _ (sym e ∙ f)
 
-      r1 : isR6 (p .w) ≡ false → isR1 (p .last) t ≡ true → settleOf p (settledAs p k) t ≡ R 1
-      r1 e f = sym (settle-r1 p (settledAs p k) t (isR6 (p .w)) (isR8 (settledAs p k) (p .asker)) (isR1 (p .last) t) refl e refl (no-r8 (settledAs p k) (named k n)) refl f)
-
-      go : (c : Bool) → isR6 (p .w) ≡ c → (d : Bool) → isR1 (p .last) t ≡ d → Same (doneBy k p t) (baseBy k b t)
-      go true e d f = rw (done-refused p t 6 k (r6 e), base-refused b t 6 (base-r6 b t e) k) (refuses 6)
-      go false e true f = rw (done-refused p t 1 k (r1 e f), base-refused b t 1 (base-r1 b t e f) k) (refuses 1)
-      go false e false f = does e f k n
+      go : SettledSame (settledAs p k) → SettledSame s → SettledSame (p .asker) → Same (doneBy k p t) (baseBy k b t)
+      go (refusing m e f) x y = rw (done-refused p t m k e, base-refused b t m f k) (refuses m)
+      go (moving e f) (refusing m g h) y = absurd (apart h f)
+      go (moving e f) (moving g h) (refusing m i j) = absurd (apart j f)
+      go (moving e f) (moving g h) (moving i j) = does g i f k n
 
 -- ---- runs
 module _ {D : Type 0} (𝒞 ℬ : Caller D) (keeping : Keeps 𝒞) (based : KeepsToBase ℬ) (alike : (d : D) → 𝒞 .asCall d ≡ ℬ .asCall d) (w s : ℕ) (one : s ≤ 1) where

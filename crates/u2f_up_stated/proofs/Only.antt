@@ -8,8 +8,8 @@ use native.Mathlib.Decide.{ℕ-discrete}
 use Rattle.u2f_up_stated.specs.Words.{Outcome, R, Presence, Finding}
 use Rattle.u2f_up_stated.specs.Moments.{Told}
 use Rattle.u2f_up_stated.specs.History.{Call, Came, Event, foretold}
-use Rattle.u2f_up_stated.specs.Runs.{Caller, after, history}
-use Rattle.u2f_up_stated.specs.OneSide.{sideless, OnlySide}
+use Rattle.u2f_up_stated.specs.Runs.{Caller, after, next, history}
+use Rattle.u2f_up_stated.specs.OneSide.{sideless, NamesOnly, OnlySide}
 use Rattle.u2f_up_stated.specs.Terms.{BadWindow, BadSide, BadMoment, Passes, HasPrompt, HasTouch, SettlesFirst}
 use Rattle.u2f_up_stated.specs.Claims
 use Rattle.u2f_up_stated.proofs.Ways.{bad-window, bad-side, bad-moment, has-touch, has-prompt}
@@ -92,8 +92,12 @@ BaseExactly f g h k F G p t = (by (bad-window (p .w)) (bad-moment (p .last) t), 
 
 -- on runs with one side, two ways of calling that are the base's give the same answers and windows
 pub OneSideIsBase : {D : Type 0} (𝒜 ℬ 𝒞 : Caller D) → Claims.OneSideIsBase 𝒜 𝒞 → Claims.OneSideIsBase ℬ 𝒞 → (w : ℕ) → 0 < w → w ≤ 60000 → (s : ℕ) → s ≤ 1
-    → (ds : List D) → OnlySide 𝒜 s ds → OnlySide ℬ s ds → sideless (after 𝒜 w ds) ≡ sideless (after ℬ w ds)
-OneSideIsBase 𝒜 ℬ 𝒞 a b w least most s one ds p q = a w least most s one ds p .0 ∙ sym (b w least most s one ds q .0)
+    → (ds : List D) → OnlySide 𝒜 s ds → OnlySide ℬ s ds
+    → (sideless (after 𝒜 w ds) ≡ sideless (after ℬ w ds)) × ((d : D) → NamesOnly s (𝒜 .asCall d .role) → NamesOnly s (ℬ .asCall d .role) → next 𝒜 w ds d ≡ next ℬ w ds d)
+OneSideIsBase 𝒜 ℬ 𝒞 a b w least most s one ds p q =
+    let x = a w least most s one ds p in
+    let y = b w least most s one ds q in
+    (x .0 ∙ sym (y .0), λ d m n. x .1 d m ∙ sym (y .1 d n))
 
 -- demand 3 determines histories: two ways of calling that meet it, and are alike in what their calls are, have the same one on
 -- every run

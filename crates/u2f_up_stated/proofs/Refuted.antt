@@ -8,7 +8,7 @@ use native.Mathlib.Omega.{arith}
 use Rattle.outcome.proofs.Laws.{r-gives}
 use Rattle.u2f_up_stated.specs.Words.{Outcome, R, Gives, Closed, Opened, Presence, Finding}
 use Rattle.u2f_up_stated.specs.Moments.{Told, fresh, settleOf, grantedOf, checkedOf, checkOf}
-use Rattle.u2f_up_stated.specs.History.{Touching, Checking, Short, RefusedBy, TouchAccepted, TouchIgnored, TouchFound, NoTouchFound, Call, lastMoment, latestPrompt, latestTouch, isPromptStanding, unspent, servers, foretold}
+use Rattle.u2f_up_stated.specs.History.{Touching, Checking, Short, RefusedBy, TouchAccepted, TouchIgnored, TouchFound, NoTouchFound, Call, lastMoment, latestPrompt, latestTouch, isPromptStanding, accepted, unspent, servers, foretold}
 use Rattle.u2f_up_stated.specs.Runs.{after, history, doneBy}
 use Rattle.u2f_up_stated.specs.OneSide.{base, baseBy, baseSettleOf, baseCheckedOf}
 use Rattle.u2f_up_stated.specs.Terms.{BadWindow, BadSide, BadMoment, Passes, HasTouch, HasPrompt, ServesOnce}
@@ -169,22 +169,22 @@ beside : (check : Presence → (side t : ℕ) → Told) → Claims.ChecksExactly
     → check held 1 7 ≡ record { outcome = Gives false; presence = record { w = 100; prompt = Closed; touch = Opened 0; last = 7; asker = 0 } }
 beside check d = d .other held 1 7 (passes held 1 7 refl (omega arith) (omega arith) (omega arith) (omega arith)) (0, refl, omega arith) (λ e. omega arith)
 
-pub serves2 : Claims.ChecksExactly Wrong.serves2 → ⊥
+pub checkServesOther : Claims.ChecksExactly Wrong.checkServesOther → ⊥
 unfolding settleOf
-serves2 d = true≢false (yes-same (ap (λ (s : Told). s .outcome) (beside Wrong.serves2 d)))
+checkServesOther d = true≢false (yes-same (ap (λ (s : Told). s .outcome) (beside Wrong.checkServesOther d)))
 
-pub prompts2 : Claims.ChecksExactly Wrong.prompts2 → ⊥
+pub checkPromptsOther : Claims.ChecksExactly Wrong.checkPromptsOther → ⊥
 unfolding settleOf
-prompts2 d = closed-open 7 (sym (ap (λ (s : Told). s .presence .prompt) (beside Wrong.prompts2 d)))
+checkPromptsOther d = closed-open 7 (sym (ap (λ (s : Told). s .presence .prompt) (beside Wrong.checkPromptsOther d)))
 
-pub gives2 : Claims.ChecksExactly Wrong.gives2 → ⊥
+pub checkGivesTouch : Claims.ChecksExactly Wrong.checkGivesTouch → ⊥
 unfolding settleOf
-gives2 d = let z : _≡_ {A = ℕ} 1 0 = ap (λ (s : Told). s .presence .asker) (beside Wrong.gives2 d) in omega arith
+checkGivesTouch d = let z : _≡_ {A = ℕ} 1 0 = ap (λ (s : Told). s .presence .asker) (beside Wrong.checkGivesTouch d) in omega arith
 
 -- side 1 asks after side 0
-pub keepsAsker : Claims.ChecksExactly Wrong.keepsAsker → ⊥
+pub checkKeepsAsker : Claims.ChecksExactly Wrong.checkKeepsAsker → ⊥
 unfolding settleOf
-keepsAsker d =
+checkKeepsAsker d =
     let z : _≡_ {A = ℕ} 0 1 = ap (λ (s : Told). s .presence .asker) (d .prompts asked 1 7 (passes asked 1 7 refl (omega arith) (omega arith) (omega arith) (omega arith)) (untouched 7)) in
     omega arith
 
@@ -245,6 +245,21 @@ pub otherServed : Claims.Demand3 Wrong.otherServed → ⊥
 unfolding after history foretold unspent lastMoment grantedOf settleOf
 otherServed d = found-not (d 100 (omega arith) (omega arith) (touch 1 ∷ checkOn 1 0 ∷ []) .foretells (check 2))
 
+-- and USB, for which no touch was accepted, has spent one
+pub otherServedTotals : Claims.Demand3 Wrong.otherServed → ⊥
+unfolding after history accepted unspent lastMoment latestPrompt grantedOf settleOf
+otherServedTotals d = let z : _≡_ {A = ℕ} 0 1 = d 100 (omega arith) (omega arith) (check 2 ∷ touch 1 ∷ checkOn 1 0 ∷ []) .side-totals 0 in omega arith
+
+-- side 2 asks, and the touch is of neither side
+pub asks2 : Claims.Demand3 Wrong.asks2 → ⊥
+unfolding after history accepted lastMoment latestPrompt unspent grantedOf checkedOf
+asks2 d = let z : _≡_ {A = ℕ} 1 0 = d 100 (omega arith) (omega arith) (touch 1 ∷ checkOn 2 0 ∷ []) .two-sides in omega arith
+
+-- a touch is lost, and another accepted: the history holds two
+pub opensNothingHolds : Claims.Demand3 Wrong.opensNothing → ⊥
+unfolding after history unspent lastMoment latestPrompt checkedOf settleOf
+opensNothingHolds d = let z : 2 ≤ 1 = d 100 (omega arith) (omega arith) (touch 3 ∷ check 2 ∷ touch 1 ∷ check 0 ∷ []) .one-held in omega arith
+
 -- the 6985 of USB beside that touch opens a prompt: one more touch is accepted
 pub otherPrompts : Claims.Demand3 Wrong.otherPrompts → ⊥
 unfolding after history foretold isPromptStanding latestPrompt latestTouch lastMoment grantedOf settleOf
@@ -285,7 +300,7 @@ unfolding settleOf
 baseLooksAtSide d = r-gives 8 _ (d .moves noSide 7 in-range (timely 1 7 (omega arith) (omega arith)))
 
 -- a check that serves the other side is the base's on a lent record too
-pub lentRecordServed : Claims.LentRecordDiffers Wrong.serves2 (baseBy (Checking 1)) → ⊥
+pub lentRecordServed : Claims.LentRecordDiffers Wrong.checkServesOther (baseBy (Checking 1)) → ⊥
 unfolding settleOf
 lentRecordServed d = true≢false (yes-same (d .sided))
 

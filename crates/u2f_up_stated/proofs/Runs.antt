@@ -9,11 +9,15 @@ use borrow.Author.Tests.{ltb-false, eqb-true}
 use Rattle.outcome.specs.Notation.{if_then_else_}
 use Rattle.outcome.specs.Outcome.{Outcome, R, Gives}
 use Rattle.u2f_up_stated.specs.Words.{Presence, Window, Closed, Opened}
-use Rattle.u2f_up_stated.specs.Moments.{Told, isLive, isR6, isNoSide, isR8, isR1, movedTo, settleOf, grantedOf, checkedOf, gave, refused}
-use Rattle.u2f_up_stated.specs.History.{Role, Touching, Checking, Asking, Settling, Short, Event, Mark, marked, sideOf, isAccepted, isSpending, isPromptingRefusal, isMoving, isAny, heldAt, lastMoment, latestPrompt, sideAsked, askerOf}
+use Rattle.u2f_up_stated.specs.Moments.{Told, isLive, isR6, isBadSide, isR8, isR1, movedTo, settleOf, grantedOf, checkedOf, gave, refused}
+use Rattle.u2f_up_stated.specs.History.{Role, Touching, Checking, Asking, Settling, Short, Event, Mark, marked, sideOf, isAccepted, isSpending, isPromptingBy, isMoving, isAny, heldAt, lastMoment, latestPrompt, sideAsked, askerOf}
 use Rattle.u2f_up_stated.specs.Runs.{doneBy, cameOf}
 use Rattle.u2f_up_stated.proofs.Cases.{settle-r8, settle-r1, settled}
 use Rattle.u2f_up_stated.proofs.Roles.{settledAs, done-refused, done-touching, done-checking, done-asking, done-settling, done-short}
+
+-- whether an event with its past is a prompting refusal
+abbrev pub isPromptingRefusal : ℕ → Event → List Event → Bool
+isPromptingRefusal w e past = isPromptingBy e (heldAt w past (e .call .moment))
 
 unfoldable pub promptOf : ℕ → List Event → Window
 promptOf w [] = Closed
@@ -45,7 +49,7 @@ pub data Effect (w : ℕ) (h : List Event) (e : Event) : Type 0 where
   moved : Sorted w h e true false false false → lastMoment h ≤ e .call .moment → Effect w h e
   touched : Sorted w h e true true false false → lastMoment h ≤ e .call .moment → isLive (promptOf w h) 10000 (e .call .moment) ≡ true → Effect w h e
   spent : Sorted w h e true false true false → lastMoment h ≤ e .call .moment → isLive (heldOf h) w (e .call .moment) ≡ true → askerOf w h ≡ sideOf (e .call .role) → Effect w h e
-  prompted : Sorted w h e true false false true → lastMoment h ≤ e .call .moment → isLive (heldOf h) w (e .call .moment) ≡ false → isNoSide (sideOf (e .call .role)) ≡ false → Effect w h e
+  prompted : Sorted w h e true false false true → lastMoment h ≤ e .call .moment → isLive (heldOf h) w (e .call .moment) ≡ false → isBadSide (sideOf (e .call .role)) ≡ false → Effect w h e
 
 -- each notion that the record has, one event further
 module _ {e : Event} {m a s p : Bool} (h : List Event) (w : ℕ) (x : Sorted w h e m a s p) where
@@ -137,7 +141,7 @@ module _ (w : ℕ) (h : List Event) (t : ℕ) where
         record { effect = moved x passed; exact = record-next h w x }
 
     -- the touch window is live exactly when the history holds a touch
-    module _ (agree : isLive (heldOf h) w t ≡ isAny (heldAt w h t)) (s : ℕ) (real : isNoSide s ≡ false) where
+    module _ (agree : isLive (heldOf h) w t ≡ isAny (heldAt w h t)) (s : ℕ) (real : isBadSide s ≡ false) where
       checking : (b c : Bool) → isLive (heldOf h) w t ≡ b → eqb (askerOf w h) s ≡ c → Follows (Checking s) (gave (checkedOf (movedTo p t) s t))
       unfolding checkedOf
       checking false c e f = rw e
@@ -150,30 +154,30 @@ module _ (w : ℕ) (h : List Event) (t : ℕ) where
           (let x : Plain (Checking s) (Gives true) true false true = record { moves = refl; accepts = refl; spends = refl; prompts = refl } in
           record { effect = spent x passed e (eqb-true (askerOf w h) s f); exact = record-next h w x })
 
-  module _ (within : isR6 w ≡ false) (own : isNoSide (askerOf w h) ≡ false) where
+  module _ (within : isR6 w ≡ false) (own : isBadSide (askerOf w h) ≡ false) where
     -- of the two sides that R8 looks at, the record's is one of the two
-    pub r8-is : (s : ℕ) (b : Bool) → isNoSide s ≡ b → isR8 s (askerOf w h) ≡ b
+    pub r8-is : (s : ℕ) (b : Bool) → isBadSide s ≡ b → isR8 s (askerOf w h) ≡ b
     r8-is s true e = rw e
     r8-is s false e = rw (e, own)
 
-    pub settles-r8 : (s : ℕ) → isNoSide s ≡ true → settleOf p s t ≡ R 8
+    pub settles-r8 : (s : ℕ) → isBadSide s ≡ true → settleOf p s t ≡ R 8
     settles-r8 s n = sym (settle-r8 p s t (isR6 w) (isR8 s (askerOf w h)) refl within refl (r8-is s true n))
 
-    pub settles-r1 : (s : ℕ) → isNoSide s ≡ false → isR1 (lastMoment h) t ≡ true → settleOf p s t ≡ R 1
+    pub settles-r1 : (s : ℕ) → isBadSide s ≡ false → isR1 (lastMoment h) t ≡ true → settleOf p s t ≡ R 1
     settles-r1 s n e = sym (settle-r1 p s t (isR6 w) (isR8 s (askerOf w h)) (isR1 (lastMoment h) t) refl within refl (r8-is s false n) refl e)
 
-    pub settles : (s : ℕ) → isNoSide s ≡ false → isR1 (lastMoment h) t ≡ false → settleOf p s t ≡ Gives (movedTo p t)
+    pub settles : (s : ℕ) → isBadSide s ≡ false → isR1 (lastMoment h) t ≡ false → settleOf p s t ≡ Gives (movedTo p t)
     settles s n e = sym (settled p s t (isR6 w) (isR8 s (askerOf w h)) (isR1 (lastMoment h) t) refl within refl (r8-is s false n) refl e)
 
     -- a call that names a side settles as that side, any other as the record's own, which is one of the two
-    pub real-as : (k : Role) → isNoSide (sideOf k) ≡ false → isNoSide (settledAs p k) ≡ false
+    pub real-as : (k : Role) → isBadSide (sideOf k) ≡ false → isBadSide (settledAs p k) ≡ false
     real-as Touching n = own
     real-as (Checking s) n = n
     real-as Asking n = own
     real-as (Settling s) n = n
     real-as (Short s) n = n
 
-    pub settles-as-r8 : (k : Role) → isNoSide (sideOf k) ≡ true → settleOf p (settledAs p k) t ≡ R 8
+    pub settles-as-r8 : (k : Role) → isBadSide (sideOf k) ≡ true → settleOf p (settledAs p k) t ≡ R 8
     settles-as-r8 Touching n = absurd (true≢false (sym n))
     settles-as-r8 (Checking s) n = settles-r8 s n
     settles-as-r8 Asking n = absurd (true≢false (sym n))
@@ -181,7 +185,7 @@ module _ (w : ℕ) (h : List Event) (t : ℕ) where
     settles-as-r8 (Short s) n = settles-r8 s n
 
     module _ (agree : lastMoment h ≤ t → isLive (heldOf h) w t ≡ isAny (heldAt w h t)) where
-      follows-settled : isR1 (lastMoment h) t ≡ false → lastMoment h ≤ t → (k : Role) → isNoSide (sideOf k) ≡ false → Follows k (doneBy k p t)
+      follows-settled : isR1 (lastMoment h) t ≡ false → lastMoment h ≤ t → (k : Role) → isBadSide (sideOf k) ≡ false → Follows k (doneBy k p t)
       follows-settled e late Touching n = rw (done-touching p t (movedTo p t) (settles (askerOf w h) own e)) (touching late (isLive (promptOf w h) 10000 t) refl)
       follows-settled e late (Checking s) n = rw (done-checking p t (movedTo p t) s (settles s n e)) (checking late (agree late) s n (isLive (heldOf h) w t) (eqb (askerOf w h) s) refl refl)
       follows-settled e late Asking n = rw (done-asking p t (movedTo p t) (settles (askerOf w h) own e)) (asking late (isLive (promptOf w h) 10000 t))
@@ -189,9 +193,9 @@ module _ (w : ℕ) (h : List Event) (t : ℕ) where
       follows-settled e late (Short s) n = rw (done-short p t (movedTo p t) s (settles s n e)) (stays-refused (Short s) 2)
 
       pub follows : (k : Role) → Follows k (doneBy k p t)
-      follows k = go (isNoSide (sideOf k)) refl (isR1 (lastMoment h) t) refl
+      follows k = go (isBadSide (sideOf k)) refl (isR1 (lastMoment h) t) refl
         where
-          go : (c : Bool) → isNoSide (sideOf k) ≡ c → (b : Bool) → isR1 (lastMoment h) t ≡ b → Follows k (doneBy k p t)
+          go : (c : Bool) → isBadSide (sideOf k) ≡ c → (b : Bool) → isR1 (lastMoment h) t ≡ b → Follows k (doneBy k p t)
           go true n b e = rw (done-refused p t 8 k (settles-as-r8 k n)) (stays-refused k 8)
           go false n true e = rw (done-refused p t 1 k (settles-r1 (settledAs p k) (real-as k n) e)) (stays-refused k 1)
           go false n false e = follows-settled e (not-before (lastMoment h) t e) k n

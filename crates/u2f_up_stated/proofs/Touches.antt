@@ -11,7 +11,7 @@ use lib.ListN.{length}
 use borrow.Author.Tests.{eq-eqb}
 use Rattle.outcome.specs.Notation.{if_then_else_}
 use Rattle.u2f_up_stated.specs.Words.{Window, Closed, Opened}
-use Rattle.u2f_up_stated.specs.Moments.{isLive, isNoSide}
+use Rattle.u2f_up_stated.specs.Moments.{isLive, isBadSide}
 use Rattle.u2f_up_stated.specs.History.{Event, Mark, sideOf, touchMark, those, isYoung, isOf, isFound, isAny, heldAt, heldFor, lastMoment, latestPrompt, askerOf, unspent, accepted, latestTouch, served}
 use Rattle.u2f_up_stated.proofs.Lists.{AllOld, stay-old, picks-old, finds-none, young-before}
 use Rattle.u2f_up_stated.proofs.Runs.{promptOf, heldOf, Sorted, Effect, still, moved, touched, spent, prompted, last-next, prompt-next, held-next, asker-next}
@@ -50,7 +50,7 @@ Prompting w last ks (Opened s) = AllOld w last ks
 pub record Inv (w : ℕ) (h : List Event) : Type 0 where
   pub held : Held w (askerOf w h) (lastMoment h) (unspent w h) (heldOf h)
   pub prompting : Prompting w (lastMoment h) (unspent w h) (promptOf w h)
-  pub real : isNoSide (askerOf w h) ≡ false
+  pub real : isBadSide (askerOf w h) ≡ false
 
 module _ (w t u : ℕ) (later : t ≤ u) (ks : List Mark) where
   held-later : (a : ℕ) (x : Window) → Held w a t ks x → Held w a u ks x
@@ -173,7 +173,7 @@ module _ (w : ℕ) (h : List Event) (e : Event) where
         any-window Closed = tt
         any-window (Opened s) = gone
 
-    prompts : Sorted w h e true false false true → isLive (heldOf h) w T ≡ false → isNoSide (sideOf (e .call .role)) ≡ false → Inv w (e ∷ h)
+    prompts : Sorted w h e true false false true → isLive (heldOf h) w T ≡ false → isBadSide (sideOf (e .call .role)) ≡ false → Inv w (e ∷ h)
     prompts x not-live known = record {
       held = rw (last-next h w x, unspent-next h w x, held-next h w x, asker-next h w x) (held-dead w A (sideOf (e .call .role)) T (unspent w h) (heldOf h) not-live now);
       prompting = rw (last-next h w x, unspent-next h w x, prompt-next h w x) (none-old w A T (unspent w h) (heldOf h) not-live now);

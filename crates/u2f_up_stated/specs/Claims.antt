@@ -47,9 +47,9 @@ pub record TouchesExactly (touch : Presence → ℕ → Told) : Type 0 where
 -- opens at t, replacing an older one." 02, E7: "A prompting refusal makes its side the asker, in place of any earlier"; "If the other side
 -- reaches the touch check while a touch is live, it gets 6985, nothing is opened or spent". A check that keeps the spent touch
 -- (`checkKeeps`) fails it at any live touch of its side; one that finds a touch at the window's end (`liveAtTheEnd`) fails it there; one
--- that keeps an older prompt (`keepsOlderPrompt`) fails it where both are due; and so do one that serves the other side (`serves2`),
--- one whose 6985 to the other side opens a prompt (`prompts2`) or gives it the touch (`gives2`), and one that keeps the older asker
--- (`keepsAsker`).
+-- that keeps an older prompt (`keepsOlderPrompt`) fails it where both are due; and so do one that serves the other side (`checkServesOther`),
+-- one whose 6985 to the other side opens a prompt (`checkPromptsOther`) or gives it the touch (`checkGivesTouch`), and one that keeps the older asker
+-- (`checkKeepsAsker`).
 pub record ChecksExactly (check : Presence → (side t : ℕ) → Told) : Type 0 where
   pub settles : (s : ℕ) → SettlesFirst (λ p. s) (λ p t. check p s t)
   pub finds : (p : Presence) (s t : ℕ) → Passes p s t → HasTouch p t → p .asker ≡ s
@@ -99,14 +99,15 @@ pub record BaseExactly (settle : Presence → ℕ → Outcome Presence) (checked
       → checked p t ≡ record { yes = false; presence = record { w = p .w; prompt = Opened t; touch = p .touch; last = p .last; asker = p .asker } }
 
 -- E7's request: "from a fresh record, with one side throughout (0 or 1), answers and windows are those of the base". 𝒞 is a way of calling
--- with sides, ℬ the base's. A record made with side 1 whose first touch check keeps the asker (`askerKept`) fails it for side 1: its own touch is the other's.
+-- with sides, ℬ the base's. A way of calling whose prompting
+-- refusal keeps the earlier asker (`askerKept`) fails it with side 1 throughout: its own touch is the other's.
 abbrev pub OneSideIsBase : {D : Type 0} → Caller D → Caller D → Type 0
 OneSideIsBase {D} 𝒞 ℬ =
     (w : ℕ) → 0 < w → w ≤ 60000 → (s : ℕ) → s ≤ 1 → (ds : List D) → OnlySide 𝒞 s ds
     → (sideless (after 𝒞 w ds) ≡ after ℬ w ds) × ((d : D) → NamesOnly s (𝒞 .asCall d .role) → next 𝒞 w ds d ≡ next ℬ w ds d)
 
 -- "on a lent record it need not be so: asker 0, live touch, side 1 gets 6985", where the base found the touch. A check that serves
--- the other side (`serves2`) fails it.
+-- the other side (`checkServesOther`) fails it.
 pub record LentRecordDiffers (check : Presence → (side t : ℕ) → Told) (baseCheck : Presence → ℕ → Told) : Type 0 where
   pub sided : check (record { w = 100; prompt = Closed; touch = Opened 0; last = 0; asker = 0 }) 1 7 .outcome ≡ Gives false
   pub base : baseCheck (record { w = 100; prompt = Closed; touch = Opened 0; last = 0; asker = 0 }) 7 .outcome ≡ Gives true

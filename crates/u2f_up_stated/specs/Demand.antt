@@ -5,7 +5,7 @@ use mathlib.Core.Logic.{_↔_}
 use mathlib.Core.Option.{some}
 use lib.ListN.{length}
 use Rattle.u2f_up_stated.specs.Words.{ℕ, _+_, _<_, _≤_, _≡_, Bool, true, Opened}
-use Rattle.u2f_up_stated.specs.Terms.{RefusedAt, NamesNoSide, ServesOnce}
+use Rattle.u2f_up_stated.specs.Terms.{RefusedAt, NamesBadSide, ServesOnce}
 use Rattle.u2f_up_stated.specs.History.{Role, Event, RefusedBy, TouchAccepted, TouchFound, Touching, Checking, Mark, foretold, latestPrompt, latestTouch, askerOf, isOf, isAfter}
 use Rattle.u2f_up_stated.specs.History.{heldAt, heldFor, lapsed, accepted, served, spenders, spendersOf, those, lastMoment, serverOf}
 use Rattle.u2f_up_stated.specs.Runs.{Caller, after, comesTo, history}
@@ -25,11 +25,11 @@ module _ {D : Type 0} (𝒞 : Caller D) (w : ℕ) (ds : List D) where
     -- first touch only (Wrong `firstOnly`) fails at the second accepted touch's check; one that honours none (`opensNothing`),
     -- at the first check after an accepted touch.
     pub foretells : (d : D) → comesTo 𝒞 w ds d ≡ foretold w past (𝒞 .asCall d)
-    -- E7's request: "R8 exactly for a call that names another side than 0 or 1, R1 as before otherwise, R6 never": R1 exactly when its
+    -- E7's request: "R8 comes exactly for a call that names another side than 0 or 1, R1 as before otherwise, R6 never": R1 exactly when its
     -- moment is 2^48 or more or before the last moment. A record that refuses every call (`refusesAll`) fails at the first one, one that
     -- gives R1 where R8 is due too (`r8Last`) at such a call.
-    pub refuses-side : (d : D) → (comesTo 𝒞 w ds d ≡ RefusedBy 8) ↔ NamesNoSide (role d)
-    pub refuses : (d : D) → (comesTo 𝒞 w ds d ≡ RefusedBy 1) ↔ ((NamesNoSide (role d) → ⊥) × RefusedAt past (moment d))
+    pub refuses-side : (d : D) → (comesTo 𝒞 w ds d ≡ RefusedBy 8) ↔ NamesBadSide (role d)
+    pub refuses : (d : D) → (comesTo 𝒞 w ds d ≡ RefusedBy 1) ↔ ((NamesBadSide (role d) → ⊥) × RefusedAt past (moment d))
     pub refuses-no-window : (d : D) → comesTo 𝒞 w ds d ≡ RefusedBy 6 → ⊥
     -- 01, Moments and touches: "A touch at t is accepted exactly when it gets no R refusal, the latest prompting refusal, at s,
     -- comes after the latest accepted touch, and t - s < 10,000." A record that never closes the prompt (`keepsPrompt`) fails
@@ -40,14 +40,14 @@ module _ {D : Type 0} (𝒞 : Caller D) (w : ℕ) (ds : List D) where
     -- unspent and younger than W"; it holds no second. A record that keeps a spent touch (`keepsSpent`) fails at the second check, one
     -- that loses a touch (`opensNothing`) at the first, one that serves the other side (`otherServed`) at that side's check.
     pub finds : (d : D) (s : ℕ) → role d ≡ Checking s → (comesTo 𝒞 w ds d ≡ TouchFound)
-        ↔ ((NamesNoSide (role d) → ⊥) × (RefusedAt past (moment d) → ⊥) × ((k : Mark) × (heldFor w past s (moment d) ≡ k ∷ [])))
+        ↔ ((NamesBadSide (role d) → ⊥) × (RefusedAt past (moment d) → ⊥) × ((k : Mark) × (heldFor w past s (moment d) ≡ k ∷ [])))
     -- And that touch is the one that the record holds: in every record from that touch on, the touch window is the one that
     -- it opened. A record that opens the window at the prompt's moment (`opensAtPrompt`) fails, where the moments differ.
     pub holds : (k : Mark) (t : ℕ) → lastMoment past ≤ t → heldAt w past t ≡ k ∷ []
         → (later earlier : List D) → ds ≡ later ++ earlier → k .number < length earlier → after 𝒞 w earlier .touch ≡ Opened (k .moment)
     -- 02, E7: "A prompting refusal makes its side the asker, in place of any earlier.": the record has the side of the latest one, and 0
     -- where there was none. A record that keeps the earlier asker (`askerKept`) fails after the other side's prompting refusal.
-    pub asks : after 𝒞 w ds .asker ≡ askerOf w past
+    pub asker : after 𝒞 w ds .asker ≡ askerOf w past
     -- Every call that spent a touch was served by the latest accepted one before it, that was the one that was live, and it was of the
     -- call's own side: "No touch serves two calls, nor a call of the other side." `otherServed` fails it.
     pub serves : (d : D) → comesTo 𝒞 w ds d ≡ TouchFound
@@ -57,7 +57,8 @@ module _ {D : Type 0} (𝒞 : Caller D) (w : ℕ) (ds : List D) where
     pub once : ServesOnce w past
     -- E7's request: "For each side: accepted = spent + lapsed + live; live at most one over both sides together." Every touch is of one of
     -- the two sides. A record that keeps a spent touch fails the first: two calls spent the one touch that was accepted; one that serves
-    -- the other side (`otherServed`) fails it for each side. One that loses a touch fails the last: after the next prompt another is
+    -- the other side (`otherServed`) fails it for the side that was served; a touch that side 2 asked for (`asks2`) is of neither, and fails
+    -- the second. One that loses a touch (`opensNothing`) fails the last: after the next prompt another is
     -- accepted, and the history holds two.
     pub side-totals : (s : ℕ) → length (those (isOf s) (accepted w past)) ≡ spendersOf s past + length (those (isOf s) (lapsed w past)) + length (those (isOf s) (heldAt w past (lastMoment past)))
     pub two-sides : length (accepted w past) ≡ length (those (isOf 0) (accepted w past)) + length (those (isOf 1) (accepted w past))

@@ -5,7 +5,7 @@ use mathlib.Core.List.{List, [], _∷_, _++_}
 use mathlib.Core.Option.{Option, none, some}
 use lib.ListN.{length}
 use Rattle.u2f_up_stated.specs.Words.{ℕ, _+_, Bool, true, false, not, _&&_, ltb, eqb, if_then_else_}
-use Rattle.u2f_up_stated.specs.Moments.{isR1, isNoSide}
+use Rattle.u2f_up_stated.specs.Moments.{isR1, isBadSide}
 
 -- What a call is to the record, with the side that it names: "every decision and direct check names its side", touch and ask none. It
 -- follows from the call's own inputs, never from the record.
@@ -20,7 +20,7 @@ pub record Call : Type 0 where
   pub role : Role
   pub moment : ℕ
 
--- The side of a call; what names none has the number 0 here, and nobody looks.
+-- The side of a call. What names none has 0 here, which is never R8, and no touch is spent or prompt opened by it.
 abbrev pub sideOf : Role → ℕ
 sideOf Touching = 0
 sideOf (Checking s) = s
@@ -134,7 +134,7 @@ isOf s k = eqb (k .side) s
 abbrev pub isFound : (w side t : ℕ) → Mark → Bool
 isFound w s t k = isYoung w t k && isOf s k
 
--- E7's request: "a check that finds nothing while the history holds no touch of either side that is live at the check's moment". A 6985
+-- A prompting refusal. E7's request: "a check that finds nothing while the history holds no touch of either side that is live at the check's moment". A 6985
 -- beside the other side's live touch is none, so what the past held has to be looked at, too.
 abbrev pub isPromptingBy : Event → (held : List Mark) → Bool
 isPromptingBy e held = isNoTouchFound (e .came) && not (isAny held)
@@ -179,10 +179,6 @@ heldAt w past t = those (isYoung w t) (unspent w past)
 abbrev pub heldFor : ℕ → List Event → (side t : ℕ) → List Mark
 heldFor w past s t = those (isFound w s t) (unspent w past)
 
--- Whether an event with its past is a prompting refusal.
-abbrev pub isPromptingRefusal : ℕ → Event → List Event → Bool
-isPromptingRefusal w e past = isPromptingBy e (heldAt w past (e .call .moment))
-
 -- The touches that were accepted, and the latest of them.
 unfoldable pub accepted : ℕ → List Event → List Mark
 accepted w [] = []
@@ -215,7 +211,7 @@ unfoldable pub served : ℕ → List Event → List Mark
 served w [] = []
 served w (e ∷ past) = if isSpending e then heldFor w past (sideOf (e .call .role)) (e .call .moment) ++ served w past else served w past
 
--- Which touch served a call that spent one, said without a word of what is spent: the latest accepted one before it.
+-- Which touch served a call that spent one, by its number said without a word of what is spent: the latest accepted one before it.
 abbrev pub serverOf : ℕ → List Event → Option Mark
 serverOf w past = latestTouch w past
 
@@ -249,6 +245,6 @@ unrefused w past (Short s) t = RefusedBy 2
 -- 02, E7: R8 "for a side other than 0 or 1"; then 01, Refusal numbers, R1: "moment 2^48 or more, or before the record's last moment"
 unfoldable pub foretold : ℕ → List Event → Call → Came
 foretold w past c =
-    if isNoSide (sideOf (c .role)) then RefusedBy 8
+    if isBadSide (sideOf (c .role)) then RefusedBy 8
     else if isR1 (lastMoment past) (c .moment) then RefusedBy 1
     else unrefused w past (c .role) (c .moment)

@@ -22,11 +22,11 @@ abbrev pub isR1 : ℕ → ℕ → Bool
 isR1 lastMoment t = leb (2 ^ 48) t || ltb t lastMoment
 
 -- 02, E7: "R8 for a side other than 0 or 1, named or in the record"
-abbrev pub isNoSide : ℕ → Bool
-isNoSide side = ltb 1 side
+abbrev pub isBadSide : ℕ → Bool
+isBadSide side = ltb 1 side
 
 abbrev pub isR8 : (named asker : ℕ) → Bool
-isR8 named asker = isNoSide named || isNoSide asker
+isR8 named asker = isBadSide named || isBadSide asker
 
 -- 01, Moments and touches: "both windows closed and last moment 0"; 02, E7: the asking side is "0 when fresh"
 abbrev pub fresh : ℕ → Presence

@@ -24,8 +24,8 @@ abbrev pub RefusedAt : List Event → ℕ → Type 0
 RefusedAt past t = (2 ^ 48 ≤ t) ⊎ (t < lastMoment past)
 
 -- in a run, where no record has another side than 0 or 1: the side that a call names (`sideOf` has 0 where it names none)
-abbrev pub NamesNoSide : Role → Type 0
-NamesNoSide role = 1 < sideOf role
+abbrev pub NamesBadSide : Role → Type 0
+NamesBadSide role = 1 < sideOf role
 
 -- neither R6 nor R8 nor R1
 abbrev pub Passes : Presence → (side t : ℕ) → Type 0

@@ -1,9 +1,10 @@
 -- Wrong programs, each with one fault. proofs/Refuted.antt shows of each that a claim is false of it.
 use mathlib.Core.List.{List, [], _∷_}
-use Rattle.u2f_up_stated.specs.Words.{ℕ, _+_, _^_, Bool, true, false, not, _||_, eqb, ltb, leb, if_then_else_, Outcome, R, Gives, Window, Closed, Opened, Presence, Finding}
-use Rattle.u2f_up_stated.specs.Moments.{fresh, Told, isLive, isPrompting, isR6, isNoSide, isR8, isR1, movedTo, settleOf, gave, refused, touchOpened, touchClosed, promptOpened, onSettled, grantedOf, checkedOf}
+use Rattle.u2f_up_stated.specs.Words.{ℕ, _+_, _^_, Bool, true, false, not, _&&_, _||_, eqb, ltb, leb, if_then_else_, Outcome, R, Gives, Window, Closed, Opened, Presence, Finding}
+use Rattle.u2f_up_stated.specs.Moments.{fresh, Told, isLive, isPrompting, isR6, isBadSide, isR8, isR1, movedTo, settleOf, gave, refused, touchOpened, touchClosed, promptOpened, onSettled, grantedOf, checkedOf}
 use Rattle.u2f_up_stated.specs.History.{Role, Touching, Checking, Asking, Settling, Short, Call, Event, TouchAccepted, TouchFound, NoTouchFound}
 use Rattle.u2f_up_stated.specs.Runs.{Caller, doneBy}
+use Rattle.u2f_up_stated.specs.OneSide.{baseSettleOf, baseCheckedOf}
 
 -- ---- makers of records: "a touch window W of 1..60,000"
 abbrev pub refusesEverything : ℕ → Outcome Presence
@@ -58,10 +59,10 @@ abbrev pub takesSide2 : Presence → (side t : ℕ) → Outcome Presence
 takesSide2 = settling isR6 (λ s asker. ltb 2 s || ltb 2 asker) isR1
 
 abbrev pub recordSideTaken : Presence → (side t : ℕ) → Outcome Presence
-recordSideTaken = settling isR6 (λ s asker. isNoSide s) isR1
+recordSideTaken = settling isR6 (λ s asker. isBadSide s) isR1
 
 abbrev pub namedSideTaken : Presence → (side t : ℕ) → Outcome Presence
-namedSideTaken = settling isR6 (λ s asker. isNoSide asker) isR1
+namedSideTaken = settling isR6 (λ s asker. isBadSide asker) isR1
 
 -- "moment 2^48 or more": 2^48 is taken
 abbrev pub takes2to48 : Presence → (side t : ℕ) → Outcome Presence
@@ -74,6 +75,10 @@ refusesLast = settling isR6 isR8 (λ last t. leb (2 ^ 48) (t + 1) || ltb t last)
 -- "or before the record's last moment": an earlier moment is taken
 abbrev pub goesBack : Presence → (side t : ℕ) → Outcome Presence
 goesBack = settling isR6 isR8 (λ last t. leb (2 ^ 48) t)
+
+-- settling without R8
+abbrev movedBy : Presence → ℕ → Outcome Presence
+movedBy p t = settling isR6 (λ s asker. false) isR1 p 0 t
 
 -- ---- touches: what is found on a settled record
 abbrev touching : (Presence → ℕ → Finding) → Presence → ℕ → Told
@@ -122,11 +127,14 @@ abbrev checking : (Presence → (side t : ℕ) → Finding) → Presence → (si
 checking checks p s t = onSettled p (settleOf p s t) (λ q. gave (checks q s t))
 
 -- by what is done with a live touch of the side that checks, and of the other one, and without one
-abbrev by : (own other without : Presence → (side t : ℕ) → Finding) → Presence → (side t : ℕ) → Finding
-by own other without p s t =
-    if not (isLive (p .touch) (p .w) t) then without p s t
+abbrev byTest : (Window → ℕ → ℕ → Bool) → (own other without : Presence → (side t : ℕ) → Finding) → Presence → (side t : ℕ) → Finding
+byTest live own other without p s t =
+    if not (live (p .touch) (p .w) t) then without p s t
     else if not (eqb (p .asker) s) then other p s t
     else own p s t
+
+abbrev by : (own other without : Presence → (side t : ℕ) → Finding) → Presence → (side t : ℕ) → Finding
+by = byTest isLive
 
 abbrev spends : Presence → (side t : ℕ) → Finding
 spends p s t = record { yes = true; presence = touchClosed p }
@@ -148,29 +156,29 @@ checkKeeps = checking staysSpent
 abbrev servesOther : Presence → (side t : ℕ) → Finding
 servesOther = by spends spends prompts
 
-abbrev pub serves2 : Presence → (side t : ℕ) → Told
-serves2 = checking servesOther
+abbrev pub checkServesOther : Presence → (side t : ℕ) → Told
+checkServesOther = checking servesOther
 
 -- 02, E7: "nothing is opened or spent, and that is no prompting refusal": it opens a prompt, the asker being the one that asked
 abbrev promptsBeside : Presence → (side t : ℕ) → Finding
 promptsBeside = by spends (λ p s t. record { yes = false; presence = promptOpened p (p .asker) t }) prompts
 
-abbrev pub prompts2 : Presence → (side t : ℕ) → Told
-prompts2 = checking promptsBeside
+abbrev pub checkPromptsOther : Presence → (side t : ℕ) → Told
+checkPromptsOther = checking promptsBeside
 
 -- 02, E7: "An accepted touch belongs to the asker": it is given to the side that checks, which finds it the next time
 abbrev givesTouch : Presence → (side t : ℕ) → Finding
 givesTouch = by spends (λ p s t. record { yes = false; presence = record { w = p .w; prompt = p .prompt; touch = p .touch; last = p .last; asker = s } }) prompts
 
-abbrev pub gives2 : Presence → (side t : ℕ) → Told
-gives2 = checking givesTouch
+abbrev pub checkGivesTouch : Presence → (side t : ℕ) → Told
+checkGivesTouch = checking givesTouch
 
 -- 02, E7: "makes its side the asker, in place of any earlier": the earlier one stays
 abbrev keepsTheAsker : Presence → (side t : ℕ) → Finding
 keepsTheAsker = by spends leaves (λ p s t. record { yes = false; presence = promptOpened p (p .asker) t })
 
-abbrev pub keepsAsker : Presence → (side t : ℕ) → Told
-keepsAsker = checking keepsTheAsker
+abbrev pub checkKeepsAsker : Presence → (side t : ℕ) → Told
+checkKeepsAsker = checking keepsTheAsker
 
 -- "is live at t when t < m + d": at the end too
 abbrev isLiveStill : Window → ℕ → ℕ → Bool
@@ -178,11 +186,11 @@ isLiveStill Closed d t = false
 isLiveStill (Opened m) d t = leb t (m + d)
 
 abbrev pub liveAtTheEnd : Presence → (side t : ℕ) → Told
-liveAtTheEnd = checking (λ p s t. if isLiveStill (p .touch) (p .w) t then record { yes = true; presence = touchClosed p } else record { yes = false; presence = promptOpened p s t })
+liveAtTheEnd = checking (byTest isLiveStill spends leaves prompts)
 
 -- "a prompt window opens at t, replacing an older one": an older live one stays
 abbrev pub keepsOlderPrompt : Presence → (side t : ℕ) → Told
-keepsOlderPrompt = checking (by spends leaves (λ p s t. if isPrompting p t then leaves p s t else prompts p s t))
+keepsOlderPrompt = checking (by spends leaves (λ p s t. if isPrompting p t then record { yes = false; presence = record { w = p .w; prompt = p .prompt; touch = p .touch; last = p .last; asker = s } } else prompts p s t))
 
 -- the check by itself moves nothing but the windows: here the last moment too
 abbrev pub movesAgain : Presence → (side t : ℕ) → Finding
@@ -243,6 +251,17 @@ givenToChecker = calling grantedOf givesTouch
 abbrev pub askerKept : Caller Call
 askerKept = calling grantedOf keepsTheAsker
 
+-- "a side other than 0 or 1": a check of side 2 is taken, and side 2 becomes the asker
+abbrev asks2Does : Role → Presence → ℕ → Told
+asks2Does Touching p t = onSettled p (movedBy p t) (λ q. gave (grantedOf q t))
+asks2Does (Checking s) p t = onSettled p (movedBy p t) (λ q. gave (checkedOf q s t))
+asks2Does Asking p t = doneBy Asking p t
+asks2Does (Settling s) p t = doneBy (Settling s) p t
+asks2Does (Short s) p t = doneBy (Short s) p t
+
+abbrev pub asks2 : Caller Call
+asks2 = record { asCall = λ c. c; does = λ p c. asks2Does (c .role) p (c .moment) }
+
 -- R8 "before R1": after it
 abbrev r8LastDoes : Role → Presence → ℕ → Told
 r8LastDoes Touching p t = doneBy Touching p t
@@ -271,10 +290,10 @@ shortMoves = record { asCall = λ c. c; does = λ p c. shortDoes (c .role) p (c 
 
 -- ---- what stands for the base: the touch check asks whose the touch is; settling looks at the record's side
 abbrev pub baseAsksWhose : Presence → ℕ → Finding
-baseAsksWhose p t = checkedOf p 0 t
+baseAsksWhose p t = if isLive (p .touch) (p .w) t && not (eqb (p .asker) 0) then record { yes = false; presence = p } else baseCheckedOf p t
 
 abbrev pub baseLooksAtSide : Presence → ℕ → Outcome Presence
-baseLooksAtSide p t = settleOf p 0 t
+baseLooksAtSide p t = if isBadSide (p .asker) then R 8 else baseSettleOf p t
 
 -- ---- a history that no program here made, in the order of the calls: a check at 0 prompts, a touch at 1 is accepted, and checks at 2
 -- and at 3 spend it
