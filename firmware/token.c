@@ -37,7 +37,7 @@ enum {
 
 static uint32_t board_tick(void); /* milliseconds, of 32 bits: wraps after 49.7 days */
 static bool board_pressed(void);  /* a press, once */
-static void board_light(bool blinks);
+static void board_light(bool blinks, uint32_t side); /* for whom it blinks */
 static void board_send(const uint8_t *bytes, size_t length);
 static bool board_goes_on(void);
 
@@ -235,7 +235,7 @@ int main(void)
         if (got.length)
             serve(got, t);
         said = brinecandle_panel_ask(&token.panel, t);
-        board_light(said.answer == BRINECANDLE_OK && said.yes);
+        board_light(said.answer == BRINECANDLE_OK && said.yes, token.panel.presence.asker);
     }
     return 0;
 }
@@ -312,10 +312,10 @@ static void board_send(const uint8_t *bytes, size_t length)
     board.sent_length = length;
 }
 
-/* the last that happens to a message: what was sent goes out with the light */
-static void board_light(bool blinks)
+/* the last that happens to a message: what was sent goes out with the light, 0 where it is dark, 1 for side 0, 2 for side 1 */
+static void board_light(bool blinks, uint32_t side)
 {
-    uint8_t front[3] = {blinks, (uint8_t)(board.sent_length >> 8), (uint8_t)board.sent_length};
+    uint8_t front[3] = {blinks ? (uint8_t)(1 + side) : 0, (uint8_t)(board.sent_length >> 8), (uint8_t)board.sent_length};
     board_put(front, sizeof front);
     board_put(board.sent, board.sent_length);
     board.sent_length = 0;

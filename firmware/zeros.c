@@ -1,5 +1,5 @@
 /* For firmware/test: what no line of the panel on a pipe can lend. Null pointers with length 0, memory of zeros as record, order and panel,
- * and sides as a C program may come to them, in an int or a wider number: the header says what each of them is answered, and that none of
+ * and sides as a C program may come to them, in an int: the header says what each of them is answered, and that none of
  * it makes an order. The first that is not so is named. */
 #include <unistd.h>
 
@@ -101,7 +101,7 @@ static void zeros(void)
          "an order, told");
 }
 
-/* Numbers that end in a byte of 0 or 1, or are none of 32 bits, and are no side for that. */
+/* Numbers that are no side, though 8 or 16 bits of most of them would be one. */
 static void sides(void)
 {
     const struct brinecandle_presence touched = {.w = 5000, .touch = 51, .last = 50};

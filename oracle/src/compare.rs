@@ -3,12 +3,12 @@
 //! held to document 02 instead, and counted apart; what the call leaves is compared with upstream's there too. So it is with the old
 //! form, which upstream reads as shape 6 and serves: the panel is held to document 02's E13, 6700 with its pair. Were upstream to decide
 //! on such a frame it could spend a touch or count where the panel does not, so in a history it gets that frame with two bytes more,
-//! which it refuses for the length as well, and at the same point: both stay in step. All calls come from side 0 (document 02, E7).
+//! which it refuses for the length as well, and at the same point: both stay in step. Every history names side 0 (document 02, E7).
 
 use crate::device::{amended, old_form, read, reading_name, yes_name, Answer, Call, Device, Outcome, Touch, ANSWERS};
 use crate::generate::{all, all_count, boundary, damaged, Aimed, Dice, History, ALL_UP_TO};
 use crate::lent::Hardware;
-use crate::panel::{decided, finished, next_line, put_call, put_finish, put_table, without_pair, Panel, Record};
+use crate::panel::{decided, finished, next_line, put_call, put_finish, put_side, put_table, without_pair, Panel, Record, SIDE};
 use std::collections::BTreeMap;
 use std::io::Write;
 use std::sync::mpsc::sync_channel;
@@ -25,6 +25,7 @@ const ENOUGH_CALLS: usize = 1_000;
 /// Lines that are compared too, and are no answers of upstream's.
 const RECORD: &str = "record";
 const FRESH: &str = "new";
+const NAMED: &str = "side";
 
 /// Answers that are held to document 02.
 const FETCHED: &str = "INS C0, where the Rust says 6d00";
@@ -138,6 +139,11 @@ impl Block {
             put_finish(&mut self.lines, call);
             self.words(outcome.finish_name(frame), |said| finished(outcome, said));
         }
+    }
+
+    fn side(&mut self) {
+        put_side(&mut self.lines, SIDE);
+        self.words(NAMED.into(), |said| said.extend_from_slice(b"ok"));
     }
 
     fn call(&mut self, device: &mut Device, record: &mut Record, call: &Call) {
@@ -310,6 +316,7 @@ impl Plan {
         let mut aimed = Aimed::new(dice);
         for at in 0..BLOCK.min(self.calls - first) {
             if at % HISTORY_CALLS == 0 {
+                block.side();
                 block.call(&mut device, &mut record, &Call::New);
                 wandering = History::new(dice);
                 aimed = Aimed::new(dice);
@@ -342,7 +349,7 @@ fn story(lines: &[u8], at: usize) -> String {
         .iter()
         .any(|call| lines[at].starts_with(call));
     let from = if is_history {
-        lines.iter().rposition(|l| l.starts_with("new ")).unwrap_or(0)
+        lines.iter().rposition(|l| l.starts_with("side ")).unwrap_or(0)
     } else {
         at
     };

@@ -6,8 +6,8 @@ use crate::lent::{Allowed, Attested, Counter, Handle};
 use std::io::{BufRead, BufReader, BufWriter, Write};
 use std::process::{Child, ChildStdin, ChildStdout, Command, Stdio};
 
-/// The side of every call here (document 02, E7: "demand 2 compares runs with one side only").
-const ASKER: u32 = 0;
+/// The side that every history names (document 02, E7: "demand 2 compares runs with one side only"), so that it is the asker throughout.
+pub const SIDE: u32 = 0;
 
 pub struct Panel {
     child: Child,
@@ -124,7 +124,7 @@ pub fn put_call(out: &mut Vec<u8>, call: &Call) {
     out.push(b'\n');
 }
 
-/// The line that names another side than 0, which upstream has not.
+/// The line that names a side, which upstream has not.
 pub fn put_side(out: &mut Vec<u8>, side: u32) {
     out.extend_from_slice(b"side");
     then(out, side);
@@ -181,7 +181,7 @@ pub fn finished(out: &Outcome, said: &mut Vec<u8>) {
 }
 
 /// The presence record as upstream's answers say it must stand: document 01's rules, applied to what upstream answered. Upstream knows no
-/// sides, so no call names another than 0, which the panel begins with, and the asker is 0 throughout.
+/// sides, so every history names one, and the asker is that one throughout.
 #[derive(Clone, Copy, Default)]
 pub struct Record {
     prompt: Option<u64>,
@@ -216,6 +216,6 @@ impl Record {
             }
         }
         then(said, self.last);
-        then(said, ASKER);
+        then(said, SIDE);
     }
 }

@@ -2,12 +2,12 @@
 //! no Rust at hand when it is run. Bytes that nothing looks at count up, so that names can stand for them. Of a 6700 the sample holds
 //! the status alone: upstream does not say what is wrong with the length, so the line ends in ` ..`, which lets the answer go on. Commands
 //! with INS C0 are left out, and so are frames of the old form, read or commanded, which upstream reads as shape 6: upstream's answers to
-//! them are amended (document 02, E2 and E13). All calls come from side 0, which a panel begins with (E7).
+//! them are amended (document 02, E2 and E13). Every history names side 0 (E7).
 
 use crate::device::{amended, old_form, reading_name, yes_name, Answer, Call, Device, Outcome, ANSWERS};
 use crate::generate::{all, all_count, boundary, damaged, frame, hardware, plain, Dice, History, LONG};
 use crate::lent::{Allowed, Attested, Hardware};
-use crate::panel::{decided, finished, put_call, put_finish, Record};
+use crate::panel::{decided, finished, put_call, put_finish, put_side, Record, SIDE};
 use std::collections::BTreeMap;
 use std::fmt::Write;
 
@@ -162,6 +162,9 @@ impl Sample {
             (Call::New, _) => {
                 self.record = Record::default();
                 let mut line = Vec::new();
+                put_side(&mut line, SIDE);
+                self.case(&line, b"ok");
+                line.clear();
                 put_call(&mut line, call);
                 self.case(&line, b"ok");
             }

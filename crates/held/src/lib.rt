@@ -45,6 +45,7 @@ pub fn fresh() -> Desk {
     desk
 }
 
+// A side on the desk came in by a word that takes no number of 2^32 or more, or out of a record: nothing is cut off here.
 pub fn presence(desk: &Desk) -> PresenceRecord {
     PresenceRecord {
         w: desk[W] as u64,
