@@ -23,8 +23,8 @@ pub record MakesExactly (new : ℕ → Outcome Presence) : Type 0 where
 -- Settling the moment, for a call that names a side. 01, Moments and touches: "R6, then R1, before all else"; 02, E7: "R8 for a side other
 -- than 0 or 1, named or in the record, after R6 and before R1"; Refusal numbers: "each touch, direct check and decision sets the last
 -- moment to t". A settling that gives R1 first (`r1First`) fails it where R6 is due too, one that gives R8 after R1 (`r8AfterR1`) or
--- before R6 (`r8First`) where both are; one that takes side 2 (`takesSide2`) fails it there, and one that does not look at the
--- record's (`recordSideTaken`); one that takes 2^48 (`takes2to48`) or refuses the moment before it (`refusesLast`) fails it there.
+-- before R6 (`r8First`) where both are; one that takes side 2 (`takesSide2`) fails it there, and one that does not look at the named
+-- side (`namedSideTaken`) or at the record's (`recordSideTaken`); one that takes 2^48 (`takes2to48`) or refuses the moment before it (`refusesLast`) fails it there.
 pub record SettlesExactly (settle : Presence → (side t : ℕ) → Outcome Presence) : Type 0 where
   pub r6 : (p : Presence) (s t : ℕ) → (settle p s t ≡ R 6) ↔ BadWindow (p .w)
   pub r8 : (p : Presence) (s t : ℕ) → (settle p s t ≡ R 8) ↔ ((BadWindow (p .w) → ⊥) × BadSide s (p .asker))
@@ -99,8 +99,8 @@ pub record BaseExactly (settle : Presence → ℕ → Outcome Presence) (checked
       → checked p t ≡ record { yes = false; presence = record { w = p .w; prompt = Opened t; touch = p .touch; last = p .last; asker = p .asker } }
 
 -- E7's request: "from a fresh record, with one side throughout (0 or 1), answers and windows are those of the base". 𝒞 is a way of calling
--- with sides, ℬ the base's. A way of calling whose prompting
--- refusal keeps the earlier asker (`askerKept`) fails it with side 1 throughout: its own touch is the other's.
+-- with sides, ℬ the base's. A way of calling whose prompting refusal keeps the earlier asker (`askerKept`) fails it with side 1
+-- throughout: its own touch is the other's.
 abbrev pub OneSideIsBase : {D : Type 0} → Caller D → Caller D → Type 0
 OneSideIsBase {D} 𝒞 ℬ =
     (w : ℕ) → 0 < w → w ≤ 60000 → (s : ℕ) → s ≤ 1 → (ds : List D) → OnlySide 𝒞 s ds
