@@ -8,8 +8,7 @@ ghost use Rattle.apdu_stated.specs.Writing.{writingOf};
 ghost use Rattle.table_stated.specs.Rows.{columnsOf};
 ghost use Rattle.table_stated.specs.Answers.{tableReadingOf, rowSaysOf};
 ghost use Rattle.convert_stated.specs.Converting.{oldRow, oldOf, newShape, newParts, copied, keptBy};
-ghost use Rattle.convert_stated.specs.Answers.{convertedOf};
-ghost use Rattle.convert_stated.specs.Contracts.{OldFormTold, Convert};
+ghost use Rattle.convert_stated.specs.Contracts.{OldFormTold, Leaves, Convert};
 use apdu::Case;
 use apdu::Reading;
 use apdu::Written;
@@ -55,7 +54,7 @@ fn new_shape(lc: u16) -> Case
 
 // Writes a frame of the old form anew.
 fn renew(frame: &[u8], said: RowSays, out: &mut [u8]) -> Converted
-    ensures { λ r. ⌜ (convertedOf r ≡ writingOf (newParts (now (frame .entry)) (rowSaysOf said)) (now (out .entry)) .0) × (now (out .exit) ≡ writingOf (newParts (now (frame .entry)) (rowSaysOf said)) (now (out .entry)) .1) ⌝ }
+    ensures { λ r. ⌜ Leaves (writingOf (newParts (now (frame .entry)) (rowSaysOf said)) (now (out .entry))) r (now (out .exit)) ⌝ }
 {
     let start = said.start as usize;
     let content = octets::part(frame, start, start + (said.lc as usize));
@@ -66,7 +65,7 @@ fn renew(frame: &[u8], said: RowSays, out: &mut [u8]) -> Converted
 }
 
 fn copy(frame: &[u8], out: &mut [u8]) -> Converted
-    ensures { λ r. ⌜ (convertedOf r ≡ copied (now (frame .entry)) (now (out .entry)) .0) × (now (out .exit) ≡ copied (now (frame .entry)) (now (out .entry)) .1) ⌝ }
+    ensures { λ r. ⌜ Leaves (copied (now (frame .entry)) (now (out .entry))) r (now (out .exit)) ⌝ }
 {
     let n = frame.len();
     if out.len() < n {
@@ -77,7 +76,7 @@ fn copy(frame: &[u8], out: &mut [u8]) -> Converted
 }
 
 fn keep(frame: &[u8], out: &mut [u8]) -> Converted
-    ensures { λ r. ⌜ (convertedOf r ≡ keptBy (now (frame .entry)) (readOf (now (frame .entry))) (now (out .entry)) .0) × (now (out .exit) ≡ keptBy (now (frame .entry)) (readOf (now (frame .entry))) (now (out .entry)) .1) ⌝ }
+    ensures { λ r. ⌜ Leaves (keptBy (now (frame .entry)) (readOf (now (frame .entry))) (now (out .entry))) r (now (out .exit)) ⌝ }
 {
     match apdu::read(frame) {
         Reading::Frame(_) => copy(frame, out),

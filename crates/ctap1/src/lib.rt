@@ -19,10 +19,9 @@ ghost use lib.ListN.{length};
 ghost use Rattle.outcome.specs.Outcome.{Gives, wordOf, refusalNo};
 ghost use Rattle.apdu_stated.specs.Answers.{saysOf, readingOf};
 ghost use Rattle.apdu_stated.specs.Reading.{readOf};
-ghost use Rattle.response_stated.specs.Words.{rest};
 ghost use Rattle.command_stated.specs.Command.{flagsNo, commandOf};
 ghost use Rattle.u2f_up_stated.specs.Moments.{checkedOf};
-ghost use Rattle.ctap1_stated.specs.Words.{Ordered, handedOf, decisionSaid, decisionWith};
+ghost use Rattle.ctap1_stated.specs.Words.{Ordered, enrolmentOf, unfetched, handedOf, decisionSaid, decisionWith};
 ghost use Rattle.ctap1_stated.specs.Numbers.{hardwareOf};
 ghost use Rattle.ctap1_stated.specs.Path.{versionPath, enrolmentOrder, registerPath, countedEnding, loginPath, limitOn, commandPath};
 ghost use Rattle.ctap1_stated.specs.Decision.{refusalResult, wordResult, orderResult, ended, touchChecked, along, decisionOf, replyLeft, leftOf};
@@ -97,7 +96,8 @@ fn enrol(
     after: Presence,
     block: &mut [u8; 385],
 ) -> Decision
-    ensures { λ r. ⌜ decisionWith r (now (block .exit)) ≡ leftOf (orderResult (enrolmentOrder (now (frame .entry)) (saysOf says) (record { newHandle = now (handle .entry); certificate = now (certificate .entry); x = now (x .entry); y = now (y .entry) })) after false) (now (block .entry)) ⌝ }
+    ensures { λ r. ⌜ decisionWith r (now (block .exit)) ≡ leftOf (orderResult (enrolmentOrder (now (frame .entry)) (saysOf says)
+        (enrolmentOf (now (handle .entry)) (now (certificate .entry)) (now (x .entry)) (now (y .entry)))) after false) (now (block .entry)) ⌝ }
 {
     let application = command::application(frame, says);
     let challenge = command::challenge(frame, says);
@@ -129,7 +129,9 @@ fn register(
     settled: Presence,
     block: &mut [u8; 385],
 ) -> Decision
-    ensures { λ r. ⌜ decisionWith r (now (block .exit)) ≡ leftOf (along (registerPath (record { side = side; frame = now (frame .entry); hardware = hardwareOf hardware; newHandle = now (handle .entry); certificate = now (certificate .entry); x = now (x .entry); y = now (y .entry); room = room; remainder = rest 0 0; partRoom = 0 }) (saysOf says)) kept settled side t) (now (block .entry)) ⌝ }
+    ensures { λ r. ⌜ decisionWith r (now (block .exit)) ≡ leftOf (along (registerPath (unfetched side (now (frame .entry)) (hardwareOf hardware)
+        (enrolmentOf (now (handle .entry)) (now (certificate .entry)) (now (x .entry)) (now (y .entry))) room)
+        (saysOf says)) kept settled side t) (now (block .entry)) ⌝ }
 {
     if !signing::has_register_room(room, handle.len(), certificate.len()) {
         return refused(Refusal::R2, kept);
@@ -160,7 +162,8 @@ fn counted(
     settled: Presence,
     block: &mut [u8; 385],
 ) -> Decision
-    ensures { λ r. ⌜ decisionWith r (now (block .exit)) ≡ leftOf (ended (countedEnding (now (frame .entry)) (saysOf says) present (hardwareOf hardware .counter)) settled) (now (block .entry)) ⌝ }
+    ensures { λ r. ⌜ decisionWith r (now (block .exit)) ≡ leftOf
+        (ended (countedEnding (now (frame .entry)) (saysOf says) present (hardwareOf hardware .counter)) settled) (now (block .entry)) ⌝ }
 {
     if hardware.counted != YES {
         return answered(ApduStatusCode::WrongData, settled);
@@ -181,7 +184,8 @@ fn enforce(
     settled: Presence,
     block: &mut [u8; 385],
 ) -> Decision
-    ensures { λ r. ⌜ decisionWith r (now (block .exit)) ≡ leftOf (touchChecked (checkedOf settled side t) (countedEnding (now (frame .entry)) (saysOf says) true (hardwareOf hardware .counter))) (now (block .entry)) ⌝ }
+    ensures { λ r. ⌜ decisionWith r (now (block .exit)) ≡ leftOf
+        (touchChecked (checkedOf settled side t) (countedEnding (now (frame .entry)) (saysOf says) true (hardwareOf hardware .counter))) (now (block .entry)) ⌝ }
 {
     let found = u2f_up::touch_check(settled, side, t);
     let after = found.presence;
@@ -204,7 +208,8 @@ fn authenticate(
     settled: Presence,
     block: &mut [u8; 385],
 ) -> Decision
-    ensures { λ r. ⌜ decisionWith r (now (block .exit)) ≡ leftOf (along (loginPath (now (frame .entry)) (hardwareOf hardware) room (flagsNo flags) (saysOf says)) kept settled side t) (now (block .entry)) ⌝ }
+    ensures { λ r. ⌜ decisionWith r (now (block .exit)) ≡ leftOf
+        (along (loginPath (now (frame .entry)) (hardwareOf hardware) room (flagsNo flags) (saysOf says)) kept settled side t) (now (block .entry)) ⌝ }
 {
     let p1 = command::flags_number(flags);
     if hardware.good != YES {
@@ -238,8 +243,12 @@ fn commanded(
     block: &mut [u8; 385],
 ) -> Decision
     requires { ⌜ readingOf reading ≡ readOf (now frame) ⌝ }
-    ensures { λ r. ⌜ decisionWith r (now (block .exit)) ≡ leftOf (along (commandPath (record { side = side; frame = now (frame .entry); hardware = hardwareOf hardware; newHandle = now (handle .entry); certificate = now (certificate .entry); x = now (x .entry); y = now (y .entry); room = length (now (reply .entry)); remainder = rest 0 0; partRoom = 0 }) (commandOf (now (frame .entry)))) kept settled side t) (now (block .entry)) ⌝ }
-    ensures { λ _. ⌜ now (reply .exit) ≡ replyLeft (along (commandPath (record { side = side; frame = now (frame .entry); hardware = hardwareOf hardware; newHandle = now (handle .entry); certificate = now (certificate .entry); x = now (x .entry); y = now (y .entry); room = length (now (reply .entry)); remainder = rest 0 0; partRoom = 0 }) (commandOf (now (frame .entry)))) kept settled side t) (now (reply .entry)) ⌝ }
+    ensures { λ r. ⌜ decisionWith r (now (block .exit)) ≡ leftOf (along (commandPath (unfetched side (now (frame .entry)) (hardwareOf hardware)
+        (enrolmentOf (now (handle .entry)) (now (certificate .entry)) (now (x .entry)) (now (y .entry))) (length (now (reply .entry))))
+        (commandOf (now (frame .entry)))) kept settled side t) (now (block .entry)) ⌝ }
+    ensures { λ _. ⌜ now (reply .exit) ≡ replyLeft (along (commandPath (unfetched side (now (frame .entry)) (hardwareOf hardware)
+        (enrolmentOf (now (handle .entry)) (now (certificate .entry)) (now (x .entry)) (now (y .entry))) (length (now (reply .entry))))
+        (commandOf (now (frame .entry)))) kept settled side t) (now (reply .entry)) ⌝ }
 {
     let room = reply.len();
     let read = command::on_reading(frame, reading);
@@ -342,7 +351,9 @@ pub fn decide(
     reply: &mut [u8],
     block: &mut [u8; 385],
 ) -> Ruling
-    ensures { λ r. ⌜ Decide presence t (record { side = side; frame = now (frame .entry); hardware = hardwareOf hardware; newHandle = now (handle .entry); certificate = now (certificate .entry); x = now (x .entry); y = now (y .entry); room = length (now (reply .entry)); remainder = rest 0 0; partRoom = 0 }) (record { reply = now (reply .entry); block = now (block .entry) }) r (record { reply = now (reply .exit); block = now (block .exit) }) ⌝ }
+    ensures { λ r. ⌜ Decide presence t (unfetched side (now (frame .entry)) (hardwareOf hardware)
+        (enrolmentOf (now (handle .entry)) (now (certificate .entry)) (now (x .entry)) (now (y .entry))) (length (now (reply .entry))))
+        (record { reply = now (reply .entry); block = now (block .entry) }) r (record { reply = now (reply .exit); block = now (block .exit) }) ⌝ }
 {
     let ready = u2f_up::settle(presence, side, t);
     let allowed = hardware.allowed;

@@ -44,6 +44,25 @@ pub record Enrolment : Type 0 where
   pub x : List ℕ
   pub y : List ℕ
 
+abbrev pub enrolmentOf : (newHandle certificate x y : List ℕ) → Enrolment
+enrolmentOf newHandle certificate x y = record { newHandle = newHandle; certificate = certificate; x = x; y = y }
+
+-- what is lent where nothing is left to fetch
+abbrev pub unfetched : (side : ℕ) (frame : List ℕ) → Hardware → Enrolment → (room : ℕ) → Inputs
+unfetched side frame hardware e room =
+    record {
+      side = side;
+      frame = frame;
+      hardware = hardware;
+      newHandle = e .newHandle;
+      certificate = e .certificate;
+      x = e .x;
+      y = e .y;
+      room = room;
+      remainder = rest 0 0;
+      partRoom = 0;
+    }
+
 -- 01, The decision, 5: "the attestation is missing or failed"
 abbrev pub isPresent : Attestation → Bool
 isPresent Attestation′.Present = true

@@ -1,4 +1,8 @@
 -- The three demands are met: each field is the theorem of its claim's name.
+use Rattle.outcome.proofs.Theorems as Numbers
+use Rattle.octets.proofs.Theorems as Bytes
+use Rattle.le.proofs.Theorems as LeFields
+use Rattle.fields.proofs.Theorems as Fields
 use Rattle.apdu_stated.proofs.Theorems as Frames
 use Rattle.table_stated.proofs.Theorems as Tables
 use Rattle.convert_stated.proofs.Theorems as Converter
@@ -14,6 +18,10 @@ use Rattle.demands.specs.Demands.{EveryInputIsAnswered, AsTheDocumentsSa
 pub answered : EveryInputIsAnswered
 answered =
     record {
+      numbers-determined = Numbers.ResultsDetermined;
+      bytes-determined = Bytes.ResultsDetermined;
+      le-determined = LeFields.ResultsDetermined;
+      fields-determined = Fields.ResultsDetermined;
       frames-determined = Frames.ResultsDetermined;
       tables-determined = Tables.ResultsDetermined;
       converter-determined = Converter.ResultsDetermined;
@@ -68,6 +76,23 @@ documents =
       one-side = Presence.OneSideIsBase;
       one-side-decided = Decision.OneSideIsBase;
       lent-records-differ = Presence.LentRecordDiffers;
+      status-numbers = Numbers.StatusNumbers;
+      refusal-numbers = Numbers.RefusalNumbers;
+      fault-numbers = Numbers.FaultExactly;
+      status-words = Numbers.WordExactly;
+      slices = Bytes.PartExactly;
+      zeros = Bytes.ZeroExactly;
+      two-bytes = Bytes.TwoBytesExactly;
+      four-bytes = Bytes.FourBytesExactly;
+      laid-bytes = Bytes.LaidExactly;
+      two-fields = Fields.WritesTwo;
+      three-fields = Fields.WritesThree;
+      four-fields = Fields.WritesFour;
+      five-fields = Fields.WritesFive;
+      le-read = LeFields.ReadExactly;
+      le-written = LeFields.PutExactly;
+      le-fits = LeFields.FitsExactly;
+      le-both-ways = LeFields.BothWays;
       reading = Frames.ReadingExactly;
       strict = Frames.StrictExactly;
       iso = Frames.IsoExactly;

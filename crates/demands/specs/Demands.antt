@@ -2,6 +2,15 @@
 -- proofs/Theorems.antt inhabits the record. A claim `X f` of a crate speaks of any function f: here it is said of the definition f, and
 -- that crate's contracts say that its functions give what f gives. What each claim means, a wrong program that it rejects and an
 -- input where it bites stand beside it in that crate's specs/Claims.antt; that nothing but f meets it, in proofs/Only.antt.
+use mathlib.Core.List.{_++_}
+use Rattle.outcome.specs.Claims as Numbers
+use Rattle.outcome.specs.Outcome.{statusNo, faultOf, wordOf, refusalNo}
+use Rattle.octets.specs.Claims as Bytes
+use Rattle.octets.specs.Bytes.{laid, bytes2, bytes4, allZero, partOf}
+use Rattle.le.specs.Claims as LeFields
+use Rattle.le.specs.Field.{saidOf, putOf, canSay}
+use Rattle.fields.specs.Claims as Fields
+use Rattle.apdu_stated.specs.Table.{leBytes}
 use Rattle.apdu_stated.specs.Claims as Frames
 use Rattle.apdu_stated.specs.Reading.{readOf, strictOf, dataOf}
 use Rattle.apdu_stated.specs.Terms.{InTable, Carries}
@@ -40,6 +49,10 @@ use Rattle.panel_stated.specs.Exports.{madeNumbers, askedNumbers, stepNumbers, 
 -- meets its contract on every input: the check of its crate. That none has a `requires`: the gate's look at the contracts.
 pub record EveryInputIsAnswered : Type 0 where
   -- the contracts leave nothing open: two results, and two final contents of what was lent, that meet one are equal
+  pub numbers-determined : Numbers.ResultsDetermined
+  pub bytes-determined : Bytes.ResultsDetermined
+  pub le-determined : LeFields.ResultsDetermined
+  pub fields-determined : Fields.ResultsDetermined
   pub frames-determined : Frames.ResultsDetermined
   pub tables-determined : Tables.ResultsDetermined
   pub converter-determined : Converter.ResultsDetermined
@@ -109,6 +122,26 @@ pub record AsTheDocumentsSay : Type 0 where
   pub one-side : Presence.OneSideIsBase own base
   pub one-side-decided : Decision.OneSideIsBase decisionOf baseDecisionOf
   pub lent-records-differ : Presence.LentRecordDiffers checkOf (baseBy (Checking 1))
+  -- the numbers of status words and refusals, what a 6700 says of the length, and the word that carries both
+  pub status-numbers : Numbers.StatusNumbers statusNo
+  pub refusal-numbers : Numbers.RefusalNumbers refusalNo
+  pub fault-numbers : Numbers.FaultExactly faultOf
+  pub status-words : Numbers.WordExactly statusNo faultOf wordOf
+  -- bytes in and out of lent slices: a part of one, zeros, big-endian numbers, fields laid at its front one behind the other
+  pub slices : Bytes.PartExactly partOf
+  pub zeros : Bytes.ZeroExactly allZero
+  pub two-bytes : Bytes.TwoBytesExactly bytes2
+  pub four-bytes : Bytes.FourBytesExactly bytes4
+  pub laid-bytes : Bytes.LaidExactly laid
+  pub two-fields : Fields.WritesTwo (λ a b old. laid (a ++ b) old)
+  pub three-fields : Fields.WritesThree (λ a b c old. laid (a ++ (b ++ c)) old)
+  pub four-fields : Fields.WritesFour (λ a b c d old. laid (a ++ (b ++ (c ++ d))) old)
+  pub five-fields : Fields.WritesFive (λ a b c d e old. laid (a ++ (b ++ (c ++ (d ++ e)))) old)
+  -- the rule of Le by itself, read and written (02, E5)
+  pub le-read : LeFields.ReadExactly saidOf
+  pub le-written : LeFields.PutExactly putOf
+  pub le-fits : LeFields.FitsExactly canSay
+  pub le-both-ways : LeFields.BothWays saidOf leBytes
   -- "Frame reading and writing are proved against the ISO 7816-3 case table with the tolerated forms listed": since 02, E13, one form
   pub reading : Frames.ReadingExactly InTable readOf
   pub strict : Frames.StrictExactly strictOf

@@ -104,7 +104,13 @@ pub extern "C" fn brinecandle_write(
     le: u32,
     out: &mut [u8],
 ) -> Wrote
-    ensures { λ r. ⌜ BrinecandleWrite (record { header = record { cla = cla; ins = ins; p1 = p1; p2 = p2 }; shape = shape; content = now (content .entry); le = le; out = now (out .entry) }) r (now (out .exit)) ⌝ }
+    ensures { λ r. ⌜ BrinecandleWrite (record {
+      header = record { cla = cla; ins = ins; p1 = p1; p2 = p2 };
+      shape = shape;
+      content = now (content .entry);
+      le = le;
+      out = now (out .entry);
+    }) r (now (out .exit)) ⌝ }
 {
     let header = apdu::ApduHeader { cla, ins, p1, p2 };
     plain_frames::write_plain(header, shape, content, le, out)
@@ -122,7 +128,13 @@ pub extern "C" fn brinecandle_write_strict(
     le: u32,
     out: &mut [u8],
 ) -> Wrote
-    ensures { λ r. ⌜ BrinecandleWriteStrict (record { header = record { cla = cla; ins = ins; p1 = p1; p2 = p2 }; shape = shape; content = now (content .entry); le = le; out = now (out .entry) }) r (now (out .exit)) ⌝ }
+    ensures { λ r. ⌜ BrinecandleWriteStrict (record {
+      header = record { cla = cla; ins = ins; p1 = p1; p2 = p2 };
+      shape = shape;
+      content = now (content .entry);
+      le = le;
+      out = now (out .entry);
+    }) r (now (out .exit)) ⌝ }
 {
     if !plain_frames::strict_plain(shape, content.len()) {
         return Wrote {
@@ -191,7 +203,21 @@ pub extern "C" fn brinecandle_decide(
     block: &mut [u8; 385],
     part: &mut [u8],
 ) -> DecisionSaid
-    ensures { λ r. ⌜ BrinecandleDecide (record { frame = now (frame .entry); side = side; moment = t; presence = presence; hardware = hardware; newHandle = now (handle .entry); certificate = now (certificate .entry); x = now (x .entry); y = now (y .entry); reply = now (reply .entry); block = now (block .entry); remainder = remainder; part = now (part .entry) }) r (now (reply .exit)) (now (block .exit)) (now (part .exit)) ⌝ }
+    ensures { λ r. ⌜ BrinecandleDecide (record {
+      frame = now (frame .entry);
+      side = side;
+      moment = t;
+      presence = presence;
+      hardware = hardware;
+      newHandle = now (handle .entry);
+      certificate = now (certificate .entry);
+      x = now (x .entry);
+      y = now (y .entry);
+      reply = now (reply .entry);
+      block = now (block .entry);
+      remainder = remainder;
+      part = now (part .entry);
+    }) r (now (reply .exit)) (now (block .exit)) (now (part .exit)) ⌝ }
 {
     let kept = plain_presence::record_lent(presence);
     let ruling = ctap1::decide(
@@ -259,7 +285,14 @@ pub extern "C" fn brinecandle_finish(
     signature: &[u8],
     reply: &mut [u8],
 ) -> Wrote
-    ensures { λ r. ⌜ BrinecandleFinish (record { order = order; block = now (block .entry); certificate = now (certificate .entry); signed = «is_signed»; signature = now (signature .entry); reply = now (reply .entry) }) r (now (reply .exit)) ⌝ }
+    ensures { λ r. ⌜ BrinecandleFinish (record {
+      order = order;
+      block = now (block .entry);
+      certificate = now (certificate .entry);
+      signed = «is_signed»;
+      signature = now (signature .entry);
+      reply = now (reply .entry);
+    }) r (now (reply .exit)) ⌝ }
 {
     let numbered = plain_orders::kind_numbered(order.kind);
     match numbered {

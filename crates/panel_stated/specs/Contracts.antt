@@ -1,6 +1,6 @@
 -- What is promised of each public function of plain_frames, plain_presence, plain_orders, plain_responses and panel, over what it is lent,
 -- its result, and the final contents of what it writes.
-use Rattle.panel_stated.specs.Words.{ℕ, _≡_, Bool, List, length, R, Word, Gives, Body, Ordered, Part, Head, Presence, Remainder, Ordinary, Strict, commandOf, newOf, touchOf, checkOf, askOf, lengthOf, replyOf, remainderAfter, partAfter, responseRead, responseWritten, partSent, readResponseOf, partResponse}
+use Rattle.panel_stated.specs.Words.{ℕ, _≡_, Bool, true, List, length, R, Word, Gives, Body, Ordered, Part, Head, Presence, Remainder, Ordinary, Strict, commandOf, newOf, touchOf, checkOf, askOf, lengthOf, replyOf, fetchPath, along, remainderAfter, partAfter, responseRead, responseWritten, partSent, readResponseOf, partResponse}
 use Rattle.panel_stated.specs.Words.{PresenceRecord, FrameSaid, CommandSaid, Wrote, Made, Stepped, Asked, DecisionSaid, ResponseSaid, PartSaid, Shaped, Kinded}
 use Rattle.panel_stated.specs.Numbers.{presenceOf, presenceNumbers, shapeOf, kindOf, noOrder}
 use Rattle.panel_stated.specs.Exports.{frameNumbers, lengthNumbers, ToWrite, strictAs, readsOf, writesOf, commandNumbers, madeNumbers, askedNumbers, stepNumbers, headAfter, decidedNumbers, decisionNumbers, ToDecide, decidesOf, respondsOf, nextsOf, responseNumbers, partNumbers, statedOf, ToFinish, finishNumbered}
@@ -86,6 +86,12 @@ WroteResponsePlain written r = r ≡ lengthNumbers (responseWritten written)
 
 abbrev pub NextPlain : NextPart → (kept : Remainder) → PartSaid → Type 0
 NextPlain next kept r = r ≡ partNumbers (partSent next) kept
+
+-- a GET RESPONSE that came so far, in numbers: 6985, R2 or the next part; and the buffer for part and status
+abbrev pub FetchedPlain : (kept settled : Presence) → Remainder → (limit : ℕ) → (body entry : List ℕ) → DecisionSaid → (exit : List ℕ) → Type 0
+FetchedPlain kept settled k limit body entry r exit =
+    let fetched = along (fetchPath (length body) k limit (length entry)) kept settled 0 0 in
+    (r ≡ decisionNumbers fetched (remainderAfter (fetched .answer) true k) limit) × (exit ≡ partAfter (fetched .answer) (partResponse body k limit) entry)
 
 -- a ruling's status word in numbers, and what the buffer for part and status then holds
 abbrev pub StatedPlain : ApduStatusCode → (asks taken : Bool) → (kept settled : Presence) → Remainder → (limit : ℕ) → (body entry : List ℕ) → DecisionSaid → (exit : List ℕ) → Type 0

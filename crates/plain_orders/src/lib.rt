@@ -51,7 +51,17 @@ fn numbers(
     remainder: Remainder,
     limit: u32,
 ) -> DecisionSaid
-    ensures { λ r. ⌜ r ≡ record { answer = answer; fault = fault .kind; taken = taken; length = length; order = order; presence = presenceNumbers kept; place = fault .place; remainder = remainder; limit = limit } ⌝ }
+    ensures { λ r. ⌜ r ≡ record {
+      answer = answer;
+      fault = fault .kind;
+      taken = taken;
+      length = length;
+      order = order;
+      presence = presenceNumbers kept;
+      place = fault .place;
+      remainder = remainder;
+      limit = limit;
+    } ⌝ }
 {
     DecisionSaid {
         answer,

@@ -9,15 +9,7 @@ use response_stated::ReadResponse;
 use response_stated::Remainder;
 use response_stated::WroteResponse;
 use u2f_up_stated::Presence;
-ghost use mathlib.Core.Path.{_≡_};
-ghost use mathlib.Core.Bool.{true};
-ghost use lib.ListN.{length};
-ghost use Rattle.ctap1_stated.specs.Path.{fetchPath};
-ghost use Rattle.ctap1_stated.specs.Decision.{along};
-ghost use Rattle.ctap1_stated.specs.Session.{remainderAfter, partAfter};
-ghost use Rattle.response_stated.specs.Parts.{partResponse};
-ghost use Rattle.panel_stated.specs.Exports.{decisionNumbers};
-ghost use Rattle.panel_stated.specs.Contracts.{ResponsePlain, WroteResponsePlain, NextPlain, StatedPlain};
+ghost use Rattle.panel_stated.specs.Contracts.{ResponsePlain, WroteResponsePlain, NextPlain, FetchedPlain, StatedPlain};
 
 pub fn response_plain(read: ReadResponse) -> ResponseSaid
     ensures { λ r. ⌜ ResponsePlain read r ⌝ }
@@ -81,8 +73,7 @@ fn fetched_numbers(
     reply: &[u8],
     part: &mut [u8],
 ) -> DecisionSaid
-    ensures { λ r. ⌜ r ≡ decisionNumbers (along (fetchPath (length (now (reply .entry))) remainder limit (length (now (part .entry)))) kept settled 0 0) (remainderAfter (along (fetchPath (length (now (reply .entry))) remainder limit (length (now (part .entry)))) kept settled 0 0 .answer) true remainder) limit ⌝ }
-    ensures { λ _. ⌜ now (part .exit) ≡ partAfter (along (fetchPath (length (now (reply .entry))) remainder limit (length (now (part .entry)))) kept settled 0 0 .answer) (partResponse (now (reply .entry)) remainder limit) (now (part .entry)) ⌝ }
+    ensures { λ r. ⌜ FetchedPlain kept settled remainder limit (now (reply .entry)) (now (part .entry)) r (now (part .exit)) ⌝ }
 {
     if remainder.count == 0 {
         let nothing = ApduStatusCode::CondUseNotSatisfied;

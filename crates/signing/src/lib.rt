@@ -69,7 +69,13 @@ pub fn register_order(
     certificate_length: usize,
     block: &mut [u8; 385],
 ) -> Head
-    ensures { λ r. ⌜ RegisterOrder (record { application = now (application .entry); challenge = now (challenge .entry); handle = now (handle .entry); x = now (x .entry); y = now (y .entry) }) «certificate_length» r (now (block .exit)) ⌝ }
+    ensures { λ r. ⌜ RegisterOrder (record {
+      application = now (application .entry);
+      challenge = now (challenge .entry);
+      handle = now (handle .entry);
+      x = now (x .entry);
+      y = now (y .entry);
+    }) «certificate_length» r (now (block .exit)) ⌝ }
 {
     if application.len() != 32 {
         return unfit(block);
@@ -220,7 +226,13 @@ pub fn finish(
     signature: &[u8],
     reply: &mut [u8],
 ) -> Finished
-    ensures { λ r. ⌜ Finish (record { order = orderWith order (now (block .entry)); certificate = now (certificate .entry); signed = signed; signature = now (signature .entry); reply = now (reply .entry) }) r (now (reply .exit)) ⌝ }
+    ensures { λ r. ⌜ Finish (record {
+      order = orderWith order (now (block .entry));
+      certificate = now (certificate .entry);
+      signed = signed;
+      signature = now (signature .entry);
+      reply = now (reply .entry);
+    }) r (now (reply .exit)) ⌝ }
 {
     if !layouts::has_layout(order, block) {
         return Finished::Refused(Refusal::R7);
