@@ -166,8 +166,10 @@ pub record RemainderExactly (decide : Decider) (left : Inputs → Result → Rem
   pub exactly : (p : Presence) (t : ℕ) (a : Inputs) → 0 < a .remainder .count → ((n : ℕ) (after : Remainder) → decide p t a .answer ≡ Gives (Part n after) → ⊥)
       → (left a (decide p t a) ≡ rest 0 0) ↔ ((AsksOn a → ⊥) × ((n : ℕ) → decide p t a .answer ≡ R n → ⊥))
 
--- 02, E13: the old form, an extended Lc with a one-byte Le, is in no shape from now on, whatever its INS: where R6, R8, R1 and 'allowed' are passed a
--- decision gives 6700, surplus at its Le byte, and once R6, R8 and R1 are passed a remainder is dropped (02, E2: "A frame with another INS or in no shape drops the remainder"). A decision that still serves it (`oldFormServed`) fails it, and one where a C0 in the old form keeps what remains (`oldFormKeeps`). Bites at 00 C0 00 00 | 00 00 00 01.
+-- 02, E13: the old form, an extended Lc with a one-byte Le, is in no shape from now on, whatever its INS: where R6, R8, R1 and
+-- 'allowed' are passed a decision gives 6700, surplus at its Le byte, and once R6, R8 and R1 are passed a remainder is dropped (02,
+-- E2: "A frame with another INS or in no shape drops the remainder"). A decision that still serves it (`oldFormServed`) fails it,
+-- and one where a C0 in the old form keeps what remains (`oldFormKeeps`). Bites at 00 C0 00 00 | 00 00 00 01.
 pub record OldFormRefused (decide : Decider) (left : Inputs → Result → Remainder) : Type 0 where
   pub answer : (p : Presence) (t : ℕ) (a : Inputs) → OldForm (a .frame) → Passes p (a .side) t → a .hardware .allowed ≡ Allowed′.Yes
       → decide p t a .answer ≡ wrongLength 2 (7 + pairAt (a .frame) 5)
