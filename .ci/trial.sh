@@ -5,7 +5,11 @@ tried=0
 
 fresh_copy() {
     rm -rf "$room/copy"
-    mkdir "$room/copy" && cp -R .ci crates crates.txt docs include firmware oracle bench "$room/copy"
+    mkdir "$room/copy" || return 1
+    # all but what is built, and .git
+    for part in .ci *; do
+        [ "$part" = target ] || cp -R "$part" "$room/copy" || return 1
+    done
 }
 
 trial() { # CHECK FILE SED-EDIT

@@ -292,8 +292,8 @@ AcceptsWhatIsRead read cut write =
     (write w old .0 ≡ Gives n)
     ↔ ((frame : List ℕ) × AreBytes frame × (length frame ≡ n) × (n ≤ length old) × (read frame ≡ Gives says) × (cut frame says ≡ w .content))
 
--- The strict pair, there and back, each by the law above. E4's request: "Strict write then strict read, and back, are the identity; given room, the
--- strict writer accepts exactly what the strict reader reads". Rejects a strict writer that takes shape 7 without data: it is not read back. Bites there.
+-- The strict pair, there and back, each by the law above. Ours: what is written strictly is read strictly as itself, and back; given room, the
+-- strict writer takes exactly what the strict reader reads. Rejects a strict writer that takes shape 7 without data: it is not read back. Bites there.
 pub record StrictThereAndBack (strict : List ℕ → Outcome Says) (cut : List ℕ → Says → List ℕ) (write : Parts → List ℕ → Outcome ℕ × List ℕ) : Type 0 where
   pub read-then-written : ReadThenWritten strict cut write
   pub written-then-read : WrittenThenRead strict cut write

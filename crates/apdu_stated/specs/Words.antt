@@ -10,8 +10,7 @@ pub use Rattle.apdu_stated.specs.declared.ApduHeader.{ApduHeader}
 pub use Rattle.apdu_stated.specs.declared.Case.{Case}
 pub use Rattle.apdu_stated.specs.declared.Case.the-variants.{Instruction, Le1, Lc1Data, Lc1DataLe1, Lc3Data, Lc3DataLe2, Le3}
 
--- 01, 'Eight frame shapes': the column "no". 02, E13: no shape has number 6 any more; its request: "The other shapes
--- keep their numbers"
+-- 01, 'Eight frame shapes': the column "no". 02, E13: no shape has number 6 any more; the others keep theirs (ours)
 abbrev pub shapeNo : Case → ℕ
 shapeNo Instruction = 1
 shapeNo Le1 = 2

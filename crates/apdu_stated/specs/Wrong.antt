@@ -179,7 +179,7 @@ shape8Numbered7 s = if eqb (shapeNo s) 8 then 7 else shapeNo s
 abbrev pub numberedFrom0 : Case → ℕ
 numberedFrom0 s = shapeNo s - 1
 
--- E13's request: "The other shapes keep their numbers": here 7 and 8 move up, where 6 was
+-- ours, after E13: the other shapes keep their numbers. Here 7 and 8 move up, where 6 was
 abbrev pub numbersMovedUp : Case → ℕ
 numbersMovedUp s = if ltb 6 (shapeNo s) then shapeNo s - 1 else shapeNo s
 

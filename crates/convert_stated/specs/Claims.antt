@@ -41,8 +41,8 @@ pub record ConvertExactly (convert : List ℕ → List ℕ → Outcome ℕ × Li
   pub refused : (frame before : List ℕ) (n : ℕ) → convert frame before .0 ≡ R n → convert frame before .1 ≡ before
   pub left : (frame before : List ℕ) (w : StatusWord) → convert frame before .0 ≡ Word w → convert frame before .1 ≡ before
 
--- E13's request: "the converter's result is read (ordinary always; strict exactly where the frame was not shape 7 with Lc 0) with the same header,
--- data and Le": what is converted is of one of document 01's eight shapes, and the result is read with what the frame held. Rejects `leZeroAsZero` and
+-- Ours: the converter's result is read with the same header, data and Le, always by the ordinary reading, by the strict one exactly where the frame was
+-- not shape 7 with Lc 0. What is converted is of one of document 01's eight shapes, and the result is read with what the frame held. Rejects `leZeroAsZero` and
 -- `oldFormKept`, at 00 03 00 00 | 00 00 01 AA 00; `noShapeCopied`, at 00 03 00 00 | 00 01; `convertsBySurplus`, at ten bytes and Lc: its result is read, and its
 -- frame is of no shape; strictly `lcZeroAsShape7`, at 00 03 00 00 | 00 00 00 05, and
 -- `shape7Rewritten`, at 00 03 00 00 | 00 00 00 00 05.
@@ -55,7 +55,7 @@ pub record ConvertedIsRead (convert : List ℕ → List ℕ → Outcome ℕ × L
       → let result = take n (convert frame before .1) in
       ((says : Says) × (strictOf result ≡ Gives says) × (readOf result ≡ Gives says)) ↔ (EmptySeven frame → ⊥)
 
--- E13's request: "exactly which frames change": those of the old form, and, given a byte more than the frame, each of them is converted. Rejects a frame of
+-- Ours, which frames change: those of the old form, and, given a byte more than the frame, each of them is converted. Rejects a frame of
 -- shape 7 rewritten (`shape7Rewritten`), the old form handed back (`oldFormKept`), and refused (`oldFormRefused`). Bites at 00 03 00 00 | 00 00 00 00 05, and at
 -- 00 03 00 00 | 00 00 00 05.
 pub record ChangesExactly (convert : List ℕ → List ℕ → Outcome ℕ × List ℕ) : Type 0 where
@@ -64,7 +64,7 @@ pub record ChangesExactly (convert : List ℕ → List ℕ → Outcome ℕ × Li
   pub converted : (frame before : List ℕ) → AreBytes frame → OldForm frame → 1 + length frame ≤ length before
       → (n : ℕ) × (convert frame before .0 ≡ Gives n)
 
--- E13's request: "a converted frame converts to itself", into any buffer with the room. Rejects one that writes an Lc of 0 as shape 7 and such a shape 7
+-- Ours: a converted frame converts to itself, into any buffer with the room. Rejects one that writes an Lc of 0 as shape 7 and such a shape 7
 -- as shape 8 (`twoSteps`), and R2 a byte early (`r2OneByteEarly`). Bites at 00 03 00 00 | 00 00 00 05, and at the header alone.
 abbrev pub ConvertsToItself : (List ℕ → List ℕ → Outcome ℕ × List ℕ) → Type 0
 ConvertsToItself convert =

@@ -14,7 +14,7 @@ use Rattle.convert_stated.specs.declared.Converted.the-variants as Conve
 abbrev pub wantsData : List ℕ → Bool
 wantsData frame = isOld frame && ltb 0 (pairAt frame 5)
 
--- E13's request: "not by 'surplus one byte before the end'": here by that
+-- ours: the old form is told by its own condition. Here by surplus one byte before the end
 abbrev lastIsSurplus : List ℕ → Outcome Says → Bool
 lastIsSurplus frame (R n) = false
 lastIsSurplus frame (Word w) = eqb (w .kind) 2 && eqb (w .place + 1) (length frame)
@@ -91,7 +91,7 @@ withoutPair (Gives n, after) = (Gives n, after)
 abbrev pub pairDropped : List ℕ → List ℕ → Outcome ℕ × List ℕ
 pairDropped frame before = withoutPair (convertOf frame before)
 
--- E13's request: "the reader's status .. then R2": here R2 where the buffer is shorter than a frame in no shape
+-- 02, E13: "the reader's status for a frame in no shape, R2 when the buffer is shorter than the result". Here R2 where the buffer is shorter than a frame in no shape
 abbrev roomAsked : Outcome ℕ × List ℕ → List ℕ → Outcome ℕ × List ℕ
 roomAsked (R n, after) frame = (R n, after)
 roomAsked (Word w, after) frame = if ltb (length after) (length frame) then (R 2, after) else (Word w, after)
@@ -127,7 +127,7 @@ lateBy (Gives n, after) wider = (Gives n, after)
 abbrev pub r2OneByteLate : List ℕ → List ℕ → Outcome ℕ × List ℕ
 r2OneByteLate frame before = lateBy (convertOf frame before) (convertOf frame (0 ∷ before))
 
--- E13's request: "a result leaves its rest": here it becomes 0
+-- ours: a result leaves the buffer's rest. Here it becomes 0
 abbrev cleared : Outcome ℕ × List ℕ → Outcome ℕ × List ℕ
 cleared (R n, after) = (R n, after)
 cleared (Word w, after) = (Word w, after)
@@ -136,7 +136,7 @@ cleared (Gives n, after) = (Gives n, laid (take n after) (replicate (length afte
 abbrev pub clearsTheRest : List ℕ → List ℕ → Outcome ℕ × List ℕ
 clearsTheRest frame before = cleared (convertOf frame before)
 
--- "a refusal leaves the buffer": here a frame that does not fit fills it, and here one in no shape does
+-- 01: "An R refusal changes no buffer". Here a frame that does not fit fills it, and here one in no shape does
 abbrev spoiltByR : Outcome ℕ × List ℕ → List ℕ → Outcome ℕ × List ℕ
 spoiltByR (R n, after) frame = (R n, laid frame after)
 spoiltByR (Word w, after) frame = (Word w, after)

@@ -43,8 +43,8 @@ pub record OrdersNeedATouch (decide : Decider) : Type 0 where
       → (n : ℕ) × (a .hardware .counter ≡ Counter′.Offered n) × (decide p t a .taken ≡ true)
       × (byte (decide p t a .order .bytes) 33 * 0x1000000 + byte (decide p t a .order .bytes) 34 * 0x10000 + byte (decide p t a .order .bytes) 35 * 256 + byte (decide p t a .order .bytes) 36 ≡ n)
 
--- And over a history, E7's headline: "a Register order, or an order whose presence byte is 01, made for a side has its own accepted touch of
--- that side, and no two orders share one". It is the latest accepted one before it, it was live, and no other was. A decision that does
+-- And over a history, E7's headline: a Register order, or an order whose presence byte is 01, made for a side has its own accepted touch of
+-- that side, and no two orders share one. It is the latest accepted one before it, it was live, and no other was. A decision that does
 -- not spend the touch (`touchKept`) fails it: two orders within W, one touch; one that serves the other side (`servesOther`) fails it
 -- where wireless asked, a finger touched, and USB gets an order, and so does one that gives USB the touch at its 6985 (`otherSideTakes`).
 pub record OrdersHaveTheirTouch (decide : Decider) : Type 0 where
@@ -67,8 +67,8 @@ pub record OrdersHaveTheirTouch (decide : Decider) : Type 0 where
 abbrev pub DecidesExactly : Decider → Type 0
 DecidesExactly decide = (p : Presence) (t : ℕ) (a : Inputs) → Answers p t a (decide p t a)
 
--- 02, E7: "R8 for a side other than 0 or 1, named or in the record, after R6 and before R1"; E7's request: "R8 is asked at every decision:
--- Version, check-only and C0 too". So it comes exactly then, whatever the frame, the moment and the rest that is lent. A decision that does
+-- 02, E7: "R8 for a side other than 0 or 1, named or in the record, after R6 and before R1"; ours: it is asked at every decision,
+-- at Version, check-only and C0 too. So it comes exactly then, whatever the frame, the moment and the rest that is lent. A decision that does
 -- not ask it of a Version (`versionUnasked`), a check-only (`checkOnlyUnasked`) or a C0 (`fetchUnasked`) fails it, and one that gives R1 first (`r8AfterR1`).
 abbrev pub SideRefusedExactly : Decider → Type 0
 SideRefusedExactly decide = (p : Presence) (t : ℕ) (a : Inputs) → (decide p t a .answer ≡ R 8) ↔ ((BadWindow (p .w) → ⊥) × BadSide (a .side) (p .asker))
@@ -166,16 +166,17 @@ pub record RemainderExactly (decide : Decider) (left : Inputs → Result → Rem
   pub exactly : (p : Presence) (t : ℕ) (a : Inputs) → 0 < a .remainder .count → ((n : ℕ) (after : Remainder) → decide p t a .answer ≡ Gives (Part n after) → ⊥)
       → (left a (decide p t a) ≡ rest 0 0) ↔ ((AsksOn a → ⊥) × ((n : ℕ) → decide p t a .answer ≡ R n → ⊥))
 
--- 02, E13: the old form, an extended Lc with a one-byte Le, is in no shape from now on, whatever its INS: where R6, R8, R1 and 'allowed' are passed a
--- decision gives 6700, surplus at its Le byte, and once R6, R8 and R1 are passed a remainder is dropped (E13's request: "so it drops a remainder of E2, whatever
--- its INS"; 02, E2: "A frame with another INS or in no shape drops the remainder"). A decision that still serves it (`oldFormServed`) fails it, and one where a C0 in the old form keeps what remains (`oldFormKeeps`). Bites at 00 C0 00 00 | 00 00 00 01.
+-- 02, E13: the old form, an extended Lc with a one-byte Le, is in no shape from now on, whatever its INS: where R6, R8, R1 and
+-- 'allowed' are passed a decision gives 6700, surplus at its Le byte, and once R6, R8 and R1 are passed a remainder is dropped (02,
+-- E2: "A frame with another INS or in no shape drops the remainder"). A decision that still serves it (`oldFormServed`) fails it,
+-- and one where a C0 in the old form keeps what remains (`oldFormKeeps`). Bites at 00 C0 00 00 | 00 00 00 01.
 pub record OldFormRefused (decide : Decider) (left : Inputs → Result → Remainder) : Type 0 where
   pub answer : (p : Presence) (t : ℕ) (a : Inputs) → OldForm (a .frame) → Passes p (a .side) t → a .hardware .allowed ≡ Allowed′.Yes
       → decide p t a .answer ≡ wrongLength 2 (7 + pairAt (a .frame) 5)
   pub drops : (p : Presence) (t : ℕ) (a : Inputs) → OldForm (a .frame) → Passes p (a .side) t → left a (decide p t a) ≡ rest 0 0
 
--- The buffer for part and status: E2's request: "61 XX goes out with its part", the next one of the body that is lent, and no other answer changes it.
--- This amends 01's "a status word other than 9000 change[s] no reply buffer": the reply buffer, which holds the uncut body, stays
+-- The buffer for part and status: a part goes out with its 61 XX, the next one of the body that is lent, and no other answer changes it.
+-- This amends 01's "a status word other than 9000 change no reply buffer": the reply buffer, which holds the uncut body, stays
 -- (`RepliesExactly`). One that clears the buffer with a status (`statusClears`) fails it, and one that sends the part before (`partAgain`).
 pub record PartsExactly (decide : Decider) (limit : List ℕ → ℕ) (left : Inputs → Result → (body old : List ℕ) → List ℕ) : Type 0 where
   pub part : (p : Presence) (t : ℕ) (a : Inputs) (body old : List ℕ) (n : ℕ) (after : Remainder) → decide p t a .answer ≡ Gives (Part n after)
@@ -217,8 +218,8 @@ pub record BaseDecidesExactly (decide : Decider) : Type 0 where
   pub row : (p : Presence) (t : ℕ) (a : Inputs) → p .asker ≡ 0 → a .side ≡ 0 → Answers p t a (decide p t a)
   pub any-side : (p : Presence) (t : ℕ) (a : Inputs) (s : ℕ) → decide p t (onSide s a) ≡ decide p t a
 
--- E7's request: "from a fresh record, with one side throughout (0 or 1), answers and windows are those of the base", and "Demand 2 compares
--- such runs": each decision's whole result but for the record's asking side is the one that the decision without sides gives
+-- Ours: from a fresh record, with one side throughout (0 or 1), answers and windows are those of the base. 02, E7: "demand 2 compares runs
+-- with one side only". So each decision's whole result but for the record's asking side is the one that the decision without sides gives
 -- (specs/OneSide.antt). A decision whose prompting refusal keeps the earlier asker (`askerKept`) fails it, with side 1 throughout.
 pub record OneSideIsBase (decide baseDecide : Decider) : Type 0 where
   pub calls : Up.OneSideIsBase (callsWith decide) (baseWith baseDecide)
@@ -242,7 +243,7 @@ pub record AttestationNumbers (attestation : ℕ → Attestation) : Type 0 where
   pub failed : (n : ℕ) → 2 ≤ n → attestation n ≡ Attestation′.Failed
 
 -- Of a question with yes or no 1 is yes and every other number no, the cautious answer: not stored, not good, a counter or a signer
--- that failed. Ours; DECISIONS, "Unknown numbers are the cautious answer". A table that takes whatever is not 0 for yes
+-- that failed. Ours; DECISIONS, unknown numbers are the cautious answer. A table that takes whatever is not 0 for yes
 -- (`unknownIsYes`) fails it, at 2, and one that looks at the lowest bit (`lowestBitIsYes`), at 255.
 pub record YesNumbers (yes : ℕ → Bool) : Type 0 where
   pub granted : yes 1 ≡ true

@@ -76,8 +76,8 @@ abbrev pub versionBytes : List ℕ
 versionBytes = 0x55 ∷ 0x32 ∷ 0x46 ∷ 0x5F ∷ 0x56 ∷ 0x32 ∷ []
 
 -- "A 9000 body fills the front of the buffer; the rest stays." "An order and a status word other than 9000 change no reply
--- buffer." The only body that a decision gives is Version's. E2's request: a part is written to a buffer of its own (specs/Session.antt), "never the
--- uncut body"
+-- buffer." The only body that a decision gives is Version's. Ours: a part is written to a buffer of its own (specs/Session.antt), never to the
+-- uncut body's
 abbrev pub replyAfter : Outcome Given → List ℕ → List ℕ
 replyAfter (R n) old = old
 replyAfter (Word s) old = old

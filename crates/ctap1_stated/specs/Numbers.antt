@@ -18,7 +18,7 @@ attestationOf n =
     else if eqb n 1 then Attestation′.Present
     else Attestation′.Failed
 
--- ours: DECISIONS, "Unknown numbers are the cautious answer": of a question with yes or no 1 is yes, any other number no
+-- ours: DECISIONS, unknown numbers are the cautious answer: of a question with yes or no 1 is yes, any other number no
 abbrev pub isYes : ℕ → Bool
 isYes n = eqb n 1
 

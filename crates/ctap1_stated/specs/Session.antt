@@ -25,7 +25,7 @@ remainderAfter (Gives (Part n after)) asks r = after
 abbrev pub remainderLeft : Inputs → Result → Remainder
 remainderLeft a r = remainderAfter (r .answer) (asksOn (readOf (a .frame))) (a .remainder)
 
--- E2's request: "61 XX goes out with its part": a part stands at the front of the buffer for part and status, its status behind it; every other answer
+-- 02, E2: "the first part goes out with 61 XX"; ours: a part stands at the front of the buffer for part and status, its status behind it; every other answer
 -- leaves that buffer
 abbrev pub partAfter : Outcome Given → (response old : List ℕ) → List ℕ
 partAfter (R n) response old = old

@@ -312,7 +312,7 @@ r8AfterR1 p t a =
     else if isR1 (p .last) t then refusalResult 1 p
     else decisionOf p t a
 
--- "R8 is asked at every decision: Version, check-only and C0 too": such a frame is decided as side 0's, whichever it names
+-- R8 is asked at every decision, at Version, check-only and C0 too. Here such a frame is decided as side 0's, whichever it names
 abbrev unaskedAt : (Path → Bool) → Decider
 unaskedAt test p t a = decisionOf p t (if test (pathOf a) then onSide 0 a else a)
 
@@ -456,14 +456,14 @@ otherStatusKeeps a r = leftBy (λ k. k) (λ shaped k. if shaped then k else rest
 abbrev pub refusalDrops : Inputs → Result → Remainder
 refusalDrops a r = leftBy (λ k. rest 0 0) (λ asks k. if asks then k else rest 0 0) (λ k. rest 0 0) (r .answer) (asksOn (readOf (a .frame))) (a .remainder)
 
--- "R2 found after the remainder moved"
+-- R2 found after the remainder has moved
 abbrev pub r2AfterMove : Inputs → Result → Remainder
 r2AfterMove a r = leftBy (λ k. restAfter k (frameLimit (a .frame))) (λ asks k. if asks then k else rest 0 0) (λ k. rest 0 0) (r .answer) (asksOn (readOf (a .frame))) (a .remainder)
 
 abbrev pub damagedKeeps : Inputs → Result → Remainder
 damagedKeeps a r = leftBy (λ k. k) (λ asks k. k) (λ k. rest 0 0) (r .answer) (asksOn (readOf (a .frame))) (a .remainder)
 
--- "every other status .. ": a status word of its own clears the buffer for part and status
+-- every status but a part's leaves that buffer. Here a status word of its own clears the buffer for part and status
 abbrev partBy : (List ℕ → List ℕ) → (List ℕ → List ℕ) → Outcome Given → List ℕ → List ℕ
 partBy status part (R n) old = old
 partBy status part (Word s) old = status old
@@ -474,7 +474,7 @@ partBy status part (Gives (Part n after)) old = part old
 abbrev pub statusClears : Inputs → Result → (body old : List ℕ) → List ℕ
 statusClears a r body old = partBy (λ (l : List ℕ). []) (laid (partResponse body (a .remainder) (frameLimit (a .frame)))) (r .answer) old
 
--- "the part taken from the body's start again"
+-- the part is taken from the body's start again
 abbrev pub partAgain : Inputs → Result → (body old : List ℕ) → List ℕ
 partAgain a r body old = partBy (λ (l : List ℕ). l) (laid (partResponse body (rest 0 (a .remainder .count)) (frameLimit (a .frame)))) (r .answer) old
 
@@ -506,7 +506,7 @@ roleOf07 side (Touch e) = Checking side
 abbrev pub checkOnlyAsCheck : Caller PanelCall
 checkOnlyAsCheck = callsBy roleOf07
 
--- E2's request: "6985 when nothing remains (no prompting refusal)": the same program takes C0's for one
+-- ours: the 6985 "when nothing remains" is no prompting refusal. Here the same program takes C0's for one
 abbrev pub fetchAsCheck : Caller PanelCall
 fetchAsCheck = callsBy roleOf07
 
@@ -544,7 +544,7 @@ unknownIsAllowed n = if leb 2 n then Allowed′.Yes else allowedOf n
 abbrev pub unknownIsPresent : ℕ → Attestation
 unknownIsPresent n = if leb 2 n then Attestation′.Present else attestationOf n
 
--- "Unknown numbers are the cautious answer": whatever is not 0 is yes, as C has it; and the lowest bit, as a bool of C's is passed
+-- unknown numbers are the cautious answer: whatever is not 0 is yes, as C has it; and the lowest bit, as a bool of C's is passed
 abbrev pub unknownIsYes : ℕ → Bool
 unknownIsYes n = not (eqb n 0)
 

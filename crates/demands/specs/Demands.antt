@@ -45,7 +45,7 @@ use Rattle.panel_stated.specs.Claims as Panel
 use Rattle.panel_stated.specs.Numbers.{presenceOf, presenceNumbers}
 use Rattle.panel_stated.specs.Exports.{madeNumbers, askedNumbers, stepNumbers, saidBy, frameNumbers, commandNumbers, readsOf, writesOf, decidesOf, nextsOf, respondsOf}
 
--- 1. "Every frame, moment, answer and buffer length gets an answer. Nothing is asked of the caller beforehand." Every function ends and
+-- 1. Every frame, moment, answer and buffer length gets an answer, and nothing is asked of the caller beforehand. Every function ends and
 -- meets its contract on every input: the check of its crate. That none has a `requires`: the gate's look at the contracts.
 pub record EveryInputIsAnswered : Type 0 where
   -- the contracts leave nothing open: two results, and two final contents of what was lent, that meet one are equal
@@ -62,7 +62,7 @@ pub record EveryInputIsAnswered : Type 0 where
   pub signing-determined : Signing.ResultsDetermined
   pub decision-determined : Decision.ResultsDetermined
   pub exports-determined : Panel.ResultsDetermined
-  -- "Each refusal comes exactly under its stated condition": R6, R8 (02, E7) and R1, making and settling a record; touch, check, ask
+  -- each refusal comes exactly under its condition: R6, R8 (02, E7) and R1, making and settling a record; touch, check, ask
   pub records : Presence.MakesExactly newOf
   pub moments : Presence.SettlesExactly settleOf
   pub touches : Presence.TouchesExactly touchOf
@@ -89,7 +89,7 @@ pub record EveryInputIsAnswered : Type 0 where
   pub sides-cross : Panel.SideCrosses (λ n t. stepNumbers (touchOf (presenceOf n) t)) (λ n t. askedNumbers (askOf (presenceOf n) t .outcome)) (λ n s t. stepNumbers (checkOf (presenceOf n) s t)) decidesOf
   -- R7, R4, R2, 6f00, R3 and the bodies of finishing
   pub finishing : Signing.FinishesExactly endOf
-  -- "and leaves buffers and records as stated"
+  -- and leaves buffers and records as they were
   pub refusals-change-nothing : Decision.RefusalChangesNothing decisionOf replyLeft
   pub replies : Decision.RepliesExactly decisionOf replyLeft
   pub block : Panel.BlockExactly blockAfter
@@ -112,9 +112,9 @@ pub record EveryInputIsAnswered : Type 0 where
   -- the enrolment that was lost: an order has asked for its room before the touch was spent
   pub room-was-asked : Decision.RoomWasAsked decisionOf
 
--- 2. "Results equal the Rust's", statuses by their number alone, bodies uncut, without INS C0 (02, E2) and the old form (E13), and with one side throughout (E7): that is run, not proved (oracle/compare, and the Rust's own answers in
--- crates/lines/data/rust).
--- Proved is what stands below.
+-- 2. The results are the Rust's, statuses by their number alone, bodies uncut, without INS C0 (02, E2) and the old form (E13), and
+-- with one side throughout (E7): that is run, not proved (oracle/compare, and the Rust's own answers in cases/). Proved is what
+-- stands below.
 pub record AsTheDocumentsSay : Type 0 where
   -- 02, E7: "demand 2 compares runs with one side only": from a fresh record, with one side throughout, calls and decisions are those of the base, which had no sides
   pub base-presence : Presence.BaseExactly baseSettleOf baseCheckedOf
@@ -142,7 +142,7 @@ pub record AsTheDocumentsSay : Type 0 where
   pub le-written : LeFields.PutExactly putOf
   pub le-fits : LeFields.FitsExactly canSay
   pub le-both-ways : LeFields.BothWays saidOf leBytes
-  -- "Frame reading and writing are proved against the ISO 7816-3 case table with the tolerated forms listed": since 02, E13, one form
+  -- frames are read and written by the case table of ISO 7816-3, with the tolerated forms listed: since 02, E13, one form
   pub reading : Frames.ReadingExactly InTable readOf
   pub strict : Frames.StrictExactly strictOf
   pub iso : Frames.IsoExactly readOf
@@ -182,24 +182,23 @@ pub record AsTheDocumentsSay : Type 0 where
   -- the parts of a frame that are handed back stand where they are said to
   pub parts : Commands.CutAtPlaces challengeOf applicationOf handleOf challengePlaceOf applicationPlaceOf handlePlaceOf
   pub parts-in-c : Panel.PlacesCut frameNumbers commandNumbers
-  -- "reply bytes against FIDO U2F raw message formats 1.2": the bytes to sign, byte by byte, and the replies made of them
+  -- replies are those of FIDO U2F Raw Message Formats 1.2: the bytes to sign, byte by byte, and the replies made of them
   pub register-orders : Signing.MakesRegister registerOrderOf
   pub authenticate-orders : Signing.MakesAuthenticate authenticateOrderFor
   pub register-replies : Signing.RegisterRoundTrip finishOf
   pub authenticate-replies : Signing.AuthenticateRoundTrip finishOf
-  -- "A frame that is read and, given room, written again is the same frame; fields that the writer accepts read back as themselves"
+  -- a frame that is read and, given room, written again is the same frame; fields that the writer takes are read back as themselves
   pub read-then-written : Frames.ReadThenWritten readOf dataOf writingOf
   pub written-then-read : Frames.WrittenThenRead readOf dataOf writingOf
-  -- E4's request: "Strict write then strict read, and back, are the identity; given room, the strict writer accepts exactly what the strict reader reads",
-  -- and so of the ordinary pair
+  -- the same strictly; and given room, each writer takes exactly what its reader reads
   pub accepted-as-read : Frames.AcceptsWhatIsRead readOf dataOf writingOf
   pub strict-there-and-back : Frames.StrictThereAndBack strictOf dataOf strictWritingOf
 
--- 3. "From a fresh presence record, each call taking the record the last one gave back, for any sequence of calls":
+-- 3. From a fresh presence record, each call taking the record that the last one gave back, for any sequence of calls:
 pub record TouchesAreAsTheHistorySays : Type 1 where
   -- (decisions on C0 among them: 02, E2, "demand 3 is unchanged")
-  -- "a call that reaches the touch check finds a touch exactly when history holds an accepted one, unspent and younger than the
-  -- touch window. No touch serves two calls. Touches accepted = calls that spent one + lapsed touches + at most one still live"; 02, E7: 'a touch
+  -- a call that comes to the touch check finds a touch exactly when the history holds an accepted one, unspent and younger than the
+  -- touch window; no touch serves two calls; touches accepted = calls that spent one + lapsed touches + at most one still live; 02, E7: 'a touch
   -- of its own side', "totals kept per side"
   pub over-every-run : Decision.Demand3OfThePanel panelCalls
   -- a decision does nothing else to a record, whatever record is lent

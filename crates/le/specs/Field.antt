@@ -1,6 +1,6 @@
 -- Document 01, 'Eight frame shapes': an Le field by itself. "A written Le of 0 means 256 in one byte and 65536 in two; an absent Le
 -- reads as 0". Its bytes as the table has them: none, Le (1), Le (2), and 00 before Le (2) in shape 8. What is written for an Le
--- is `leBytes` of apdu_stated's Table.antt: "256 is written 00, and 65536 is written 00 00".
+-- is `leBytes` of apdu_stated's Table.antt: 256 is written 00, and 65536 is written 00 00.
 use Prim.Native.Nat.{ℕ}
 use mathlib.Core.Bool.{Bool, _&&_}
 use mathlib.Core.List.{List}

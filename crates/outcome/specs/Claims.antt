@@ -72,7 +72,7 @@ abbrev pub RefusalOneToOne : (Refusal → ℕ) → Type 0
 RefusalOneToOne number = (a b : Refusal) → number a ≡ number b → a ≡ b
 
 -- The refusals' numbers are those from 1 to the last, with none left out: what the panel's answers leave to refusals is just
--- what is used. Ours; DECISIONS, "one answer number". `r4Numbered2` fails it: no refusal is numbered 4.
+-- what is used. Ours; DECISIONS, one answer number. `r4Numbered2` fails it: no refusal is numbered 4.
 pub record RefusalRange (number : Refusal → ℕ) : Type 0 where
   pub within : (r : Refusal) → (1 ≤ number r) × (number r ≤ lastRefusal)
   pub each : (n : ℕ) → 1 ≤ n → n ≤ lastRefusal → (r : Refusal) × (number r ≡ n)

@@ -79,8 +79,8 @@ pub record DecisionTells (number : Outcome Given → ℕ) : Type 0 where
   pub refused : (o : Outcome Given) → IsNumbered o → (n : ℕ) → 1 ≤ n → n ≤ lastRefusal → (number o ≡ n) ↔ (o ≡ R n)
   pub status : (o : Outcome Given) → IsNumbered o → (n : ℕ) → 0x6000 ≤ n → n < 0x9000 → (number o ≡ n) ↔ HasStatus n o
 
--- 0 is no answer's number: memory of zeros is neither an order nor anything else that a call has answered. Ours; DECISIONS, "one answer
--- number". A table that numbers an order 0 (`orderIs0`) fails it: a decision that was never asked for would be signed.
+-- 0 is no answer's number: memory of zeros is neither an order nor anything else that a call has answered. Ours; DECISIONS, one answer
+-- number. A table that numbers an order 0 (`orderIs0`) fails it: a decision that was never asked for would be signed.
 pub record NoAnswerIs0 (answer : Outcome Bool → ℕ) (decided : Outcome Given → ℕ) : Type 0 where
   pub answered : (o : Outcome Bool) → IsNumbered o → answer o ≡ 0 → ⊥
   pub decision : (o : Outcome Given) → IsNumbered o → decided o ≡ 0 → ⊥
@@ -93,13 +93,13 @@ abbrev pub NumbersBack : (PresenceRecord → Presence) → (Presence → Presenc
 NumbersBack lend plain = (n : PresenceRecord) → AreOf64Bits n → plain (lend n) ≡ n
 
 -- A record whose windows were opened at moments goes out and comes back whole: the closed number is the number of no moment. Ours;
--- DECISIONS, "a window as one number". Open windows numbered by their moment itself on both ways (`openedAtItsNumber`) fail it: a
+-- DECISIONS, a window as one number. Open windows numbered by their moment itself on both ways (`openedAtItsNumber`) fail it: a
 -- window opened at moment 0 is lost.
 abbrev pub RecordsBack : (PresenceRecord → Presence) → (Presence → PresenceRecord) → Type 0
 RecordsBack lend plain = (p : Presence) → IsOfMoment (p .prompt) → IsOfMoment (p .touch) → lend (plain p) ≡ p
 
 -- What the five numbers stand for: 0 is a closed window, so that a record of zeros with W set is a closed one, and any number above
--- it a window opened at the moment before. Ours; DECISIONS, "a window as one number". Windows that change places on both ways
+-- it a window opened at the moment before. Ours; DECISIONS, a window as one number. Windows that change places on both ways
 -- (`swappedBothWays`) fail it, and closed windows under the greatest number (`greatestIsClosed`): a record of zeros with W set would have
 -- a touch that there was not. The asking side is the number itself: one that is cut down to 8 bits (`askerCut`) fails it, at 256.
 pub record RecordNumbers (lend : PresenceRecord → Presence) : Type 0 where
@@ -129,8 +129,8 @@ pub record RefusalHandsBack (touch : PresenceRecord → ℕ → Stepped) (check 
   pub consume-up : (n : PresenceRecord) (s t : ℕ) → AreOf64Bits n → check n s t .answer ≤ lastRefusal → check n s t .presence ≡ n
   pub decided : (i : ToDecide) → AreOf64Bits (i .presence) → 1 ≤ decide i .answer → decide i .answer ≤ lastRefusal → (decide i .presence ≡ i .presence) × (decide i .remainder ≡ i .remainder)
 
--- 02, E7: "R8 for a side other than 0 or 1, named or in the record"; its request: "The side crosses as a number wide enough that 256 or -1 in C is
--- not cut down to a valid one". So a check and a decision answer 8 exactly for such a number, as it was lent, once W is right; touch and ask, which name
+-- 02, E7: "R8 for a side other than 0 or 1, named or in the record"; ours: the side crosses with 32 bits, so that 256 or -1 in C is
+-- not cut down to a side. So a check and a decision answer 8 exactly for such a number, as it was lent, once W is right; touch and ask, which name
 -- none, exactly for the record's. An export that looks at 8 bits of the side (`sideCutInCheck`, `sideCutInDecide`) fails it, at 256, and a touch that does
 -- not look at the record's (`touchAnySide`).
 pub record SideCrosses (touch : PresenceRecord → ℕ → Stepped) (ask : PresenceRecord → ℕ → Asked) (check : PresenceRecord → (side t : ℕ) → Stepped) (decide : ToDecide → AfterDeciding) : Type 0 where
@@ -141,7 +141,7 @@ pub record SideCrosses (touch : PresenceRecord → ℕ → Stepped) (ask : Prese
 
 -- ---- numbers that stand for cases
 
--- 01, 'Eight frame shapes', the column "no"; ours: OPEN POINTS, "a shape number outside 1..8 is R5"; 02, E13: number 6 is no shape's, the
+-- 01, 'Eight frame shapes', the column "no"; ours: a shape number outside 1..8 is R5; 02, E13: number 6 is no shape's, the
 -- others keep theirs. A table that takes 0 for Instruction (`shape0Accepted`) fails it, and one that takes the retired 6 for shape 7 (`shape6Accepted`).
 pub record ShapeNumbers (shape : ℕ → Shaped) : Type 0 where
   pub instruction : shape 1 ≡ Shaped′.As Instruction
@@ -153,14 +153,14 @@ pub record ShapeNumbers (shape : ℕ → Shaped) : Type 0 where
   pub le3 : shape 8 ≡ Shaped′.As Le3
   pub none : (n : ℕ) → NoShape n → shape n ≡ Shaped′.Nothing
 
--- Ours: OPEN POINTS, "Over plain numbers any other kind is R7". A table that takes 2 for a Register (`kindsAlike`) fails it, and
+-- Ours: over plain numbers any other kind is R7. A table that takes 2 for a Register (`kindsAlike`) fails it, and
 -- one that takes 3 and above for an Authenticate (`unknownIsAuthenticate`).
 pub record KindNumbers (kind : ℕ → Kinded) : Type 0 where
   pub register : kind 1 ≡ Kinded′.As Kind′.Register
   pub authenticate : kind 2 ≡ Kinded′.As Kind′.Authenticate
   pub none : (n : ℕ) → (n ≡ 0) ⊎ (3 ≤ n) → kind n ≡ Kinded′.Nothing
 
--- Ours: OPEN POINTS, "a shape number outside 1..8 is R5", "Over plain numbers any other kind is R7"; 02, E13: for shape 6 "the writer R5". A writer that takes number 6 for
+-- Ours: a shape number outside 1..8 is R5, a kind other than 1 and 2 R7; 02, E13: for shape 6 "the writer R5". A writer that takes number 6 for
 -- shape 7 (`sixAnswered`) fails it, and a finisher that refuses an order of no kind for its room (`noKindIsR2`).
 pub record OthersRefused (write : Entry → ToWrite → Outcome ℕ) (finish : ToFinish → Outcome (List ℕ)) : Type 0 where
   pub shape : (entry : Entry) (w : ToWrite) → NoShape (w .shape) → write entry w ≡ R 5
@@ -248,7 +248,7 @@ pub record ResponseNumbers (plain : Outcome Response → ResponseSaid) : Type 0 
   pub status : (s : StatusWord) → plain (Word s) ≡ record { answer = s .number; status = 0; length = 0 }
   pub given : (r : Response) → plain (Gives r) ≡ record { answer = 0x9000; status = r .status; length = r .length }
 
--- A part's response and what remains after it; beside a refusal what remained before: E2's request: "an R refusal keeps remainder and buffer". A table
+-- A part's response and what remains after it; beside a refusal what remained before (02, E2: "any R refusal keeps it"). A table
 -- that hands back nothing with R2 (`refusalForgets`) fails it: what was left could not be fetched any more; and one that
 -- hands back what remained before a part (`partForgets`).
 pub record PartNumbers (plain : Outcome Sent → Remainder → PartSaid) : Type 0 where
@@ -317,9 +317,9 @@ pub record StatedExactly (stated : StatusWord → (asks taken : Bool) → (kept 
       → stated w true taken kept settled room k limit partRoom ≡ along (fetchPath room k limit partRoom) kept settled 0 0
 
 -- The exported decision as a whole, of what C lends under each name: a row of document 01's table and E2's (`row`), on what is lent, its numbers, and
--- what the call leaves. 02, E2: "a refused C0 or any R refusal keeps it"; "A frame with another INS or in no shape drops the remainder". E2's request: "the
--- decision hands the limit out with its answer, for orders too"; "6, 139 + h + c and 77 are asked of" the uncut body's buffer; "It reads the uncut body, lent,
--- and writes another buffer". An export whose limit is a body's alone (`limitOfBodiesAlone`) fails it, one that asks the other buffer for room
+-- what the call leaves. 02, E2: "a refused C0 or any R refusal keeps it"; "A frame with another INS or in no shape drops the remainder". Ours: the
+-- decision hands the limit out with its answer, with an order too; 6, 139 + h + c and 77 are asked of the uncut body's buffer; a part is cut out of that one and
+-- written to another. An export whose limit is a body's alone (`limitOfBodiesAlone`) fails it, one that asks the other buffer for room
 -- (`roomsSwapped`), drops the remainder at a refused C0 (`dropsAtC0`), cuts the part out of the buffer for it (`partOfItself`), writes it over the body
 -- (`partOverTheBody`), or takes x for y (`pointSwapped`).
 pub record DecideExported (decide : ToDecide → AfterDeciding) : Type 0 where
@@ -343,7 +343,7 @@ pub record DecideExported (decide : ToDecide → AfterDeciding) : Type 0 where
   pub no-part : (i : ToDecide) → (decide i .said .answer ≡ 0x0200 → ⊥) → decide i .part ≡ i .part
 
 -- The exported next part and the exported response, by whatever sender and writer meet response_stated's `NextExactly` and `WritesExactly`: their
--- answer in numbers, and their buffer. E2's request: "an R refusal keeps remainder and buffer". An export that hands back nothing with R2
+-- answer in numbers, and their buffer. 02, E2: "any R refusal keeps it". An export that hands back nothing with R2
 -- (`nextForgets`) fails it, one that looks at no limit (`nextWhole`), and one that writes 9000 whatever it is lent (`responds9000`).
 pub record NextPartExported (next : (body : List ℕ) → Remainder → (limit : ℕ) (old : List ℕ) → AfterPart) : Type 0 where
   pub given : (sender : Sender) → Responses.NextExactly sender → (body : List ℕ) (r : Remainder) (limit : ℕ) (old : List ℕ) (n : ℕ) (left : Remainder)

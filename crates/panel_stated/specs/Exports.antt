@@ -142,13 +142,13 @@ abbrev pub stepNumbers : Told → Stepped
 stepNumbers told = record { answer = answerNo (told .outcome); yes = yesIn (told .outcome); presence = presenceNumbers (told .presence) }
 
 -- ---- responses and parts
--- E2's request: "the body as a part of the caller's slice, and the status": the body's length, counted from the front
+-- of a response that is read, the status and the body as a part of the caller's slice (ours): the body's length, counted from the front
 abbrev pub responseNumbers : Outcome Response → ResponseSaid
 responseNumbers (R n) = record { answer = n; status = 0; length = 0 }
 responseNumbers (Word s) = record { answer = s .number; status = 0; length = 0 }
 responseNumbers (Gives r) = record { answer = 0x9000; status = r .status; length = r .length }
 
--- E2's request: "an R refusal keeps remainder and buffer": beside a refusal stands the remainder that was lent
+-- 02, E2: "any R refusal keeps it": beside a refusal stands the remainder that was lent
 abbrev pub partNumbers : Outcome Sent → Remainder → PartSaid
 partNumbers (R n) kept = record { answer = n; length = 0; remainder = kept }
 partNumbers (Word s) kept = record { answer = s .number; length = 0; remainder = kept }
@@ -296,7 +296,7 @@ abbrev pub orderFrom : Kind → OrderNumbers → List ℕ → Order
 orderFrom kind n block =
     record { kind = kind; «to_sign» = n .«to_sign»; «certificate_length» = n .«certificate_length»; bytes = block }
 
--- ours: OPEN POINTS, "Over plain numbers any other kind is R7"
+-- ours: over plain numbers any other kind is R7
 abbrev pub finishAs : Kinded → ToFinish → Outcome (List ℕ)
 finishAs Kinded′.Nothing i = R 7
 finishAs (Kinded′.As kind) i =

@@ -9,14 +9,14 @@ use Rattle.signing_stated.specs.declared.Kind.the-variants.{Register, Authentic
 use Rattle.panel_stated.specs.declared.Shaped.the-variants as Shaped′
 use Rattle.panel_stated.specs.declared.Kinded.the-variants as Kinded′
 
--- ours: DECISIONS, "one answer number": a refusal is its number, a status word is itself, and what was asked for comes with 9000
+-- ours: DECISIONS, one answer number: a refusal is its number, a status word is itself, and what was asked for comes with 9000
 abbrev pub answerNo : {A : Type 0} → Outcome A → ℕ
 answerNo (R n) = n
 answerNo (Word s) = s .number
 answerNo (Gives a) = 0x9000
 
--- the same for a decision, where an order is 0100 and GET RESPONSE's part 0200 (E2's request: "tells C0's part .. from a body that is still to be
--- cut"): numbers of no refusal, no status word and no memory of zeros
+-- the same for a decision, where an order is 0100 and GET RESPONSE's part 0200 (ours: so C0's part is told from a body that is still to be
+-- cut): numbers of no refusal, no status word and no memory of zeros
 abbrev pub decidedNo : Outcome Given → ℕ
 decidedNo (R n) = n
 decidedNo (Word s) = s .number
@@ -35,7 +35,7 @@ placeNo (R n) = 0
 placeNo (Word s) = s .place
 placeNo (Gives a) = 0
 
--- ours: DECISIONS, "a window as one number": 0 is closed, any other number a window that was opened at the moment before it
+-- ours: DECISIONS, a window as one number: 0 is closed, any other number a window that was opened at the moment before it
 abbrev pub windowOf : ℕ → Window
 windowOf zero = Closed
 windowOf (suc m) = Opened m
@@ -57,8 +57,8 @@ presenceOf n = record { w = n .w; prompt = windowOf (n .prompt); touch = windowO
 abbrev pub presenceNumbers : Presence → PresenceRecord
 presenceNumbers p = record { w = p .w; prompt = windowNo (p .prompt); touch = windowNo (p .touch); last = p .last; asker = p .asker }
 
--- 01, 'Eight frame shapes', the column "no"; ours: OPEN POINTS, "a shape number outside 1..8 is R5"; 02, E13: shape 6 is retired, "the writer
--- R5"; its request: "The other shapes keep their numbers"
+-- 01, 'Eight frame shapes', the column "no"; ours: a shape number outside 1..8 is R5; 02, E13: shape 6 is retired, "the writer
+-- R5", and the others keep their numbers
 unfoldable pub shapeOf : ℕ → Shaped
 shapeOf n =
     if eqb n 1 then Shaped′.As Instruction

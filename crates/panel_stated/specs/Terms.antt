@@ -21,7 +21,7 @@ IsOfMoment (Opened m) = m < 2 ^ 48
 abbrev pub AreOf64Bits : PresenceRecord → Type 0
 AreOf64Bits n = (n .prompt < 2 ^ 64) × (n .touch < 2 ^ 64)
 
--- a number that is no shape's. Ours: OPEN POINTS, "a shape number outside 1..8 is R5"; 02, E13: number 6 is retired
+-- a number that is no shape's. Ours: outside 1..8; 02, E13: number 6 is retired
 pub data NoShape (n : ℕ) : Type 0 where
   nought : n ≡ 0 → NoShape n
   retired : n ≡ 6 → NoShape n

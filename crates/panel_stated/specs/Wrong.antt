@@ -18,13 +18,13 @@ use lib.Dec.{leb}
 use lib.ListN.{length, replicate}
 
 -- ---- answers
--- "one answer number": a status word under what was asked for
+-- one answer number: a status word under what was asked for
 abbrev pub statusAs9000 : Outcome Bool → ℕ
 statusAs9000 (R n) = n
 statusAs9000 (Word s) = 0x9000
 statusAs9000 (Gives b) = 0x9000
 
--- "one answer number": an order under R2's
+-- one answer number: an order under R2's
 abbrev pub orderNumbered2 : Outcome Given → ℕ
 orderNumbered2 (R n) = n
 orderNumbered2 (Word s) = s .number
@@ -32,7 +32,7 @@ orderNumbered2 (Gives (Body n)) = 0x9000
 orderNumbered2 (Gives Ordered) = 2
 orderNumbered2 (Gives (Part n after)) = 0x0200
 
--- "tells C0's part .. from a body that is still to be cut": it does not
+-- C0's part is not told from a body that is still to be cut
 abbrev pub partAsBody : Outcome Given → ℕ
 partAsBody (R n) = n
 partAsBody (Word s) = s .number
@@ -40,7 +40,7 @@ partAsBody (Gives (Body n)) = 0x9000
 partAsBody (Gives Ordered) = 0x0100
 partAsBody (Gives (Part n after)) = 0x9000
 
--- "one answer number": an order under the number of memory that nothing has written
+-- one answer number: an order under the number of memory that nothing has written
 abbrev pub orderIs0 : Outcome Given → ℕ
 orderIs0 (R n) = n
 orderIs0 (Word s) = s .number
@@ -57,14 +57,14 @@ windowsSwapped n = let p = presenceOf n in record { w = p .w; prompt = p .touch;
 abbrev pub swappedBothWays : PresenceRecord → Presence
 swappedBothWays n = windowsSwapped n
 
--- "a window as one number": an open window numbered by its moment, on both ways
+-- a window as one number: an open window numbered by its moment, on both ways
 abbrev itsNumber : ℕ → Window
 itsNumber n = if eqb n 0 then Closed else Opened n
 
 abbrev pub openedAtItsNumber : PresenceRecord → Presence
 openedAtItsNumber n = record { w = n .w; prompt = itsNumber (n .prompt); touch = itsNumber (n .touch); last = n .last; asker = n .asker }
 
--- "a window as one number": a closed window under the greatest number, so that 0 is a window opened at moment 0
+-- a window as one number: a closed window under the greatest number, so that 0 is a window opened at moment 0
 abbrev unlessGreatest : ℕ → Window
 unlessGreatest n = if eqb n greatestNo then Closed else Opened n
 
@@ -75,7 +75,7 @@ greatestIsClosed n = record { w = n .w; prompt = unlessGreatest (n .prompt); tou
 abbrev pub refusedMoves : PresenceRecord → ℕ → Stepped
 refusedMoves n t = record { answer = 1; yes = false; presence = record { w = n .w; prompt = n .prompt; touch = n .touch; last = t; asker = n .asker } }
 
--- E7's request: "wide enough that 256 or -1 in C is not cut down to a valid one": 8 bits of a side are looked at, in the record, in a check, in a
+-- ours: a side has 32 bits, so that 256 or -1 in C is not cut down to one. Here 8 bits of a side are looked at, in the record, in a check, in a
 -- decision
 abbrev pub askerCut : PresenceRecord → Presence
 askerCut n = record { w = n .w; prompt = windowOf (n .prompt); touch = windowOf (n .touch); last = n .last; asker = n .asker % 256 }
@@ -91,7 +91,7 @@ abbrev pub sideCutInDecide : ToDecide → AfterDeciding
 sideCutInDecide i = decidesOf (record { frame = i .frame; side = i .side % 256; moment = i .moment; presence = i .presence; hardware = i .hardware; newHandle = i .newHandle; certificate = i .certificate; x = i .x; y = i .y; reply = i .reply; block = i .block; remainder = i .remainder; part = i .part })
 
 -- ---- numbers that stand for cases
--- "a shape number outside 1..8 is R5": 0 taken for Instruction
+-- a shape number outside 1..8 is R5. Here 0 is taken for Instruction
 abbrev pub shape0Accepted : ℕ → Shaped
 shape0Accepted n = if eqb n 0 then Shaped′.As Instruction else shapeOf n
 
@@ -109,7 +109,7 @@ sixAnswered entry w = writeNumbered entry (sixAs7 w)
 abbrev pub kindsAlike : ℕ → Kinded
 kindsAlike n = if eqb n 2 then Kinded′.As Kind′.Register else kindOf n
 
--- "Over plain numbers any other kind is R7": 3 and above taken for an Authenticate
+-- over plain numbers any other kind is R7. Here 3 and above are taken for an Authenticate
 abbrev pub unknownIsAuthenticate : ℕ → Kinded
 unknownIsAuthenticate n = if leb 3 n then Kinded′.As Kind′.Authenticate else kindOf n
 
@@ -249,18 +249,18 @@ decisionFaultUnsaid r k l =
     let n = decisionNumbers r k l in
     record { answer = n .answer; fault = 0; taken = n .taken; length = n .length; order = n .order; presence = n .presence; place = 0; remainder = n .remainder; limit = n .limit }
 
--- E2's request: "the decision hands the limit out with its answer": it does not
+-- the decision hands the limit out with its answer. Here it does not
 abbrev pub limitUnsaid : Result → Remainder → (limit : ℕ) → DecisionSaid
 limitUnsaid r k l = decisionNumbers r k 0
 
--- "the body .. and the status": no status; and the status counted in
+-- a response that is read: no status; and the status counted in with the body
 abbrev pub responseStatusUnsaid : Outcome Response → ResponseSaid
 responseStatusUnsaid o = let n = responseNumbers o in record { answer = n .answer; status = 0; length = n .length }
 
 abbrev pub responseWithStatus : Outcome Response → ResponseSaid
 responseWithStatus o = let n = responseNumbers o in record { answer = n .answer; status = n .status; length = n .length + 2 }
 
--- "an R refusal keeps remainder and buffer": nothing is left after it; and nothing has moved after a part
+-- 02, E2: "any R refusal keeps it". Here nothing is left after it; and nothing has moved after a part
 abbrev pub refusalForgets : Outcome Sent → Remainder → PartSaid
 refusalForgets (R n) kept = partNumbers (R n) (rest 0 0)
 refusalForgets (Word s) kept = partNumbers (Word s) kept
@@ -295,11 +295,11 @@ kindForPlace o =
       place = n .fault;
     }
 
--- "a window as one number": the same in a run, from the making on
+-- a window as one number: the same in a run, from the making on
 abbrev pub runsAtItsNumber : PresenceRecord → Presence
 runsAtItsNumber n = openedAtItsNumber n
 
--- "Over plain numbers any other kind is R7": refused for its room
+-- over plain numbers any other kind is R7. Here it is refused for its room
 abbrev pub noKindIsR2 : ToFinish → Outcome (List ℕ)
 noKindIsR2 i = if leb 3 (i .order .kind) then R 2 else finishNumbered i
 
@@ -308,13 +308,13 @@ abbrev saidWith : DecisionSaid → Remainder → (limit : ℕ) → DecisionSaid
 saidWith n left limit =
     record { answer = n .answer; fault = n .fault; taken = n .taken; length = n .length; order = n .order; presence = n .presence; place = n .place; remainder = left; limit = limit }
 
--- "the decision hands the limit out with its answer, for orders too": with a body alone
+-- the limit comes with an order too. Here with a body alone
 abbrev pub limitOfBodiesAlone : ToDecide → AfterDeciding
 limitOfBodiesAlone i =
     let a = decidesOf i in
     record { said = saidWith (a .said) (a .said .remainder) (if eqb (a .said .answer) 0x9000 then a .said .limit else 0); reply = a .reply; block = a .block; part = a .part }
 
--- "the two are lent apart": each taken for the other
+-- body and part are lent apart. Here each is taken for the other
 abbrev pub roomsSwapped : ToDecide → AfterDeciding
 roomsSwapped i =
     let a =
@@ -327,11 +327,11 @@ dropsAtC0 i =
     let a = decidesOf i in
     record { said = saidWith (a .said) (if leb 0x6000 (a .said .answer) then rest 0 0 else a .said .remainder) (a .said .limit); reply = a .reply; block = a .block; part = a .part }
 
--- "It reads the uncut body, lent": the buffer for part and status
+-- a part is cut out of the uncut body. Here out of the buffer for part and status
 abbrev pub partOfItself : ToDecide → AfterDeciding
 partOfItself i = let a = decidesOf i in record { said = a .said; reply = a .reply; block = a .block; part = partLeft (inputsOf i) (decidedBy i) (i .part) (i .part) }
 
--- "and writes another buffer": the uncut body's
+-- and written to another buffer. Here to the uncut body's
 abbrev pub partOverTheBody : ToDecide → AfterDeciding
 partOverTheBody i = let a = decidesOf i in record { said = a .said; reply = partLeft (inputsOf i) (decidedBy i) (i .reply) (a .reply); block = a .block; part = i .part }
 
@@ -340,17 +340,17 @@ abbrev pub pointSwapped : ToDecide → AfterDeciding
 pointSwapped i =
     decidesOf (record { frame = i .frame; side = i .side; moment = i .moment; presence = i .presence; hardware = i .hardware; newHandle = i .newHandle; certificate = i .certificate; x = i .y; y = i .x; reply = i .reply; block = i .block; remainder = i .remainder; part = i .part })
 
--- "an R refusal keeps remainder and buffer": nothing is left after it
+-- 02, E2: "any R refusal keeps it". Here nothing is left after it
 abbrev pub nextForgets : (body : List ℕ) → Remainder → (limit : ℕ) (old : List ℕ) → AfterPart
 nextForgets body r limit old =
     let a = nextsOf body r limit old in
     record { said = record { answer = a .said .answer; length = a .said .length; remainder = if eqb (a .said .answer) 2 then rest 0 0 else a .said .remainder }; buffer = a .buffer }
 
--- "a body longer than Le .. goes out as a first part": as a whole
+-- 02, E2: "a body longer than Le (256 where absent) is cut". Here it goes out as a whole
 abbrev pub nextWhole : (body : List ℕ) → Remainder → (limit : ℕ) (old : List ℕ) → AfterPart
 nextWhole body r limit old = nextsOf body r 0 old
 
--- "the status is any 16-bit number": it is 9000
+-- the status is any number of 16 bits. Here it is 9000
 abbrev pub responds9000 : (body : List ℕ) (status : ℕ) (old : List ℕ) → AfterWriting
 responds9000 body status old = respondsOf body 0x9000 old
 

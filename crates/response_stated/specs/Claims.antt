@@ -11,8 +11,8 @@ use Rattle.response_stated.specs.Fetching.{Ask, called, remaining, joine
 
 -- ---- a response, written and read
 
--- 02, E2: "the ISO 7816-4 response form, body then two status bytes, written"; E2's request: "R2 when the buffer is short, else the response at
--- the front, the rest left". The answer is the response's length. A refusal leaves the buffer.
+-- 02, E2: "the ISO 7816-4 response form, body then two status bytes, written"; ours: R2 when the buffer is short, else the response at
+-- the front, the rest left. The answer is the response's length. A refusal leaves the buffer.
 -- Rejects the status before the body (`statusFirst`), its low byte first (`lowByteFirst`), a response that begins one byte on (`oneByteOn`), a
 -- rest that is cleared (`clearsTheRest`), and room for the body alone (`noRoomForStatus`). Bites at a body of none.
 pub record WritesExactly (write : Writer) : Type 0 where
@@ -28,13 +28,13 @@ pub record ReadsExactly (read : List ℕ → Outcome Response) : Type 0 where
   pub reads : (bytes : List ℕ) (n status : ℕ)
       → (read bytes ≡ Gives (reading n status)) ↔ ((body : List ℕ) × (length body ≡ n) × IsResponse bytes body status)
 
--- E2's request: "the body as a part of the caller's slice": what stands before the last two bytes; ours: none where there are not two.
+-- Ours: the body is a part of the caller's slice, what stands before the last two bytes; none where there are not two.
 -- Rejects a body with the status behind it (`cutWithStatus`), and without its last byte (`cutOneShort`). Bites at 90 00, and at 01 90 00.
 pub record BodyExactly (cut : List ℕ → List ℕ) : Type 0 where
   pub before : (body : List ℕ) (sw1 sw2 : ℕ) → cut (body ++ (sw1 ∷ sw2 ∷ [])) ≡ body
   pub under : (bytes : List ℕ) → length bytes < 2 → cut bytes ≡ []
 
--- E2's request: "Written then read, and back, are the identity". Rejects a writer with the low byte first (`lowByteFirst`) beside a right reader.
+-- Ours: a response that is written and read is the same, and back. Rejects a writer with the low byte first (`lowByteFirst`) beside a right reader.
 -- Bites at 9000.
 abbrev pub WrittenThenRead : (List ℕ → Outcome Response) → (List ℕ → List ℕ) → Writer → Type 0
 WrittenThenRead read cut write =
@@ -57,7 +57,7 @@ pub record LimitExactly (limit : Says → ℕ) : Type 0 where
   pub absent : (says : Says) → says .shape ≤ 4 → says .le ≡ 0 → limit says ≡ 256
   pub extended : (says : Says) → 5 ≤ says .shape → limit says ≡ 0
 
--- E2's request: "the limit is 1 to 256, or 0 for none": of every frame that is read, and none exactly in shapes 5, 7 and 8.
+-- Ours: the limit is 1 to 256, or 0 for none, of every frame that is read, and none exactly in shapes 5, 7 and 8.
 -- Rejects `absentIsNone` at a frame of four bytes, `extendedCut` at shape 8 and `smallLeIsShort` at shape 7.
 pub record LimitOfFrames (read : List ℕ → Outcome Says) (limit : Says → ℕ) : Type 0 where
   pub most : (frame : List ℕ) (says : Says) → AreBytes frame → read frame ≡ Gives says → limit says ≤ 256
@@ -69,8 +69,8 @@ NothingExactly r = (r .place ≡ 0) × (r .count ≡ 0)
 
 -- ---- one part
 
--- E2's request: "R2 when the lent body is shorter than the remainder's end, then R2 when the buffer is shorter than part and status; an R refusal keeps
--- remainder and buffer"; "place + count is a sum of whole numbers, never wrapped". Otherwise: of what remains, `part` and then `left`, part goes out,
+-- 02, E2: "R2 when the lent body is too short for its remainder or the buffer for part and status"; "any R refusal keeps it". Ours: the body is looked at
+-- first, and place + count is a sum of whole numbers, never wrapped. Otherwise: of what remains, `part` and then `left`, part goes out,
 -- with the status for what is left after it, at the buffer's front, and left remains.
 -- Rejects XX counted before the part (`countsBefore`), 256 left as 61 FF (`saysFF`), the part from the body's start again (`fromTheStart`), a part one
 -- byte short or long (`oneByteShort`, `oneByteLong`), a sum that wraps (`wrapsTheSum`), a remainder that did not move (`doesNotMove`), a refusal that
@@ -86,7 +86,7 @@ pub record NextExactly (next : Sender) : Type 0 where
       ≡ (Gives (sending (length part + 2) (rest (length before + length part) (length left))), spelled part status ++ drop (length part + 2) old)
   pub refused : (body : List ℕ) (r : Remainder) (limit : ℕ) (old : List ℕ) (n : ℕ) → next body r limit old .0 ≡ R n → next body r limit old .1 ≡ old
 
--- E2's request: "Each 61 XX tells the truth about what is left", and 9000 too: both ways, and what is left is what was there without the part.
+-- 02, E2: "61 XX, XX the rest's length, or 00 for 256 and more", with every part, and 9000 too: both ways, and what is left is what was there without the part.
 -- Rejects `countsBefore` and 9000 with every part (`always9000`) at 2 bytes of which one goes out, `saysFF` at 257, `doesNotMove` at one byte.
 pub record TellsTheTruth (next : Sender) : Type 0 where
   pub done : (body : List ℕ) (r : Remainder) (limit : ℕ) (old part : List ℕ) (status : ℕ) (left : Remainder)
@@ -99,7 +99,7 @@ pub record TellsTheTruth (next : Sender) : Type 0 where
       → Sends (next body r limit old) part status left
       → (length part + left .count ≡ r .count) × (left .place + left .count ≡ r .place + r .count)
 
--- E2's request: "A part asked for in shape 1 to 4 is at most Le bytes (256 where absent); an extended one is all that remains, whatever its Le". The
+-- Ours: a part asked for in shape 1 to 4 has at most Le bytes (256 where absent), in an extended shape it is all that remains, whatever its Le. The
 -- answer counts two status bytes more. Rejects `oneByteLong` at Le 1, `absentIsNone` at shape 1, `extendedCut` at shape 8, each at 257 bytes.
 pub record PartWithinLe (limit : Says → ℕ) (next : Sender) : Type 0 where
   pub said : (says : Says) (body : List ℕ) (r : Remainder) (old : List ℕ) (n : ℕ) (left : Remainder) → says .shape ≤ 4 → 1 ≤ says .le
@@ -109,7 +109,7 @@ pub record PartWithinLe (limit : Says → ℕ) (next : Sender) : Type 0 where
   pub extended : (says : Says) (body : List ℕ) (r : Remainder) (old : List ℕ) (n : ℕ) (left : Remainder) → 5 ≤ says .shape
       → next body r (limit says) old .0 ≡ Gives (sending n left) → (n ≡ r .count + 2) × (left .count ≡ 0)
 
--- E2's request: "The longest response to a frame in shape 1 to 4 is 258 bytes, and it is reached". Rejects `oneByteLong`, and a sender that keeps to 255
+-- Ours: the longest response to a frame in shape 1 to 4 has 258 bytes, and it is reached. Rejects `oneByteLong`, and a sender that keeps to 255
 -- (`atMost255`). Bites at 257 bytes and a frame of four.
 pub record LongestIs258 (read : List ℕ → Outcome Says) (limit : Says → ℕ) (next : Sender) : Type 0 where
   pub within : (frame : List ℕ) (says : Says) (body : List ℕ) (r : Remainder) (old : List ℕ) (n : ℕ) (left : Remainder)
@@ -130,7 +130,7 @@ pub record PartsJoin (next : Sender) : Type 0 where
       → Sends (called next body (after next body (rest 0 n) asks) a) part 0x9000 left
       → joined next body (rest 0 n) asks ++ part ≡ take n body
 
--- E2's request: "A body of n bytes takes at most n parts (one where n is 0), and exactly n / L rounded up (one where n is 0) where every limit is L": counted up to
+-- Ours: a body of n bytes takes at most n parts (one where n is 0), and exactly n / L rounded up (one where n is 0) where every limit is L, counted up to
 -- the part that carries 9000, of calls that each have room. Rejects a sender that keeps to one byte a call (`oneAtATime`) and `doesNotMove`. Bites at 2 bytes.
 pub record NumberOfParts (next : Sender) : Type 0 where
   pub at-most : (body : List ℕ) (n : ℕ) (asks : List Ask) → n ≤ length body → 1 ≤ n → Each (HasRoom n) asks

@@ -27,7 +27,7 @@ pub record Sent : Type 0 where
   pub length : ℕ
   pub remainder : Remainder
 
--- a remainder: E2's request: "the next part of a remainder (place, count) of a lent body"
+-- a remainder of a lent body, as a place and a count (ours)
 abbrev pub rest : (place count : ℕ) → Remainder
 rest place count = record { place = place; count = count }
 

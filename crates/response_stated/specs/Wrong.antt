@@ -20,13 +20,13 @@ lowByteFirst body status old =
     if ltb (length old) (length body + 2) then (R 2, old)
     else (Gives (length body + 2), laid (body ++ (status % 256 ∷ status / 256 ∷ [])) old)
 
--- "the response at the front": here it begins one byte on
+-- the response stands at the front. Here it begins one byte on
 abbrev pub oneByteOn : Writer
 oneByteOn body status old =
     if ltb (length old) (length body + 2) then (R 2, old)
     else (Gives (length body + 2), take 1 old ++ laid (responseOf body status) (drop 1 old))
 
--- "the rest left": here it becomes 0. Behind the test the response is not longer than the buffer
+-- the rest of the buffer stays. Here it becomes 0. Behind the test the response is not longer than the buffer
 abbrev pub clearsTheRest : Writer
 clearsTheRest body status old =
     if ltb (length old) (length body + 2) then (R 2, old)
@@ -137,7 +137,7 @@ oneAtATime body r limit old = sendingOf body r 1 old
 abbrev pub doesNotMove : Sender
 doesNotMove body r limit old = checked body r old (sends (partBytes body r limit) (leftStatus (restAfter r limit .count)) r old)
 
--- "place + count is a sum of whole numbers, never wrapped": here it wraps at 2^64
+-- place + count is a sum of whole numbers. Here it wraps at 2^64
 abbrev pub wrapsTheSum : Sender
 wrapsTheSum body r limit old =
     if ltb (length body) ((r .place + r .count) % 0x10000000000000000) then (R 2, old)

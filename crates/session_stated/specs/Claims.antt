@@ -27,8 +27,8 @@ FetchesNext decide limit write next =
     (p : Presence) (t : ℕ) (a : Inputs) (body old : List ℕ) (n : ℕ) (after : Remainder) → length body ≡ a .room → length old ≡ a .partRoom
     → decide p t a .answer ≡ Gives (Part n after) → next body (a .remainder) (limit (a .frame)) old ≡ (Gives (sending n after), write a (decide p t a) body old)
 
--- E2's request: "For every body, every first frame and every sequence of C0 frames: the parts sent so far, joined, followed by what remains, are the
--- uncut body; with the part that carries 9000 nothing remains, so joining the parts, at any Le values, gives the uncut body." The first part is
+-- For every body, every first frame and every sequence of C0 frames: the parts sent so far, joined, followed by what remains, are the
+-- uncut body; with the part that carries 9000 nothing remains. So (02, E2) "Joining the parts, at any Le values, gives the uncut body". The first part is
 -- sent by `next` of (0, n) under the first frame's limit; every C0 that follows may be refused or not. `skips` and `again` fail it, at three
 -- bytes.
 pub record SessionJoins (decide : Decider) (limit : List ℕ → ℕ) (leaves : Leaver) (write : PartWriter) (next : Sender) : Type 0 where
@@ -42,8 +42,8 @@ pub record SessionJoins (decide : Decider) (limit : List ℕ → ℕ) (leaves : 
       → (leftIn decide leaves write body (leftOver decide leaves write body r visits) v .count ≡ 0)
       × (joinedOver decide leaves write body r visits ++ part ≡ remaining body r)
 
--- E2's request: "A part asked for in shape 1 to 4 is at most Le bytes (256 where absent); an extended one is all that remains, whatever its Le"; "The longest
--- response to a frame in shape 1 to 4 is 258 bytes, and it is reached: a claim." The answer counts two status bytes more. A decision that takes 256
+-- A part asked for in shape 1 to 4 has at most Le bytes (256 where absent), in an extended shape it is all that remains, whatever its Le; the longest
+-- response to a frame in shape 1 to 4 has 258 bytes, and it is reached. The answer counts two status bytes more. A decision that takes 256
 -- for every C0 (`takes256`) fails it at Le 1.
 pub record SessionLimits (decide : Decider) : Type 0 where
   pub given : (p : Presence) (t : ℕ) (a : Inputs) (n : ℕ) (after : Remainder) (said : Says) → decide p t a .answer ≡ Gives (Part n after) → readOf (a .frame) ≡ Gives said
@@ -57,7 +57,7 @@ pub record SessionLimits (decide : Decider) : Type 0 where
   pub reached : (p : Presence) × (t : ℕ) × (a : Inputs)
       × (a .frame ≡ 0x00 ∷ 0xC0 ∷ 0x00 ∷ 0x00 ∷ []) × (decide p t a .answer ≡ Gives (Part 258 (rest 256 1)))
 
--- "Each 61 XX tells the truth about what is left": the status behind a part is 9000 with nothing left, 61 XX with XX left, 6100 with 256 or more.
+-- 02, E2: "61 XX, XX the rest's length, or 00 for 256 and more": the status behind a part is 9000 with nothing left, 61 XX with XX left, 6100 with 256 or more.
 -- A decision that hands back what remained before the part (`forgets`) fails it.
 abbrev pub SessionTells : Decider → PartWriter → Type 0
 SessionTells decide write =
@@ -65,7 +65,7 @@ SessionTells decide write =
     → length body ≡ a .room → length old ≡ a .partRoom → decide p t a .answer ≡ Gives (Part n after)
     → IsResponse (take n (write a (decide p t a) body old)) part status → Tells (after .count) status
 
--- "A body of n bytes takes at most n parts (one where n is 0), and exactly n / L rounded up (one where n is 0) where every limit is L": the first
+-- A body of n bytes takes at most n parts (one where n is 0), and exactly n / L rounded up (one where n is 0) where every limit is L: the first
 -- part, where it goes out, and those of the decisions after it; exactly, where nothing stands against them. `takes256` fails it at L 1.
 pub record SessionParts (decide : Decider) (limit : List ℕ → ℕ) (leaves : Leaver) (write : PartWriter) (next : Sender) : Type 0 where
   pub at-most : (body : List ℕ) (n : ℕ) (frame buffer : List ℕ) (sent : Sent) (visits : List Visit) → n ≤ length body → 1 ≤ n → Each Asks visits

@@ -1,6 +1,6 @@
 -- A session with a reader: a first part, and then decisions on frames that ask for the next one. Each takes the remainder that the last one gave
 -- back, and the reply buffer holds the body all the while. Of any decision, and any body. Whatever else is lent may differ from visit to visit:
--- record, moment, side (02, E7's request: "A remainder belongs to no side"), hardware, the buffer for part and status.
+-- record, moment, side (a remainder belongs to none: ours), hardware, the buffer for part and status.
 use Prim.Native.Nat.{ℕ, _+_, _≤_}
 use mathlib.Core.Path.{_≡_}
 use mathlib.Core.List.{List, [], _∷_, _++_}

@@ -33,11 +33,11 @@ skips = decides (λ a n after. Part n (rest (after .place + 1) (after .count - 1
 abbrev pub forgets : Decider
 forgets = decides (λ a n after. Part n (a .remainder))
 
--- "at most Le bytes": 256, whatever Le says
+-- a part has at most Le bytes. Here 256, whatever Le says
 abbrev pub takes256 : Decider
 takes256 = decides (λ a n after. Part (partLength 256 (a .remainder .count) + 2) (restAfter (a .remainder) 256))
 
--- "the part taken from the body's start again"
+-- the part is taken from the body's start again
 abbrev partBy : (List ℕ → List ℕ) → Outcome Given → List ℕ → List ℕ
 partBy part (R n) old = old
 partBy part (Word w) old = old

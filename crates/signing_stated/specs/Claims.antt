@@ -18,7 +18,7 @@ use Rattle.signing_stated.specs.Terms.{part, RegisterLengths, PartsLengt
 
 -- ---- numbers and results
 
--- Ours; DECISIONS, "kind numbers": the INS of the command that the order answers. A table that numbers both kinds 01
+-- Ours; DECISIONS, kind numbers: the INS of the command that the order answers. A table that numbers both kinds 01
 -- (`kindsAlike`) or each as the other (`kindsTurned`) fails it.
 pub record KindNumbers (number : Kind → ℕ) : Type 0 where
   pub register : number Register ≡ 0x01
@@ -46,7 +46,7 @@ pub record ResultsDetermined : Type 0 where
 
 -- ---- orders
 
--- Ours; DECISIONS, "blank order": what stands in an answer without an order. One with a certificate length (`blankOfOne`) fails it.
+-- Ours; DECISIONS, blank order: what stands in an answer without an order. One with a certificate length (`blankOfOne`) fails it.
 abbrev pub BlankExactly : Order → Type 0
 BlankExactly blank = IsBlank blank
 
@@ -69,7 +69,7 @@ pub record MakesRegister (make : RegisterFields → ℕ → Order) : Type 0 wher
   pub y : (f : RegisterFields) (c : ℕ) → RegisterLengths f → part (98 + length (f .handle)) 32 (make f c .bytes) ≡ f .y
   pub rest : (f : RegisterFields) (c : ℕ) → RegisterLengths f
       → (i : ℕ) → 130 + length (f .handle) ≤ i → byte (make f c .bytes) i ≡ 0x00
-  -- ours: DECISIONS, "blank order": fields of other lengths make none
+  -- ours: DECISIONS, blank order: fields of other lengths make none
   pub unfit : (f : RegisterFields) (c : ℕ) → (RegisterLengths f → ⊥) → IsBlank (make f c)
 
 -- The order of an Authenticate, byte by byte. 01: "Authenticate, 69: application, presence byte (01 for P1 03, 00 for 08),
@@ -136,7 +136,7 @@ BodyWithinRoom finish = (i : Finishing) (room n : ℕ) → AsksFor (i .order) ro
 -- What finishing answers, and the reply buffer after it, on any order: each check once those before it have passed. 01: "Checks:
 -- R7, R4, R2 (139 + h + c, or 77), signer failed 6f00, R3", "Bodies, status 9000: Register 05, public key, h in one byte, handle,
 -- certificate, signature; Authenticate presence byte, counter, signature", "An R refusal changes no buffer", "a status word other
--- than 9000 change[s] no reply buffer", "A 9000 body fills the front of the buffer; the rest stays". Each neighbouring pair of
+-- than 9000 change no reply buffer", "A 9000 body fills the front of the buffer; the rest stays". Each neighbouring pair of
 -- checks swapped fails it (`certificateBeforeLayout`, `roomBeforeCertificate`, `signerBeforeRoom`, `signatureBeforeSigner`), and
 -- so do `certificateNotCompared`, `tailNotLookedAt`, `markerOfAnotherByte`, `firstByteOfBoth`, `wantsRoom140`, `refuses72`,
 -- `takes73`, `bodyOf04`, `writesNothing`, `lengthInvented` and `clearsReply`.
@@ -178,7 +178,7 @@ pub record FinishesExactly (finish : Finishing → Ended) : Type 0 where
       }
 
 -- What stands in an answer without an order is of neither layout, and finishing it gives R7, whatever is lent beside it.
--- Ours; DECISIONS, "blank order"; 01, R7: "order not of either layout". A blank order of kind Authenticate that
+-- Ours; DECISIONS, blank order; 01, R7: "order not of either layout". A blank order of kind Authenticate that
 -- counts 69 bytes (`blankOf69`) fails it: its zeros are an Authenticate order.
 abbrev pub BlankRefused : Order → (Finishing → Ended) → Type 0
 BlankRefused blank finish = (OfLayout blank → ⊥) × ((i : Finishing) → i .order ≡ blank → finish i ≡ keeping (R 7) i)

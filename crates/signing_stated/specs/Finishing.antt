@@ -56,7 +56,7 @@ finishOf i =
     else if ltb 72 (length (i .signature)) then R 3
     else Gives (bodyOf (o .kind) o (i .certificate) (i .signature))
 
--- 01: "R refusal, status, 9000 with a body of n bytes"
+-- an R refusal, a status word, or 9000 with a body of n bytes
 abbrev pub finishedOf : Finished → Outcome ℕ
 finishedOf (Refused r) = R (refusalNo r)
 finishedOf (Status s) = Word (wordOf s)

@@ -11,7 +11,7 @@ use Rattle.octets.specs.Bytes.{byte, laid, allZero, bytes4}
 pub use Rattle.signing_stated.specs.Words.{Kind, Register, Authenticate, Head, Order, headOf, orderWith}
 use Rattle.signing_stated.specs.Layouts.{RegisterFields, AuthenticateFields, registerToSign, authenticateToSign, presenceByte, isRegisterFit, isAuthenticateFit}
 
--- ours: DECISIONS, "kind numbers": the INS of the command that the order answers
+-- ours: DECISIONS, kind numbers: the INS of the command that the order answers
 abbrev pub kindNo : Kind → ℕ
 kindNo Register = 0x01
 kindNo Authenticate = 0x02
@@ -27,11 +27,11 @@ certificateLength o = o .«certificate_length»
 unfoldable pub block : List ℕ → List ℕ
 block s = laid s (replicate 385 0x00)
 
--- ours: DECISIONS, "blank order": what stands in an answer without an order
+-- ours: DECISIONS, blank order: what stands in an answer without an order
 unfoldable pub blankOrder : Order
 blankOrder = record { kind = Register; «to_sign» = 0; «certificate_length» = 0; bytes = block [] }
 
--- 01: "Register, 130 + h". Ours: DECISIONS, "blank order": fields that the layout has no room for make no order
+-- 01: "Register, 130 + h". Ours: DECISIONS, blank order: fields that the layout has no room for make no order
 unfoldable pub registerOrderOf : RegisterFields → ℕ → Order
 registerOrderOf f certificate =
     if not (isRegisterFit f) then blankOrder

@@ -39,7 +39,7 @@ pub record PartsLengths (p : AuthenticateParts) : Type 0 where
 abbrev pub IsWhole : Order → Type 0
 IsWhole o = length (o .bytes) ≡ 385
 
--- ours: DECISIONS, "blank order": no kind's bytes, nothing to sign, zeros throughout
+-- ours: DECISIONS, blank order: no kind's bytes, nothing to sign, zeros throughout
 pub record IsBlank (o : Order) : Type 0 where
   pub kind : o .kind ≡ Register
   pub counts : toSign o ≡ 0

@@ -15,7 +15,7 @@ use Rattle.signing_stated.specs.Finishing.{Finishing, Finished, Refused,
 use Rattle.signing_stated.specs.Terms.{keeping}
 
 -- ---- numbers
--- DECISIONS, "kind numbers": both kinds under 01
+-- DECISIONS, kind numbers: both kinds under 01
 abbrev pub kindsAlike : Kind → ℕ
 kindsAlike kind = 0x01
 
@@ -38,7 +38,7 @@ r4SaidAsR2 (Status s) = Word (wordOf s)
 r4SaidAsR2 (Body n) = Gives n
 
 -- ---- orders
--- DECISIONS, "blank order": a certificate length where there is no order
+-- DECISIONS, blank order: a certificate length where there is no order
 abbrev pub blankOfOne : Order
 blankOfOne = record { kind = Register; «to_sign» = 0; «certificate_length» = 1; bytes = replicate 385 0x00 }
 

@@ -58,7 +58,7 @@ placedBy rows frame (Beyond k) = Beyond (firstEnd rows frame)
 abbrev pub placeOfFirst : List Row → List ℕ → Outcome Says
 placeOfFirst rows frame = answerOf frame (placedBy rows frame (triedOf rows frame))
 
--- E9's request: "the rows of whatever table it is given": here the ordinary ones
+-- ours: it tries the rows of whatever table it is lent. Here the ordinary ones
 abbrev pub knowsItsRows : List Row → List ℕ → Tried
 knowsItsRows rows frame = triedOf (tableOf Ordinary) frame
 

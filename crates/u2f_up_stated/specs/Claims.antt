@@ -98,7 +98,7 @@ pub record BaseExactly (settle : Presence → ℕ → Outcome Presence) (checked
   pub prompts : (p : Presence) (t : ℕ) → (HasTouch p t → ⊥)
       → checked p t ≡ record { yes = false; presence = record { w = p .w; prompt = Opened t; touch = p .touch; last = p .last; asker = p .asker } }
 
--- E7's request: "from a fresh record, with one side throughout (0 or 1), answers and windows are those of the base". 𝒞 is a way of calling
+-- Ours: from a fresh record, with one side throughout (0 or 1), answers and windows are those of the base. 𝒞 is a way of calling
 -- with sides, ℬ the base's. A way of calling whose prompting refusal keeps the earlier asker (`askerKept`) fails it with side 1
 -- throughout: its own touch is the other's.
 abbrev pub OneSideIsBase : {D : Type 0} → Caller D → Caller D → Type 0
@@ -106,7 +106,7 @@ OneSideIsBase {D} 𝒞 ℬ =
     (w : ℕ) → 0 < w → w ≤ 60000 → (s : ℕ) → s ≤ 1 → (ds : List D) → OnlySide 𝒞 s ds
     → (sideless (after 𝒞 w ds) ≡ after ℬ w ds) × ((d : D) → NamesOnly s (𝒞 .asCall d .role) → next 𝒞 w ds d ≡ next ℬ w ds d)
 
--- "on a lent record it need not be so: asker 0, live touch, side 1 gets 6985", where the base found the touch. A check that serves
+-- On a lent record it need not be so: asker 0, live touch, side 1 gets 6985, where the base found the touch. A check that serves
 -- the other side (`checkServesOther`) fails it.
 pub record LentRecordDiffers (check : Presence → (side t : ℕ) → Told) (baseCheck : Presence → ℕ → Told) : Type 0 where
   pub sided : check (record { w = 100; prompt = Closed; touch = Opened 0; last = 0; asker = 0 }) 1 7 .outcome ≡ Gives false

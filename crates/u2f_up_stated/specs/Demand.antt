@@ -25,7 +25,7 @@ module _ {D : Type 0} (𝒞 : Caller D) (w : ℕ) (ds : List D) where
     -- first touch only (Wrong `firstOnly`) fails at the second accepted touch's check; one that honours none (`opensNothing`),
     -- at the first check after an accepted touch.
     pub foretells : (d : D) → comesTo 𝒞 w ds d ≡ foretold w past (𝒞 .asCall d)
-    -- E7's request: "R8 comes exactly for a call that names another side than 0 or 1, R1 as before otherwise, R6 never": R1 exactly when its
+    -- Ours: R8 comes exactly for a call that names another side than 0 or 1, R1 as before otherwise, R6 never: R1 exactly when its
     -- moment is 2^48 or more or before the last moment. A record that refuses every call (`refusesAll`) fails at the first one, one that
     -- gives R1 where R8 is due too (`r8Last`) at such a call.
     pub refuses-side : (d : D) → (comesTo 𝒞 w ds d ≡ RefusedBy 8) ↔ NamesBadSide (role d)
@@ -36,8 +36,8 @@ module _ {D : Type 0} (𝒞 : Caller D) (w : ℕ) (ds : List D) where
     -- at the second touch after it, one where a 6985 beside the other side's live touch opens a prompt (`otherPrompts`) at the next touch.
     pub accepts : (d : D) → role d ≡ Touching → (comesTo 𝒞 w ds d ≡ TouchAccepted)
         ↔ ((RefusedAt past (moment d) → ⊥) × ((s : Mark) × (latestPrompt w past ≡ some s) × (isAfter s (latestTouch w past) ≡ true) × (moment d < s .moment + 10000)))
-    -- E7's request: "A call that reaches the touch check finds a touch exactly when the history holds an accepted one of its own side,
-    -- unspent and younger than W"; it holds no second. A record that keeps a spent touch (`keepsSpent`) fails at the second check, one
+    -- Demand 3: a call that comes to the touch check finds a touch exactly when the history holds an accepted one of its own side,
+    -- unspent and younger than W; it holds no second. A record that keeps a spent touch (`keepsSpent`) fails at the second check, one
     -- that loses a touch (`opensNothing`) at the first, one that serves the other side (`otherServed`) at that side's check.
     pub finds : (d : D) (s : ℕ) → role d ≡ Checking s → (comesTo 𝒞 w ds d ≡ TouchFound)
         ↔ ((NamesBadSide (role d) → ⊥) × (RefusedAt past (moment d) → ⊥) × ((k : Mark) × (heldFor w past s (moment d) ≡ k ∷ [])))
@@ -49,13 +49,13 @@ module _ {D : Type 0} (𝒞 : Caller D) (w : ℕ) (ds : List D) where
     -- where there was none. A record that keeps the earlier asker (`askerKept`) fails after the other side's prompting refusal.
     pub asker : after 𝒞 w ds .asker ≡ askerOf w past
     -- Every call that spent a touch was served by the latest accepted one before it, that was the one that was live, and it was of the
-    -- call's own side: "No touch serves two calls, nor a call of the other side." `otherServed` fails it.
+    -- call's own side: no touch serves two calls, nor one of the other side. `otherServed` fails it.
     pub serves : (d : D) → comesTo 𝒞 w ds d ≡ TouchFound
         → (k : Mark) × (serverOf w past ≡ some k) × (heldAt w past (moment d) ≡ k ∷ []) × (role d ≡ Checking (k .side))
     -- No touch serves two calls: none is named twice. A record that keeps a spent touch (`keepsSpent`) fails: one touch, two
     -- checks within W.
     pub once : ServesOnce w past
-    -- E7's request: "For each side: accepted = spent + lapsed + live; live at most one over both sides together." Every touch is of one of
+    -- Demand 3, for each side: accepted = spent + lapsed + live; live at most one over both sides together. Every touch is of one of
     -- the two sides. A record that keeps a spent touch fails the first: two calls spent the one touch that was accepted; one that serves
     -- the other side (`otherServed`) fails it for the side that was served; a touch that side 2 asked for (`asks2`) is of neither, and fails
     -- the second. One that loses a touch (`opensNothing`) fails the last: after the next prompt another is

@@ -134,12 +134,12 @@ isOf s k = eqb (k .side) s
 abbrev pub isFound : (w side t : ℕ) → Mark → Bool
 isFound w s t k = isYoung w t k && isOf s k
 
--- A prompting refusal. E7's request: "a check that finds nothing while the history holds no touch of either side that is live at the check's moment". A 6985
+-- A prompting refusal is a check that finds nothing while the history holds no touch of either side that is live at the check's moment. A 6985
 -- beside the other side's live touch is none, so what the past held has to be looked at, too.
 abbrev pub isPromptingBy : Event → (held : List Mark) → Bool
 isPromptingBy e held = isNoTouchFound (e .came) && not (isAny held)
 
--- E7's request: "an accepted touch belongs to the side of the latest prompting refusal". Where there was none (no touch is accepted then), to 0.
+-- 02, E7: "An accepted touch belongs to the asker", the side of the latest prompting refusal. Where there was none (no touch is accepted then), to 0.
 abbrev pub sideAsked : Option Mark → ℕ
 sideAsked none = 0
 sideAsked (some s) = s .side

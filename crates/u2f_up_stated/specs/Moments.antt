@@ -98,7 +98,7 @@ onSettled p (R n) goOn = refused n p
 onSettled p (Word s) goOn = record { outcome = Word s; presence = p }
 onSettled p (Gives q) goOn = goOn q
 
--- Touch at t. E7's request: "Touch and ask name none", and "look at the record's": they settle as a call of the record's own side does.
+-- Touch at t. Ours: touch and ask name no side, and look at the record's: they settle as a call of the record's own side does.
 unfoldable pub touchOf : Presence → ℕ → Told
 touchOf p t = onSettled p (settleOf p (p .asker) t) (λ q. gave (grantedOf q t))
 
