@@ -2,6 +2,8 @@
 room=$(mktemp -d) || exit 2
 trap 'rm -rf "$room"' EXIT
 tried=0
+# the words that CHECK is run with, where a part of the repository is enough
+only=
 
 fresh_copy() {
     rm -rf "$room/copy"
@@ -20,7 +22,8 @@ trial() { # CHECK FILE SED-EDIT
         exit 1
     fi
     cp "$room/edited" "$room/copy/$2"
-    if "$room/copy/$1" >"$room/said" 2>&1; then
+    # shellcheck disable=SC2086
+    if "$room/copy/$1" $only >"$room/said" 2>&1; then
         echo "not refused by $1: $2, $3"
         exit 1
     fi
@@ -31,7 +34,8 @@ trial() { # CHECK FILE SED-EDIT
 # the copy as it is must pass, else every edit would seem refused
 trial_passes() { # CHECK
     fresh_copy || exit 2
-    if ! "$room/copy/$1" >"$room/said" 2>&1; then
+    # shellcheck disable=SC2086
+    if ! "$room/copy/$1" $only >"$room/said" 2>&1; then
         echo "refused though nothing is edited: $1"
         cat "$room/said"
         exit 1
