@@ -269,6 +269,7 @@ impl Expected {
                     says.data.len()
                 )
             }
+            Expected::Reading(_, Answer::Status(status)) => format!("{status:04x}"),
             Expected::Reading(_, answer) => format!("{answer:?}"),
             Expected::Command(_, outcome, shown) => command_name(outcome, shown.is_some()),
         }
@@ -406,7 +407,9 @@ fn share(plan: &Plan, job: usize) -> Result<Tally, String> {
 pub fn run(plan: &Plan) -> bool {
     say!(
         "{} frames, {} history calls, seed {}",
-        plan.frames, plan.calls, plan.seed
+        plan.frames,
+        plan.calls,
+        plan.seed
     );
     let tried = all_count(ALL_UP_TO).min(plan.frames.div_ceil(3));
     say!(
@@ -459,9 +462,7 @@ pub fn run(plan: &Plan) -> bool {
         say!("never met: {key}");
     }
     if !missing.is_empty() {
-        say!(
-            "not every answer was met: take more, at least {ENOUGH_FRAMES} frames and {ENOUGH_CALLS} history calls"
-        );
+        say!("not every answer was met: take more, at least {ENOUGH_FRAMES} frames and {ENOUGH_CALLS} history calls");
     }
     missing.is_empty()
 }
