@@ -50,6 +50,8 @@
  *   respond STATUS BODY                    9000 RESPONSE          body and status, of 16 bits
  *   response RESPONSE                      STATUS LENGTH          of a response that was read
  *
+ *   help                                   calls NAME..           what it is called with, and where that is said
+ *
  * Any of them may be refused, `R1` to `R8`, or answered with a status word, as `6985`. A 6700 (read, strict, table, tablestrict,
  * command, decide and try answer it) goes on with what is wrong with the length, and where, counted from the frame's start:
  *
@@ -57,8 +59,9 @@
  *   6700 surplus PLACE                     from PLACE on there are bytes that no field can claim
  *   6700 lc PLACE                          Lc does not fit INS; PLACE is 4
  *
- * A line that is no call is answered `? ` and why, and changes nothing; so is one that the end of the input cuts short, or that has
- * a NUL in it. The order held is that of the last decision that was not refused, if it gave one; it is gone once it is finished with
+ * A line ends in LF or CR LF. One that is no call is answered `? ` and why, and changes nothing; so is one that the end of the input
+ * cuts short, or that has a NUL in it. Where the calls cannot be read, or the answers not be written, the panel says so on standard
+ * error, and its exit status is 1. The order held is that of the last decision that was not refused, if it gave one; it is gone once it is finished with
  * 9000 or a status word. Before the first `new` there is no record: R6. Answers go out when no more calls are waiting, so a peer may
  * send one call at a time or many at once. A peer that sends a million has to read while it writes: once the pipe that way is full
  * of answers the panel reads no more calls, and the two would wait for each other.
@@ -91,6 +94,17 @@ static size_t out_room = ROOM;
 static char outgoing[PIPE];
 static size_t outgoing_length;
 
+/* The end of a panel that has lost its peer: where this is not heard either, nothing more can be done. */
+static void lost(const char *why)
+{
+    size_t length = 0;
+    while (why[length])
+        length++;
+    ssize_t n = write(STDERR_FILENO, why, length);
+    (void)n;
+    _exit(1);
+}
+
 static void flush(void)
 {
     size_t sent = 0;
@@ -99,7 +113,7 @@ static void flush(void)
         if (n < 0 && errno == EINTR)
             continue;
         if (n <= 0)
-            _exit(1);
+            lost("panel: cannot write standard output\n");
         sent += (size_t)n;
     }
     outgoing_length = 0;
@@ -183,6 +197,8 @@ static void put_status(uint16_t answer, uint16_t fault, size_t place)
     then_number(place);
 }
 
+static bool is_unread; /* the calls did not come to their end: a read failed */
+
 static int next_char(void)
 {
     static char incoming[PIPE];
@@ -193,6 +209,7 @@ static int next_char(void)
         do
             n = read(STDIN_FILENO, incoming, PIPE);
         while (n < 0 && errno == EINTR);
+        is_unread = n < 0;
         if (n <= 0)
             return -1;
         at = 0;
@@ -782,6 +799,8 @@ static bool call_response(char **word)
     return true;
 }
 
+static bool call_help(char **word);
+
 static const struct call {
     const char *name;
     size_t words;
@@ -795,8 +814,20 @@ static const struct call {
     {"outfill", 1, call_outfill}, {"out", 0, call_out},        {"ramp", 1, call_ramp},     {"remainder", 0, call_remainder},
     {"remain", 2, call_remain},   {"limit", 0, call_limit},    {"cut", 1, call_cut},       {"next", 1, call_next},
     {"respond", 2, call_respond}, {"response", 1, call_response}, {"writestrict", 7, call_writestrict},
-    {"table", 1, call_table},     {"tablestrict", 1, call_tablestrict}, {"side", 1, call_side},
+    {"table", 1, call_table},     {"tablestrict", 1, call_tablestrict}, {"side", 1, call_side}, {"help", 0, call_help},
 };
+
+static bool call_help(char **word)
+{
+    (void)word;
+    put_text("calls");
+    for (size_t i = 0; i < sizeof calls / sizeof calls[0]; i++) {
+        put(' ');
+        put_text(calls[i].name);
+    }
+    put_text("; the first comment of firmware/panel.c says what each takes and answers");
+    return true;
+}
 
 /* ---- the pipe */
 
@@ -848,15 +879,18 @@ int main(void)
         }
         if (c < 0) {
             put_text("? line cut short\n");
+            break;
         } else if (LINE_MOST <= length) {
             put_text("? line too long\n");
         } else if (has_nul) {
             put_text("? a NUL in the line\n");
         } else {
-            line[length] = 0;
+            line[length && line[length - 1] == '\r' ? length - 1 : length] = 0;
             answer_line(line);
         }
     }
     flush();
+    if (is_unread)
+        lost("panel: cannot read standard input\n");
     return 0;
 }

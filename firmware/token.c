@@ -256,7 +256,9 @@ static bool board_get(uint8_t *to, size_t length)
         ssize_t n = read(STDIN_FILENO, to, length);
         if (n < 0 && errno == EINTR)
             continue;
-        if (n <= 0)
+        if (n < 0)
+            _exit(1);
+        if (n == 0)
             return false;
         to += n;
         length -= (size_t)n;

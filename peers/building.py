@@ -7,11 +7,23 @@ import subprocess
 import sys
 import time
 
-from panel import ROOT
+from panel import ROOT, Trouble
 
 LOG = ROOT / "target" / "firmware" / "panel.log"  # where firmware/build keeps what the prover says
-PROVED = re.compile(r"^rt: (\w+) proved \((.*)\)$", re.MULTILINE)
+# of the archive's own crate it says no more than that the archive is there
+PROVED = re.compile(r"^rt: (?:(\w+) proved \((.*)\)$|target/staticlib/lib(\w+)\.a has )", re.MULTILINE)
 QUIET = 20  # seconds after which it says that it is still there
+
+
+class Unwritten(BaseException):
+    """Standard output takes no more: nothing that is told has a reader, so no `except Exception` is to stop this."""
+
+
+def tell(text):
+    try:
+        print(text, flush=True)
+    except OSError as error:
+        raise Unwritten(error) from None
 
 
 def to_prove(crate):
@@ -24,40 +36,55 @@ def to_prove(crate):
     found, waiting = set(), [crate]
     while waiting:
         name = waiting.pop()
-        if name not in found:
+        if name not in found and name in leans:
             found.add(name)
-            waiting += leans.get(name, [])
+            waiting += leans[name]
     return found
 
 
+class Progress:
+    """What the prover has done, told crate by crate. There is no log where nothing is to be proved."""
+
+    def __init__(self):
+        LOG.unlink(missing_ok=True)
+        self.crates, self.told = to_prove("panel"), set()
+        self.begun = self.last = time.monotonic()
+
+    def look(self):
+        if not LOG.exists():
+            return
+        for name, how, archived in PROVED.findall(LOG.read_text(errors="replace")):
+            name = name or archived
+            if name not in self.told:
+                self.told.add(name)
+                self.last = time.monotonic()
+                tell(f"  {len(self.told):>2} of {len(self.crates | self.told)}  {name} proved ({how or 'and the archive written'})")
+        if time.monotonic() - self.last > QUIET:
+            self.last = time.monotonic()
+            tell(f"  {self.last - self.begun:.0f} s, still at it")
+
+
 def build():
-    """Runs firmware/build; what the prover has done is told crate by crate. Ends the program where it fails."""
-    print("Building the panel; the first time its core is proved, which takes minutes", flush=True)
-    LOG.unlink(missing_ok=True)
-    crates, told, begun, last = to_prove("panel"), set(), time.monotonic(), time.monotonic()
+    """Runs firmware/build, which says that it proves, and why it fails. Ends the program where it does."""
+    progress = Progress()
     # a group of its own, so that all of it can be ended when this program is
     builder = subprocess.Popen([ROOT / "firmware" / "build"], start_new_session=True)
     try:
         while builder.poll() is None:
             time.sleep(0.2)
-            for name, how in PROVED.findall(LOG.read_text()) if LOG.exists() else []:
-                if name not in told:
-                    told.add(name)
-                    last = time.monotonic()
-                    print(f"  {len(told):>2} of {len(crates | told)}  {name} proved ({how})", flush=True)
-            if time.monotonic() - last > QUIET:
-                last = time.monotonic()
-                print(f"  {last - begun:.0f} s, still at it", flush=True)
+            progress.look()
+        progress.look()
     finally:
         if builder.poll() is None:
             os.killpg(builder.pid, signal.SIGTERM)
             builder.wait()
     if builder.returncode != 0:
-        sys.exit("the panel could not be built")
+        sys.exit(1)
 
 
-def quietly(work):
-    """Does the work and ends with its exit status. Ctrl-C and a closed pipe end it too, and nothing more is said."""
+def quietly(name, work):
+    """Does the work and ends with its exit status. Ctrl-C and a closed pipe end it too, and nothing more is said; of trouble, and of an
+    output that cannot be written, one sentence."""
 
     def end(number, _):
         sys.exit(128 + number)
@@ -65,16 +92,21 @@ def quietly(work):
     signal.signal(signal.SIGTERM, end)
     signal.signal(signal.SIGHUP, end)
     try:
+        if sys.stdout is None:
+            raise Trouble("standard output is closed")
         status = work()
-        sys.stdout.flush()
     except KeyboardInterrupt:
         status = 128 + signal.SIGINT
-    except BrokenPipeError:
+    except Trouble as trouble:
+        status = f"{name}: {trouble}"
+    except Unwritten as unwritten:
         # what is left to be written has nowhere to go
         os.dup2(os.open(os.devnull, os.O_WRONLY), sys.stdout.fileno())
-        status = 128 + signal.SIGPIPE
+        why = unwritten.args[0]
+        closed = isinstance(why, BrokenPipeError)
+        status = 128 + signal.SIGPIPE if closed else f"{name}: standard output cannot be written: {why.strerror}"
     sys.exit(status)
 
 
 if __name__ == "__main__":
-    quietly(build)
+    quietly("peers/run", build)

@@ -16,9 +16,16 @@ class Refusal(Exception):
     """R1 to R8: the core decided nothing and changed nothing. It is for the firmware; a host never sees it."""
 
 
+class Trouble(Exception):
+    """There is no panel, or none that does what a panel does: a sentence for the person who started this."""
+
+
 class Panel:
     def __init__(self):
-        self.process = subprocess.Popen([PANEL], stdin=subprocess.PIPE, stdout=subprocess.PIPE, text=True)
+        try:
+            self.process = subprocess.Popen([PANEL], stdin=subprocess.PIPE, stdout=subprocess.PIPE, encoding="ascii", errors="replace")
+        except OSError as error:
+            raise Trouble(f"the panel {PANEL} cannot be started: {error.strerror}") from None
 
     def __enter__(self):
         return self
@@ -31,9 +38,12 @@ class Panel:
             self.process.wait()
 
     def close(self):
-        self.process.stdin.close()
+        try:
+            self.process.stdin.close()
+        except BrokenPipeError:
+            pass  # it has ended, and how is what counts
         if self.process.wait() != 0:
-            raise RuntimeError("the panel ended in a failure")
+            raise Trouble("the panel ended in a failure")
 
     def call(self, *words):
         """One call, as words; its answer, as words."""
@@ -41,10 +51,12 @@ class Panel:
             self.process.stdin.write(" ".join(map(written, words)) + "\n")
             self.process.stdin.flush()
         except BrokenPipeError:
-            raise RuntimeError(f"the panel ended before this {words[0]}") from None
+            raise Trouble(f"the panel ended before this {words[0]}") from None
         answer = self.process.stdout.readline().split()
-        if not answer or answer[0] == "?":
-            raise RuntimeError(f"the panel does not take this {words[0]}: {' '.join(answer)}")
+        if not answer:
+            raise Trouble(f"the panel ended with no answer to this {words[0]}")
+        if answer[0] == "?":
+            raise Trouble(f"the panel does not take this {words[0]}: {' '.join(answer)}")
         if answer[0].startswith("R"):
             raise Refusal(answer[0])
         return answer

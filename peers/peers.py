@@ -1,7 +1,6 @@
 """Clients, a server and a reader that others wrote, against the panel: python3-fido2, libu2f-server's own tool, `u2f-server`, and pcscd."""
 
 import os
-import sys
 import tempfile
 import traceback
 from contextlib import nullcontext
@@ -12,9 +11,9 @@ from cryptography.x509 import load_der_x509_certificate
 from fido2.attestation import InvalidSignature as InvalidEnrolment
 from fido2.ctap1 import APDU, ApduError, Ctap1, SignatureData
 
-from building import quietly
+from building import quietly, tell
 from hardware import HANDLE, Attestation, Device
-from panel import USB, WIRELESS, Refusal
+from panel import USB, WIRELESS, Panel, Refusal, Trouble
 from server import ORIGIN, Server, is_known, server_enrolment, server_login
 from wireless import Daemon, Unavailable, laid_on
 
@@ -24,7 +23,7 @@ ROOM = 1024
 
 
 def say(text):
-    print(f"    {text}")
+    tell(f"    {text}")
 
 
 def status(ask):
@@ -385,31 +384,33 @@ def itself(device):
 
 
 def passes(case, length, reached=itself):
-    print(f"{case.__doc__} (certificate of {length} bytes)", flush=True)
+    tell(f"{case.__doc__} (certificate of {length} bytes)")
     try:
         with Device(Attestation(length)) as device, reached(device) as by_client:
             case(by_client)
-    except BrokenPipeError:
-        raise
+    except Trouble as trouble:
+        say(f"FAILED: {trouble}")
+        return False
     except Exception:
-        traceback.print_exc(file=sys.stdout)
+        tell(traceback.format_exc().rstrip())
         say("FAILED")
         return False
     return True
 
 
 def main():
+    Panel().close()  # where there is none, that is said once
     passed = sum(passes(case, length) for case, length in CASES)
     try:
         with Daemon():
             passed += sum(passes(case, length, laid_on) for case, length in BY_READER)
     except Unavailable as why:
-        print(f"no wireless reader, so none of {len(BY_READER)} cases: {why}")
+        tell(f"no wireless reader, so none of {len(BY_READER)} cases: {why}")
         say("FAILED")
     total = len(CASES) + len(BY_READER)
-    print(f"peers: {passed} of {total} passed")
+    tell(f"peers: {passed} of {total} passed")
     return passed != total
 
 
 if __name__ == "__main__":
-    quietly(main)
+    quietly("peers/run", main)

@@ -8,7 +8,7 @@ options() { # SCRIPT MOST-WORDS WORD..
         case $word in
         -h | --help)
             sed -n '1d; /^#/!q; s/^# \{0,1\}//p' "$script"
-            exit 0
+            exit
             ;;
         -*)
             echo "$script: no option $word (--help says what there is)" >&2
@@ -21,6 +21,56 @@ options() { # SCRIPT MOST-WORDS WORD..
         exit 2
     fi
 }
+
+# Words that have to be numbers, before anything is built for them.
+numbers() { # WORD..
+    for word; do
+        case $word in
+        '' | *[!0-9]*)
+            echo "$script: '$word' is no number (--help says which it takes)" >&2
+            exit 2
+            ;;
+        esac
+    done
+}
+
+# For what runs the toolchain's command.
+needs_rt() {
+    command -v rt >/dev/null && return
+    echo "${script:-$0}: rt, the toolchain's command, is not on the path; README.md says where the toolchain comes from" >&2
+    exit 1
+}
+
+# The toolchain's folder.
+kit() {
+    [ -n "${RATTLE_HOME:-}" ] || needs_rt
+    echo "${RATTLE_HOME:-$(dirname "$(dirname "$(rt doc)")")}"
+}
+
+# A command that is heard only where it fails.
+quietly() { # LOG COMMAND..
+    log=$1
+    shift
+    "$@" >"$log" 2>&1 || {
+        cat "$log" >&2
+        echo "$script: this failed: $*" >&2
+        exit 1
+    }
+}
+
+# Makes the archive, target/staticlib/libpanel.a. It is written only once its crate is proved: not twice for the same text.
+proved_archive() { # LOG
+    made=target/staticlib/libpanel.a
+    [ ! -f "$made" ] || [ -n "$(find crates crates.txt -type f -newer "$made")" ] || return 0
+    needs_rt
+    echo "Proving the panel's core, which takes some minutes ($1 says how far it is)" >&2
+    quietly "$1" rt staticlib panel
+}
+
+# What Debian's qemu-x86_64 takes to run a program on another machine, with the libraries of the package libc6-amd64-cross. Where
+# libc6:amd64 is installed beside it, the loader of the one would find the library of the other, and the program die: so it is told.
+# shellcheck disable=SC2034
+emulated="-L /usr/x86_64-linux-gnu -E LD_LIBRARY_PATH=/usr/x86_64-linux-gnu/lib"
 
 # Installs those of Debian's packages that are not there: as root, else by sudo, else it says what is missing.
 packages() { # PACKAGE..

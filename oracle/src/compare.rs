@@ -269,6 +269,7 @@ impl Expected {
                     says.data.len()
                 )
             }
+            Expected::Reading(_, Answer::Status(status)) => format!("{status:04x}"),
             Expected::Reading(_, answer) => format!("{answer:?}"),
             Expected::Command(_, outcome, shown) => command_name(outcome, shown.is_some()),
         }
@@ -404,12 +405,14 @@ fn share(plan: &Plan, job: usize) -> Result<Tally, String> {
 
 /// Compares, prints what the cases came to, and says whether all agreed and every answer was met.
 pub fn run(plan: &Plan) -> bool {
-    println!(
+    say!(
         "{} frames, {} history calls, seed {}",
-        plan.frames, plan.calls, plan.seed
+        plan.frames,
+        plan.calls,
+        plan.seed
     );
     let tried = all_count(ALL_UP_TO).min(plan.frames.div_ceil(3));
-    println!(
+    say!(
         "{tried} of the {} short frames over the alphabet among them",
         all_count(ALL_UP_TO)
     );
@@ -441,7 +444,7 @@ pub fn run(plan: &Plan) -> bool {
                 .into_iter()
                 .for_each(|(key, n)| *tally.entry(key).or_default() += n),
             Err(difference) if agreed => {
-                println!("FIRST DIFFERENCE\n{difference}");
+                say!("FIRST DIFFERENCE\n{difference}");
                 agreed = false;
             }
             Err(_) => {}
@@ -451,17 +454,15 @@ pub fn run(plan: &Plan) -> bool {
         return false;
     }
     for (key, n) in &tally {
-        println!("{n:>9}  {key}");
+        say!("{n:>9}  {key}");
     }
     let missing: Vec<&String> = tally.iter().filter(|(_, n)| **n == 0).map(|(key, _)| key).collect();
-    println!("{} answers compared, no difference", tally.values().sum::<u64>());
+    say!("{} answers compared, no difference", tally.values().sum::<u64>());
     for key in &missing {
-        println!("never met: {key}");
+        say!("never met: {key}");
     }
     if !missing.is_empty() {
-        println!(
-            "not every answer was met: take more, at least {ENOUGH_FRAMES} frames and {ENOUGH_CALLS} history calls"
-        );
+        say!("not every answer was met: take more, at least {ENOUGH_FRAMES} frames and {ENOUGH_CALLS} history calls");
     }
     missing.is_empty()
 }

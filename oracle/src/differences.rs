@@ -2,6 +2,7 @@
 
 use crate::device::{Answer, Call, Device, Touch};
 use crate::generate::{frame, ROOM};
+use crate::give_up;
 use crate::lent::{Allowed, Counter, Hardware};
 use crate::panel::{next_line, put_call, put_finish, put_side, put_strict, Panel};
 use std::io::Write;
@@ -448,7 +449,7 @@ fn is_as_listed(difference: &Difference, panel: &mut Panel) -> bool {
         .calls
         .write_all(&lines)
         .and_then(|()| panel.calls.flush())
-        .expect("the panel takes calls");
+        .unwrap_or_else(|error| give_up(&format!("the panel takes no calls: {error}")));
     let mut space = String::new();
     let said: Vec<String> = (0..count(&lines))
         .map(|_| {
@@ -462,13 +463,13 @@ fn is_as_listed(difference: &Difference, panel: &mut Panel) -> bool {
     let same = rust == difference.rust
         && said.len() == difference.panel.len()
         && difference.panel.iter().zip(&said).all(|(p, s)| is_like(p, s));
-    println!("{}{}", difference.name, if same { "" } else { ": NOT AS LISTED" });
+    say!("{}{}", difference.name, if same { "" } else { ": NOT AS LISTED" });
     for line in String::from_utf8_lossy(&lines).lines().skip(before) {
-        println!("    call   {}", shortened(line));
+        say!("    call   {}", shortened(line));
     }
-    println!("    Rust   {rust}");
+    say!("    Rust   {rust}");
     for line in &said {
-        println!("    panel  {}", shortened(line));
+        say!("    panel  {}", shortened(line));
     }
     same
 }

@@ -4,6 +4,16 @@
 extern crate arrayref;
 extern crate alloc;
 
+/// A line on standard output. Where that takes no more the program ends with a sentence: `println!` would panic.
+macro_rules! say {
+    ($($words:tt)*) => {{
+        use std::io::Write as _;
+        if let Err(error) = writeln!(std::io::stdout(), $($words)*) {
+            crate::give_up(&format!("cannot write standard output: {error}"));
+        }
+    }};
+}
+
 mod compare;
 mod ctap;
 mod device;
@@ -19,11 +29,14 @@ const USAGE: &str = "oracle sample SEED FOLDER                   the sample, cas
 oracle compare PANEL FRAMES CALLS SEED JOBS the panel (a command) against upstream
 oracle differences PANEL                    the differences that are known, shown on both";
 
+fn give_up(why: &str) -> ! {
+    eprintln!("oracle: {why}");
+    std::process::exit(2)
+}
+
 fn number<T: std::str::FromStr>(word: &str) -> T {
-    word.parse().unwrap_or_else(|_| {
-        eprintln!("oracle: {word} is no number\n{USAGE}");
-        std::process::exit(2)
-    })
+    word.parse()
+        .unwrap_or_else(|_| give_up(&format!("{word} is no number that it takes\n{USAGE}")))
 }
 
 fn main() {
@@ -32,7 +45,8 @@ fn main() {
     let good = match words.as_slice() {
         ["sample", seed, folder] => {
             for (name, text) in sample::make(number(seed)) {
-                std::fs::write(format!("{folder}/{name}"), text).expect(name);
+                std::fs::write(format!("{folder}/{name}"), text)
+                    .unwrap_or_else(|error| give_up(&format!("cannot write {folder}/{name}: {error}")));
             }
             true
         }

@@ -2,6 +2,7 @@
 
 use crate::device::{Call, Outcome, Touch};
 use crate::generate::W;
+use crate::give_up;
 use crate::lent::{Allowed, Attested, Counter, Handle};
 use std::io::{BufRead, BufReader, BufWriter, Write};
 use std::process::{Child, ChildStdin, ChildStdout, Command, Stdio};
@@ -19,12 +20,12 @@ impl Panel {
     /// The panel as a program, with its words.
     pub fn start(command: &str) -> Panel {
         let mut words = command.split_whitespace();
-        let mut child = Command::new(words.next().expect("a panel"))
+        let mut child = Command::new(words.next().unwrap_or_else(|| give_up("no command for the panel")))
             .args(words)
             .stdin(Stdio::piped())
             .stdout(Stdio::piped())
             .spawn()
-            .unwrap_or_else(|e| panic!("cannot start {command}: {e}"));
+            .unwrap_or_else(|error| give_up(&format!("cannot start the panel {command}: {error}")));
         let calls = BufWriter::with_capacity(1 << 16, child.stdin.take().unwrap());
         let answers = BufReader::with_capacity(1 << 16, child.stdout.take().unwrap());
         Panel { child, calls, answers }
