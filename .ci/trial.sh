@@ -5,7 +5,7 @@ tried=0
 
 fresh_copy() {
     rm -rf "$room/copy"
-    mkdir "$room/copy" && cp -R .ci crates crates.txt docs include firmware oracle bench "$room/copy"
+    mkdir "$room/copy" && cp -R .ci cases crates crates.txt docs include firmware oracle bench "$room/copy"
 }
 
 trial() { # CHECK FILE SED-EDIT

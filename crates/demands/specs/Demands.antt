@@ -100,7 +100,7 @@ pub record EveryInputIsAnswered : Type 0 where
   pub room-was-asked : Decision.RoomWasAsked decisionOf
 
 -- 2. "Results equal the Rust's", statuses by their number alone, bodies uncut, without INS C0 (02, E2) and the old form (E13), and with one side throughout (E7): that is run, not proved (oracle/compare, and the Rust's own answers in
--- crates/lines/data/rust).
+-- cases/, the files that begin with rust).
 -- Proved is what stands below.
 pub record AsTheDocumentsSay : Type 0 where
   -- 02, E7: "demand 2 compares runs with one side only": from a fresh record, with one side throughout, calls and decisions are those of the base, which had no sides
