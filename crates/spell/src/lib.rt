@@ -3,7 +3,6 @@
 use libc::STDERR_FILENO;
 use libc::STDOUT_FILENO;
 use outcome::ApduStatusCode;
-ghost use Prim.Native.Nat.{_<_};
 
 pub fn words(good: bool, words: &[u8]) -> bool {
     if !good {
@@ -42,10 +41,13 @@ pub fn status(good: bool, before: &[u8], status: ApduStatusCode) -> bool {
     }
 }
 
-fn digit(n: u8) -> u8
-    requires { ⌜ n < 16 ⌝ }
-{
-    if n < 10 { b'0' + n } else { b'a' - 10 + n }
+// The last digit of a number in hex.
+fn digit(n: u8) -> u8 {
+    let last = n % 16;
+    if last < 10 {
+        return b'0' + last;
+    }
+    b'a' - 10 + last
 }
 
 // Bytes in hex, behind the words before them; `-` where there are none.
@@ -54,20 +56,20 @@ pub fn bytes(good: bool, before: &[u8], bytes: &[u8]) -> bool {
     if bytes.len() == 0 {
         return words(fine, b"-");
     }
+    // 2,048 bytes at a time
     let mut digits = io::buffer();
-    let mut n = 0;
     let mut i = 0;
     while i < bytes.len() {
-        if 4094 < n {
-            fine = words(fine, &digits[..n]);
-            n = 0;
+        let k = i % 2048;
+        digits[2 * k] = digit(bytes[i] / 16);
+        digits[2 * k + 1] = digit(bytes[i]);
+        if k == 2047 {
+            fine = words(fine, &digits);
         }
-        digits[n] = digit(bytes[i] / 16);
-        digits[n + 1] = digit(bytes[i] % 16);
-        n += 2;
         i += 1;
     }
-    words(fine, &digits[..n])
+    let left = bytes.len() % 2048;
+    words(fine, octets::part(&digits, 0, 2 * left))
 }
 
 // Standard error has it where standard output did not take all.
