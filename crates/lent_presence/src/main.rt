@@ -13,7 +13,8 @@ fn print_window(window: Window) {
     match window {
         Window::Closed => words(true, b" -"),
         Window::Opened(m) => number(true, b" ", m),
-    };
+    }
+    ;
 }
 
 fn print_answer(answer: Answer) {
@@ -24,7 +25,8 @@ fn print_answer(answer: Answer) {
             number(true, b": R", outcome::refusal_number(why) as u64);
             words(true, b";")
         }
-    };
+    }
+    ;
 }
 
 fn told(step: Step) -> Presence {

@@ -1,7 +1,8 @@
 // What a command-line program is given: where its text comes from, and what stands in it. What cannot be read is an answer, never a fault.
 mod hex;
-pub use hex::frame_end;
+
 pub use hex::frame_bytes;
+pub use hex::frame_end;
 use libc::STDERR_FILENO;
 use libc::STDIN_FILENO;
 ghost use Prim.Native.Nat.{_≤_};
