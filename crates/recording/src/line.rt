@@ -79,21 +79,29 @@ fn converted(result: &[u8], behind: &[u8], state: State) -> State {
     next
 }
 
+// A line that goes out as it came, with a remark before it where its frame could not be read.
+fn as_it_is(line: &[u8], said: Line, state: State) -> State {
+    match said {
+        Line::Status(status) => in_no_shape(line, status, state),
+        Line::NoRoom => unread(line, b": no room\n", state),
+        Line::NotHex => unread(line, b": no bytes in hex\n", state),
+        _ => kept(line, state),
+    }
+}
+
 // The frame's text ends at `end`.
 fn framed(line: &[u8], end: usize, state: State) -> State {
     let mut bytes = space();
     let out: &mut [u8] = &mut bytes;
-    match line_of(octets::part(line, 0, end), out) {
-        Line::Kept => kept(line, state),
-        Line::Converted(n) => converted(
-            octets::part(out, 0, n),
-            octets::part(line, end, line.len()),
-            state,
-        ),
-        Line::Status(status) => in_no_shape(line, status, state),
-        Line::NoRoom => unread(line, b": no room\n", state),
-        Line::NotHex => unread(line, b": no bytes in hex\n", state),
-    }
+    let said = line_of(octets::part(line, 0, end), out);
+    let Line::Converted(n) = said else {
+        return as_it_is(line, said, state);
+    };
+    converted(
+        octets::part(out, 0, n),
+        octets::part(line, end, line.len()),
+        state,
+    )
 }
 
 // A line that is a remark, or empty, goes out as it came.
