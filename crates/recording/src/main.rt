@@ -2,11 +2,8 @@
 // It comes from the file that the argument names, or from standard input. A line is a frame in hex, which a remark (#) may follow, a remark alone,
 // or empty. Every line goes out as it came, but for the frames that are converted; before a line that could not be read a remark says why. So
 // nothing is lost, and what goes out is a recording again. The last line counts.
-mod line;
-mod state;
-
 use libc::STDERR_FILENO;
-use state::State;
+use recording_line::State;
 
 // The longest frame that has a shape is 65,544 bytes, which in hex, with a space behind each, are 196,632.
 fn text_space() -> [u8; 262144] {
@@ -16,7 +13,7 @@ fn text_space() -> [u8; 262144] {
 // The rest of a line that was too long ends here; any other is a line.
 fn whole(line: &[u8], state: State) -> State {
     if !state.within {
-        return line::put(line, state);
+        return recording_line::put(line, state);
     }
     let rest = spell::words(state.good, line);
     let mut next = state;
@@ -35,7 +32,7 @@ fn put_part(part: &[u8], state: State) -> State {
     }
     next.within = true;
     next.line = std::num::wrapping_add_u64(state.line, 1);
-    line::unread(part, b": too long\n", next)
+    recording_line::unread(part, b": too long\n", next)
 }
 
 // What came of a line before a read failed. It goes out as a remark: its front may read as a frame that it never was. A line that is too long
@@ -44,7 +41,7 @@ fn cut_short(part: &[u8], state: State) -> State {
     let mut next = state;
     if !state.within {
         next.line = std::num::wrapping_add_u64(state.line, 1);
-        next = line::unread(part, b": cut short\n# ", next);
+        next = recording_line::unread(part, b": cut short\n# ", next);
         next.good = spell::words(next.good, b"\n");
         return next;
     }
@@ -118,7 +115,7 @@ fn filled(file: i32, text: &mut [u8], state: State) -> State {
 // A proved loop has to end, and nothing says that the input does: the turns count down from a number that no run uses up.
 fn all(file: i32, text: &mut [u8]) -> State {
     let mut turns = u64::MAX;
-    let mut state = state::fresh();
+    let mut state = recording_line::fresh();
     while turns > 0 && state.good && !state.ended {
         state = filled(file, text, state);
         turns -= 1;

@@ -1,7 +1,10 @@
-// One line of a recording, and what is written for it.
-use crate::state::State;
+// One line of a recording, and what the program `recording` writes for it.
+mod state;
+
 use convert::Converted;
 use outcome::ApduStatusCode;
+pub use state::State;
+pub use state::fresh;
 use text::Said;
 
 // What a line with a frame comes to: a frame that stays, one that is so many bytes now, one in no shape, or none.
