@@ -25,7 +25,7 @@ mod sample;
 mod standins;
 use standins::{api, env};
 
-const USAGE: &str = "oracle sample SEED FOLDER                   the sample, case files of the program `lines`, to FOLDER
+const USAGE: &str = "oracle sample SEED FOLDER                   the sample, case files of firmware/test, to FOLDER
 oracle compare PANEL FRAMES CALLS SEED JOBS the panel (a command) against upstream
 oracle differences PANEL                    the differences that are known, shown on both";
 

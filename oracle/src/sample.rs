@@ -1,4 +1,4 @@
-//! A sample of the oracle's answers as a case file of the program `lines`: calls of the pipe panel and what upstream answers, with
+//! A sample of the oracle's answers as case files of firmware/test: calls of the pipe panel and what upstream answers, with
 //! no Rust at hand when it is run. Bytes that nothing looks at count up, so that names can stand for them. Of a 6700 the sample holds
 //! the status alone: upstream does not say what is wrong with the length, so the line ends in ` ..`, which lets the answer go on. Commands
 //! with INS C0 are left out, and so are frames of the old form, read or commanded, which upstream reads as shape 6: upstream's answers to
@@ -16,9 +16,6 @@ const SALT_Y: usize = 64;
 const SALT_HANDLE: usize = 112;
 const SALT_CERTIFICATE: usize = 160;
 const SALT_SIGNATURE: usize = 208;
-
-/// What the program `lines` takes.
-const MOST: usize = 262_143;
 
 /// The plain bytes from 0 on, once around; and as often as the longest frame takes.
 const ROUND: usize = 251;
@@ -288,10 +285,9 @@ pub fn make(seed: u64) -> Vec<(&'static str, String)> {
     let plain = |from, n| hex(&salted(from, n));
     writeln!(head, "all = {}\nmany = $all * 100\nplain = {}", plain(0, ROUND), plain(0, 64)).unwrap();
     writeln!(head, "x = {}\ny = {}", plain(SALT_X, 32), plain(SALT_Y, 32)).unwrap();
-    let whole = |(name, text): (&'static str, String)| {
-        let text = head.clone() + &text;
-        assert!(text.len() <= MOST, "{name}: {} bytes are too many for the program `lines`", text.len());
-        (name, text)
-    };
-    sample.parts.into_iter().map(whole).collect()
+    sample
+        .parts
+        .into_iter()
+        .map(|(name, text)| (name, head.clone() + &text))
+        .collect()
 }

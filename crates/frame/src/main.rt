@@ -1,6 +1,7 @@
 // Reads one command frame, raw bytes, from standard input. Prints its shape's name, Lc and Le, or the status word that it gets. With the
-// argument `table` it prints which row of each table fits it, and what the frame says by that (rows.rt).
-mod out;
+// argument `table` it prints which row of each table fits it, and what the frame says by that (rows.rt); with `parts` the bytes of its data and
+// of its command's fields (parts.rt).
+mod parts;
 mod rows;
 
 use apdu::Apdu;
@@ -8,55 +9,67 @@ use apdu::Case;
 use apdu::Reading;
 use libc::STDERR_FILENO;
 use libc::STDIN_FILENO;
-use out::print;
-use out::print_number;
-use out::print_word;
+use spell::number;
+use spell::words;
 
-fn print_shape(shape: Case) {
+fn print_shape(shape: Case) -> bool {
     match shape {
-        Case::Instruction => print(b"Instruction"),
-        Case::Le1 => print(b"Le1"),
-        Case::Lc1Data => print(b"Lc1Data"),
-        Case::Lc1DataLe1 => print(b"Lc1DataLe1"),
-        Case::Lc3Data => print(b"Lc3Data"),
-        Case::Lc3DataLe2 => print(b"Lc3DataLe2"),
-        Case::Le3 => print(b"Le3"),
+        Case::Instruction => words(true, b"Instruction"),
+        Case::Le1 => words(true, b"Le1"),
+        Case::Lc1Data => words(true, b"Lc1Data"),
+        Case::Lc1DataLe1 => words(true, b"Lc1DataLe1"),
+        Case::Lc3Data => words(true, b"Lc3Data"),
+        Case::Lc3DataLe2 => words(true, b"Lc3DataLe2"),
+        Case::Le3 => words(true, b"Le3"),
     }
 }
 
-fn print_frame(says: Apdu) {
+fn print_frame(says: Apdu) -> bool {
     let shape = says.shape;
-    print_shape(shape);
-    print_number(b" ", says.lc as usize);
-    print_number(b" ", says.le as usize);
+    let named = print_shape(shape);
+    let lc = number(named, b" ", says.lc as u64);
+    number(lc, b" ", says.le as u64)
 }
 
-fn print_reading(reading: Reading) {
-    match reading {
+fn print_reading(frame: &[u8]) -> bool {
+    let reading = apdu::read(frame);
+    let said = match reading {
         Reading::Frame(says) => print_frame(says),
-        Reading::Status(status) => print_word(b"SW ", outcome::status_number(status)),
-    }
-    print(b"\n");
+        Reading::Status(status) => spell::status_word(true, b"SW ", status),
+    };
+    words(said, b"\n")
 }
 
-// How the program was asked to read: 0 as ever, 1 by the tables, 2 in no way that it knows.
+// How the program was asked to read: 0 as ever, 1 by the tables, 2 part by part, 3 in no way that it knows.
 fn asked() -> u8 {
     let count = os::arg_count();
     if count < 2 {
         return 0;
     }
-    let mut word = [0u8; 16];
-    let n = os::arg(1, &mut word);
-    if count == 2 && check::same(octets::part(&word, 0, n), b"table") {
+    let mut space = [0u8; 16];
+    let n = os::arg(1, &mut space);
+    let word = octets::part(&space, 0, n);
+    if count == 2 && check::same(word, b"table") {
         return 1;
     }
-    2
+    if count == 2 && check::same(word, b"parts") {
+        return 2;
+    }
+    3
+}
+
+fn print_asked(way: u8, frame: &[u8]) -> bool {
+    match way {
+        1 => rows::print_both(frame),
+        2 => parts::print(frame),
+        _ => print_reading(frame),
+    }
 }
 
 fn main() {
     let way = asked();
-    if way == 2 {
-        io::write_all(STDERR_FILENO, b"one argument is known: table\n");
+    if way == 3 {
+        io::write_all(STDERR_FILENO, b"one argument is known: table or parts\n");
         return;
     }
     let mut buffer = io::large_buffer();
@@ -69,12 +82,8 @@ fn main() {
         return;
     }
     if left > 0 {
-        print(b"too long\n");
+        spell::close(words(true, b"too long\n"));
         return;
     }
-    if way == 1 {
-        rows::print_both(&buffer[..n]);
-        return;
-    }
-    print_reading(apdu::read(&buffer[..n]));
+    spell::close(print_asked(way, &buffer[..n]));
 }

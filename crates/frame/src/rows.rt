@@ -1,52 +1,38 @@
 // What the argument `table` asks for: by each of the two tables of crate table, the row that fits the frame, with its columns, and what
 // the frame says by it; or the status word, and what is wrong with the length and where.
-use crate::out::print;
-use crate::out::print_number;
-use crate::out::print_word;
-use outcome::ApduStatusCode;
+use spell::number;
+use spell::words;
 use table::TableReading;
 use table::Tried;
 
-fn print_tried(tried: Tried) {
+fn print_tried(good: bool, tried: Tried) -> bool {
     let Tried::ByRow(row) = tried else {
-        print(b": no row");
-        return;
+        return words(good, b": no row");
     };
-    print_number(b": row ", row.number as usize);
-    print_number(b", Lc field ", row.lc_field);
-    print_number(b", least Lc ", row.lc_least);
-    print_number(b", Le field ", row.le_field);
+    let named = number(good, b": row ", row.number as u64);
+    let lc = number(named, b", Lc field ", row.lc_field as u64);
+    let least = number(lc, b", least Lc ", row.lc_least as u64);
+    number(least, b", Le field ", row.le_field as u64)
 }
 
-fn print_status(status: ApduStatusCode) {
-    print_word(b": SW ", outcome::status_number(status));
-    let fault = outcome::fault(status);
-    if fault.kind == 1 {
-        print_number(b" missing ", fault.place);
-    }
-    if fault.kind == 2 {
-        print_number(b" surplus ", fault.place);
-    }
-}
-
-fn print_reading(reading: TableReading) {
-    match reading {
+fn print_reading(good: bool, reading: TableReading) -> bool {
+    let said = match reading {
         TableReading::Frame(says) => {
-            print_number(b": Lc ", says.lc as usize);
-            print_number(b", Le ", says.le as usize);
+            let lc = number(good, b": Lc ", says.lc as u64);
+            number(lc, b", Le ", says.le as u64)
         }
-        TableReading::Status(status) => print_status(status),
-    }
-    print(b"\n");
+        TableReading::Status(status) => spell::status(good, b": SW ", status),
+    };
+    words(said, b"\n")
 }
 
-pub fn print_both(frame: &[u8]) {
+pub fn print_both(frame: &[u8]) -> bool {
     let ordinary = table::ordinary();
-    print(b"ordinary");
-    print_tried(table::try_rows(&ordinary, frame));
-    print_reading(table::read(frame));
+    let mut good = words(true, b"ordinary");
+    good = print_tried(good, table::try_rows(&ordinary, frame));
+    good = print_reading(good, table::read(frame));
     let strict = table::strict();
-    print(b"strict");
-    print_tried(table::try_rows(&strict, frame));
-    print_reading(table::read_strict(frame));
+    good = words(good, b"strict");
+    good = print_tried(good, table::try_rows(&strict, frame));
+    print_reading(good, table::read_strict(frame))
 }

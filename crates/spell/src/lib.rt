@@ -1,76 +1,80 @@
-// Text written into lent slices: each function puts its words into out from `at` on, and says where they end. What is too long
-// for out is left out.
+// Words, numbers and bytes on standard output. Whether all before was written goes in and comes out: behind a write that failed nothing more
+// goes out, and a program says so at its end.
+use libc::STDERR_FILENO;
+use libc::STDOUT_FILENO;
+use outcome::ApduStatusCode;
 
-// The number that stands for nothing, as in a closed window.
-pub const NOTHING: u64 = 0xffff_ffff_ffff_ffff;
-
-pub fn put(out: &mut [u8], at: usize, bytes: &[u8]) -> usize {
-    if out.len() < at {
-        return at;
+pub fn words(good: bool, words: &[u8]) -> bool {
+    if !good {
+        return false;
     }
-    if out.len() - at < bytes.len() {
-        return out.len();
-    }
-    octets::put(&mut out[at..], bytes);
-    at + bytes.len()
+    io::write_all(STDOUT_FILENO, words)
 }
 
-// The first numbers of a list, as many as `count`, between single spaces, after the words before them.
-pub fn numbers(out: &mut [u8], at: usize, before: &[u8], numbers: &[u64], count: usize) -> usize {
-    let mut end = put(out, at, before);
-    let mut i = 0;
-    while i < count {
-        if numbers.len() <= i {
-            return end;
-        }
-        end = number(out, end, i, numbers[i]);
-        i += 1;
+// A number in decimal, behind the words before it.
+pub fn number(good: bool, before: &[u8], n: u64) -> bool {
+    if !words(good, before) {
+        return false;
     }
-    end
+    io::print_decimal(STDOUT_FILENO, n)
 }
 
-fn number(out: &mut [u8], at: usize, i: usize, n: u64) -> usize {
-    let spaces = if 0 < i { 1 } else { 0 };
-    let start = put(out, at, octets::part(b" ", 0, spaces));
-    let mut digits = [0u8; 20];
-    let k = io::decimal(n, &mut digits);
-    put(out, start, &digits[..k])
-}
-
-fn byte(out: &mut [u8], at: usize, b: u8) -> usize {
-    let mut digits = [0u8; 16];
-    let k = io::hex(octets::wide(b) as u64, 2, &mut digits);
-    put(out, at, &digits[..k])
-}
-
-// The bytes that stand in out itself from `from` up to `to`, in hex; `-` where there are none.
-pub fn within(out: &mut [u8], at: usize, from: usize, to: usize) -> usize {
-    if to <= from {
-        return put(out, at, b"-");
+// A status word, four digits in hex, behind the words before it.
+pub fn status_word(good: bool, before: &[u8], status: ApduStatusCode) -> bool {
+    if !words(good, before) {
+        return false;
     }
-    let mut end = at;
-    let mut i = from;
-    while i < to {
-        if out.len() <= i {
-            return end;
-        }
-        let b = out[i];
-        end = byte(out, end, b);
-        i += 1;
-    }
-    end
+    io::print_hex(STDOUT_FILENO, outcome::status_number(status) as u64, 4)
 }
 
-// Bytes in hex after the words before them; `-` where there are none.
-pub fn bytes(out: &mut [u8], at: usize, before: &[u8], bytes: &[u8]) -> usize {
-    let mut end = put(out, at, before);
+// The same, and of a 6700 what is wrong with the length, and where.
+pub fn status(good: bool, before: &[u8], status: ApduStatusCode) -> bool {
+    let fine = status_word(good, before, status);
+    let fault = outcome::fault(status);
+    let kind = fault.kind;
+    let place = fault.place as u64;
+    match kind {
+        1 => number(fine, b" missing ", place),
+        2 => number(fine, b" surplus ", place),
+        3 => number(fine, b" lc ", place),
+        _ => fine,
+    }
+}
+
+// The last digit of a number in hex.
+fn digit(n: u8) -> u8 {
+    let last = n % 16;
+    if last < 10 {
+        return b'0' + last;
+    }
+    b'a' - 10 + last
+}
+
+// Bytes in hex, behind the words before them; `-` where there are none.
+pub fn bytes(good: bool, before: &[u8], bytes: &[u8]) -> bool {
+    let mut fine = words(good, before);
     if bytes.len() == 0 {
-        return put(out, end, b"-");
+        return words(fine, b"-");
     }
+    // 2,048 bytes at a time
+    let mut digits = io::buffer();
     let mut i = 0;
     while i < bytes.len() {
-        end = byte(out, end, bytes[i]);
+        let k = i % 2048;
+        digits[2 * k] = digit(bytes[i] / 16);
+        digits[2 * k + 1] = digit(bytes[i]);
+        if k == 2047 {
+            fine = words(fine, &digits);
+        }
         i += 1;
     }
-    end
+    let left = bytes.len() % 2048;
+    words(fine, octets::part(&digits, 0, 2 * left))
+}
+
+// Standard error has it where standard output did not take all.
+pub fn close(good: bool) {
+    if !good {
+        io::write_all(STDERR_FILENO, b"cannot write standard output\n");
+    }
 }

@@ -7,10 +7,10 @@ use Rattle.recording.proofs.all.Statement.{statement}
 use Rattle.recording.proofs.all.Tie as tie
 
 abbrev Inv-loop : tie.InvT-loop
-Inv-loop text₀ tally₀ turns₀ have₀ text tally turns have = length text ≡ length text₀
+Inv-loop file text₀ turns₀ state₀ text turns state = length text ≡ length text₀
 
 abbrev μ-loop : tie.MeasureT-loop
-μ-loop text₀ tally₀ turns₀ have₀ text tally turns have = turns
+μ-loop file text₀ turns₀ state₀ text turns state = turns
 
 pub all-spec : {M : Type 1} → statement M
 all-spec =
@@ -18,9 +18,11 @@ all-spec =
     (tie.spec
     Inv-loop
     μ-loop
-    (λ c. search needs)
+    (λ c κs. search needs)
     (λ c. search needs)
     (λ c κs. search needs)
+    (λ c. search needs)
+    (λ c. search needs)
     (λ c. search needs)
     (λ c. search needs)
     (λ c. search needs)

@@ -7,10 +7,10 @@ use Rattle.recording.proofs.lines.Statement.{statement}
 use Rattle.recording.proofs.lines.Tie as tie
 
 abbrev Inv-loop : tie.InvT-loop
-Inv-loop text tally₀ at₀ end₀ tally at end = Unit {0}
+Inv-loop text all next₀ at₀ end₀ next at end = Unit {0}
 
 abbrev μ-loop : tie.MeasureT-loop
-μ-loop text tally₀ at₀ end₀ tally at end = length text - end
+μ-loop text all next₀ at₀ end₀ next at end = all - end
 
 pub lines-spec : {M : Type 1} → statement M
 lines-spec =
@@ -25,5 +25,7 @@ lines-spec =
     (λ c. search needs)
     (λ c κs. search needs)
     (λ c. search needs)
+    (λ c. search needs)
+    (λ c κs. search needs)
     (λ c. search needs)
     (λ c. search needs))

@@ -1,5 +1,5 @@
 -- `bytes` is safe and ends.
-use Prim.Native.Nat.{_-_}
+use Prim.Native.Nat.{ℕ, _-_, _≤_, _<_}
 use mathlib.Core.Path.{_≡_}
 use borrow.Author.Needs.{needs}
 use lib.ListN.{length}
@@ -7,10 +7,10 @@ use Rattle.spell.proofs.bytes.Statement.{statement}
 use Rattle.spell.proofs.bytes.Tie as tie
 
 abbrev Inv-loop : tie.InvT-loop
-Inv-loop out₀ at before bytes end₀ i₀ out end i = length out ≡ length out₀
+Inv-loop good before bytes fine₀ digits₀ i₀ fine digits i = length digits ≡ 4096
 
 abbrev μ-loop : tie.MeasureT-loop
-μ-loop out₀ at before bytes end₀ i₀ out end i = length bytes - i
+μ-loop good before bytes fine₀ digits₀ i₀ fine digits i = length bytes - i
 
 pub bytes-spec : {M : Type 1} → statement M
 bytes-spec =
@@ -22,6 +22,10 @@ bytes-spec =
     (λ c. search needs)
     (λ c κs. search needs)
     (λ c. search needs)
+    (λ c κs. search needs)
+    (λ c. search needs)
+    (λ c. search needs)
+    (λ c κs. search needs)
     (λ c. search needs)
     (λ c. search needs)
     (λ c. search needs)
@@ -30,4 +34,12 @@ bytes-spec =
     (λ c. search needs)
     (λ c. search needs)
     (λ c. search needs)
+    (λ c κs. search needs)
+    (λ c. search needs)
+    (λ c. search needs)
+    (λ c. search needs)
+    (λ c. search needs)
+    (λ c. search needs)
+    (λ c κs. search needs)
+    (λ c κs. search needs)
     (λ c. search needs))
