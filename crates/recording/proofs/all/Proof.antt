@@ -1,5 +1,4 @@
 -- `all` is safe and ends: the turns are the measure.
-use Prim.Native.Nat.{ℕ, _-_, _≤_, _<_}
 use mathlib.Core.Path.{_≡_}
 use borrow.Author.Needs.{needs}
 use lib.ListN.{length}

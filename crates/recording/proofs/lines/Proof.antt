@@ -1,8 +1,6 @@
 -- `lines` is safe and ends.
-use Prim.Native.Nat.{ℕ, _-_, _≤_, _<_}
-use mathlib.Core.Path.{_≡_}
+use Prim.Native.Nat.{_-_}
 use borrow.Author.Needs.{needs}
-use lib.ListN.{length}
 use Rattle.recording.proofs.lines.Statement.{statement}
 use Rattle.recording.proofs.lines.Tie as tie
 

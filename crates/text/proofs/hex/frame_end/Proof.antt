@@ -1,8 +1,5 @@
 -- `frame_end` is safe and ends.
-use Prim.Native.Nat.{ℕ, _-_, _≤_, _<_}
-use mathlib.Core.Path.{_≡_}
 use borrow.Author.Needs.{needs}
-use lib.ListN.{length}
 use Rattle.text.proofs.hex.frame_end.Statement.{statement}
 use Rattle.text.proofs.hex.frame_end.Tie as tie
 
