@@ -333,16 +333,16 @@ static void watched_session(struct brinecandle_decision said, const uint8_t *fra
     static const struct brinecandle_remainder nothing;
     struct brinecandle_frame read = brinecandle_read(frame, frame_length);
     bool is_read = read.answer == BRINECANDLE_OK;
-    bool asks_on = is_read && read.ins == BRINECANDLE_GET_RESPONSE;
+    bool is_get_response = is_read && read.ins == BRINECANDLE_GET_RESPONSE;
     uint32_t limit = !is_read || 4 < read.shape ? BRINECANDLE_NO_LIMIT : read.le ? read.le : 256;
     held(said.limit == limit, "decide: the limit");
     if (said.answer == BRINECANDLE_PART) {
-        held(asks_on && before.count, "decide: a part that was not asked for");
+        held(is_get_response && before.count, "decide: a part that was not asked for");
         watched_response(reply, before, said.remainder, limit, part, said.length, room);
         return;
     }
     held(same_from(0, part, watched_part, room), "decide: the buffer for a part");
-    held(same_remainder(said.remainder, asks_on || is_refused(said.answer) ? before : nothing), "decide: what remains");
+    held(same_remainder(said.remainder, is_get_response || is_refused(said.answer) ? before : nothing), "decide: what remains");
 }
 
 /* Of the decision, what has to do with the record. An order of a Register, or of a login with P1 03, has spent a touch of its side's. A

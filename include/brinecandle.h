@@ -156,7 +156,7 @@ struct brinecandle_frame brinecandle_read_strict(const uint8_t *frame, size_t fr
 
 /* The second reader: the rows of a table, as data, are tried in turn, and the one that fits answers; its number is `shape`. On every frame it
  * answers as brinecandle_read, every field of it; it takes several times as long, and is there to be read beside its table
- * (crates/table/src/rows.rt). */
+ * (crates/apdu_table/src/rows.rt). */
 BRINECANDLE_TAKE_IT
 struct brinecandle_frame brinecandle_read_by_table(const uint8_t *frame, size_t frame_length);
 

@@ -10,6 +10,7 @@ ghost use Rattle.outcome.specs.Outcome.{wrongLength, faultKind};
 ghost use Rattle.apdu_stated.specs.Answers.{readingOf};
 ghost use Rattle.apdu_stated.specs.Reading.{readBy};
 ghost use Rattle.apdu_stated.specs.Contracts.{ShapeNumber, Read, ReadStrict, DataPlace, Data};
+pub use apdu_shapes::strict_has;
 pub use apdu_stated::Apdu;
 pub use apdu_stated::ApduHeader;
 pub use apdu_stated::Case;
@@ -22,7 +23,6 @@ pub use apdu_write::write;
 pub use apdu_write::write_strict;
 use outcome::ApduStatusCode;
 use outcome::LengthFault;
-pub use shapes::strict_has;
 
 const APDU_HEADER_LEN: usize = 4;
 
@@ -56,7 +56,7 @@ fn read_by(frame: &[u8], entry: Entry) -> Reading
     if frame.len() < APDU_HEADER_LEN {
         return Reading::Status(ApduStatusCode::WrongData);
     }
-    let found = shapes::payload(&frame[APDU_HEADER_LEN..], entry);
+    let found = apdu_shapes::payload(&frame[APDU_HEADER_LEN..], entry);
     let header = ApduHeader {
         cla: frame[0],
         ins: frame[1],
@@ -94,7 +94,7 @@ pub fn data_place(says: Apdu) -> Place
     ensures { λ r. ⌜ DataPlace says r ⌝ }
 {
     let shape = says.shape;
-    let row = shapes::row(shape);
+    let row = apdu_shapes::row(shape);
     let start = APDU_HEADER_LEN + row.lc_field;
     Place {
         start,

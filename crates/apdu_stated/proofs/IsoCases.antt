@@ -24,7 +24,7 @@ and-1 a b e = and-eq-true-iff a b .0 e .0
 and-2 : (a b : Bool) → a && b ≡ true → b ≡ true
 and-2 a b e = and-eq-true-iff a b .0 e .1
 
-record Short (p : List ℕ) (k : ℕ) : Type 0 where
+record ShortForm (p : List ℕ) (k : ℕ) : Type 0 where
   some : 1 ≤ length p
   not-zero : byte p 0 ≡ 0 → ⊥
   long : length p ≡ k + byte p 0
@@ -36,7 +36,7 @@ record Extended (p : List ℕ) (k : ℕ) : Type 0 where
   long : length p ≡ k + pairAt p 1
 
 module _ (p : List ℕ) (k : ℕ) where
-  short-test : leb 1 (length p) && not (eqb (byte p 0) 0) && eqb (length p) (k + byte p 0) ≡ true → Short p k
+  short-test : leb 1 (length p) && not (eqb (byte p 0) 0) && eqb (length p) (k + byte p 0) ≡ true → ShortForm p k
   short-test e =
       let ab = and-1 (leb 1 (length p) && not (eqb (byte p 0) 0)) (eqb (length p) (k + byte p 0)) e in
       record {
@@ -45,7 +45,7 @@ module _ (p : List ℕ) (k : ℕ) where
         long = eqb-true (length p) (k + byte p 0) (and-2 (leb 1 (length p) && not (eqb (byte p 0) 0)) (eqb (length p) (k + byte p 0)) e);
       }
 
-  short-holds : Short p k → leb 1 (length p) && not (eqb (byte p 0) 0) && eqb (length p) (k + byte p 0) ≡ true
+  short-holds : ShortForm p k → leb 1 (length p) && not (eqb (byte p 0) 0) && eqb (length p) (k + byte p 0) ≡ true
   short-holds s = rw (le-leb 1 (length p) (s .some), ne-eqb (byte p 0) 0 (s .not-zero), eq-eqb (length p) (k + byte p 0) (s .long))
 
   extended-test : leb 3 (length p) && eqb (byte p 0) 0 && not (eqb (pairAt p 1) 0) && eqb (length p) (k + pairAt p 1) ≡ true → Extended p k
@@ -84,7 +84,7 @@ module _ (p : List ℕ) where
         iso = refl;
       }
 
-  three-s : Short p 1 → ReadIn p Case3S
+  three-s : ShortForm p 1 → ReadIn p Case3S
   three-s s =
       record {
         lc = byte p 0;
@@ -93,7 +93,7 @@ module _ (p : List ℕ) where
         iso = refl;
       }
 
-  four-s : Short p 2 → ReadIn p Case4S
+  four-s : ShortForm p 2 → ReadIn p Case4S
   four-s s =
       record {
         lc = byte p 0;

@@ -11,5 +11,5 @@ pub use Rattle.apdu_stated.proofs.Fields.{frame-long, strict-out, stric
 pub use Rattle.apdu_stated.proofs.Ways.{Way, way, none, le1, short, short-le, le3, wide, wide-le2, missing, short-surplus, le1-surplus, wide-surplus, zero-surplus}
 pub use Rattle.apdu_stated.proofs.Cases.{read-under, read-by, say-found, say-missing, say-surplus, lengths-none, lengths-le1, lengths-short, lengths-extended, extended-le3, extended-after, after-plain, after-one, after-le2, has-data, ordinary-has, not-under, from-least}
 pub use Rattle.apdu_stated.proofs.Rows.{least-one}
-pub use Rattle.apdu_stated.proofs.Beside.{old-at, strict-zero-at, otherwise-alike}
+pub use Rattle.apdu_stated.proofs.StrictAndOrdinary.{old-at, strict-zero-at, otherwise-alike}
 pub use Rattle.apdu_stated.proofs.Cases.{short-data as payload-short, short-le as payload-short-le}

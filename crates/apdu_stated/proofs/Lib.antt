@@ -11,7 +11,7 @@ pub mod Entries
 pub mod IsoCases
 pub mod Numbers
 pub mod Readings
-pub mod Beside
+pub mod StrictAndOrdinary
 pub mod Writings
 pub mod Theorems
 pub mod Agree

@@ -22,7 +22,7 @@ use Rattle.apdu_stated.specs.Terms.{InTable, LcZero, apduOf, Carries}
 use Rattle.apdu_stated.specs.Claims
 use Rattle.apdu_stated.proofs.Ways.{TableOf}
 use Rattle.apdu_stated.proofs.Readings.{payload-exactly}
-use Rattle.apdu_stated.proofs.Beside.{lc-zero-known}
+use Rattle.apdu_stated.proofs.StrictAndOrdinary.{lc-zero-known}
 use Rattle.apdu_stated.proofs.Agree.{same-reading, same-writing}
 
 -- ---- reading, by either table

@@ -29,7 +29,7 @@ use Rattle.apdu_stated.proofs.Entries.{can, carried-carries}
 use Rattle.apdu_stated.proofs.Numbers.{shape-same, says-same, reading-same, written-same, row-same}
 use Rattle.apdu_stated.proofs.Rows.{in-row, row-in, iso-row, row-iso}
 use Rattle.apdu_stated.proofs.Readings.{place-is, reads-entry, read-exactly, short-exactly, no-shape-exactly, pairs-exactly, missing-exactly, given-long, surplus-exactly, payload-exactly, of-table, iso-exactly, of-case, reading-exactly}
-use Rattle.apdu_stated.proofs.Beside.{short-at, wide-at, strict-zero-at, old-at, read-nine-at, otherwise-alike, eight-old, alike, strict-row}
+use Rattle.apdu_stated.proofs.StrictAndOrdinary.{short-at, wide-at, strict-zero-at, old-at, read-nine-at, otherwise-alike, eight-old, alike, strict-row}
 use Rattle.apdu_stated.proofs.Writings.{fits-exactly, write-r5, write-refused, write-exactly, same-carried, read-then-written, written-then-read, accepts-what-is-read}
 
 -- ---- reading

@@ -1,4 +1,4 @@
--- What each public function of `shapes`, `apdu_write` and `apdu` promises of its result, and of what is lent to it for writing, on every input.
+-- What each public function of `apdu_shapes`, `apdu_write` and `apdu` promises of its result, and of what is lent to it for writing, on every input.
 use Rattle.outcome.specs.Outcome.{Outcome}
 use Rattle.apdu_stated.specs.Words.{ℕ, _≤_, _≡_, Bool, List, length, Case, shapeNo}
 use Rattle.apdu_stated.specs.Table.{TableRow, lcField, lcLeast, leField, canCarry, inRow}

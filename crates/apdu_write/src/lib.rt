@@ -26,7 +26,7 @@ fn put_content(out: &mut [u8], content: &[u8], long: usize, le: u32)
 {
     octets::put(out, content);
     let n = content.len();
-    le::put(&mut out[n..], long, le);
+    apdu_le::put(&mut out[n..], long, le);
 }
 
 fn put_lc(out: &mut [u8], long: usize, count: usize)
@@ -47,7 +47,7 @@ fn put_payload(out: &mut [u8], shape: Case, content: &[u8], le: u32)
     requires { ⌜ (lcField shape + length (now content) ≤ length (now out)) × (length (now content) ≤ lcMost (lcField shape)) ⌝ }
     ensures { λ _. ⌜ now (out .exit) ≡ laid (payloadOf shape (now (content .entry)) le) (now (out .entry)) ⌝ }
 {
-    let row = shapes::row(shape);
+    let row = apdu_shapes::row(shape);
     let long = row.lc_field;
     put_lc(out, long, content.len());
     put_content(&mut out[long..], content, row.le_field, le);
@@ -66,10 +66,10 @@ fn put_frame(out: &mut [u8], header: ApduHeader, shape: Case, content: &[u8], le
 pub fn write(header: ApduHeader, shape: Case, content: &[u8], le: u32, out: &mut [u8]) -> Written
     ensures { λ r. ⌜ Write (partsOf header shape (now (content .entry)) le) (now (out .entry)) r (now (out .exit)) ⌝ }
 {
-    if !shapes::fits(shape, content.len(), le) {
+    if !apdu_shapes::fits(shape, content.len(), le) {
         return Written::Refused(Refusal::R5);
     }
-    let row = shapes::row(shape);
+    let row = apdu_shapes::row(shape);
     let n = APDU_HEADER_LEN + row.lc_field + content.len() + row.le_field;
     if out.len() < n {
         return Written::Refused(Refusal::R2);
@@ -88,7 +88,7 @@ pub fn write_strict(
 ) -> Written
     ensures { λ r. ⌜ WriteStrict (partsOf header shape (now (content .entry)) le) (now (out .entry)) r (now (out .exit)) ⌝ }
 {
-    if !shapes::strict_has(shape, content.len()) {
+    if !apdu_shapes::strict_has(shape, content.len()) {
         return Written::Refused(Refusal::R5);
     }
     write(header, shape, content, le, out)

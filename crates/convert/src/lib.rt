@@ -5,19 +5,19 @@ ghost use mathlib.Core.Path.{_≡_};
 ghost use mathlib.Core.List.{[], _∷_};
 ghost use Rattle.apdu_stated.specs.Reading.{readOf};
 ghost use Rattle.apdu_stated.specs.Writing.{writingOf};
-ghost use Rattle.table_stated.specs.Rows.{columnsOf};
-ghost use Rattle.table_stated.specs.Answers.{tableReadingOf, rowSaysOf};
+ghost use Rattle.apdu_table_stated.specs.Rows.{columnsOf};
+ghost use Rattle.apdu_table_stated.specs.Answers.{tableReadingOf, rowSaysOf};
 ghost use Rattle.convert_stated.specs.Converting.{oldRow, oldOf, newShape, newParts, copied, keptBy};
 ghost use Rattle.convert_stated.specs.Contracts.{OldFormTold, Leaves, Convert};
 use apdu::Case;
 use apdu::Reading;
 use apdu::Written;
+use apdu_table::RowSays;
+use apdu_table::TableReading;
 pub use convert_stated::Converted;
 use outcome::Refusal;
-use table::RowSays;
-use table::TableReading;
 
-// A row of a table, as table::read_rows takes it.
+// A row of a table, as apdu_table::read_rows takes it.
 const OLD: [[u8; 4]; 1] = [
     [6, 3, 0, 1], // 6 | Lc3DataLe1 | 00, Lc (2), data, Le (1) | Lc 0..65535
 ];
@@ -33,7 +33,7 @@ fn old(frame: &[u8]) -> TableReading
     ensures { λ r. ⌜ tableReadingOf r ≡ oldOf (now (frame .entry)) ⌝ }
 {
     let table = old_row();
-    table::read_rows(&table, frame)
+    apdu_table::read_rows(&table, frame)
 }
 
 // Whether a frame is of the old form.

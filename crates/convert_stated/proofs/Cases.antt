@@ -20,11 +20,11 @@ use Rattle.apdu_stated.specs.Answers.{Says, readingOf, writtenOf}
 use Rattle.apdu_stated.specs.Reading.{readOf, dataOf}
 use Rattle.apdu_stated.specs.Writing.{Parts, partsOf, writeBy, bufferBy, writingOf}
 use Rattle.apdu_stated.specs.declared.Entry.the-variants.{Ordinary}
-use Rattle.table_stated.specs.declared.RowSays.{RowSays}
-use Rattle.table_stated.specs.declared.TableReading.{TableReading}
-use Rattle.table_stated.specs.declared.TableReading.the-variants as TableReading′
-use Rattle.table_stated.specs.Rows.{columnsOf, rowsOf}
-use Rattle.table_stated.specs.Answers.{tableReadingOf, rowSaysOf, readByRows}
+use Rattle.apdu_table_stated.specs.declared.RowSays.{RowSays}
+use Rattle.apdu_table_stated.specs.declared.TableReading.{TableReading}
+use Rattle.apdu_table_stated.specs.declared.TableReading.the-variants as TableReading′
+use Rattle.apdu_table_stated.specs.Rows.{columnsOf, rowsOf}
+use Rattle.apdu_table_stated.specs.Answers.{tableReadingOf, rowSaysOf, readByRows}
 use Rattle.convert_stated.specs.Converting.{oldRow, oldOf, isGiven, isOld, newShape, newParts, copied, keptBy, convertBy, convertOf}
 
 pub shape-8 : (lc : ℕ) → lc ≡ 0 → Le3 ≡ newShape lc

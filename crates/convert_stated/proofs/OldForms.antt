@@ -17,11 +17,11 @@ use Rattle.apdu_stated.specs.Table.{leRead}
 use Rattle.apdu_stated.specs.Reading.{readOf, headerOf, dataOf}
 use Rattle.apdu_stated.specs.Terms.{IsPair, OneByteLe, frameWith, saying, InTable, OldForm}
 use Rattle.apdu_stated.proofs.Laws.{old-at, reads-entry}
-use Rattle.table_stated.specs.declared.Row.{Row}
-use Rattle.table_stated.specs.Trying.{lcIn, fits}
-use Rattle.table_stated.specs.Answers.{saysBy, readByRows}
-use Rattle.table_stated.specs.Terms.{OfRow, LcField, three-lc, LeField, one-le, IsOf, First, this, later}
-use Rattle.table_stated.proofs.Laws.{answers-exactly, one-fits, one-reads, begins-other, begins-zero, begins-known, lc-three, Stands, fits-of, of-fits}
+use Rattle.apdu_table_stated.specs.declared.Row.{Row}
+use Rattle.apdu_table_stated.specs.Trying.{lcIn, fits}
+use Rattle.apdu_table_stated.specs.Answers.{saysBy, readByRows}
+use Rattle.apdu_table_stated.specs.Terms.{OfRow, LcField, three-lc, LeField, one-le, IsOf, First, this, later}
+use Rattle.apdu_table_stated.proofs.Laws.{answers-exactly, one-fits, one-reads, begins-other, begins-zero, begins-known, lc-three, Stands, fits-of, of-fits}
 use Rattle.convert_stated.specs.Converting.{oldRow, oldOf, isGiven, isOld}
 use Rattle.convert_stated.specs.Terms.{Old, row6}
 

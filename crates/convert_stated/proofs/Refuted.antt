@@ -20,8 +20,8 @@ use Rattle.apdu_stated.specs.Writing.{partsOf, payloadOf, frameOf, writeBy, buf
 use Rattle.apdu_stated.specs.Terms.{full, plain, pair, frameWith, saying, InTable, row1, row7, row8, IsFrameOf, OldForm}
 use Rattle.apdu_stated.specs.declared.Entry.the-variants.{Ordinary}
 use Rattle.apdu_stated.proofs.Laws.{reads-entry}
-use Rattle.table_stated.specs.Trying.{begins, lcIn, leIn, opens, stands, triedOf}
-use Rattle.table_stated.specs.Answers.{readByRows}
+use Rattle.apdu_table_stated.specs.Trying.{begins, lcIn, leIn, opens, stands, triedOf}
+use Rattle.apdu_table_stated.specs.Answers.{readByRows}
 use Rattle.convert_stated.specs.Converting.{convertOf}
 use Rattle.convert_stated.specs.Terms.{Old, row6, Holds, by-table, by-old, Becomes, as-shape-7, as-shape-8, unchanged, EmptySeven}
 use Rattle.convert_stated.specs.declared.Converted.{Converted}

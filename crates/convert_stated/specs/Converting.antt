@@ -7,7 +7,7 @@ use Rattle.convert_stated.specs.Words.{ℕ, Bool, true, false, List, [],
 abbrev pub oldRow : Row
 oldRow = numbered 6 3 0 1
 
--- what a frame says by that row alone: table_stated's reader, over a table of one row
+-- what a frame says by that row alone: apdu_table_stated's reader, over a table of one row
 abbrev pub oldOf : List ℕ → Outcome Says
 oldOf frame = readByRows (oldRow ∷ []) frame
 

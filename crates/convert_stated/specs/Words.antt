@@ -1,4 +1,4 @@
--- The notation that the other files of specs/ are written in, and the words that they take from apdu_stated and table_stated.
+-- The notation that the other files of specs/ are written in, and the words that they take from apdu_stated and apdu_table_stated.
 pub use Prim.Native.Nat.{ℕ, _+_, _≤_, _<_}
 pub use mathlib.Core.Path.{_≡_}
 pub use mathlib.Core.Bool.{Bool, true, false, not, _&&_}
@@ -17,7 +17,7 @@ pub use Rattle.apdu_stated.specs.Answers.{Says}
 pub use Rattle.apdu_stated.specs.Reading.{readOf, strictOf, dataOf}
 pub use Rattle.apdu_stated.specs.Writing.{Parts, partsOf, frameOf, writingOf}
 pub use Rattle.apdu_stated.specs.Terms.{IsPair, OneByteLe, frameWith, InTable, IsFrameOf, OldForm}
-pub use Rattle.table_stated.specs.declared.Row.{Row}
-pub use Rattle.table_stated.specs.Rows.{numbered}
-pub use Rattle.table_stated.specs.Answers.{readByRows}
+pub use Rattle.apdu_table_stated.specs.declared.Row.{Row}
+pub use Rattle.apdu_table_stated.specs.Rows.{numbered}
+pub use Rattle.apdu_table_stated.specs.Answers.{readByRows}
 pub use Rattle.convert_stated.specs.declared.Converted.{Converted}

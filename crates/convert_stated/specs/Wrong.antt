@@ -92,13 +92,13 @@ abbrev pub pairDropped : List ℕ → List ℕ → Outcome ℕ × List ℕ
 pairDropped frame before = withoutPair (convertOf frame before)
 
 -- 02, E13: "the reader's status for a frame in no shape, R2 when the buffer is shorter than the result". Here R2 where the buffer is shorter than a frame in no shape
-abbrev roomAsked : Outcome ℕ × List ℕ → List ℕ → Outcome ℕ × List ℕ
-roomAsked (R n, after) frame = (R n, after)
-roomAsked (Word w, after) frame = if ltb (length after) (length frame) then (R 2, after) else (Word w, after)
-roomAsked (Gives n, after) frame = (Gives n, after)
+abbrev roomNeeded : Outcome ℕ × List ℕ → List ℕ → Outcome ℕ × List ℕ
+roomNeeded (R n, after) frame = (R n, after)
+roomNeeded (Word w, after) frame = if ltb (length after) (length frame) then (R 2, after) else (Word w, after)
+roomNeeded (Gives n, after) frame = (Gives n, after)
 
 abbrev pub roomFirst : List ℕ → List ℕ → Outcome ℕ × List ℕ
-roomFirst frame before = roomAsked (convertOf frame before) frame
+roomFirst frame before = roomNeeded (convertOf frame before) frame
 
 -- "R2 when the buffer is shorter than the result": here also where it is shorter than the frame, which without data is longer than its result
 abbrev pub roomOfTheFrame : List ℕ → List ℕ → Outcome ℕ × List ℕ

@@ -4,10 +4,10 @@ use apdu::Apdu;
 use apdu::Reading;
 use command::Ctap1Flags;
 use command::U2fCommand;
-pub use ctap1_stated::Decided;
 pub use ctap1_stated::Decision;
+pub use ctap1_stated::DecisionAndLimit;
+pub use ctap1_stated::DecisionAnswer;
 pub use ctap1_stated::HardwareSaid;
-pub use ctap1_stated::Ruling;
 use outcome::ApduStatusCode;
 use outcome::Refusal;
 use signing::Head;
@@ -21,11 +21,11 @@ ghost use Rattle.apdu_stated.specs.Answers.{saysOf, readingOf};
 ghost use Rattle.apdu_stated.specs.Reading.{readOf};
 ghost use Rattle.command_stated.specs.Command.{flagsNo, commandOf};
 ghost use Rattle.u2f_up_stated.specs.Moments.{checkedOf};
-ghost use Rattle.ctap1_stated.specs.Words.{Ordered, enrolmentOf, unfetched, handedOf, decisionSaid, decisionWith};
+ghost use Rattle.ctap1_stated.specs.Words.{Ordered, enrolmentOf, unfetched, handedOf, handedFrom, leftFrom};
 ghost use Rattle.ctap1_stated.specs.Numbers.{hardwareOf};
 ghost use Rattle.ctap1_stated.specs.Path.{versionPath, enrolmentOrder, registerPath, countedEnding, loginPath, limitOn, commandPath};
 ghost use Rattle.ctap1_stated.specs.Decision.{refusalResult, wordResult, orderResult, ended, touchChecked, along, decisionOf, replyLeft, leftOf};
-ghost use Rattle.ctap1_stated.specs.Session.{asksOn};
+ghost use Rattle.ctap1_stated.specs.Session.{isGetResponse};
 ghost use Rattle.ctap1_stated.specs.Contracts.{Decide};
 
 // The hardware's answers by their numbers: no and yes, and the attestation that is there. Every other number is a failure, or no.
@@ -38,10 +38,10 @@ const PRESENT: u32 = 1;
 const GET_RESPONSE: u8 = 0xc0;
 
 fn refused(why: Refusal, kept: Presence) -> Decision
-    ensures { λ r. ⌜ decisionSaid r ≡ handedOf (refusalResult (refusalNo why) kept) ⌝ }
+    ensures { λ r. ⌜ handedFrom r ≡ handedOf (refusalResult (refusalNo why) kept) ⌝ }
 {
     Decision {
-        answer: Decided::Refused(why),
+        answer: DecisionAnswer::Refused(why),
         presence: kept,
         order: signing::blank(),
         taken: false,
@@ -49,10 +49,10 @@ fn refused(why: Refusal, kept: Presence) -> Decision
 }
 
 fn answered(status: ApduStatusCode, settled: Presence) -> Decision
-    ensures { λ r. ⌜ decisionSaid r ≡ handedOf (wordResult (wordOf status) settled) ⌝ }
+    ensures { λ r. ⌜ handedFrom r ≡ handedOf (wordResult (wordOf status) settled) ⌝ }
 {
     Decision {
-        answer: Decided::Status(status),
+        answer: DecisionAnswer::Status(status),
         presence: settled,
         order: signing::blank(),
         taken: false,
@@ -60,10 +60,10 @@ fn answered(status: ApduStatusCode, settled: Presence) -> Decision
 }
 
 fn ordered(order: Head, settled: Presence, taken: bool) -> Decision
-    ensures { λ r. ⌜ decisionSaid r ≡ record { answer = Gives Ordered; presence = settled; head = order; taken = taken } ⌝ }
+    ensures { λ r. ⌜ handedFrom r ≡ record { answer = Gives Ordered; presence = settled; head = order; taken = taken } ⌝ }
 {
     Decision {
-        answer: Decided::Order,
+        answer: DecisionAnswer::Order,
         presence: settled,
         order,
         taken,
@@ -71,7 +71,7 @@ fn ordered(order: Head, settled: Presence, taken: bool) -> Decision
 }
 
 fn version(kept: Presence, settled: Presence, reply: &mut [u8]) -> Decision
-    ensures { λ r. ⌜ decisionSaid r ≡ handedOf (along (versionPath (length (now (reply .entry)))) kept settled 0 0) ⌝ }
+    ensures { λ r. ⌜ handedFrom r ≡ handedOf (along (versionPath (length (now (reply .entry)))) kept settled 0 0) ⌝ }
     ensures { λ _. ⌜ now (reply .exit) ≡ replyLeft (along (versionPath (length (now (reply .entry)))) kept settled 0 0) (now (reply .entry)) ⌝ }
 {
     if reply.len() < 6 {
@@ -79,7 +79,7 @@ fn version(kept: Presence, settled: Presence, reply: &mut [u8]) -> Decision
     }
     octets::put(reply, b"U2F_V2");
     Decision {
-        answer: Decided::Body(6),
+        answer: DecisionAnswer::Body(6),
         presence: settled,
         order: signing::blank(),
         taken: false,
@@ -96,7 +96,7 @@ fn enrol(
     after: Presence,
     block: &mut [u8; 385],
 ) -> Decision
-    ensures { λ r. ⌜ decisionWith r (now (block .exit)) ≡ leftOf (orderResult (enrolmentOrder (now (frame .entry)) (saysOf says)
+    ensures { λ r. ⌜ leftFrom r (now (block .exit)) ≡ leftOf (orderResult (enrolmentOrder (now (frame .entry)) (saysOf says)
         (enrolmentOf (now (handle .entry)) (now (certificate .entry)) (now (x .entry)) (now (y .entry)))) after false) (now (block .entry)) ⌝ }
 {
     let application = command::application(frame, says);
@@ -129,7 +129,7 @@ fn register(
     settled: Presence,
     block: &mut [u8; 385],
 ) -> Decision
-    ensures { λ r. ⌜ decisionWith r (now (block .exit)) ≡ leftOf (along (registerPath (unfetched side (now (frame .entry)) (hardwareOf hardware)
+    ensures { λ r. ⌜ leftFrom r (now (block .exit)) ≡ leftOf (along (registerPath (unfetched side (now (frame .entry)) (hardwareOf hardware)
         (enrolmentOf (now (handle .entry)) (now (certificate .entry)) (now (x .entry)) (now (y .entry))) room)
         (saysOf says)) kept settled side t) (now (block .entry)) ⌝ }
 {
@@ -162,7 +162,7 @@ fn counted(
     settled: Presence,
     block: &mut [u8; 385],
 ) -> Decision
-    ensures { λ r. ⌜ decisionWith r (now (block .exit)) ≡ leftOf
+    ensures { λ r. ⌜ leftFrom r (now (block .exit)) ≡ leftOf
         (ended (countedEnding (now (frame .entry)) (saysOf says) present (hardwareOf hardware .counter)) settled) (now (block .entry)) ⌝ }
 {
     if hardware.counted != YES {
@@ -184,7 +184,7 @@ fn enforce(
     settled: Presence,
     block: &mut [u8; 385],
 ) -> Decision
-    ensures { λ r. ⌜ decisionWith r (now (block .exit)) ≡ leftOf
+    ensures { λ r. ⌜ leftFrom r (now (block .exit)) ≡ leftOf
         (touchChecked (checkedOf settled side t) (countedEnding (now (frame .entry)) (saysOf says) true (hardwareOf hardware .counter))) (now (block .entry)) ⌝ }
 {
     let found = u2f_up::touch_check(settled, side, t);
@@ -208,7 +208,7 @@ fn authenticate(
     settled: Presence,
     block: &mut [u8; 385],
 ) -> Decision
-    ensures { λ r. ⌜ decisionWith r (now (block .exit)) ≡ leftOf
+    ensures { λ r. ⌜ leftFrom r (now (block .exit)) ≡ leftOf
         (along (loginPath (now (frame .entry)) (hardwareOf hardware) room (flagsNo flags) (saysOf says)) kept settled side t) (now (block .entry)) ⌝ }
 {
     let p1 = command::flags_number(flags);
@@ -243,7 +243,7 @@ fn commanded(
     block: &mut [u8; 385],
 ) -> Decision
     requires { ⌜ readingOf reading ≡ readOf (now frame) ⌝ }
-    ensures { λ r. ⌜ decisionWith r (now (block .exit)) ≡ leftOf (along (commandPath (unfetched side (now (frame .entry)) (hardwareOf hardware)
+    ensures { λ r. ⌜ leftFrom r (now (block .exit)) ≡ leftOf (along (commandPath (unfetched side (now (frame .entry)) (hardwareOf hardware)
         (enrolmentOf (now (handle .entry)) (now (certificate .entry)) (now (x .entry)) (now (y .entry))) (length (now (reply .entry))))
         (commandOf (now (frame .entry)))) kept settled side t) (now (block .entry)) ⌝ }
     ensures { λ _. ⌜ now (reply .exit) ≡ replyLeft (along (commandPath (unfetched side (now (frame .entry)) (hardwareOf hardware)
@@ -297,8 +297,8 @@ fn limit_of(reading: Reading) -> u32
 }
 
 // Whether a frame that was read so asks for the next part, whatever it is answered.
-fn asks_on(reading: Reading) -> bool
-    ensures { λ r. ⌜ r ≡ asksOn (readingOf reading) ⌝ }
+fn is_get_response(reading: Reading) -> bool
+    ensures { λ r. ⌜ r ≡ isGetResponse (readingOf reading) ⌝ }
 {
     match reading {
         Reading::Frame(says) => {
@@ -312,25 +312,25 @@ fn asks_on(reading: Reading) -> bool
 // What a frame says to its session, whatever it is answered.
 struct Said {
     limit: u32,
-    asks_on: bool,
+    is_get_response: bool,
 }
 
 fn takes(reading: Reading) -> Said
-    ensures { λ r. ⌜ (r .limit ≡ limitOn (readingOf reading)) × (r .«asks_on» ≡ asksOn (readingOf reading)) ⌝ }
+    ensures { λ r. ⌜ (r .limit ≡ limitOn (readingOf reading)) × (r .«is_get_response» ≡ isGetResponse (readingOf reading)) ⌝ }
 {
     Said {
         limit: limit_of(reading),
-        asks_on: asks_on(reading),
+        is_get_response: is_get_response(reading),
     }
 }
 
-fn beside(found: Said, decision: Decision) -> Ruling
-    ensures { λ r. ⌜ r ≡ record { decision = decision; limit = found .limit; «asks_on» = found .«asks_on» } ⌝ }
+fn beside(found: Said, decision: Decision) -> DecisionAndLimit
+    ensures { λ r. ⌜ r ≡ record { decision = decision; limit = found .limit; «is_get_response» = found .«is_get_response» } ⌝ }
 {
-    Ruling {
+    DecisionAndLimit {
         decision,
         limit: found.limit,
-        asks_on: found.asks_on,
+        is_get_response: found.is_get_response,
     }
 }
 
@@ -350,7 +350,7 @@ pub fn decide(
     y: &[u8; 32],
     reply: &mut [u8],
     block: &mut [u8; 385],
-) -> Ruling
+) -> DecisionAndLimit
     ensures { λ r. ⌜ Decide presence t (unfetched side (now (frame .entry)) (hardwareOf hardware)
         (enrolmentOf (now (handle .entry)) (now (certificate .entry)) (now (x .entry)) (now (y .entry))) (length (now (reply .entry))))
         (record { reply = now (reply .entry); block = now (block .entry) }) r (record { reply = now (reply .exit); block = now (block .exit) }) ⌝ }
@@ -389,10 +389,10 @@ pub fn decide(
                 settled,
                 block,
             );
-            Ruling {
+            DecisionAndLimit {
                 decision,
                 limit: found.limit,
-                asks_on: found.asks_on,
+                is_get_response: found.is_get_response,
             }
         }
     }

@@ -18,7 +18,7 @@ use Rattle.command_stated.proofs.Laws as Command′
 use Rattle.command_stated.proofs.Laws.{reading}
 use Rattle.signing_stated.specs.Layouts.{RegisterFields, AuthenticateFields, presenceByte}
 use Rattle.signing_stated.specs.Orders.{kindNo, certificateLength, isOfLayout, authenticateFieldsOf}
-use Rattle.signing_stated.specs.Finishing.{registerRoom, authenticateRoom, roomAsked}
+use Rattle.signing_stated.specs.Finishing.{registerRoom, authenticateRoom, roomNeeded}
 use Rattle.signing_stated.specs.Words.{Order}
 use Rattle.signing_stated.proofs.Laws.{RegisterLengths, AuthenticateLengths, register-fit, authenticate-fit}
 use Rattle.signing_stated.proofs.Laws.{register-order-fit, authenticate-order-fit}
@@ -68,7 +68,7 @@ module _ (a : Inputs) (blocks : AreBlocks a) (said : Says) (c : commandOf (a .fr
   unfolding registers enrolmentOrder
   register-of-layout = made-of-layout .0 registers (length (a .certificate)) (register-fit registers register-lengths)
 
-  pub register-room : roomAsked (registerOrdered a said) ≡ registerRoom (length (a .newHandle)) (length (a .certificate))
+  pub register-room : roomNeeded (registerOrdered a said) ≡ registerRoom (length (a .newHandle)) (length (a .certificate))
   unfolding registers enrolmentOrder
   register-room = room-of-made .0 registers (length (a .certificate)) (register-fit registers register-lengths)
 
@@ -97,7 +97,7 @@ module _ (a : Inputs) (p1 : ℕ) (said : Says) (present : Bool) (n : ℕ) (c : c
   unfolding fields
   of-layout = made-of-layout .1 fields (authenticate-fit fields lengths)
 
-  pub room-is : roomAsked (authenticateOrdered a said present n) ≡ authenticateRoom
+  pub room-is : roomNeeded (authenticateOrdered a said present n) ≡ authenticateRoom
   unfolding fields
   room-is = room-of-made .1 fields (authenticate-fit fields lengths)
 

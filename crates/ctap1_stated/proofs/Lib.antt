@@ -1,13 +1,13 @@
 pub mod Refuted
 pub mod Cases
-pub mod Tops
+pub mod OuterChecks
 pub mod Commands
 pub mod Ways
-pub mod Kept
+pub mod RoleKept
 pub mod OneSide
 pub mod Ruled
 pub mod Numbers
 pub mod Only
 pub mod Theorems
-pub mod Asking
+pub mod GetResponse
 pub mod Laws

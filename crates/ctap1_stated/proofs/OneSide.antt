@@ -13,8 +13,8 @@ use Rattle.u2f_up_stated.specs.OneSide.{baseSettleOf, baseCheckedOf, baseBy, Ke
 use Rattle.u2f_up_stated.specs.declared.Presence.{Presence}
 use Rattle.u2f_up_stated.specs.declared.Finding.{Finding}
 use Rattle.u2f_up_stated.proofs.Laws.{Mine, base-refused, base-no-status, SettledSame, refusing, moving, settled-same, checked-same, same, run, one-side}
-use Rattle.ctap1_stated.specs.Words.{Inputs, Result, Allowed}
-use Rattle.ctap1_stated.specs.Path.{Ending, Internal, WrongData, Orders, Path, NoRoom, Ends, SixBytes, Fetches, Signs, Touch, registerEnding, registerPath, commandPath, allowedPath, pathOf, roleOfPath, roleOf}
+use Rattle.ctap1_stated.specs.Words.{Inputs, DecisionResult, Allowed}
+use Rattle.ctap1_stated.specs.Path.{PathEnd, Internal, WrongData, Orders, DecisionPath, NoRoom, Ends, SixBytes, Fetches, Signs, Touch, registerEnding, registerPath, commandPath, allowedPath, pathOf, roleOfPath, roleOf}
 use Rattle.ctap1_stated.specs.Decision.{touchChecked, alongBy, onSettledBy, decisionOf}
 use Rattle.ctap1_stated.specs.Calls.{PanelCall, TouchAt, CheckAt, AskAt, DecideAt, toldBy, panelCalls}
 use Rattle.ctap1_stated.specs.OneSide.{baseDecisionOf, baseWith, sidelessResult}
@@ -22,14 +22,14 @@ use Rattle.ctap1_stated.specs.Terms.{onSide}
 use Rattle.ctap1_stated.specs.Claims
 use Rattle.ctap1_stated.specs.declared.Allowed.the-variants as Allowed′
 use Rattle.ctap1_stated.proofs.Ways.{row}
-use Rattle.ctap1_stated.proofs.Kept.{seen-refused, told-check, panel-keeps}
+use Rattle.ctap1_stated.proofs.RoleKept.{seen-refused, told-check, panel-keeps}
 
 -- ---- what the base's decision does to the record is what the base did for its role
-base-kept : (p : Presence) (side t : ℕ) (x : Path) → toldBy (roleOfPath side x) (onSettledBy (λ q. baseCheckedOf q t) p x (baseSettleOf p t)) ≡ baseBy (roleOfPath side x) p t
+base-kept : (p : Presence) (side t : ℕ) (x : DecisionPath) → toldBy (roleOfPath side x) (onSettledBy (λ q. baseCheckedOf q t) p x (baseSettleOf p t)) ≡ baseBy (roleOfPath side x) p t
 unfolding baseBy
 base-kept p side t x = by (baseSettleOf p t) refl x
   where
-    by : (o : Outcome Presence) → baseSettleOf p t ≡ o → (x : Path) → toldBy (roleOfPath side x) (onSettledBy (λ q. baseCheckedOf q t) p x o) ≡ baseBy (roleOfPath side x) p t
+    by : (o : Outcome Presence) → baseSettleOf p t ≡ o → (x : DecisionPath) → toldBy (roleOfPath side x) (onSettledBy (λ q. baseCheckedOf q t) p x o) ≡ baseBy (roleOfPath side x) p t
     by (R n) e x = seen-refused (roleOfPath side x) n p ∙ sym (base-refused p t n e (roleOfPath side x))
     by (Word s) e x = absurd (base-no-status p t s e)
     by (Gives q) e NoRoom = rw e
@@ -49,17 +49,17 @@ base-keeps p (AskAt t) = refl
 base-keeps p (DecideAt t a) = base-kept p (a .side) t (pathOf a)
 
 -- ---- one decision
-ended-same : (yes : Bool) (q : Presence) (e : Ending) → sidelessResult (touchChecked (record { yes = yes; presence = q }) e) ≡ touchChecked (record { yes = yes; presence = sideless q }) e
+ended-same : (yes : Bool) (q : Presence) (e : PathEnd) → sidelessResult (touchChecked (record { yes = yes; presence = q }) e) ≡ touchChecked (record { yes = yes; presence = sideless q }) e
 ended-same false q e = refl
 ended-same true q Internal = refl
 ended-same true q WrongData = refl
 ended-same true q (Orders o taken) = refl
 
-touch-same : (f g : Finding) → f .yes ≡ g .yes → sideless (f .presence) ≡ g .presence → (e : Ending) → sidelessResult (touchChecked f e) ≡ touchChecked g e
+touch-same : (f g : Finding) → f .yes ≡ g .yes → sideless (f .presence) ≡ g .presence → (e : PathEnd) → sidelessResult (touchChecked f e) ≡ touchChecked g e
 touch-same f g y q e = ended-same (f .yes) (f .presence) e ∙ ap₂ (λ (b : Bool) (r : Presence). touchChecked (record { yes = b; presence = r }) e) y q
 
 module _ (s : ℕ) (one : s ≤ 1) (p : Presence) (mine : Mine s p) (t : ℕ) where
-  along-same : (x : Path) → sidelessResult (alongBy (λ q. checkedOf q s t) x p (movedTo p t)) ≡ alongBy (λ q. baseCheckedOf q t) x (sideless p) (movedTo (sideless p) t)
+  along-same : (x : DecisionPath) → sidelessResult (alongBy (λ q. checkedOf q s t) x p (movedTo p t)) ≡ alongBy (λ q. baseCheckedOf q t) x (sideless p) (movedTo (sideless p) t)
   along-same NoRoom = refl
   along-same (Ends w) = refl
   along-same SixBytes = refl
@@ -79,7 +79,7 @@ module _ (s : ℕ) (one : s ≤ 1) (p : Presence) (mine : Mine s p) (t : ℕ) wh
       by (moving x y) = rw (x, y) (along-same (pathOf a))
 
 -- ---- the base's decision by the table: on a record of side 0, with side 0 named, it is the decision; and the side that is named is not looked at
-only-0 : (side : ℕ) (x : Path) → side ≡ 0 → NamesOnly 0 (roleOfPath side x)
+only-0 : (side : ℕ) (x : DecisionPath) → side ≡ 0 → NamesOnly 0 (roleOfPath side x)
 only-0 side NoRoom e = e
 only-0 side (Ends w) e = e
 only-0 side SixBytes e = e
@@ -123,7 +123,7 @@ pub base-decides : Claims.BaseDecidesExactly baseDecisionOf
 unfolding baseDecisionOf
 base-decides = record {
   row = λ p t a e f. rw (is-the-decision p t a e f) at (row p t a);
-  any-side = λ p t a s. ap (λ (x : Path). onSettledBy (λ q. baseCheckedOf q t) p x (baseSettleOf p t)) (path-any s a);
+  any-side = λ p t a s. ap (λ (x : DecisionPath). onSettledBy (λ q. baseCheckedOf q t) p x (baseSettleOf p t)) (path-any s a);
 }
 
 -- ---- runs

@@ -12,7 +12,7 @@ use Rattle.outcome.proofs.Laws.{r-gives, word-gives}
 use Rattle.apdu_stated.specs.Answers.{Says}
 use Rattle.apdu_stated.specs.Reading.{readOf}
 use Rattle.u2f_up_stated.specs.declared.Presence.{Presence}
-use Rattle.ctap1_stated.specs.Words.{Remainder, Inputs, Given, Body, Ordered, Part, Hardware, Result}
+use Rattle.ctap1_stated.specs.Words.{Remainder, Inputs, DecisionGives, Body, Ordered, Part, Hardware, DecisionResult}
 use Rattle.ctap1_stated.specs.Decision.{decisionOf}
 use Rattle.ctap1_stated.specs.Session.{remainderLeft}
 use Rattle.ctap1_stated.specs.Calls.{PanelCall, callsWith}
@@ -40,7 +40,7 @@ pub OneSideIsBase : (f g base : Decider) → Claims.OneSideIsBase f base → Cla
 OneSideIsBase f g base F G w least most s one earlier only also t a e = F .decisions w least most s one earlier only t a e ∙ sym (G .decisions w least most s one earlier also t a e)
 
 -- what a buffer of the decision's room holds afterwards
-pub RepliesExactly : (decide : Decider) (f g : Result → List ℕ → List ℕ) → Claims.RepliesExactly decide f → Claims.RepliesExactly decide g
+pub RepliesExactly : (decide : Decider) (f g : DecisionResult → List ℕ → List ℕ) → Claims.RepliesExactly decide f → Claims.RepliesExactly decide g
     → (p : Presence) (t : ℕ) (a : Inputs) (old : List ℕ) → length old ≡ a .room → f (decide p t a) old ≡ g (decide p t a) old
 RepliesExactly decide f g F G p t a old long =
     ⊎-elim
@@ -66,21 +66,21 @@ LimitsExactly f g p q frame = by (readOf frame) refl
     by (Gives said) r = shaped said r (decLe (said .shape) 4) (ℕ-discrete (said .le) 0)
 
 -- of every decision that the definition makes
-pub RemainderExactly : (f g : Inputs → Result → Remainder) → Claims.RemainderExactly decisionOf f → Claims.RemainderExactly decisionOf g
+pub RemainderExactly : (f g : Inputs → DecisionResult → Remainder) → Claims.RemainderExactly decisionOf f → Claims.RemainderExactly decisionOf g
     → (p : Presence) (t : ℕ) (a : Inputs) → f a (decisionOf p t a) ≡ g a (decisionOf p t a)
 RemainderExactly f g F G p t a = sym (same f F) ∙ same g G
   where
-    same : (h : Inputs → Result → Remainder) → Claims.RemainderExactly decisionOf h → remainderLeft a (decisionOf p t a) ≡ h a (decisionOf p t a)
+    same : (h : Inputs → DecisionResult → Remainder) → Claims.RemainderExactly decisionOf h → remainderLeft a (decisionOf p t a) ≡ h a (decisionOf p t a)
     same h H = only-remainder h H p t a
 
-pub PartsExactly : (limit : List ℕ → ℕ) (f g : Inputs → Result → (body old : List ℕ) → List ℕ) → Claims.PartsExactly decisionOf limit f → Claims.PartsExactly decisionOf limit g
+pub PartsExactly : (limit : List ℕ → ℕ) (f g : Inputs → DecisionResult → (body old : List ℕ) → List ℕ) → Claims.PartsExactly decisionOf limit f → Claims.PartsExactly decisionOf limit g
     → (p : Presence) (t : ℕ) (a : Inputs) (body old : List ℕ) → f a (decisionOf p t a) body old ≡ g a (decisionOf p t a) body old
 PartsExactly limit f g F G p t a body old = by (decisionOf p t a .answer) refl
   where
     other : ((n : ℕ) (after : Remainder) → decisionOf p t a .answer ≡ Gives (Part n after) → ⊥) → f a (decisionOf p t a) body old ≡ g a (decisionOf p t a) body old
     other n = F .other p t a body old n ∙ sym (G .other p t a body old n)
 
-    by : (o : Outcome Given) → decisionOf p t a .answer ≡ o → f a (decisionOf p t a) body old ≡ g a (decisionOf p t a) body old
+    by : (o : Outcome DecisionGives) → decisionOf p t a .answer ≡ o → f a (decisionOf p t a) body old ≡ g a (decisionOf p t a) body old
     by (R n) e = other (λ m after x. r-gives _ _ (sym e ∙ x))
     by (Word s) e = other (λ m after x. word-gives _ _ (sym e ∙ x))
     by (Gives (Body n)) e = other (λ m after x. part-body _ _ _ (sym x ∙ e))

@@ -17,13 +17,13 @@ use Rattle.response_stated.specs.Parts.{limitOf, partLength, leftStatus, nextPa
 use Rattle.u2f_up_stated.specs.Moments.{Told, fresh, settleOf, grantedOf, checkedOf, touchOf, checkOf}
 use Rattle.u2f_up_stated.specs.History.{TouchAccepted, TouchIgnored, TouchFound, NoTouchFound, lastMoment, latestPrompt, latestTouch, isPromptStanding, sideAsked, unspent, foretold}
 use Rattle.u2f_up_stated.specs.Runs.{after, history, doneBy}
-use Rattle.u2f_up_stated.specs.Terms.{Passes, HasTouch}
+use Rattle.u2f_up_stated.specs.Terms.{NotRefused, HasTouch}
 use Rattle.u2f_up_stated.specs.declared.Presence.{Presence}
 use Rattle.u2f_up_stated.specs.declared.Window.the-variants.{Closed, Opened}
-use Rattle.ctap1_stated.specs.Words.{Order, Inputs, Given, Ordered, Part, Result, Hardware, Remainder, rest}
+use Rattle.ctap1_stated.specs.Words.{Order, Inputs, DecisionGives, Ordered, Part, DecisionResult, Hardware, Remainder, rest}
 use Rattle.ctap1_stated.specs.Path.{registerOrdered, enrolmentOrder, authenticateOrdered, registerEnding, countedEnding, loginPath, registerPath, versionPath, frameLimit, fetchPath, commandPath, allowedPath, pathOf}
 use Rattle.signing_stated.specs.Orders.{kindNo, certificateLength, isOfLayout, blankOrder, registerOrderOf, authenticateOrderOf, block}
-use Rattle.signing_stated.specs.Finishing.{finishOf, roomAsked}
+use Rattle.signing_stated.specs.Finishing.{finishOf, roomNeeded}
 use Rattle.ctap1_stated.specs.Decision.{decisionOf, replyLeft}
 use Rattle.ctap1_stated.specs.Calls.{TouchAt, CheckAt, DecideAt}
 use Rattle.ctap1_stated.specs.Session.{remainderLeft}
@@ -89,9 +89,9 @@ none-read = refl
 
 -- ---- the table: a decision that keeps to it is the definition
 differ : (f : Decider) → Claims.DecidesExactly f → (p : Presence) (t : ℕ) (a : Inputs) → decisionOf p t a .answer ≡ f p t a .answer
-differ f F p t a = ap (λ (r : Result). r .answer) (sound p t a (f p t a) (F p t a))
+differ f F p t a = ap (λ (r : DecisionResult). r .answer) (sound p t a (f p t a) (F p t a))
 
-two : (m n : ℕ) → _≡_ {A = Outcome Given} (SW m) (SW n) → m ≡ n
+two : (m n : ℕ) → _≡_ {A = Outcome DecisionGives} (SW m) (SW n) → m ≡ n
 two = sw-same
 
 abbrev forbids : Hardware
@@ -170,7 +170,7 @@ pub challengeFirst : Claims.DecidesExactly Wrong.challengeFirst → ⊥
 unfolding decisionOf pathOf allowedPath commandPath versionPath registerPath loginPath registerEnding countedEnding settleOf checkedOf authenticateOrderOf block applicationOf challengeOf dataOf partOf
 challengeFirst d =
     let a = lent apartFrame works [] 77 in
-    let z : _≡_ {A = ℕ} 0x01 0x00 = rw apart-read at (ap (λ (r : Result). byte (r .order .bytes) 0) (sound (fresh 1000) 0 a (Wrong.challengeFirst (fresh 1000) 0 a) (d (fresh 1000) 0 a))) in
+    let z : _≡_ {A = ℕ} 0x01 0x00 = rw apart-read at (ap (λ (r : DecisionResult). byte (r .order .bytes) 0) (sound (fresh 1000) 0 a (Wrong.challengeFirst (fresh 1000) 0 a) (d (fresh 1000) 0 a))) in
     omega arith
 
 -- ---- the sentence on the box
@@ -233,7 +233,7 @@ otherSideTakesInARun d =
 
 -- the record after a decision that keeps to the table
 differ-record : (f : Decider) → Claims.DecidesExactly f → (p : Presence) (t : ℕ) (a : Inputs) → decisionOf p t a .presence ≡ f p t a .presence
-differ-record f F p t a = ap (λ (r : Result). r .presence) (sound p t a (f p t a) (F p t a))
+differ-record f F p t a = ap (λ (r : DecisionResult). r .presence) (sound p t a (f p t a) (F p t a))
 
 pub otherSidePrompts : Claims.DecidesExactly Wrong.otherSidePrompts → ⊥
 unfolding decisionOf pathOf allowedPath commandPath versionPath registerPath loginPath registerEnding countedEnding settleOf checkedOf
@@ -252,9 +252,9 @@ askerKept d = let z : _≡_ {A = ℕ} 1 0 = ap (λ (p : Presence). p .asker) (rw
 pub askerKeptThroughout : Claims.OneSideIsBase Wrong.askerKept baseDecisionOf → ⊥
 unfolding decisionOf pathOf allowedPath commandPath versionPath registerPath loginPath registerEnding countedEnding settleOf checkedOf after touchOf grantedOf baseBy baseSettleOf baseCheckedOf baseDecisionOf commandOf onReading byInstruction authenticateOf readBy sayOf lengthsOf shortOf extendedOf afterData dataOf partOf
 askerKeptThroughout d =
-    word-gives (plainWord 0x6985) Ordered (ap (λ (r : Result). r .answer) (d .decisions 1000 (omega arith) (omega arith) 1 (omega arith) (TouchAt 1 ∷ DecideAt 0 other ∷ []) (tt, (refl, tt)) 2 other refl))
+    word-gives (plainWord 0x6985) Ordered (ap (λ (r : DecisionResult). r .answer) (d .decisions 1000 (omega arith) (omega arith) 1 (omega arith) (TouchAt 1 ∷ DecideAt 0 other ∷ []) (tt, (refl, tt)) 2 other refl))
 
-r-same : (n m : ℕ) → _≡_ {A = Outcome Given} (R n) (R m) → n ≡ m
+r-same : (n m : ℕ) → _≡_ {A = Outcome DecisionGives} (R n) (R m) → n ≡ m
 r-same n m e = cc
 
 -- side 2, at a moment that is none
@@ -274,7 +274,7 @@ checkOnlyUnasked d = r-word 8 _ (sym (d (fresh 1000) 0 (onSide 2 (lent (signFram
 pub baseAsksWhose : Claims.BaseDecidesExactly Wrong.baseAsksWhose → ⊥
 unfolding pathOf allowedPath commandPath versionPath registerPath loginPath registerEnding countedEnding baseSettleOf baseCheckedOf
 baseAsksWhose d =
-    word-gives (plainWord 0x6985) Ordered (rw read-03 at (ap (λ (r : Result). r .answer) (d .any-side held 7 (lent (signFrame 0x03) works [] 77) 1)))
+    word-gives (plainWord 0x6985) Ordered (rw read-03 at (ap (λ (r : DecisionResult). r .answer) (d .any-side held 7 (lent (signFrame 0x03) works [] 77) 1)))
 
 -- ---- what each answer leaves
 pub r2Spends : Claims.RefusalChangesNothing Wrong.r2Spends replyLeft → ⊥
@@ -347,13 +347,13 @@ pub fetchPrompts : Claims.DecidesExactly Wrong.fetchPrompts → ⊥
 unfolding decisionOf pathOf allowedPath commandPath versionPath registerPath loginPath registerEnding countedEnding settleOf checkedOf fetchPath nextPartOf frameLimit limitOf partLength commandOf onReading byInstruction getResponseOf readBy sayOf lengthsOf shortOf extendedOf afterData
 fetchPrompts d =
     let a = fetching (rest 0 0) 0 in
-    closed-open 0 (ap (λ (r : Result). r .presence .prompt) (sound (fresh 1000) 0 a (Wrong.fetchPrompts (fresh 1000) 0 a) (d (fresh 1000) 0 a)))
+    closed-open 0 (ap (λ (r : DecisionResult). r .presence .prompt) (sound (fresh 1000) 0 a (Wrong.fetchPrompts (fresh 1000) 0 a) (d (fresh 1000) 0 a)))
 
 pub roomBeforeNothing : Claims.DecidesExactly Wrong.roomBeforeNothing → ⊥
 unfolding decisionOf pathOf allowedPath commandPath versionPath registerPath loginPath registerEnding countedEnding settleOf checkedOf fetchPath nextPartOf frameLimit limitOf partLength commandOf onReading byInstruction getResponseOf readBy sayOf lengthsOf shortOf extendedOf afterData
 roomBeforeNothing d = r-word 2 (plainWord 0x6985) (sym (differ Wrong.roomBeforeNothing d (fresh 1000) 0 (fetching (rest 0 0) 0)))
 
-part-rest : (m n : ℕ) (q r : Remainder) → _≡_ {A = Outcome Given} (Gives (Part m q)) (Gives (Part n r)) → q ≡ r
+part-rest : (m n : ℕ) (q r : Remainder) → _≡_ {A = Outcome DecisionGives} (Gives (Part m q)) (Gives (Part n r)) → q ≡ r
 part-rest m n q r e = cc
 
 pub fetchSkips : Claims.DecidesExactly Wrong.fetchSkips → ⊥
@@ -395,7 +395,7 @@ pub otherInsKeeps : Claims.RemainderExactly decisionOf Wrong.otherInsKeeps → �
 unfolding decisionOf pathOf allowedPath commandPath versionPath registerPath loginPath registerEnding countedEnding settleOf checkedOf fetchPath nextPartOf frameLimit limitOf partLength commandOf onReading byInstruction getResponseOf readBy sayOf lengthsOf shortOf extendedOf afterData versionOf
 otherInsKeeps exact =
     two-left (exact .dropped (fresh 1000) 0 (between versionFrame)
-    (λ asks. let z : _≡_ {A = ℕ} 0x03 0xC0 = ap (λ (s : Says). s .header .ins) (gives-same _ _ (asks .1)) ∙ asks .2 in omega arith) (λ n e. r-gives _ _ (sym e)))
+    (λ isC0. let z : _≡_ {A = ℕ} 0x03 0xC0 = ap (λ (s : Says). s .header .ins) (gives-same _ _ (isC0 .1)) ∙ isC0 .2 in omega arith) (λ n e. r-gives _ _ (sym e)))
 
 -- the same Version, where CTAP1 is not allowed: 6986
 pub otherStatusKeeps : Claims.RemainderExactly decisionOf Wrong.otherStatusKeeps → ⊥
@@ -403,15 +403,15 @@ unfolding decisionOf pathOf allowedPath commandPath versionPath registerPath log
 otherStatusKeeps exact =
     let a : Inputs = record { side = 0; frame = versionFrame; hardware = forbids; newHandle = []; certificate = []; x = replicate 32 0; y = replicate 32 0; room = 6; remainder = rest 1 2; partRoom = 4 } in
     two-left (exact .dropped (fresh 1000) 0 a
-    (λ asks. let z : _≡_ {A = ℕ} 0x03 0xC0 = ap (λ (s : Says). s .header .ins) (gives-same _ _ (asks .1)) ∙ asks .2 in omega arith) (λ n e. r-word _ _ (sym e)))
+    (λ isC0. let z : _≡_ {A = ℕ} 0x03 0xC0 = ap (λ (s : Says). s .header .ins) (gives-same _ _ (isC0 .1)) ∙ isC0 .2 in omega arith) (λ n e. r-word _ _ (sym e)))
 
 pub damagedKeeps : Claims.RemainderExactly decisionOf Wrong.damagedKeeps → ⊥
 unfolding decisionOf pathOf allowedPath commandPath versionPath registerPath loginPath registerEnding countedEnding settleOf checkedOf fetchPath nextPartOf frameLimit limitOf partLength commandOf onReading byInstruction getResponseOf readBy sayOf lengthsOf shortOf extendedOf afterData
 damagedKeeps exact =
     two-left (exact .dropped (fresh 1000) 0 (between (0x00 ∷ 0xC0 ∷ 0x00 ∷ []))
-    (λ asks. word-gives _ _ (asks .1)) (λ n e. r-word _ _ (sym e)))
+    (λ isC0. word-gives _ _ (isC0 .1)) (λ n e. r-word _ _ (sym e)))
 
-passes : (w t : ℕ) → 0 < w → w ≤ 60000 → t < 2 ^ 48 → Passes (fresh w) 0 t
+passes : (w t : ℕ) → 0 < w → w ≤ 60000 → t < 2 ^ 48 → NotRefused (fresh w) 0 t
 passes w t a b c = (⊎-elim (λ z. omega arith) (λ z. omega arith), ⊎-elim (λ z. omega arith) (λ z. omega arith), ⊎-elim (λ z. omega arith) (λ z. omega arith))
 
 -- a C0 in the old form, its Le 1
@@ -475,11 +475,11 @@ certificateMore d =
     ⊎-elim (λ x. let z : _≡_ {A = ℕ} 1 0 = x .1 in omega arith) (λ x. let z : _≡_ {A = ℕ} 1 2 = x .0 in omega arith) (rw register-read at (d held 0 a (refl, refl) (rw register-read refl)))
 
 -- 138 bytes for h 0 and c 0: an order, and R2 when it is finished
-short-finish : (o : Order) → isOfLayout o ≡ true → certificateLength o ≡ 0 → roomAsked o ≡ 139 → finishOf (record { order = o; certificate = []; signed = true; signature = []; reply = replicate 138 0 }) ≡ R 2
+short-finish : (o : Order) → isOfLayout o ≡ true → certificateLength o ≡ 0 → roomNeeded o ≡ 139 → finishOf (record { order = o; certificate = []; signed = true; signature = []; reply = replicate 138 0 }) ≡ R 2
 unfolding finishOf
 short-finish o layout certificate room = rw (room, layout, certificate)
 
-pub room138 : Claims.RoomWasAsked Wrong.room138 → ⊥
+pub room138 : Claims.OrderHasRoom Wrong.room138 → ⊥
 unfolding decisionOf pathOf allowedPath commandPath versionPath registerPath loginPath registerEnding countedEnding settleOf checkedOf
 room138 d =
     let a = lent registerFrame works [] 138 in
@@ -488,20 +488,20 @@ room138 d =
     let is : o ≡ registerOrdered a said = rw register-read refl in
     let certificate : certificateLength o ≡ 0 = ap certificateLength is ∙ register-certificate a (refl, refl) said register-read (omega arith) in
     d held 0 a (record { order = o; certificate = []; signed = true; signature = []; reply = replicate 138 0 }) (refl, refl) (rw register-read refl) refl (sym certificate) (omega arith)
-    .2 (short-finish o (ap isOfLayout is ∙ register-of-layout a (refl, refl) said register-read (omega arith)) certificate (ap roomAsked is ∙ register-room a (refl, refl) said register-read (omega arith)))
+    .2 (short-finish o (ap isOfLayout is ∙ register-of-layout a (refl, refl) said register-read (omega arith)) certificate (ap roomNeeded is ∙ register-room a (refl, refl) said register-read (omega arith)))
 
 -- ---- check-only
 pub checkOnlyPrompts : Claims.CheckOnlyLooksAtNoTouch Wrong.checkOnlyPrompts → ⊥
 unfolding decisionOf pathOf allowedPath commandPath versionPath registerPath loginPath registerEnding countedEnding settleOf checkedOf
 checkOnlyPrompts d =
     let a = lent (signFrame 0x07) works [] 0 in
-    closed-open 0 (sym (rw read-07 at (ap (λ (r : Result). r .presence .prompt) (d (fresh 1000) 0 a (saidOf 0x02 0x07 3 65 5) (passes 1000 0 (omega arith) (omega arith) (omega arith)) read-07))))
+    closed-open 0 (sym (rw read-07 at (ap (λ (r : DecisionResult). r .presence .prompt) (d (fresh 1000) 0 a (saidOf 0x02 0x07 3 65 5) (passes 1000 0 (omega arith) (omega arith) (omega arith)) read-07))))
 
 pub checkOnlySpends : Claims.CheckOnlyLooksAtNoTouch Wrong.checkOnlySpends → ⊥
 unfolding decisionOf pathOf allowedPath commandPath versionPath registerPath loginPath registerEnding countedEnding settleOf checkedOf
 checkOnlySpends d =
     let a = lent (signFrame 0x07) works [] 0 in
-    closed-open 0 (rw read-07 at (ap (λ (r : Result). r .presence .touch) (d held 0 a (saidOf 0x02 0x07 3 65 5) (passes 1000 0 (omega arith) (omega arith) (omega arith)) read-07)))
+    closed-open 0 (rw read-07 at (ap (λ (r : DecisionResult). r .presence .touch) (d held 0 a (saidOf 0x02 0x07 3 65 5) (passes 1000 0 (omega arith) (omega arith) (omega arith)) read-07)))
 
 -- ---- where a length went wrong, at `00 01`: missing at 6
 abbrev cutFrame : List ℕ
@@ -511,7 +511,7 @@ cut-read : commandOf cutFrame ≡ wrongLength 1 6
 unfolding commandOf onReading readBy sayOf lengthsOf extendedOf
 cut-read = refl
 
-place-is : (v w : StatusWord) → _≡_ {A = Outcome Given} (Word v) (Word w) → v .place ≡ w .place
+place-is : (v w : StatusWord) → _≡_ {A = Outcome DecisionGives} (Word v) (Word w) → v .place ≡ w .place
 place-is v w e = ap (λ (x : StatusWord). x .place) (word-same v w e)
 
 pub pairDropped : Claims.LengthsCarried Wrong.pairDropped → ⊥

@@ -24,18 +24,18 @@ use Rattle.command_stated.proofs.Laws.{RegisterExactly, AuthenticateExactly, Ve
 use Rattle.u2f_up_stated.specs.Moments.{movedTo, touchClosed}
 use Rattle.u2f_up_stated.specs.History.{Role, Mark, Checking, TouchFound, sideOf, isTouchFound, isNamed, heldAt, serverOf, servers}
 use Rattle.u2f_up_stated.specs.Runs.{after, comesTo, cameOf, history}
-use Rattle.u2f_up_stated.specs.Terms.{BadWindow, BadSide, Passes, HasTouch}
+use Rattle.u2f_up_stated.specs.Terms.{BadWindow, BadSide, NotRefused, HasTouch}
 use Rattle.u2f_up_stated.specs.declared.Presence.{Presence}
 use Rattle.u2f_up_stated.proofs.Laws.{demand-3, r-apart, servers-next, named-later, named-counts, count, length-those}
 use Rattle.signing_stated.specs.Orders.{kindNo, certificateLength, blankOrder, isOfLayout}
-use Rattle.signing_stated.specs.Finishing.{roomAsked}
-use Rattle.ctap1_stated.specs.Words.{Remainder, rest, Inputs, Given, Body, Ordered, Part, Result, Allowed, WithBlock}
+use Rattle.signing_stated.specs.Finishing.{roomNeeded}
+use Rattle.ctap1_stated.specs.Words.{Remainder, rest, Inputs, DecisionGives, Body, Ordered, Part, DecisionResult, Allowed, DecisionLeft}
 use Rattle.ctap1_stated.specs.Numbers.{allowedOf, attestationOf, isYes, hardwareOf}
 use Rattle.ctap1_stated.specs.Path.{limitOn, frameLimit, roleOf}
 use Rattle.ctap1_stated.specs.Decision.{statusResult, versionBytes, decisionOf, replyLeft}
-use Rattle.ctap1_stated.specs.Session.{asksOn, remainderLeft, partAfter, partLeft}
+use Rattle.ctap1_stated.specs.Session.{isGetResponse, remainderLeft, partAfter, partLeft}
 use Rattle.ctap1_stated.specs.Calls.{PanelCall, DecideAt, panelCalls, seen}
-use Rattle.ctap1_stated.specs.Terms.{AreBlocks, AsksOn, Fetching, SaysPresent, OrdersPresent, checkOnlyAnswer}
+use Rattle.ctap1_stated.specs.Terms.{AreBlocks, HasInsC0, Fetching, SaysPresent, OrdersPresent, checkOnlyAnswer}
 use Rattle.ctap1_stated.specs.Table
 use Rattle.ctap1_stated.specs.Claims
 use Rattle.ctap1_stated.specs.declared.Allowed.the-variants as Allowed′
@@ -43,25 +43,25 @@ use Rattle.ctap1_stated.specs.declared.Counter.the-variants as Counter�
 use Rattle.ctap1_stated.proofs.Ways.{Stated, its-own, framed, Way, refused, stated, versioned, fetched, enrolled, signed-03, signed-08, way, row, sound, registering-checks, signing-checks}
 use Rattle.ctap1_stated.proofs.Commands as Commands
 use Rattle.ctap1_stated.specs.OneSide.{baseDecisionOf}
-use Rattle.ctap1_stated.proofs.Kept.{panel-keeps}
+use Rattle.ctap1_stated.proofs.RoleKept.{panel-keeps}
 use Rattle.ctap1_stated.proofs.OneSide.{base-decides, one-side-is-base}
 use Rattle.ctap1_stated.proofs.Numbers.{decided-apart, decision-apart}
 
 -- a body and an order are apart
-body-order : (n : ℕ) → _≡_ {A = Outcome Given} (Gives (Body n)) (Gives Ordered) → ⊥
+body-order : (n : ℕ) → _≡_ {A = Outcome DecisionGives} (Gives (Body n)) (Gives Ordered) → ⊥
 body-order n e = let z : _≡_ {A = ℕ} 0 1 = cc in omega arith
 
-pub part-order : (n : ℕ) (r : Remainder) → _≡_ {A = Outcome Given} (Gives (Part n r)) (Gives Ordered) → ⊥
+pub part-order : (n : ℕ) (r : Remainder) → _≡_ {A = Outcome DecisionGives} (Gives (Part n r)) (Gives Ordered) → ⊥
 part-order n r e = let z : _≡_ {A = ℕ} 0 1 = cc in omega arith
 
-pub part-body : (n : ℕ) (r : Remainder) (m : ℕ) → _≡_ {A = Outcome Given} (Gives (Part n r)) (Gives (Body m)) → ⊥
+pub part-body : (n : ℕ) (r : Remainder) (m : ℕ) → _≡_ {A = Outcome DecisionGives} (Gives (Part n r)) (Gives (Body m)) → ⊥
 part-body n r m e = let z : _≡_ {A = ℕ} 0 1 = cc in omega arith
 
 -- ---- the whole decision
 pub DecidesExactly : Claims.DecidesExactly decisionOf
 DecidesExactly = row
 
-abbrev Left : Inputs → List ℕ → Result → Type 0
+abbrev Left : Inputs → List ℕ → DecisionResult → Type 0
 Left a old r =
     ((r .answer ≡ Gives (Body 6)) × (6 ≤ a .room) × (replyLeft r old ≡ 0x55 ∷ 0x32 ∷ 0x46 ∷ 0x5F ∷ 0x56 ∷ 0x32 ∷ drop 6 old))
     ⊎ (((n : ℕ) → r .answer ≡ Gives (Body n) → ⊥) × (replyLeft r old ≡ old))
@@ -69,7 +69,7 @@ Left a old r =
 pub RepliesExactly : Claims.RepliesExactly decisionOf replyLeft
 RepliesExactly p t a old long = go (decisionOf p t a) (way p t a)
   where
-    go : (r : Result) → Way p t a r → Left a old r
+    go : (r : DecisionResult) → Way p t a r → Left a old r
     go _ (refused n) = inr (λ n x. r-gives _ _ x, refl)
     go _ (stated n q w) = inr (λ n x. word-gives _ _ x, refl)
     go _ (versioned c room) = inl (refl, room, laid-fits versionBytes old (omega arith))
@@ -80,12 +80,12 @@ RepliesExactly p t a old long = go (decisionOf p t a) (way p t a)
 
 -- ---- what each answer leaves
 pub SideRefusedExactly : Claims.SideRefusedExactly decisionOf
-SideRefusedExactly p t a = (λ e. due (decisionOf p t a) (row p t a) e, λ b. ap (λ (r : Result). r .answer) (sound p t a _ (Table.r8 (b .0) (b .1))))
+SideRefusedExactly p t a = (λ e. due (decisionOf p t a) (row p t a) e, λ b. ap (λ (r : DecisionResult). r .answer) (sound p t a _ (Table.r8 (b .0) (b .1))))
   where
-    apart : (n : ℕ) → (n ≡ 8 → ⊥) → _≡_ {A = Outcome Given} (R n) (R 8) → ⊥
+    apart : (n : ℕ) → (n ≡ 8 → ⊥) → _≡_ {A = Outcome DecisionGives} (R n) (R 8) → ⊥
     apart n d e = r-apart n 8 d e
 
-    due : (r : Result) → Table.Answers p t a r → r .answer ≡ R 8 → (BadWindow (p .w) → ⊥) × BadSide (a .side) (p .asker)
+    due : (r : DecisionResult) → Table.Answers p t a r → r .answer ≡ R 8 → (BadWindow (p .w) → ⊥) × BadSide (a .side) (p .asker)
     due _ (Table.r8 g b) e = (g, b)
     due _ (Table.r6 b) e = absurd (apart 6 (omega arith) e)
     due _ (Table.r1 g h b) e = absurd (apart 1 (omega arith) e)
@@ -119,7 +119,7 @@ SideRefusedExactly p t a = (λ e. due (decisionOf p t a) (row p t a) e, λ b. ap
 pub RefusalChangesNothing : Claims.RefusalChangesNothing decisionOf replyLeft
 RefusalChangesNothing p t a n old e = go (decisionOf p t a) (way p t a) e
   where
-    go : (r : Result) → Way p t a r → r .answer ≡ R n → (r .presence ≡ p) × (replyLeft r old ≡ old) × (r .taken ≡ false) × (r .order ≡ blankOrder)
+    go : (r : DecisionResult) → Way p t a r → r .answer ≡ R n → (r .presence ≡ p) × (replyLeft r old ≡ old) × (r .taken ≡ false) × (r .order ≡ blankOrder)
     go _ (refused m) x = (refl, refl, refl, refl)
     go _ (stated m q w) x = absurd (r-word _ _ (sym x))
     go _ (versioned c room) x = absurd (r-gives _ _ (sym x))
@@ -131,7 +131,7 @@ RefusalChangesNothing p t a n old e = go (decisionOf p t a) (way p t a) e
 pub CounterExactly : Claims.CounterExactly decisionOf
 CounterExactly p t a blocks = (λ e. forth (decisionOf p t a) (way p t a) e, λ e. back (decisionOf p t a) (way p t a) (e .0) (e .1))
   where
-    forth : (r : Result) → Way p t a r → r .taken ≡ true → (r .answer ≡ Gives Ordered) × (kindNo (r .order .kind) ≡ 0x02)
+    forth : (r : DecisionResult) → Way p t a r → r .taken ≡ true → (r .answer ≡ Gives Ordered) × (kindNo (r .order .kind) ≡ 0x02)
     forth _ (refused m) x = absurd (true≢false (sym x))
     forth _ (stated m q w) x = absurd (true≢false (sym x))
     forth _ (versioned c room) x = absurd (true≢false (sym x))
@@ -140,7 +140,7 @@ CounterExactly p t a blocks = (λ e. forth (decisionOf p t a) (way p t a) e, λ 
     forth _ (signed-03 said m y l k) x = (refl, Commands.kind-is a 0x03 said true m (y .1 .1))
     forth _ (signed-08 said m y k) x = (refl, Commands.kind-is a 0x08 said false m (y .1 .1))
 
-    back : (r : Result) → Way p t a r → r .answer ≡ Gives Ordered → kindNo (r .order .kind) ≡ 0x02 → r .taken ≡ true
+    back : (r : DecisionResult) → Way p t a r → r .answer ≡ Gives Ordered → kindNo (r .order .kind) ≡ 0x02 → r .taken ≡ true
     back _ (refused m) x k = absurd (r-gives _ _ x)
     back _ (stated m q w) x k = absurd (word-gives _ _ x)
     back _ (versioned c room) x k = absurd (body-order _ x)
@@ -153,7 +153,7 @@ CounterExactly p t a blocks = (λ e. forth (decisionOf p t a) (way p t a) e, λ 
 pub OrdersOfLayout : Claims.OrdersOfLayout decisionOf
 OrdersOfLayout p t a blocks e = go (decisionOf p t a) (way p t a) e
   where
-    go : (r : Result) → Way p t a r → r .answer ≡ Gives Ordered → isOfLayout (r .order) ≡ true
+    go : (r : DecisionResult) → Way p t a r → r .answer ≡ Gives Ordered → isOfLayout (r .order) ≡ true
     go _ (refused m) x = absurd (r-gives _ _ x)
     go _ (stated m q w) x = absurd (word-gives _ _ x)
     go _ (versioned c room) x = absurd (body-order _ x)
@@ -165,7 +165,7 @@ OrdersOfLayout p t a blocks e = go (decisionOf p t a) (way p t a) e
 pub NoOrderIsBlank : Claims.NoOrderIsBlank decisionOf
 NoOrderIsBlank p t a f none same = (blank, Commands.blank-refused .1 f (same ∙ blank))
   where
-    go : (r : Result) → Way p t a r → (r .answer ≡ Gives Ordered → ⊥) → r .order ≡ blankOrder
+    go : (r : DecisionResult) → Way p t a r → (r .answer ≡ Gives Ordered → ⊥) → r .order ≡ blankOrder
     go _ (refused m) n = refl
     go _ (stated m q w) n = refl
     go _ (versioned c room) n = refl
@@ -177,24 +177,24 @@ NoOrderIsBlank p t a f none same = (blank, Commands.blank-refused .1 f (same ∙
     blank : decisionOf p t a .order ≡ blankOrder
     blank = go (decisionOf p t a) (way p t a) none
 
-room-was-asked : (p : Presence) (t : ℕ) (a : Inputs) → AreBlocks a → (r : Result) → Way p t a r → r .answer ≡ Gives Ordered → roomAsked (r .order) ≤ a .room
-room-was-asked p t a blocks _ (refused m) x = absurd (r-gives _ _ x)
-room-was-asked p t a blocks _ (stated m q w) x = absurd (word-gives _ _ x)
-room-was-asked p t a blocks _ (versioned c room) x = absurd (body-order _ x)
-room-was-asked p t a blocks _ (fetched c sent) x = absurd (part-order _ _ x)
-room-was-asked p t a blocks _ (enrolled said y l h) x = rw (Commands.register-room a blocks said (y .1 .1) h) (y .2)
-room-was-asked p t a blocks _ (signed-03 said m y l k) x = rw (Commands.room-is a 0x03 said true m (y .1 .1)) (y .3)
-room-was-asked p t a blocks _ (signed-08 said m y k) x = rw (Commands.room-is a 0x08 said false m (y .1 .1)) (y .3)
+order-has-room : (p : Presence) (t : ℕ) (a : Inputs) → AreBlocks a → (r : DecisionResult) → Way p t a r → r .answer ≡ Gives Ordered → roomNeeded (r .order) ≤ a .room
+order-has-room p t a blocks _ (refused m) x = absurd (r-gives _ _ x)
+order-has-room p t a blocks _ (stated m q w) x = absurd (word-gives _ _ x)
+order-has-room p t a blocks _ (versioned c room) x = absurd (body-order _ x)
+order-has-room p t a blocks _ (fetched c sent) x = absurd (part-order _ _ x)
+order-has-room p t a blocks _ (enrolled said y l h) x = rw (Commands.register-room a blocks said (y .1 .1) h) (y .2)
+order-has-room p t a blocks _ (signed-03 said m y l k) x = rw (Commands.room-is a 0x03 said true m (y .1 .1)) (y .3)
+order-has-room p t a blocks _ (signed-08 said m y k) x = rw (Commands.room-is a 0x08 said false m (y .1 .1)) (y .3)
 
-pub RoomWasAsked : Claims.RoomWasAsked decisionOf
-RoomWasAsked p t a f blocks e same certificate room =
-    let asked : roomAsked (decisionOf p t a .order) ≤ a .room = room-was-asked p t a blocks (decisionOf p t a) (way p t a) e in
+pub OrderHasRoom : Claims.OrderHasRoom decisionOf
+OrderHasRoom p t a f blocks e same certificate room =
+    let asked : roomNeeded (decisionOf p t a .order) ≤ a .room = order-has-room p t a blocks (decisionOf p t a) (way p t a) e in
     Commands.room-kept f (ap isOfLayout same ∙ OrdersOfLayout p t a blocks e) (certificate ∙ ap certificateLength (sym same)) (rw same (omega (arith, asked, room)))
 
 pub CertificateOfOrder : Claims.CertificateOfOrder decisionOf
 CertificateOfOrder p t a blocks e = go (decisionOf p t a) (way p t a) e
   where
-    go : (r : Result) → Way p t a r → r .answer ≡ Gives Ordered
+    go : (r : DecisionResult) → Way p t a r → r .answer ≡ Gives Ordered
         → ((kindNo (r .order .kind) ≡ 0x01) × (certificateLength (r .order) ≡ length (a .certificate))) ⊎ ((kindNo (r .order .kind) ≡ 0x02) × (certificateLength (r .order) ≡ 0))
     go _ (refused m) x = absurd (r-gives _ _ x)
     go _ (stated m q w) x = absurd (word-gives _ _ x)
@@ -206,11 +206,11 @@ CertificateOfOrder p t a blocks e = go (decisionOf p t a) (way p t a) e
 
 -- ---- where a length went wrong
 module _ (p : Presence) (t : ℕ) (a : Inputs) where
-  word-number : (v w : StatusWord) → _≡_ {A = Outcome Given} (Word v) (Word w) → v .number ≡ w .number
+  word-number : (v w : StatusWord) → _≡_ {A = Outcome DecisionGives} (Word v) (Word w) → v .number ≡ w .number
   word-number v w e = ap (λ (x : StatusWord). x .number) (word-same v w e)
 
-  carried : (kind place : ℕ) (r : Result) → Way p t a r → r .answer ≡ wrongLength kind place
-      → Passes p (a .side) t × (a .hardware .allowed ≡ Allowed′.Yes) × (commandOf (a .frame) ≡ wrongLength kind place)
+  carried : (kind place : ℕ) (r : DecisionResult) → Way p t a r → r .answer ≡ wrongLength kind place
+      → NotRefused p (a .side) t × (a .hardware .allowed ≡ Allowed′.Yes) × (commandOf (a .frame) ≡ wrongLength kind place)
   carried kind place _ (refused m) x = absurd (r-word _ _ x)
   carried kind place _ (stated s q (its-own n other)) x = absurd (other (word-number _ _ x))
   carried kind place _ (stated s q (framed ok y e)) x = (ok, y, e ∙ ap Word (word-same s _ x))
@@ -221,7 +221,7 @@ module _ (p : Presence) (t : ℕ) (a : Inputs) where
   carried kind place _ (signed-08 said m y k) x = absurd (word-gives _ _ (sym x))
 
   -- a status word of the decision: its own, or the frame's
-  said-word : (s : StatusWord) (r : Result) → Way p t a r → r .answer ≡ Word s → Stated p t a s
+  said-word : (s : StatusWord) (r : DecisionResult) → Way p t a r → r .answer ≡ Word s → Stated p t a s
   said-word s _ (refused m) x = absurd (r-word _ _ x)
   said-word s _ (stated v q w) x = subst (Stated p t a) (word-same v s x) w
   said-word s _ (versioned c room) x = absurd (word-gives _ _ (sym x))
@@ -241,7 +241,7 @@ module _ (p : Presence) (t : ℕ) (a : Inputs) where
 pub LengthsCarried : Claims.LengthsCarried decisionOf
 LengthsCarried p t a kind place = (
   λ e. carried p t a kind place (decisionOf p t a) (way p t a) e,
-  λ x. ap (λ (r : Result). r .answer) (sound p t a _ (Table.frame (x .0) (x .1) _ (x .2))),
+  λ x. ap (λ (r : DecisionResult). r .answer) (sound p t a _ (Table.frame (x .0) (x .1) _ (x .2))),
 )
 
 pub DecisionPairsExactly : Claims.DecisionPairsExactly decisionOf
@@ -268,32 +268,32 @@ LimitsExactly =
     by (Gives said) none = absurd (none said refl)
 
 -- a shaped frame with INS C0, by its test
-asks : (a : Inputs) → asksOn (readOf (a .frame)) ≡ true → AsksOn a
-asks a e = by (readOf (a .frame)) refl e
+isC0 : (a : Inputs) → isGetResponse (readOf (a .frame)) ≡ true → HasInsC0 a
+isC0 a e = by (readOf (a .frame)) refl e
   where
-    by : (o : Outcome Says) → readOf (a .frame) ≡ o → asksOn o ≡ true → AsksOn a
+    by : (o : Outcome Says) → readOf (a .frame) ≡ o → isGetResponse o ≡ true → HasInsC0 a
     by (R n) r x = absurd (true≢false (sym x))
     by (Word s) r x = absurd (true≢false (sym x))
     by (Gives said) r x = (said, r, eqb-true (said .header .ins) 0xC0 x)
 
-asked : (a : Inputs) → AsksOn a → asksOn (readOf (a .frame)) ≡ true
+asked : (a : Inputs) → HasInsC0 a → isGetResponse (readOf (a .frame)) ≡ true
 asked a (said, r, i) = rw (r, i)
 
-no-asking : (a : Inputs) → (AsksOn a → ⊥) → asksOn (readOf (a .frame)) ≡ false
-no-asking a n = by (asksOn (readOf (a .frame))) refl
+no-c0 : (a : Inputs) → (HasInsC0 a → ⊥) → isGetResponse (readOf (a .frame)) ≡ false
+no-c0 a n = by (isGetResponse (readOf (a .frame))) refl
   where
-    by : (b : Bool) → asksOn (readOf (a .frame)) ≡ b → b ≡ false
-    by true e = absurd (n (asks a e))
+    by : (b : Bool) → isGetResponse (readOf (a .frame)) ≡ b → b ≡ false
+    by true e = absurd (n (isC0 a e))
     by false e = refl
 
 -- a part is sent to a frame that asks for it
-fetching-asks : (p : Presence) (t : ℕ) (a : Inputs) → Fetching p t a → AsksOn a
+fetching-asks : (p : Presence) (t : ℕ) (a : Inputs) → Fetching p t a → HasInsC0 a
 fetching-asks p t a x = let f = GetResponseExactly (a .frame) .0 (x .1 .1) in (f .0, f .1, f .3)
 
 module _ (p : Presence) (t : ℕ) (a : Inputs) where
-  drops : (AsksOn a → ⊥) → (r : Result) → Way p t a r → ((n : ℕ) → r .answer ≡ R n → ⊥) → remainderLeft a r ≡ rest 0 0
+  drops : (HasInsC0 a → ⊥) → (r : DecisionResult) → Way p t a r → ((n : ℕ) → r .answer ≡ R n → ⊥) → remainderLeft a r ≡ rest 0 0
   drops n _ (refused m) x = absurd (x m refl)
-  drops n _ (stated m q w) x = rw (no-asking a n)
+  drops n _ (stated m q w) x = rw (no-c0 a n)
   drops n _ (versioned c room) x = refl
   drops n _ (fetched c sent) x = absurd (n (fetching-asks p t a c))
   drops n _ (enrolled said y l h) x = refl
@@ -301,19 +301,19 @@ module _ (p : Presence) (t : ℕ) (a : Inputs) where
   drops n _ (signed-08 said m y k) x = refl
 
   -- where it was dropped, nobody asked and nothing was refused
-  abbrev Dropped : Result → Type 0
-  Dropped r = (AsksOn a → ⊥) × ((n : ℕ) → r .answer ≡ R n → ⊥)
+  abbrev Dropped : DecisionResult → Type 0
+  Dropped r = (HasInsC0 a → ⊥) × ((n : ℕ) → r .answer ≡ R n → ⊥)
 
   counts : a .remainder ≡ rest 0 0 → a .remainder .count ≡ 0
   counts e = ap (λ (r : Remainder). r .count) e
 
-  other-ins : (k : ℕ) (said : Says) → readOf (a .frame) ≡ Gives said → said .header .ins ≡ k → (k ≡ 0xC0 → ⊥) → AsksOn a → ⊥
+  other-ins : (k : ℕ) (said : Says) → readOf (a .frame) ≡ Gives said → said .header .ins ≡ k → (k ≡ 0xC0 → ⊥) → HasInsC0 a → ⊥
   other-ins k said r i n (told, q, j) = n (sym i ∙ ap (λ (s : Says). s .header .ins) (gives-same said told (sym r ∙ q)) ∙ j)
 
-  signing : (p1 : ℕ) (said : Says) → commandOf (a .frame) ≡ Gives (Authenticate p1 said) → AsksOn a → ⊥
+  signing : (p1 : ℕ) (said : Says) → commandOf (a .frame) ≡ Gives (Authenticate p1 said) → HasInsC0 a → ⊥
   signing p1 said c = let f = AuthenticateExactly (a .frame) p1 said .0 c in other-ins 0x02 said (f .0) (f .2) (λ e. omega arith)
 
-  was-dropped : 0 < a .remainder .count → (r : Result) → Way p t a r → ((n : ℕ) (after : Remainder) → r .answer ≡ Gives (Part n after) → ⊥) → remainderLeft a r ≡ rest 0 0 → Dropped r
+  was-dropped : 0 < a .remainder .count → (r : DecisionResult) → Way p t a r → ((n : ℕ) (after : Remainder) → r .answer ≡ Gives (Part n after) → ⊥) → remainderLeft a r ≡ rest 0 0 → Dropped r
   was-dropped more _ (refused m) x e = absurd (omega (arith, counts e))
   was-dropped more _ (stated m q w) x e = (λ y. omega (arith, counts (rw (asked a y) at e)), λ n z. r-word _ _ (sym z))
   was-dropped more _ (versioned c room) x e = let f = VersionExactly (a .frame) .0 (c .1) in (other-ins 0x03 (f .0) (f .1) (f .3) (λ e. omega arith), λ n z. r-gives _ _ (sym z))
@@ -333,41 +333,41 @@ RemainderExactly =
     }
 
 -- the old form is in no shape
-module _ (p : Presence) (t : ℕ) (a : Inputs) (old : OldForm (a .frame)) (passes : Passes p (a .side) t) where
+module _ (p : Presence) (t : ℕ) (a : Inputs) (old : OldForm (a .frame)) (passes : NotRefused p (a .side) t) where
   old-read : readOf (a .frame) ≡ wrongLength 2 (7 + pairAt (a .frame) 5)
   old-read = old-at (a .frame) Ordinary old
 
   old-said : a .hardware .allowed ≡ Allowed′.Yes → decisionOf p t a .answer ≡ wrongLength 2 (7 + pairAt (a .frame) 5)
-  old-said allowed = ap (λ (r : Result). r .answer) (sound p t a _ (Table.frame passes allowed _ (frame-status (a .frame) _ old-read)))
+  old-said allowed = ap (λ (r : DecisionResult). r .answer) (sound p t a _ (Table.frame passes allowed _ (frame-status (a .frame) _ old-read)))
 
   -- a status word, whatever 'allowed' is
   old-word : (k : Allowed) → a .hardware .allowed ≡ k → (w : StatusWord) × (decisionOf p t a .answer ≡ Word w)
   old-word Allowed′.Yes e = (_, old-said e)
-  old-word Allowed′.No e = (_, ap (λ (r : Result). r .answer) (sound p t a _ (Table.forbidden passes e)))
-  old-word Allowed′.Failed e = (_, ap (λ (r : Result). r .answer) (sound p t a _ (Table.failed passes e)))
+  old-word Allowed′.No e = (_, ap (λ (r : DecisionResult). r .answer) (sound p t a _ (Table.forbidden passes e)))
+  old-word Allowed′.Failed e = (_, ap (λ (r : DecisionResult). r .answer) (sound p t a _ (Table.failed passes e)))
 
 pub OldFormRefused : Claims.OldFormRefused decisionOf remainderLeft
 OldFormRefused = record { answer = old-said; drops = dropped }
   where
-    dropped : (p : Presence) (t : ℕ) (a : Inputs) → OldForm (a .frame) → Passes p (a .side) t → remainderLeft a (decisionOf p t a) ≡ rest 0 0
+    dropped : (p : Presence) (t : ℕ) (a : Inputs) → OldForm (a .frame) → NotRefused p (a .side) t → remainderLeft a (decisionOf p t a) ≡ rest 0 0
     dropped p t a old ok = let w = old-word p t a old ok (a .hardware .allowed) refl in rw (w .1, old-read p t a old ok)
 
 -- and whatever meets the claim is that
-pub only-remainder : (left : Inputs → Result → Remainder) → Claims.RemainderExactly decisionOf left → (p : Presence) (t : ℕ) (a : Inputs) → remainderLeft a (decisionOf p t a) ≡ left a (decisionOf p t a)
+pub only-remainder : (left : Inputs → DecisionResult → Remainder) → Claims.RemainderExactly decisionOf left → (p : Presence) (t : ℕ) (a : Inputs) → remainderLeft a (decisionOf p t a) ≡ left a (decisionOf p t a)
 only-remainder left exact p t a = go (decisionOf p t a) (way p t a) refl
   where
-    drop : (r : Result) → decisionOf p t a ≡ r → (AsksOn a → ⊥) → ((n : ℕ) → r .answer ≡ R n → ⊥) → rest 0 0 ≡ left a (decisionOf p t a)
-    drop r e n x = sym (exact .dropped p t a n (λ m z. x m (ap (λ (q : Result). q .answer) (sym e) ∙ z)))
+    drop : (r : DecisionResult) → decisionOf p t a ≡ r → (HasInsC0 a → ⊥) → ((n : ℕ) → r .answer ≡ R n → ⊥) → rest 0 0 ≡ left a (decisionOf p t a)
+    drop r e n x = sym (exact .dropped p t a n (λ m z. x m (ap (λ (q : DecisionResult). q .answer) (sym e) ∙ z)))
 
-    status : (b : Bool) → asksOn (readOf (a .frame)) ≡ b → (r : Result) (s : StatusWord) → decisionOf p t a ≡ r → r .answer ≡ Word s → (if b then a .remainder else rest 0 0) ≡ left a (decisionOf p t a)
-    status true y r s e w = sym (exact .kept p t a s (asks a y) (ap (λ (q : Result). q .answer) e ∙ w))
+    status : (b : Bool) → isGetResponse (readOf (a .frame)) ≡ b → (r : DecisionResult) (s : StatusWord) → decisionOf p t a ≡ r → r .answer ≡ Word s → (if b then a .remainder else rest 0 0) ≡ left a (decisionOf p t a)
+    status true y r s e w = sym (exact .kept p t a s (isC0 a y) (ap (λ (q : DecisionResult). q .answer) e ∙ w))
     status false y r s e w = drop r e (λ z. true≢false (sym (asked a z) ∙ y)) (λ n z. r-word _ _ (sym z ∙ w))
 
-    go : (r : Result) → Way p t a r → decisionOf p t a ≡ r → remainderLeft a r ≡ left a (decisionOf p t a)
-    go _ (refused m) e = sym (exact .refused p t a m (ap (λ (q : Result). q .answer) e))
-    go _ (stated m q w) e = status (asksOn (readOf (a .frame))) refl _ m e refl
+    go : (r : DecisionResult) → Way p t a r → decisionOf p t a ≡ r → remainderLeft a r ≡ left a (decisionOf p t a)
+    go _ (refused m) e = sym (exact .refused p t a m (ap (λ (q : DecisionResult). q .answer) e))
+    go _ (stated m q w) e = status (isGetResponse (readOf (a .frame))) refl _ m e refl
     go _ (versioned c room) e = let f = VersionExactly (a .frame) .0 (c .1) in drop _ e (other-ins p t a 0x03 (f .0) (f .1) (f .3) (λ e. omega arith)) (λ n z. r-gives _ _ (sym z))
-    go _ (fetched c sent) e = sym (exact .fetched p t a _ _ (ap (λ (q : Result). q .answer) e))
+    go _ (fetched c sent) e = sym (exact .fetched p t a _ _ (ap (λ (q : DecisionResult). q .answer) e))
     go _ (enrolled said y l h) e = let f = RegisterExactly (a .frame) said .0 (y .1 .1) in drop _ e (other-ins p t a 0x01 said (f .0) (f .2) (λ e. omega arith)) (λ n z. r-gives _ _ (sym z))
     go _ (signed-03 said m y l k) e = drop _ e (signing p t a 0x03 said (y .1 .1)) (λ n z. r-gives _ _ (sym z))
     go _ (signed-08 said m y k) e = drop _ e (signing p t a 0x08 said (y .1 .1)) (λ n z. r-gives _ _ (sym z))
@@ -375,7 +375,7 @@ only-remainder left exact p t a = go (decisionOf p t a) (way p t a) refl
 pub PartsExactly : Claims.PartsExactly decisionOf frameLimit partLeft
 PartsExactly = record { part = λ p t a body old n after e. rw e; other = λ p t a body old n. by (decisionOf p t a .answer) _ old n }
   where
-    by : (o : Outcome Given) (response old : List ℕ) → ((n : ℕ) (after : Remainder) → o ≡ Gives (Part n after) → ⊥) → partAfter o response old ≡ old
+    by : (o : Outcome DecisionGives) (response old : List ℕ) → ((n : ℕ) (after : Remainder) → o ≡ Gives (Part n after) → ⊥) → partAfter o response old ≡ old
     by (R n) response old x = refl
     by (Word s) response old x = refl
     by (Gives (Body n)) response old x = refl
@@ -424,7 +424,7 @@ OrdersNeedATouch = record {
   counter = λ p t a p1 said c e. counter p t a p1 said (c .1) (decisionOf p t a) (way p t a) e;
 }
   where
-    touch : (p : Presence) (t : ℕ) (a : Inputs) (r : Result) → Way p t a r → r .answer ≡ Gives Ordered → SaysPresent (r .order) → HasTouch p t × (p .asker ≡ a .side) × (r .presence ≡ touchClosed (movedTo p t))
+    touch : (p : Presence) (t : ℕ) (a : Inputs) (r : DecisionResult) → Way p t a r → r .answer ≡ Gives Ordered → SaysPresent (r .order) → HasTouch p t × (p .asker ≡ a .side) × (r .presence ≡ touchClosed (movedTo p t))
     touch p t a _ (refused m) x o = absurd (r-gives _ _ x)
     touch p t a _ (stated m q w) x o = absurd (word-gives _ _ x)
     touch p t a _ (versioned c room) x o = absurd (body-order _ x)
@@ -433,7 +433,7 @@ OrdersNeedATouch = record {
     touch p t a _ (signed-03 said m y l k) x o = (l .0, l .1, refl)
     touch p t a _ (signed-08 said m y k) x o = absurd (Commands.absent a 0x08 said m (y .1 .1) o)
 
-    present : (p : Presence) (t : ℕ) (a : Inputs) (p1 : ℕ) (said : Says) → commandOf (a .frame) ≡ Gives (Authenticate p1 said) → (r : Result) → Way p t a r → r .answer ≡ Gives Ordered
+    present : (p : Presence) (t : ℕ) (a : Inputs) (p1 : ℕ) (said : Says) → commandOf (a .frame) ≡ Gives (Authenticate p1 said) → (r : DecisionResult) → Way p t a r → r .answer ≡ Gives Ordered
         → ((byte (r .order .bytes) 32 ≡ 0x01) ↔ (p1 ≡ 0x03)) × ((byte (r .order .bytes) 32 ≡ 0x00) ↔ (p1 ≡ 0x08))
     present p t a p1 said c _ (refused m) x = absurd (r-gives _ _ x)
     present p t a p1 said c _ (stated m q w) x = absurd (word-gives _ _ x)
@@ -449,7 +449,7 @@ OrdersNeedATouch = record {
         let z = p1-of a p1 0x08 said told c (y .1 .1) in
         ((λ e. absurd (omega arith), λ e. absurd (omega arith)), (λ e. z, λ e. is))
 
-    counter : (p : Presence) (t : ℕ) (a : Inputs) (p1 : ℕ) (said : Says) → commandOf (a .frame) ≡ Gives (Authenticate p1 said) → (r : Result) → Way p t a r → r .answer ≡ Gives Ordered
+    counter : (p : Presence) (t : ℕ) (a : Inputs) (p1 : ℕ) (said : Says) → commandOf (a .frame) ≡ Gives (Authenticate p1 said) → (r : DecisionResult) → Way p t a r → r .answer ≡ Gives Ordered
         → (n : ℕ) × (a .hardware .counter ≡ Counter′.Offered n) × (r .taken ≡ true)
         × (byte (r .order .bytes) 33 * 0x1000000 + byte (r .order .bytes) 34 * 0x10000 + byte (r .order .bytes) 35 * 256 + byte (r .order .bytes) 36 ≡ n)
     counter p t a p1 said c _ (refused m) x = absurd (r-gives _ _ x)
@@ -461,7 +461,7 @@ OrdersNeedATouch = record {
     counter p t a p1 said c _ (signed-08 told m y k) x = (m, k, refl, Commands.counter-is a 0x08 told false m (y .1 .1))
 
 -- such an order comes from a call that reaches the touch check, and the check succeeds
-seen-spending : (p : Presence) (t : ℕ) (a : Inputs) (r : Result) → Way p t a r → r .answer ≡ Gives Ordered → SaysPresent (r .order) → (roleOf a ≡ Checking (a .side)) × (seen (Checking (a .side)) (r .answer) ≡ Gives true)
+seen-spending : (p : Presence) (t : ℕ) (a : Inputs) (r : DecisionResult) → Way p t a r → r .answer ≡ Gives Ordered → SaysPresent (r .order) → (roleOf a ≡ Checking (a .side)) × (seen (Checking (a .side)) (r .answer) ≡ Gives true)
 seen-spending p t a _ (refused m) x o = absurd (r-gives _ _ x)
 seen-spending p t a _ (stated m q w) x o = absurd (word-gives _ _ x)
 seen-spending p t a _ (versioned c room) x o = absurd (body-order _ x)
@@ -478,7 +478,7 @@ module _ (w : ℕ) (least : 0 < w) (most : w ≤ 60000) (earlier : List PanelCal
   unfolding now
   spending = seen-spending now t a (decisionOf now t a) (way now t a) (o .0) (o .1)
 
-  checked : (k : Role) (s : ℕ) (o : Outcome Given) → k ≡ Checking s → seen (Checking s) o ≡ Gives true → cameOf k (seen k o) ≡ TouchFound
+  checked : (k : Role) (s : ℕ) (o : Outcome DecisionGives) → k ≡ Checking s → seen (Checking s) o ≡ Gives true → cameOf k (seen k o) ≡ TouchFound
   checked k s o e f = rw (e, f)
 
   found : comesTo panelCalls w earlier (DecideAt t a) ≡ TouchFound
@@ -529,11 +529,11 @@ ResultsDetermined = record {
   decide =
       λ p t a old x y hx hy.
       let same = both-are _ _ (hx .0) (hy .0) in
-      let decisions : x .0 .decision ≡ y .0 .decision = decision-apart (x .0 .decision) (y .0 .decision) (ap (λ (w : WithBlock). w .said) same) in
+      let decisions : x .0 .decision ≡ y .0 .decision = decision-apart (x .0 .decision) (y .0 .decision) (ap (λ (w : DecisionLeft). w .said) same) in
       let replies : x .1 .reply ≡ y .1 .reply = both-are _ _ (hx .1) (hy .1) in
       let limits : x .0 .limit ≡ y .0 .limit = both-are _ _ (hx .2) (hy .2) in
-      let asking : x .0 .«asks_on» ≡ y .0 .«asks_on» = both-are _ _ (hx .3) (hy .3) in
-      λ d. (record { decision = decisions d; limit = limits d; «asks_on» = asking d }, record { reply = replies d; block = same d .block });
+      let is-c0 : x .0 .«is_get_response» ≡ y .0 .«is_get_response» = both-are _ _ (hx .3) (hy .3) in
+      λ d. (record { decision = decisions d; limit = limits d; «is_get_response» = is-c0 d }, record { reply = replies d; block = same d .block });
 }
 
 -- ---- the hardware's answers by their numbers

@@ -14,13 +14,13 @@ use Rattle.apdu_stated.specs.Answers.{Says}
 use Rattle.command_stated.specs.Command.{Command, Register, Authenticate, Version, GetResponse, commandOf}
 use Rattle.u2f_up_stated.specs.Moments.{movedTo, touchClosed, promptOpened}
 use Rattle.u2f_up_stated.specs.History.{Checking}
-use Rattle.u2f_up_stated.specs.Terms.{BadWindow, BadSide, BadMoment, Passes, HasTouch}
+use Rattle.u2f_up_stated.specs.Terms.{BadWindow, BadSide, BadMoment, NotRefused, HasTouch}
 use Rattle.u2f_up_stated.specs.declared.Presence.{Presence}
 use Rattle.u2f_up_stated.proofs.Laws.{bad-window, bad-side, bad-moment, has-touch, settle-r6, settle-r8, settle-r1, settle-moves, checked-own, checked-other, checked-dead}
 use Rattle.response_stated.specs.Words.{Sent, rest}
 use Rattle.response_stated.specs.Parts.{partLength, nextPartOf}
-use Rattle.ctap1_stated.specs.Words.{Inputs, Result, Allowed, Attestation, Counter, isPresent}
-use Rattle.ctap1_stated.specs.Path.{Ending, Internal, Orders, Path, Touch, frameLimit, sentPath, fetchPath, registerOrdered, authenticateOrdered, enrolmentOrder, registerEnding, countedEnding, loginPath, registerPath, versionPath, authenticatePath, commandPath, allowedPath, pathOf, roleOf}
+use Rattle.ctap1_stated.specs.Words.{Inputs, DecisionResult, Allowed, Attestation, Counter, isPresent}
+use Rattle.ctap1_stated.specs.Path.{PathEnd, Internal, Orders, DecisionPath, Touch, frameLimit, sentPath, fetchPath, registerOrdered, authenticateOrdered, enrolmentOrder, registerEnding, countedEnding, loginPath, registerPath, versionPath, authenticatePath, commandPath, allowedPath, pathOf, roleOf}
 use Rattle.ctap1_stated.specs.Decision.{refusalResult, wordResult, statusResult, bodyResult, partResult, orderResult, ended, along, decisionOf}
 use Rattle.ctap1_stated.specs.Terms.{Comes, Fetching, OwnTouch, OthersTouch, roomOfRegister, Registering, Signing}
 use Rattle.ctap1_stated.specs.Table
@@ -43,12 +43,12 @@ module _ (a : Inputs) where
   with-p1 p1 k said z c = rw z at c
 
 module _ (p : Presence) (t : ℕ) (a : Inputs) where
-  settled : Passes p (a .side) t → decisionOf p t a ≡ along (pathOf a) p (movedTo p t) (a .side) t
+  settled : NotRefused p (a .side) t → decisionOf p t a ≡ along (pathOf a) p (movedTo p t) (a .side) t
   unfolding decisionOf
   settled ok = rw (settle-moves p (a .side) t ok)
 
-  came : (c : Command) → Passes p (a .side) t → Comes a c → decisionOf p t a ≡ along (commandPath a (Gives c)) p (movedTo p t) (a .side) t
-  came c ok e = settled ok ∙ ap (λ (x : Path). along x p (movedTo p t) (a .side) t) (comes a c e)
+  came : (c : Command) → NotRefused p (a .side) t → Comes a c → decisionOf p t a ≡ along (commandPath a (Gives c)) p (movedTo p t) (a .side) t
+  came c ok e = settled ok ∙ ap (λ (x : DecisionPath). along x p (movedTo p t) (a .side) t) (comes a c e)
 
   is-r6 : BadWindow (p .w) → decisionOf p t a ≡ refusalResult 6 p
   unfolding decisionOf
@@ -70,7 +70,7 @@ module _ (p : Presence) (t : ℕ) (a : Inputs) where
   taken = partLength (frameLimit (a .frame)) (a .remainder .count)
 
   -- ---- each row is what the definition says
-  pub sound : (r : Result) → Answers p t a r → decisionOf p t a ≡ r
+  pub sound : (r : DecisionResult) → Answers p t a r → decisionOf p t a ≡ r
   unfolding pathOf allowedPath commandPath versionPath registerPath loginPath registerEnding countedEnding enrolmentOrder fetchPath nextPartOf
   sound _ (Table.r6 b) = is-r6 b
   sound _ (Table.r8 g b) = is-r8 g b
@@ -103,11 +103,11 @@ module _ (p : Presence) (t : ℕ) (a : Inputs) where
   sound _ (Table.fetch n e (ok, c, some) g h) = came _ ok c ∙ rw (counts some, le-ltb (a .room) (a .remainder .place + a .remainder .count) g, ← e, le-ltb (a .partRoom) (n + 2) h)
 
   -- ---- and what the definition says is a row
-  module _ (ok : Passes p (a .side) t) where
-    abbrev At : Path → Type 0
+  module _ (ok : NotRefused p (a .side) t) where
+    abbrev At : DecisionPath → Type 0
     At x = Answers p t a (along x p (movedTo p t) (a .side) t)
 
-    touched : (e : Ending) → ((HasTouch p t → ⊥) → Answers p t a (statusResult 0x6985 (promptOpened (movedTo p t) (a .side) t)))
+    touched : (e : PathEnd) → ((HasTouch p t → ⊥) → Answers p t a (statusResult 0x6985 (promptOpened (movedTo p t) (a .side) t)))
         → (OthersTouch p t a → Answers p t a (statusResult 0x6985 (movedTo p t))) → (OwnTouch p t a → Answers p t a (ended e (touchClosed (movedTo p t)))) → At (Touch e)
     touched e f o g = by (has-touch p t) (ℕ-discrete (p .asker) (a .side))
       where
@@ -127,7 +127,7 @@ module _ (p : Presence) (t : ℕ) (a : Inputs) where
         (λ n. split a After (ltb 255 (length (a .newHandle))) Internal signed (λ k. Table.long said in-room l (not-false (a .hardware .stored) n) (ltb-true 255 (length (a .newHandle)) k))
         (λ k. by in-room l (not-false (a .hardware .stored) n) (ltb-false 255 (length (a .newHandle)) k) (a .hardware .attestation) refl))))
       where
-        After : Ending → Type 0
+        After : PathEnd → Type 0
         After e = Answers p t a (ended e (touchClosed (movedTo p t)))
 
         by : Registering p t a said → OwnTouch p t a → a .hardware .stored ≡ true → length (a .newHandle) ≤ 255 → (m : Attestation) → a .hardware .attestation ≡ m
@@ -199,9 +199,9 @@ module _ (p : Presence) (t : ℕ) (a : Inputs) where
   -- a status word: one of the decision's own, which has no pair, or the frame's
   pub data Stated : StatusWord → Type 0 where
     its-own : (n : ℕ) → (n ≡ 0x6700 → ⊥) → Stated (plainWord n)
-    framed : {s : StatusWord} → Passes p (a .side) t → a .hardware .allowed ≡ Allowed′.Yes → commandOf (a .frame) ≡ Word s → Stated s
+    framed : {s : StatusWord} → NotRefused p (a .side) t → a .hardware .allowed ≡ Allowed′.Yes → commandOf (a .frame) ≡ Word s → Stated s
 
-  pub data Way : Result → Type 0 where
+  pub data Way : DecisionResult → Type 0 where
     refused : (n : ℕ) → Way (refusalResult n p)
     stated : (s : StatusWord) (q : Presence) → Stated s → Way (wordResult s q)
     versioned : Comes a Version → 6 ≤ a .room → Way (bodyResult 6 (movedTo p t))
@@ -216,7 +216,7 @@ module _ (p : Presence) (t : ℕ) (a : Inputs) where
   unfolding enrolmentOrder
   way = by (decisionOf p t a) row
     where
-      by : (r : Result) → Answers p t a r → Way r
+      by : (r : DecisionResult) → Answers p t a r → Way r
       by _ (Table.r6 b) = refused 6
       by _ (Table.r8 g b) = refused 8
       by _ (Table.r1 g h b) = refused 1

@@ -3,12 +3,12 @@
 -- of a record, a moment and all that is lent.
 use mathlib.Core.Logic.{_↔_, _⊎_}
 use mathlib.Core.Option.{some}
-use Rattle.ctap1_stated.specs.Words.{AtMostOne, StatusWord, R, Word, SW, Gives, wrongLength, [], _∷_, _++_, drop, ℕ, _+_, _*_, _<_, _≤_, _≡_, Bool, true, false, List, length, Presence, Ruling, Decided, Remainder, rest, Inputs, Allowed, Attestation, Hardware, HardwareSaid, Body, Ordered, Part, Result, decidedOf}
+use Rattle.ctap1_stated.specs.Words.{AtMostOne, StatusWord, R, Word, SW, Gives, wrongLength, [], _∷_, _++_, drop, ℕ, _+_, _*_, _<_, _≤_, _≡_, Bool, true, false, List, length, Presence, DecisionAndLimit, DecisionAnswer, Remainder, rest, Inputs, Allowed, Attestation, Hardware, HardwareSaid, Body, Ordered, Part, DecisionResult, decisionAnswerOf}
 use Rattle.ctap1_stated.specs.Numbers.{allowedOf, attestationOf}
 use Rattle.ctap1_stated.specs.Calls.{PanelCall, DecideAt, callsWith}
 use Rattle.ctap1_stated.specs.OneSide.{baseWith, sidelessResult}
 use Rattle.ctap1_stated.specs.Contracts.{Buffers, Decide}
-use Rattle.ctap1_stated.specs.Terms.{Decider, AreBlocks, AsksOn, result, movedAt, spentAt, onSide, Comes, OrdersPresent, checkOnlyAnswer}
+use Rattle.ctap1_stated.specs.Terms.{Decider, AreBlocks, HasInsC0, result, movedAt, spentAt, onSide, Comes, OrdersPresent, checkOnlyAnswer}
 use Rattle.ctap1_stated.specs.Table.{Answers}
 use Rattle.ctap1_stated.specs.declared.Allowed.the-variants as Allowed′
 use Rattle.ctap1_stated.specs.declared.Attestation.the-variants as Attestation′
@@ -23,7 +23,7 @@ use Rattle.command_stated.specs.Command.{Authenticate, commandOf}
 use Rattle.u2f_up_stated.specs.History.{Mark, heldAt, serverOf}
 use Rattle.u2f_up_stated.specs.Runs.{Caller, Keeps, after, history}
 use Rattle.u2f_up_stated.specs.OneSide.{OnlySide}
-use Rattle.u2f_up_stated.specs.Terms.{BadWindow, BadSide, Passes, HasTouch}
+use Rattle.u2f_up_stated.specs.Terms.{BadWindow, BadSide, NotRefused, HasTouch}
 use Rattle.u2f_up_stated.specs.Claims as Up
 use Rattle.signing_stated.specs.Orders.{kindNo, certificateLength, blankOrder, isOfLayout}
 use Rattle.signing_stated.specs.Finishing.{Finishing, finishOf}
@@ -76,7 +76,7 @@ SideRefusedExactly decide = (p : Presence) (t : ℕ) (a : Inputs) → (decide p 
 -- The reply buffer. 01, Refusal numbers: "An order and a status word other than 9000 change no reply buffer", "An R refusal changes no
 -- buffer", "A 9000 body fills the front of the buffer; the rest stays"; The decision, 4: "the six bytes 55 32 46 5F 56 32". A
 -- Version of other bytes (`otherBytes`) fails it, and so does a buffer cleared behind the body (`clearsRest`).
-abbrev pub RepliesExactly : Decider → (Result → List ℕ → List ℕ) → Type 0
+abbrev pub RepliesExactly : Decider → (DecisionResult → List ℕ → List ℕ) → Type 0
 RepliesExactly decide left =
     (p : Presence) (t : ℕ) (a : Inputs) (old : List ℕ) → length old ≡ a .room
     → ((decide p t a .answer ≡ Gives (Body 6)) × (6 ≤ a .room) × (left (decide p t a) old ≡ 0x55 ∷ 0x32 ∷ 0x46 ∷ 0x5F ∷ 0x56 ∷ 0x32 ∷ drop 6 old))
@@ -87,7 +87,7 @@ RepliesExactly decide left =
 -- "An R refusal changes no buffer and no record", and takes no counter. A decision that finds R2 after the touch is spent
 -- (`r2Spends`) or the counter taken (`r2Takes`) fails it: the enrolment that was lost. Bites at a Register with 502 bytes for h
 -- 64, c 300.
-abbrev pub RefusalChangesNothing : Decider → (Result → List ℕ → List ℕ) → Type 0
+abbrev pub RefusalChangesNothing : Decider → (DecisionResult → List ℕ → List ℕ) → Type 0
 RefusalChangesNothing decide left =
     (p : Presence) (t : ℕ) (a : Inputs) (n : ℕ) (old : List ℕ) → decide p t a .answer ≡ R n
     → (decide p t a .presence ≡ p) × (left (decide p t a) old ≡ old) × (decide p t a .taken ≡ false) × (decide p t a .order ≡ blankOrder)
@@ -115,8 +115,8 @@ NoOrderIsBlank decide =
 
 -- A decision that says 'order' has asked for the room (ours; 01, Mistakes a quick port makes: "R2 found after the touch is spent"): finishing it with a certificate of the order's length and a buffer at
 -- least as long as the decision's never gives R7, R4 or R2. A decision that asks for 138 + h + c (`room138`) fails it.
-abbrev pub RoomWasAsked : Decider → Type 0
-RoomWasAsked decide =
+abbrev pub OrderHasRoom : Decider → Type 0
+OrderHasRoom decide =
     (p : Presence) (t : ℕ) (a : Inputs) (f : Finishing) → AreBlocks a → decide p t a .answer ≡ Gives Ordered → f .order ≡ decide p t a .order
     → length (f .certificate) ≡ certificateLength (decide p t a .order) → a .room ≤ length (f .reply)
     → (finishOf f ≡ R 7 → ⊥) × (finishOf f ≡ R 4 → ⊥) × (finishOf f ≡ R 2 → ⊥)
@@ -137,7 +137,7 @@ CertificateOfOrder decide =
 abbrev pub LengthsCarried : Decider → Type 0
 LengthsCarried decide =
     (p : Presence) (t : ℕ) (a : Inputs) (kind place : ℕ) → (decide p t a .answer ≡ wrongLength kind place)
-    ↔ (Passes p (a .side) t × (a .hardware .allowed ≡ Allowed′.Yes) × (commandOf (a .frame) ≡ wrongLength kind place))
+    ↔ (NotRefused p (a .side) t × (a .hardware .allowed ≡ Allowed′.Yes) × (commandOf (a .frame) ≡ wrongLength kind place))
 
 -- A 6700 has a pair, and no other status word of a decision has one. `pairDropped` fails it.
 abbrev pub DecisionPairsExactly : Decider → Type 0
@@ -158,27 +158,27 @@ pub record LimitsExactly (limit : List ℕ → ℕ) : Type 0 where
 -- remains and no part was sent, it is dropped exactly then. A panel whose refused C0 drops it (`refusedFetchDrops`) fails it, one
 -- where another INS keeps it with a body or an order (`otherInsKeeps`) or with a status word (`otherStatusKeeps`), one where an R refusal drops it (`refusalDrops`) or finds R2 after it has moved
 -- (`r2AfterMove`), and one where bytes in no shape keep it (`damagedKeeps`).
-pub record RemainderExactly (decide : Decider) (left : Inputs → Result → Remainder) : Type 0 where
+pub record RemainderExactly (decide : Decider) (left : Inputs → DecisionResult → Remainder) : Type 0 where
   pub refused : (p : Presence) (t : ℕ) (a : Inputs) (n : ℕ) → decide p t a .answer ≡ R n → left a (decide p t a) ≡ a .remainder
   pub fetched : (p : Presence) (t : ℕ) (a : Inputs) (n : ℕ) (after : Remainder) → decide p t a .answer ≡ Gives (Part n after) → left a (decide p t a) ≡ after
-  pub kept : (p : Presence) (t : ℕ) (a : Inputs) (w : StatusWord) → AsksOn a → decide p t a .answer ≡ Word w → left a (decide p t a) ≡ a .remainder
-  pub dropped : (p : Presence) (t : ℕ) (a : Inputs) → (AsksOn a → ⊥) → ((n : ℕ) → decide p t a .answer ≡ R n → ⊥) → left a (decide p t a) ≡ rest 0 0
+  pub kept : (p : Presence) (t : ℕ) (a : Inputs) (w : StatusWord) → HasInsC0 a → decide p t a .answer ≡ Word w → left a (decide p t a) ≡ a .remainder
+  pub dropped : (p : Presence) (t : ℕ) (a : Inputs) → (HasInsC0 a → ⊥) → ((n : ℕ) → decide p t a .answer ≡ R n → ⊥) → left a (decide p t a) ≡ rest 0 0
   pub exactly : (p : Presence) (t : ℕ) (a : Inputs) → 0 < a .remainder .count → ((n : ℕ) (after : Remainder) → decide p t a .answer ≡ Gives (Part n after) → ⊥)
-      → (left a (decide p t a) ≡ rest 0 0) ↔ ((AsksOn a → ⊥) × ((n : ℕ) → decide p t a .answer ≡ R n → ⊥))
+      → (left a (decide p t a) ≡ rest 0 0) ↔ ((HasInsC0 a → ⊥) × ((n : ℕ) → decide p t a .answer ≡ R n → ⊥))
 
 -- 02, E13: the old form, an extended Lc with a one-byte Le, is in no shape from now on, whatever its INS: where R6, R8, R1 and
 -- 'allowed' are passed a decision gives 6700, surplus at its Le byte, and once R6, R8 and R1 are passed a remainder is dropped (02,
 -- E2: "A frame with another INS or in no shape drops the remainder"). A decision that still serves it (`oldFormServed`) fails it,
 -- and one where a C0 in the old form keeps what remains (`oldFormKeeps`). Bites at 00 C0 00 00 | 00 00 00 01.
-pub record OldFormRefused (decide : Decider) (left : Inputs → Result → Remainder) : Type 0 where
-  pub answer : (p : Presence) (t : ℕ) (a : Inputs) → OldForm (a .frame) → Passes p (a .side) t → a .hardware .allowed ≡ Allowed′.Yes
+pub record OldFormRefused (decide : Decider) (left : Inputs → DecisionResult → Remainder) : Type 0 where
+  pub answer : (p : Presence) (t : ℕ) (a : Inputs) → OldForm (a .frame) → NotRefused p (a .side) t → a .hardware .allowed ≡ Allowed′.Yes
       → decide p t a .answer ≡ wrongLength 2 (7 + pairAt (a .frame) 5)
-  pub drops : (p : Presence) (t : ℕ) (a : Inputs) → OldForm (a .frame) → Passes p (a .side) t → left a (decide p t a) ≡ rest 0 0
+  pub drops : (p : Presence) (t : ℕ) (a : Inputs) → OldForm (a .frame) → NotRefused p (a .side) t → left a (decide p t a) ≡ rest 0 0
 
 -- The buffer for part and status: a part goes out with its 61 XX, the next one of the body that is lent, and no other answer changes it.
 -- This amends 01's "a status word other than 9000 change no reply buffer": the reply buffer, which holds the uncut body, stays
 -- (`RepliesExactly`). One that clears the buffer with a status (`statusClears`) fails it, and one that sends the part before (`partAgain`).
-pub record PartsExactly (decide : Decider) (limit : List ℕ → ℕ) (left : Inputs → Result → (body old : List ℕ) → List ℕ) : Type 0 where
+pub record PartsExactly (decide : Decider) (limit : List ℕ → ℕ) (left : Inputs → DecisionResult → (body old : List ℕ) → List ℕ) : Type 0 where
   pub part : (p : Presence) (t : ℕ) (a : Inputs) (body old : List ℕ) (n : ℕ) (after : Remainder) → decide p t a .answer ≡ Gives (Part n after)
       → left a (decide p t a) body old ≡ laid (partResponse body (a .remainder) (limit (a .frame))) old
   pub other : (p : Presence) (t : ℕ) (a : Inputs) (body old : List ℕ) → ((n : ℕ) (after : Remainder) → decide p t a .answer ≡ Gives (Part n after) → ⊥)
@@ -191,7 +191,7 @@ pub record PartsExactly (decide : Decider) (limit : List ℕ → ℕ) (left : In
 -- prompt (`checkOnlyPrompts`) or spends a touch (`checkOnlySpends`) fails it.
 abbrev pub CheckOnlyLooksAtNoTouch : Decider → Type 0
 CheckOnlyLooksAtNoTouch decide =
-    (p : Presence) (t : ℕ) (a : Inputs) (said : Says) → Passes p (a .side) t → commandOf (a .frame) ≡ Gives (Authenticate 0x07 said)
+    (p : Presence) (t : ℕ) (a : Inputs) (said : Says) → NotRefused p (a .side) t → commandOf (a .frame) ≡ Gives (Authenticate 0x07 said)
     → decide p t a ≡ result (SW (checkOnlyAnswer (a .hardware .allowed) (a .hardware .good))) (movedAt p t) blankOrder false
 
 -- ---- the record
@@ -264,8 +264,8 @@ pub record HardwareNumbers (lend : HardwareSaid → Hardware) : Type 0 where
 
 -- ---- two results that satisfy the contract are equal
 abbrev pub DecidedOneToOne : Type 0
-DecidedOneToOne = (a b : Decided) → decidedOf a ≡ decidedOf b → a ≡ b
+DecidedOneToOne = (a b : DecisionAnswer) → decisionAnswerOf a ≡ decisionAnswerOf b → a ≡ b
 
 -- the decision with what its frame says to the session, and what the two buffers hold afterwards
 pub record ResultsDetermined : Type 0 where
-  pub decide : (p : Presence) (t : ℕ) (a : Inputs) (old : Buffers) → AtMostOne (λ (o : Ruling × Buffers). Decide p t a old (o .0) (o .1))
+  pub decide : (p : Presence) (t : ℕ) (a : Inputs) (old : Buffers) → AtMostOne (λ (o : DecisionAndLimit × Buffers). Decide p t a old (o .0) (o .1))

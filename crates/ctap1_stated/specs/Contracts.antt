@@ -1,10 +1,10 @@
 -- What the public function promises: of the record, the moment, what is lent in and the two buffers at entry, of its result and of
 -- the two buffers at exit. It is lent no remainder: `a` is what a frame is decided on where nothing is left to fetch. What a frame that
 -- asks for the next part is answered otherwise, its caller finds (panel_stated, `BrinecandleDecide`).
-use Rattle.ctap1_stated.specs.Words.{ℕ, _≡_, List, Presence, Inputs, Ruling, decisionWith}
+use Rattle.ctap1_stated.specs.Words.{ℕ, _≡_, List, Presence, Inputs, DecisionAndLimit, leftFrom}
 use Rattle.ctap1_stated.specs.Path.{frameLimit}
 use Rattle.ctap1_stated.specs.Decision.{decisionOf, replyLeft, leftOf}
-use Rattle.ctap1_stated.specs.Session.{asksOn}
+use Rattle.ctap1_stated.specs.Session.{isGetResponse}
 use Rattle.apdu_stated.specs.Reading.{readOf}
 
 -- what it may write: the reply buffer, for Version's body, and the block, for an order's bytes
@@ -12,9 +12,9 @@ pub record Buffers : Type 0 where
   pub reply : List ℕ
   pub block : List ℕ
 
-abbrev pub Decide : Presence → ℕ → Inputs → (entry : Buffers) → Ruling → (exit : Buffers) → Type 0
+abbrev pub Decide : Presence → ℕ → Inputs → (entry : Buffers) → DecisionAndLimit → (exit : Buffers) → Type 0
 Decide p t a entry r exit =
-    (decisionWith (r .decision) (exit .block) ≡ leftOf (decisionOf p t a) (entry .block))
+    (leftFrom (r .decision) (exit .block) ≡ leftOf (decisionOf p t a) (entry .block))
     × (exit .reply ≡ replyLeft (decisionOf p t a) (entry .reply))
     × (r .limit ≡ frameLimit (a .frame))
-    × (r .«asks_on» ≡ asksOn (readOf (a .frame)))
+    × (r .«is_get_response» ≡ isGetResponse (readOf (a .frame)))

@@ -10,28 +10,28 @@ use Rattle.apdu_stated.specs.Reading.{readOf}
 use Rattle.response_stated.specs.Words.{Sent}
 use Rattle.response_stated.specs.Parts.{limitOf, nextPartOf}
 use Rattle.command_stated.specs.Command.{Command, Register, Authenticate, Version, GetResponse, commandOf, challengeOf, applicationOf}
-use Rattle.u2f_up_stated.specs.History.{Role, Checking, Settling, Short}
+use Rattle.u2f_up_stated.specs.History.{Role, Checking, Settling, TooShort}
 use Rattle.signing_stated.specs.Layouts.{presenceByte}
 use Rattle.signing_stated.specs.Orders.{registerOrderOf, authenticateOrderOf}
 use Rattle.signing_stated.specs.Finishing.{registerRoom, authenticateRoom}
 
 -- the last step: 6f00, 6a80, or an order, with the counter taken or not
-pub data Ending : Type 0 where
-  Internal : Ending
-  WrongData : Ending
-  Orders : Order → (taken : Bool) → Ending
+pub data PathEnd : Type 0 where
+  Internal : PathEnd
+  WrongData : PathEnd
+  Orders : Order → (taken : Bool) → PathEnd
 
 -- how far a decision comes, once the moment is settled
-pub data Path : Type 0 where
-  NoRoom : Path  -- R2
-  Ends : StatusWord → Path  -- a status word, without the touch check
-  SixBytes : Path  -- Version's body
-  Fetches : Sent → Path  -- the next part of an earlier body
-  Signs : Ending → Path  -- P1 08: the last step, without the touch check
-  Touch : Ending → Path  -- the touch check, 6985; with a touch the last step
+pub data DecisionPath : Type 0 where
+  NoRoom : DecisionPath  -- R2
+  Ends : StatusWord → DecisionPath  -- a status word, without the touch check
+  SixBytes : DecisionPath  -- Version's body
+  Fetches : Sent → DecisionPath  -- the next part of an earlier body
+  Signs : PathEnd → DecisionPath  -- P1 08: the last step, without the touch check
+  Touch : PathEnd → DecisionPath  -- the touch check, 6985; with a touch the last step
 
 -- the same with a status word that has no pair
-abbrev pub Status : ℕ → Path
+abbrev pub Status : ℕ → DecisionPath
 Status n = Ends (plainWord n)
 
 -- 01: the order's contents
@@ -64,7 +64,7 @@ abbrev pub authenticateOrdered : Inputs → Says → Bool → ℕ → Order
 authenticateOrdered a said present n = signingOrder (a .frame) said present n
 
 -- 5. "then 6f00 if the store failed, h > 255, or the attestation is missing or failed; else an order"
-unfoldable pub registerEnding : Inputs → Says → Ending
+unfoldable pub registerEnding : Inputs → Says → PathEnd
 registerEnding a said =
     if not (a .hardware .stored) then Internal
     else if ltb 255 (length (a .newHandle)) then Internal
@@ -72,12 +72,12 @@ registerEnding a said =
     else Orders (registerOrdered a said) false
 
 -- 6. "counter answer failed gives 6a80; else the offered counter is reported as taken, and an order"
-unfoldable pub countedEnding : List ℕ → Says → Bool → Counter → Ending
+unfoldable pub countedEnding : List ℕ → Says → Bool → Counter → PathEnd
 countedEnding frame said present Counter′.Failed = WrongData
 countedEnding frame said present (Counter′.Offered n) = Orders (signingOrder frame said present n) true
 
 -- 6. "handle not good gives 6a80; P1 07 gives 6985; buffer under 77 gives R2; for P1 03 touch check"
-unfoldable pub loginPath : List ℕ → Hardware → (room : ℕ) → ℕ → Says → Path
+unfoldable pub loginPath : List ℕ → Hardware → (room : ℕ) → ℕ → Says → DecisionPath
 loginPath frame hardware room p1 said =
     if not (hardware .good) then Status 0x6a80
     else if eqb p1 0x07 then Status 0x6985
@@ -85,17 +85,17 @@ loginPath frame hardware room p1 said =
     else if eqb p1 0x03 then Touch (countedEnding frame said true (hardware .counter))
     else Signs (countedEnding frame said false (hardware .counter))
 
-abbrev pub authenticatePath : Inputs → ℕ → Says → Path
+abbrev pub authenticatePath : Inputs → ℕ → Says → DecisionPath
 authenticatePath a p1 said = loginPath (a .frame) (a .hardware) (a .room) p1 said
 
 -- 5. "Register: R2 if the buffer is shorter than 139 + h + c ..; touch check"
-unfoldable pub registerPath : Inputs → Says → Path
+unfoldable pub registerPath : Inputs → Says → DecisionPath
 registerPath a said =
     if ltb (a .room) (registerRoom (length (a .newHandle)) (length (a .certificate))) then NoRoom
     else Touch (registerEnding a said)
 
 -- 4. "Version: buffer under 6 gives R2; else the body"
-unfoldable pub versionPath : ℕ → Path
+unfoldable pub versionPath : ℕ → DecisionPath
 versionPath room = if ltb room 6 then NoRoom else SixBytes
 
 -- 02, E2: how many bytes of body a frame takes at a time, as its shape and Le say; bytes in no shape get no body, and 0 stands there
@@ -108,14 +108,14 @@ unfoldable pub frameLimit : List ℕ → ℕ
 frameLimit frame = limitOn (readOf frame)
 
 -- the next part: R2 or the part (it gives no status word)
-abbrev pub sentPath : Outcome Sent → Path
+abbrev pub sentPath : Outcome Sent → DecisionPath
 sentPath (R n) = NoRoom
 sentPath (Word s) = Ends s
 sentPath (Gives sent) = Fetches sent
 
 -- 02, E2, of C0: "then 6985 when nothing remains; then .. R2 when the lent body is too short for its remainder or the buffer for part and
 -- status". The lent body is what the reply buffer holds
-unfoldable pub fetchPath : (room : ℕ) → Remainder → (limit partRoom : ℕ) → Path
+unfoldable pub fetchPath : (room : ℕ) → Remainder → (limit partRoom : ℕ) → DecisionPath
 fetchPath room remainder limit partRoom =
     if eqb (remainder .count) 0 then Status 0x6985
     else sentPath (nextPartOf room remainder limit partRoom)
@@ -123,7 +123,7 @@ fetchPath room remainder limit partRoom =
 -- 3. "the frame's status", with its pair (02, E1: "Command reading, strict reading and decision carry the pair upward"), 4. Version,
 -- 5. Register, 6. Authenticate, and C0. (Command reading gives no refusal: its words have one, and the first line is never met. A type of its own for it would be
 -- one more word for the reader.)
-unfoldable pub commandPath : Inputs → Outcome Command → Path
+unfoldable pub commandPath : Inputs → Outcome Command → DecisionPath
 commandPath a (R n) = NoRoom
 commandPath a (Word s) = Ends s
 commandPath a (Gives Version) = versionPath (a .room)
@@ -132,19 +132,19 @@ commandPath a (Gives (Register said)) = registerPath a said
 commandPath a (Gives (Authenticate p1 said)) = authenticatePath a p1 said
 
 -- 2. "failed gives 6f00, no gives 6986"
-unfoldable pub allowedPath : Allowed → Inputs → Path
+unfoldable pub allowedPath : Allowed → Inputs → DecisionPath
 allowedPath Allowed′.Failed a = Status 0x6f00
 allowedPath Allowed′.No a = Status 0x6986
 allowedPath Allowed′.Yes a = commandPath a (commandOf (a .frame))
 
-unfoldable pub pathOf : Inputs → Path
+unfoldable pub pathOf : Inputs → DecisionPath
 pathOf a = allowedPath (a .hardware .allowed) a
 
 -- 01, Moments and touches, "In history terms": what a decision is to the presence record, read off its path. No line here looks
 -- at the record. "never a 6985 from P1 07": that is a status without the touch check, and so is C0's (02, E2: "demand 3 is unchanged"). Each
 -- with the side that the decision names
-abbrev pub roleOfPath : (side : ℕ) → Path → Role
-roleOfPath side NoRoom = Short side
+abbrev pub roleOfPath : (side : ℕ) → DecisionPath → Role
+roleOfPath side NoRoom = TooShort side
 roleOfPath side (Ends s) = Settling side
 roleOfPath side SixBytes = Settling side
 roleOfPath side (Fetches sent) = Settling side

@@ -1,7 +1,7 @@
--- Document 01, 'The decision', with document 02, E2's C0 and E7's sides, as one table, without `Path`: each row with its conditions, in the document's
+-- Document 01, 'The decision', with document 02, E2's C0 and E7's sides, as one table, without `DecisionPath`: each row with its conditions, in the document's
 -- order, and the whole result: answer, record, order, whether the counter was taken.
 use Prim.Native.Nat.{_-_}
-use Rattle.ctap1_stated.specs.Words.{ℕ, _+_, _<_, _≤_, _≡_, true, false, StatusWord, R, Word, SW, Gives, Body, Ordered, Part, rest, length, Presence, Inputs, Result}
+use Rattle.ctap1_stated.specs.Words.{ℕ, _+_, _<_, _≤_, _≡_, true, false, StatusWord, R, Word, SW, Gives, Body, Ordered, Part, rest, length, Presence, Inputs, DecisionResult}
 use Rattle.ctap1_stated.specs.Path.{frameLimit}
 use Rattle.ctap1_stated.specs.Terms.{result, movedAt, spentAt, promptedAt, orderOfRegister, orderOfAuthenticate, Comes, Fetching, OwnTouch, OthersTouch, roomOfRegister, Registering, Signing}
 use Rattle.ctap1_stated.specs.declared.Allowed.the-variants as Allowed′
@@ -9,26 +9,26 @@ use Rattle.ctap1_stated.specs.declared.Attestation.the-variants as Attes
 use Rattle.ctap1_stated.specs.declared.Counter.the-variants as Counter′
 use Rattle.apdu_stated.specs.Answers.{Says}
 use Rattle.command_stated.specs.Command.{Register, Authenticate, Version, GetResponse, commandOf}
-use Rattle.u2f_up_stated.specs.Terms.{BadWindow, BadSide, BadMoment, Passes, HasTouch}
+use Rattle.u2f_up_stated.specs.Terms.{BadWindow, BadSide, BadMoment, NotRefused, HasTouch}
 use Rattle.signing_stated.specs.Orders.{blankOrder}
 use Rattle.response_stated.specs.Parts.{partLength}
 
-pub data Answers (p : Presence) (t : ℕ) (a : Inputs) : Result → Type 0 where
+pub data Answers (p : Presence) (t : ℕ) (a : Inputs) : DecisionResult → Type 0 where
   -- 1. "R6, R1."; 02, E7: R8 "after R6 and before R1", "named or in the record"
   r6 : BadWindow (p .w) → Answers p t a (result (R 6) p blankOrder false)
   r8 : (BadWindow (p .w) → ⊥) → BadSide (a .side) (p .asker) → Answers p t a (result (R 8) p blankOrder false)
   r1 : (BadWindow (p .w) → ⊥) → (BadSide (a .side) (p .asker) → ⊥) → BadMoment (p .last) t → Answers p t a (result (R 1) p blankOrder false)
   -- 2. "failed gives 6f00, no gives 6986"
-  failed : Passes p (a .side) t → a .hardware .allowed ≡ Allowed′.Failed → Answers p t a (result (SW 0x6f00) (movedAt p t) blankOrder false)
-  forbidden : Passes p (a .side) t → a .hardware .allowed ≡ Allowed′.No → Answers p t a (result (SW 0x6986) (movedAt p t) blankOrder false)
+  failed : NotRefused p (a .side) t → a .hardware .allowed ≡ Allowed′.Failed → Answers p t a (result (SW 0x6f00) (movedAt p t) blankOrder false)
+  forbidden : NotRefused p (a .side) t → a .hardware .allowed ≡ Allowed′.No → Answers p t a (result (SW 0x6986) (movedAt p t) blankOrder false)
   -- 3. "the frame's status, as above", with its pair: 02, E1, "carry the pair upward"
-  frame : Passes p (a .side) t → a .hardware .allowed ≡ Allowed′.Yes → (s : StatusWord) → commandOf (a .frame) ≡ Word s → Answers p t a (result (Word s) (movedAt p t) blankOrder false)
+  frame : NotRefused p (a .side) t → a .hardware .allowed ≡ Allowed′.Yes → (s : StatusWord) → commandOf (a .frame) ≡ Word s → Answers p t a (result (Word s) (movedAt p t) blankOrder false)
   -- 4. "Version: buffer under 6 gives R2; else the body is the six bytes .., status 9000."
-  version-short : Passes p (a .side) t → Comes a Version → a .room < 6 → Answers p t a (result (R 2) p blankOrder false)
-  version : Passes p (a .side) t → Comes a Version → 6 ≤ a .room → Answers p t a (result (Gives (Body 6)) (movedAt p t) blankOrder false)
+  version-short : NotRefused p (a .side) t → Comes a Version → a .room < 6 → Answers p t a (result (R 2) p blankOrder false)
+  version : NotRefused p (a .side) t → Comes a Version → 6 ≤ a .room → Answers p t a (result (Gives (Body 6)) (movedAt p t) blankOrder false)
   -- 5. "Register: R2 if the buffer is shorter than 139 + h + c ..; touch check, 6985; then 6f00 if the store failed, h > 255, or the
   -- attestation is missing or failed; else an order."
-  register-short : (said : Says) → Passes p (a .side) t → Comes a (Register said) → a .room < roomOfRegister a → Answers p t a (result (R 2) p blankOrder false)
+  register-short : (said : Says) → NotRefused p (a .side) t → Comes a (Register said) → a .room < roomOfRegister a → Answers p t a (result (R 2) p blankOrder false)
   register-6985 : (said : Says) → Registering p t a said → (HasTouch p t → ⊥) → Answers p t a (result (SW 0x6985) (promptedAt p (a .side) t) blankOrder false)
   -- 02, E7: "If the other side reaches the touch check while a touch is live, it gets 6985, nothing is opened or spent"
   register-other : (said : Says) → Registering p t a said → OthersTouch p t a → Answers p t a (result (SW 0x6985) (movedAt p t) blankOrder false)
@@ -44,9 +44,9 @@ pub data Answers (p : Presence) (t : ℕ) (a : Inputs) : Result → Type 0 where
   -- 6. "Authenticate: handle not good gives 6a80; P1 07 gives 6985; buffer under 77 gives R2; for P1 03 touch check, 6985;
   -- counter answer failed gives 6a80; else the offered counter is reported as taken, and an order." "presence byte (01 for P1
   -- 03, 00 for 08)"
-  bad-handle : (p1 : ℕ) (said : Says) → Passes p (a .side) t → Comes a (Authenticate p1 said) → a .hardware .good ≡ false → Answers p t a (result (SW 0x6a80) (movedAt p t) blankOrder false)
-  check-only : (said : Says) → Passes p (a .side) t → Comes a (Authenticate 0x07 said) → a .hardware .good ≡ true → Answers p t a (result (SW 0x6985) (movedAt p t) blankOrder false)
-  sign-short : (p1 : ℕ) (said : Says) → Passes p (a .side) t → Comes a (Authenticate p1 said) → a .hardware .good ≡ true → (p1 ≡ 0x07 → ⊥) → a .room < 77
+  bad-handle : (p1 : ℕ) (said : Says) → NotRefused p (a .side) t → Comes a (Authenticate p1 said) → a .hardware .good ≡ false → Answers p t a (result (SW 0x6a80) (movedAt p t) blankOrder false)
+  check-only : (said : Says) → NotRefused p (a .side) t → Comes a (Authenticate 0x07 said) → a .hardware .good ≡ true → Answers p t a (result (SW 0x6985) (movedAt p t) blankOrder false)
+  sign-short : (p1 : ℕ) (said : Says) → NotRefused p (a .side) t → Comes a (Authenticate p1 said) → a .hardware .good ≡ true → (p1 ≡ 0x07 → ⊥) → a .room < 77
       → Answers p t a (result (R 2) p blankOrder false)
   sign-6985 : (said : Says) → Signing p t a 0x03 said → (HasTouch p t → ⊥) → Answers p t a (result (SW 0x6985) (promptedAt p (a .side) t) blankOrder false)
   sign-other : (said : Says) → Signing p t a 0x03 said → OthersTouch p t a → Answers p t a (result (SW 0x6985) (movedAt p t) blankOrder false)
@@ -59,7 +59,7 @@ pub data Answers (p : Presence) (t : ℕ) (a : Inputs) : Result → Type 0 where
   -- 02, E2: "C0 after the CLA check gives 6a86 .., then 6700 .." (the frame's status, as above), "then 6985 when nothing remains; then .. R2
   -- when the lent body is too short for its remainder or the buffer for part and status"; else the next part, and what remains after it.
   -- `frameLimit` and `partLength` say how many bytes go out
-  fetch-nothing : Passes p (a .side) t → Comes a GetResponse → a .remainder .count ≡ 0 → Answers p t a (result (SW 0x6985) (movedAt p t) blankOrder false)
+  fetch-nothing : NotRefused p (a .side) t → Comes a GetResponse → a .remainder .count ≡ 0 → Answers p t a (result (SW 0x6985) (movedAt p t) blankOrder false)
   fetch-short-body : Fetching p t a → a .room < a .remainder .place + a .remainder .count → Answers p t a (result (R 2) p blankOrder false)
   fetch-short-part : Fetching p t a → a .remainder .place + a .remainder .count ≤ a .room → a .partRoom < partLength (frameLimit (a .frame)) (a .remainder .count) + 2
       → Answers p t a (result (R 2) p blankOrder false)

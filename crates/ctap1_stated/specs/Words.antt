@@ -18,10 +18,10 @@ use Rattle.ctap1_stated.specs.declared.Attestation.the-variants as Attes
 pub use Rattle.ctap1_stated.specs.declared.Counter.{Counter}
 pub use Rattle.ctap1_stated.specs.declared.Hardware.{Hardware}
 pub use Rattle.ctap1_stated.specs.declared.HardwareSaid.{HardwareSaid}
-pub use Rattle.ctap1_stated.specs.declared.Decided.{Decided}
-use Rattle.ctap1_stated.specs.declared.Decided.the-variants as Decided′
+pub use Rattle.ctap1_stated.specs.declared.DecisionAnswer.{DecisionAnswer}
+use Rattle.ctap1_stated.specs.declared.DecisionAnswer.the-variants as DecisionAnswer′
 pub use Rattle.ctap1_stated.specs.declared.Decision.{Decision}
-pub use Rattle.ctap1_stated.specs.declared.Ruling.{Ruling}
+pub use Rattle.ctap1_stated.specs.declared.DecisionAndLimit.{DecisionAndLimit}
 
 -- 01, The decision: "Lent in: frame, moment, whether CTAP1 is allowed .., reply buffer, and the hardware's answers": all of it but
 -- the moment, which stands apart with the record; and 02, E7: "every decision .. names its side"
@@ -71,42 +71,42 @@ isPresent Attestation′.Failed = false
 
 -- what a decision without a refusal or a status other than 9000 comes to: a body of n bytes, status 9000, an order, or (02, E2) the
 -- next part of an earlier body, which is a response already: its length, and what remains after it
-pub data Given : Type 0 where
-  Body : ℕ → Given
-  Ordered : Given
-  Part : ℕ → Remainder → Given
+pub data DecisionGives : Type 0 where
+  Body : ℕ → DecisionGives
+  Ordered : DecisionGives
+  Part : ℕ → Remainder → DecisionGives
 
 -- 01: the answer's numbers, one line a case
-abbrev pub decidedOf : Decided → Outcome Given
-decidedOf (Decided′.Refused why) = R (refusalNo why)
-decidedOf (Decided′.Status s) = Word (wordOf s)
-decidedOf (Decided′.Body n) = Gives (Body n)
-decidedOf Decided′.Order = Gives Ordered
+abbrev pub decisionAnswerOf : DecisionAnswer → Outcome DecisionGives
+decisionAnswerOf (DecisionAnswer′.Refused why) = R (refusalNo why)
+decisionAnswerOf (DecisionAnswer′.Status s) = Word (wordOf s)
+decisionAnswerOf (DecisionAnswer′.Body n) = Gives (Body n)
+decisionAnswerOf DecisionAnswer′.Order = Gives Ordered
 
 -- the answer, the record afterwards, the order, whether the counter was taken
-pub record Result : Type 0 where
-  pub answer : Outcome Given
+pub record DecisionResult : Type 0 where
+  pub answer : Outcome DecisionGives
   pub presence : Presence
   pub order : Order
   pub taken : Bool
 
 -- a result as it is handed back: of the order its head, since the block is lent
-pub record Handed : Type 0 where
-  pub answer : Outcome Given
+pub record DecisionHanded : Type 0 where
+  pub answer : Outcome DecisionGives
   pub presence : Presence
   pub head : Head
   pub taken : Bool
 
-abbrev pub handedOf : Result → Handed
+abbrev pub handedOf : DecisionResult → DecisionHanded
 handedOf r = record { answer = r .answer; presence = r .presence; head = headOf (r .order); taken = r .taken }
 
-abbrev pub decisionSaid : Decision → Handed
-decisionSaid d = record { answer = decidedOf (d .answer); presence = d .presence; head = d .order; taken = d .taken }
+abbrev pub handedFrom : Decision → DecisionHanded
+handedFrom d = record { answer = decisionAnswerOf (d .answer); presence = d .presence; head = d .order; taken = d .taken }
 
 -- the same with what the lent block then holds
-pub record WithBlock : Type 0 where
-  pub said : Handed
+pub record DecisionLeft : Type 0 where
+  pub said : DecisionHanded
   pub block : List ℕ
 
-abbrev pub decisionWith : Decision → (block : List ℕ) → WithBlock
-decisionWith d block = record { said = decisionSaid d; block = block }
+abbrev pub leftFrom : Decision → (block : List ℕ) → DecisionLeft
+leftFrom d block = record { said = handedFrom d; block = block }

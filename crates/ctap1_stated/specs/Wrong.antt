@@ -5,11 +5,11 @@ use lib.Dec.{leb}
 use mathlib.Core.List.{_++_}
 use lib.ListN.{take, drop}
 use Rattle.ctap1_stated.specs.Words.{ℕ, _+_, Bool, true, false, not, List, [], _∷_, ltb, eqb, length, if_then_else_, StatusWord, Outcome, R, Word, SW, Gives, plainWord}
-use Rattle.ctap1_stated.specs.Words.{Presence, Order, Inputs, Hardware, HardwareSaid, Allowed, Attestation, Counter, Remainder, rest, Given, Body, Ordered, Part, Result, isPresent}
+use Rattle.ctap1_stated.specs.Words.{Presence, Order, Inputs, Hardware, HardwareSaid, Allowed, Attestation, Counter, Remainder, rest, DecisionGives, Body, Ordered, Part, DecisionResult, isPresent}
 use Rattle.ctap1_stated.specs.Numbers.{allowedOf, attestationOf, hardwareOf}
-use Rattle.ctap1_stated.specs.Path.{Ending, Internal, WrongData, Orders, Path, NoRoom, Ends, Status, SixBytes, Fetches, Signs, Touch, registerOrdered, registerEnding, countedEnding, registerPath, authenticatePath, frameLimit, commandPath, pathOf, roleOfPath}
+use Rattle.ctap1_stated.specs.Path.{PathEnd, Internal, WrongData, Orders, DecisionPath, NoRoom, Ends, Status, SixBytes, Fetches, Signs, Touch, registerOrdered, registerEnding, countedEnding, registerPath, authenticatePath, frameLimit, commandPath, pathOf, roleOfPath}
 use Rattle.ctap1_stated.specs.Decision.{refusalResult, wordResult, statusResult, ended, alongBy, along, onSettledBy, onMoment, decisionOf}
-use Rattle.ctap1_stated.specs.Session.{asksOn}
+use Rattle.ctap1_stated.specs.Session.{isGetResponse}
 use Rattle.ctap1_stated.specs.Calls.{PanelCall, TouchAt, CheckAt, AskAt, DecideAt, callOf, panelDoes, toldBy}
 use Rattle.ctap1_stated.specs.Terms.{Decider, onSide}
 use Rattle.ctap1_stated.specs.declared.Allowed.the-variants as Allowed′
@@ -21,18 +21,18 @@ use Rattle.apdu_stated.specs.Reading.{readOf}
 use Rattle.response_stated.specs.Parts.{limitOf, restAfter, partResponse}
 use Rattle.command_stated.specs.Command.{Command, Register, Authenticate, Version, GetResponse, commandOf, challengeOf, applicationOf}
 use Rattle.u2f_up_stated.specs.Moments.{Told, isLive, isR6, isR1, settleOf, checkedOf, touchClosed, promptOpened}
-use Rattle.u2f_up_stated.specs.History.{Role, Checking, Settling, Short, Call}
+use Rattle.u2f_up_stated.specs.History.{Role, Checking, Settling, TooShort, Call}
 use Rattle.u2f_up_stated.specs.Runs.{Caller}
 use Rattle.u2f_up_stated.specs.OneSide.{baseSettleOf, baseCheckedOf}
 use Rattle.u2f_up_stated.specs.declared.Finding.{Finding}
 use Rattle.signing_stated.specs.Orders.{blankOrder, registerOrderOf, authenticateOrderOf}
 
 -- ---- another path
-abbrev decideBy : (Inputs → Path) → Decider
+abbrev decideBy : (Inputs → DecisionPath) → Decider
 decideBy path p t a = onMoment p (a .side) t (path a) (settleOf p (a .side) t)
 
 -- "2. failed gives 6f00, no gives 6986. 3. the frame's status": the frame's status first
-abbrev onFrame : Inputs → Outcome Command → Path
+abbrev onFrame : Inputs → Outcome Command → DecisionPath
 onFrame a (R n) = pathOf a
 onFrame a (Word s) = Ends s
 onFrame a (Gives c) = pathOf a
@@ -41,7 +41,7 @@ abbrev pub frameFirst : Decider
 frameFirst = decideBy (λ a. onFrame a (commandOf (a .frame)))
 
 -- "failed gives 6f00, no gives 6986": the other way round
-abbrev onSwapped : Inputs → Allowed → Path
+abbrev onSwapped : Inputs → Allowed → DecisionPath
 onSwapped a Allowed′.Failed = Status 0x6986
 onSwapped a Allowed′.No = Status 0x6f00
 onSwapped a Allowed′.Yes = pathOf a
@@ -49,13 +49,13 @@ onSwapped a Allowed′.Yes = pathOf a
 abbrev pub noAndFailed : Decider
 noAndFailed = decideBy (λ a. onSwapped a (a .hardware .allowed))
 
-abbrev ifAllowed : Allowed → Path → Path
+abbrev ifAllowed : Allowed → DecisionPath → DecisionPath
 ifAllowed Allowed′.Failed x = Status 0x6f00
 ifAllowed Allowed′.No x = Status 0x6986
 ifAllowed Allowed′.Yes x = x
 
 -- another Register
-abbrev registerOr : (Inputs → Says → Path) → Inputs → Outcome Command → Path
+abbrev registerOr : (Inputs → Says → DecisionPath) → Inputs → Outcome Command → DecisionPath
 registerOr path a (R n) = commandPath a (R n)
 registerOr path a (Word s) = commandPath a (Word s)
 registerOr path a (Gives Version) = commandPath a (Gives Version)
@@ -63,10 +63,10 @@ registerOr path a (Gives GetResponse) = commandPath a (Gives GetResponse)
 registerOr path a (Gives (Register said)) = path a said
 registerOr path a (Gives (Authenticate p1 said)) = commandPath a (Gives (Authenticate p1 said))
 
-abbrev registerAs : (Inputs → Says → Path) → Decider
+abbrev registerAs : (Inputs → Says → DecisionPath) → Decider
 registerAs path = decideBy (λ a. ifAllowed (a .hardware .allowed) (registerOr path a (commandOf (a .frame))))
 
-abbrev registerWithin : ℕ → Inputs → Says → Path
+abbrev registerWithin : ℕ → Inputs → Says → DecisionPath
 registerWithin least a said = if ltb (a .room) (least + length (a .newHandle) + length (a .certificate)) then NoRoom else Touch (registerEnding a said)
 
 -- "R2 if the buffer is shorter than 139 + h + c": one less, one more
@@ -80,7 +80,7 @@ room140 = registerAs (registerWithin 140)
 abbrev pub storeFirst : Decider
 storeFirst = registerAs (λ a said. if not (a .hardware .stored) then Status 0x6f00 else registerPath a said)
 
-abbrev registerEnds : (longest : ℕ) → (Attestation → Bool) → (Inputs → Says → Order) → Inputs → Says → Path
+abbrev registerEnds : (longest : ℕ) → (Attestation → Bool) → (Inputs → Says → Order) → Inputs → Says → DecisionPath
 registerEnds longest attested order a said =
     if ltb (a .room) (139 + length (a .newHandle) + length (a .certificate)) then NoRoom
     else Touch
@@ -113,7 +113,7 @@ abbrev pub certificateMore : Decider
 certificateMore = registerAs (registerEnds 255 isPresent longerOrder)
 
 -- another Authenticate
-abbrev authenticateOr : (Inputs → ℕ → Says → Path) → Inputs → Outcome Command → Path
+abbrev authenticateOr : (Inputs → ℕ → Says → DecisionPath) → Inputs → Outcome Command → DecisionPath
 authenticateOr path a (R n) = commandPath a (R n)
 authenticateOr path a (Word s) = commandPath a (Word s)
 authenticateOr path a (Gives Version) = commandPath a (Gives Version)
@@ -121,7 +121,7 @@ authenticateOr path a (Gives GetResponse) = commandPath a (Gives GetResponse)
 authenticateOr path a (Gives (Register said)) = commandPath a (Gives (Register said))
 authenticateOr path a (Gives (Authenticate p1 said)) = path a p1 said
 
-abbrev authenticateAs : (Inputs → ℕ → Says → Path) → Decider
+abbrev authenticateAs : (Inputs → ℕ → Says → DecisionPath) → Decider
 authenticateAs path = decideBy (λ a. ifAllowed (a .hardware .allowed) (authenticateOr path a (commandOf (a .frame))))
 
 -- "handle not good gives 6a80; P1 07 gives 6985": P1 07 first
@@ -132,7 +132,7 @@ checkOnlyFirst = authenticateAs (λ a p1 said. if eqb p1 0x07 then Status 0x6985
 abbrev pub roomFirst : Decider
 roomFirst = authenticateAs (λ a p1 said. if ltb (a .room) 77 then NoRoom else authenticatePath a p1 said)
 
-abbrev authenticateEnds : (least : ℕ) → (Inputs → Says → Ending) → Inputs → ℕ → Says → Path
+abbrev authenticateEnds : (least : ℕ) → (Inputs → Says → PathEnd) → Inputs → ℕ → Says → DecisionPath
 authenticateEnds least ends08 a p1 said =
     if not (a .hardware .good) then Status 0x6a80
     else if eqb p1 0x07 then Status 0x6985
@@ -152,7 +152,7 @@ abbrev pub present08 : Decider
 present08 = authenticateAs (authenticateEnds 77 (λ a said. countedEnding (a .frame) said true (a .hardware .counter)))
 
 -- "application, presence byte .., counter .., challenge": the challenge first
-abbrev turnedEnding : List ℕ → Says → Counter → Ending
+abbrev turnedEnding : List ℕ → Says → Counter → PathEnd
 turnedEnding frame said Counter′.Failed = WrongData
 turnedEnding frame said (Counter′.Offered n) = Orders (authenticateOrderOf (record { application = challengeOf frame said; presence = 0x00; counter = bytes4 n; challenge = applicationOf frame said })) true
 
@@ -164,7 +164,7 @@ abbrev pub touchOf08 : Decider
 touchOf08 = authenticateAs (λ a p1 said. if not (a .hardware .good) then Status 0x6a80 else if eqb p1 0x07 then Status 0x6985 else if ltb (a .room) 77 then NoRoom else if eqb p1 0x08 then Touch (countedEnding (a .frame) said true (a .hardware .counter)) else Signs (countedEnding (a .frame) said false (a .hardware .counter)))
 
 -- "for P1 03 touch check, 6985": from P1 03 straight to the counter
-abbrev straightened : Path → Path
+abbrev straightened : DecisionPath → DecisionPath
 straightened NoRoom = NoRoom
 straightened (Ends s) = Ends s
 straightened SixBytes = SixBytes
@@ -179,7 +179,7 @@ abbrev pub straight : Decider
 straight = decideBy (λ a. straightened (pathOf a))
 
 -- "the offered counter is reported as taken": it is not
-abbrev untaken : Path → Path
+abbrev untaken : DecisionPath → DecisionPath
 untaken NoRoom = NoRoom
 untaken (Ends s) = Ends s
 untaken SixBytes = SixBytes
@@ -194,9 +194,9 @@ notTaken = decideBy (λ a. untaken (pathOf a))
 
 -- ---- another walk along the path
 abbrev Walk : Type 0
-Walk = Path → (kept settled : Presence) (side t : ℕ) → Result
+Walk = DecisionPath → (kept settled : Presence) (side t : ℕ) → DecisionResult
 
-abbrev onWalk : Walk → Presence → (side t : ℕ) → Path → Outcome Presence → Result
+abbrev onWalk : Walk → Presence → (side t : ℕ) → DecisionPath → Outcome Presence → DecisionResult
 onWalk walk p side t path (R n) = refusalResult n p
 onWalk walk p side t path (Word s) = wordResult s p
 onWalk walk p side t path (Gives settled) = walk path p settled side t
@@ -204,7 +204,7 @@ onWalk walk p side t path (Gives settled) = walk path p settled side t
 abbrev decideAlong : Walk → Decider
 decideAlong walk p t a = onWalk walk p (a .side) t (pathOf a) (settleOf p (a .side) t)
 
-abbrev shortAs : ((kept settled : Presence) (side t : ℕ) → Result) → Walk
+abbrev shortAs : ((kept settled : Presence) (side t : ℕ) → DecisionResult) → Walk
 shortAs short NoRoom kept settled side t = short kept settled side t
 shortAs short (Ends s) kept settled side t = along (Ends s) kept settled side t
 shortAs short SixBytes kept settled side t = along SixBytes kept settled side t
@@ -226,7 +226,7 @@ r2Takes = decideAlong (shortAs (λ kept settled side t. record { answer = R 2; p
 abbrev pub r2Moves : Decider
 r2Moves = decideAlong (shortAs (λ kept settled side t. refusalResult 2 settled))
 
-abbrev statusAs : (StatusWord → (kept settled : Presence) (side t : ℕ) → Result) → Walk
+abbrev statusAs : (StatusWord → (kept settled : Presence) (side t : ℕ) → DecisionResult) → Walk
 statusAs status NoRoom kept settled side t = along NoRoom kept settled side t
 statusAs status (Ends s) kept settled side t = status s kept settled side t
 statusAs status SixBytes kept settled side t = along SixBytes kept settled side t
@@ -252,7 +252,7 @@ checkOnlyPrompts = decideAlong (statusAs (λ s kept settled side t. wordResult s
 abbrev pub checkOnlySpends : Decider
 checkOnlySpends = decideAlong (statusAs (λ s kept settled side t. wordResult s (if eqb (s .number) 0x6985 then touchClosed settled else settled)))
 
-abbrev touchAs : (Finding → Presence → Ending → Result) → Walk
+abbrev touchAs : (Finding → Presence → PathEnd → DecisionResult) → Walk
 touchAs touch NoRoom kept settled side t = along NoRoom kept settled side t
 touchAs touch (Ends s) kept settled side t = along (Ends s) kept settled side t
 touchAs touch SixBytes kept settled side t = along SixBytes kept settled side t
@@ -265,7 +265,7 @@ abbrev pub takesAt6985 : Decider
 takesAt6985 = decideAlong (touchAs (λ f settled e. if not (f .yes) then record { answer = SW 0x6985; presence = f .presence; order = blankOrder; taken = true } else ended e (f .presence)))
 
 -- what stands in an answer without an order is blank: here the order stands beside the 6985
-abbrev orderIn : Ending → Order
+abbrev orderIn : PathEnd → Order
 orderIn Internal = blankOrder
 orderIn WrongData = blankOrder
 orderIn (Orders o taken) = o
@@ -313,10 +313,10 @@ r8AfterR1 p t a =
     else decisionOf p t a
 
 -- R8 is asked at every decision, at Version, check-only and C0 too. Here such a frame is decided as side 0's, whichever it names
-abbrev unaskedAt : (Path → Bool) → Decider
+abbrev unaskedAt : (DecisionPath → Bool) → Decider
 unaskedAt test p t a = decisionOf p t (if test (pathOf a) then onSide 0 a else a)
 
-abbrev isSixBytes : Path → Bool
+abbrev isSixBytes : DecisionPath → Bool
 isSixBytes NoRoom = false
 isSixBytes (Ends s) = false
 isSixBytes SixBytes = true
@@ -324,7 +324,7 @@ isSixBytes (Fetches sent) = false
 isSixBytes (Signs e) = false
 isSixBytes (Touch e) = false
 
-abbrev is6985 : Path → Bool
+abbrev is6985 : DecisionPath → Bool
 is6985 NoRoom = false
 is6985 (Ends s) = eqb (s .number) 0x6985
 is6985 SixBytes = false
@@ -332,7 +332,7 @@ is6985 (Fetches sent) = false
 is6985 (Signs e) = false
 is6985 (Touch e) = false
 
-abbrev isFetching : Path → Bool
+abbrev isFetching : DecisionPath → Bool
 isFetching NoRoom = false
 isFetching (Ends s) = false
 isFetching SixBytes = false
@@ -355,22 +355,22 @@ baseAsksWhose p t a = onSettledBy (λ q. if isLive (q .touch) (q .w) t && not (e
 
 -- ---- another reply
 -- "the six bytes 55 32 46 5F 56 32": U2F_V1
-abbrev replyAs : (List ℕ → List ℕ) → Outcome Given → List ℕ → List ℕ
+abbrev replyAs : (List ℕ → List ℕ) → Outcome DecisionGives → List ℕ → List ℕ
 replyAs body (R n) old = old
 replyAs body (Word s) old = old
 replyAs body (Gives (Body n)) old = body old
 replyAs body (Gives Ordered) old = old
 replyAs body (Gives (Part n after)) old = old
 
-abbrev pub otherBytes : Result → List ℕ → List ℕ
+abbrev pub otherBytes : DecisionResult → List ℕ → List ℕ
 otherBytes r old = replyAs (laid (0x55 ∷ 0x32 ∷ 0x46 ∷ 0x5F ∷ 0x56 ∷ 0x31 ∷ [])) (r .answer) old
 
 -- "the rest stays": it goes
-abbrev pub clearsRest : Result → List ℕ → List ℕ
+abbrev pub clearsRest : DecisionResult → List ℕ → List ℕ
 clearsRest r old = replyAs (λ (l : List ℕ). 0x55 ∷ 0x32 ∷ 0x46 ∷ 0x5F ∷ 0x56 ∷ 0x32 ∷ []) (r .answer) old
 
 -- ---- a body in parts: 02, E2
-abbrev fetchAs : (Inputs → Path) → Inputs → Outcome Command → Path
+abbrev fetchAs : (Inputs → DecisionPath) → Inputs → Outcome Command → DecisionPath
 fetchAs path a (R n) = commandPath a (R n)
 fetchAs path a (Word s) = commandPath a (Word s)
 fetchAs path a (Gives Version) = commandPath a (Gives Version)
@@ -387,7 +387,7 @@ abbrev pub roomBeforeNothing : Decider
 roomBeforeNothing = decideBy (λ a. ifAllowed (a .hardware .allowed) (fetchAs (λ b. if ltb (b .partRoom) 2 then NoRoom else commandPath b (Gives GetResponse)) a (commandOf (a .frame))))
 
 -- what remains after a part: one byte more is left out
-abbrev skipping : Path → Path
+abbrev skipping : DecisionPath → DecisionPath
 skipping NoRoom = NoRoom
 skipping (Ends s) = Ends s
 skipping SixBytes = SixBytes
@@ -425,24 +425,24 @@ oldFormServed p t a =
     (record { side = a .side; frame = widened (a .frame); hardware = a .hardware; newHandle = a .newHandle; certificate = a .certificate; x = a .x; y = a .y; room = a .room; remainder = a .remainder; partRoom = a .partRoom })
 
 -- "A frame with another INS or in no shape drops the remainder; a refused C0 or any R refusal keeps it": one word of it turned each
-abbrev leftBy : (refused : Remainder → Remainder) → (status : Bool → Remainder → Remainder) → (other : Remainder → Remainder) → Outcome Given → Bool → Remainder → Remainder
-leftBy refused status other (R n) asks r = refused r
-leftBy refused status other (Word s) asks r = status asks r
-leftBy refused status other (Gives (Body n)) asks r = other r
-leftBy refused status other (Gives Ordered) asks r = other r
-leftBy refused status other (Gives (Part n after)) asks r = after
+abbrev leftBy : (refused : Remainder → Remainder) → (status : Bool → Remainder → Remainder) → (other : Remainder → Remainder) → Outcome DecisionGives → Bool → Remainder → Remainder
+leftBy refused status other (R n) isC0 r = refused r
+leftBy refused status other (Word s) isC0 r = status isC0 r
+leftBy refused status other (Gives (Body n)) isC0 r = other r
+leftBy refused status other (Gives Ordered) isC0 r = other r
+leftBy refused status other (Gives (Part n after)) isC0 r = after
 
 -- here a C0 in the old form counts as a frame that asks on
-abbrev pub oldFormKeeps : Inputs → Result → Remainder
+abbrev pub oldFormKeeps : Inputs → DecisionResult → Remainder
 oldFormKeeps a r =
-    leftBy (λ k. k) (λ asks k. if asks then k else rest 0 0) (λ k. rest 0 0) (r .answer)
-    (if isOld (a .frame) then eqb (byte (a .frame) 1) 0xC0 else asksOn (readOf (a .frame))) (a .remainder)
+    leftBy (λ k. k) (λ isC0 k. if isC0 then k else rest 0 0) (λ k. rest 0 0) (r .answer)
+    (if isOld (a .frame) then eqb (byte (a .frame) 1) 0xC0 else isGetResponse (readOf (a .frame))) (a .remainder)
 
-abbrev pub refusedFetchDrops : Inputs → Result → Remainder
-refusedFetchDrops a r = leftBy (λ k. k) (λ asks k. rest 0 0) (λ k. rest 0 0) (r .answer) (asksOn (readOf (a .frame))) (a .remainder)
+abbrev pub refusedFetchDrops : Inputs → DecisionResult → Remainder
+refusedFetchDrops a r = leftBy (λ k. k) (λ isC0 k. rest 0 0) (λ k. rest 0 0) (r .answer) (isGetResponse (readOf (a .frame))) (a .remainder)
 
-abbrev pub otherInsKeeps : Inputs → Result → Remainder
-otherInsKeeps a r = leftBy (λ k. k) (λ asks k. if asks then k else rest 0 0) (λ k. k) (r .answer) (asksOn (readOf (a .frame))) (a .remainder)
+abbrev pub otherInsKeeps : Inputs → DecisionResult → Remainder
+otherInsKeeps a r = leftBy (λ k. k) (λ isC0 k. if isC0 then k else rest 0 0) (λ k. k) (r .answer) (isGetResponse (readOf (a .frame))) (a .remainder)
 
 -- of a frame that is read with another INS: 6986, 6f00, 6e00 and 6d00 keep it
 abbrev isShaped : Outcome Says → Bool
@@ -450,53 +450,53 @@ isShaped (R n) = false
 isShaped (Word s) = false
 isShaped (Gives said) = true
 
-abbrev pub otherStatusKeeps : Inputs → Result → Remainder
+abbrev pub otherStatusKeeps : Inputs → DecisionResult → Remainder
 otherStatusKeeps a r = leftBy (λ k. k) (λ shaped k. if shaped then k else rest 0 0) (λ k. rest 0 0) (r .answer) (isShaped (readOf (a .frame))) (a .remainder)
 
-abbrev pub refusalDrops : Inputs → Result → Remainder
-refusalDrops a r = leftBy (λ k. rest 0 0) (λ asks k. if asks then k else rest 0 0) (λ k. rest 0 0) (r .answer) (asksOn (readOf (a .frame))) (a .remainder)
+abbrev pub refusalDrops : Inputs → DecisionResult → Remainder
+refusalDrops a r = leftBy (λ k. rest 0 0) (λ isC0 k. if isC0 then k else rest 0 0) (λ k. rest 0 0) (r .answer) (isGetResponse (readOf (a .frame))) (a .remainder)
 
 -- R2 found after the remainder has moved
-abbrev pub r2AfterMove : Inputs → Result → Remainder
-r2AfterMove a r = leftBy (λ k. restAfter k (frameLimit (a .frame))) (λ asks k. if asks then k else rest 0 0) (λ k. rest 0 0) (r .answer) (asksOn (readOf (a .frame))) (a .remainder)
+abbrev pub r2AfterMove : Inputs → DecisionResult → Remainder
+r2AfterMove a r = leftBy (λ k. restAfter k (frameLimit (a .frame))) (λ isC0 k. if isC0 then k else rest 0 0) (λ k. rest 0 0) (r .answer) (isGetResponse (readOf (a .frame))) (a .remainder)
 
-abbrev pub damagedKeeps : Inputs → Result → Remainder
-damagedKeeps a r = leftBy (λ k. k) (λ asks k. k) (λ k. rest 0 0) (r .answer) (asksOn (readOf (a .frame))) (a .remainder)
+abbrev pub damagedKeeps : Inputs → DecisionResult → Remainder
+damagedKeeps a r = leftBy (λ k. k) (λ isC0 k. k) (λ k. rest 0 0) (r .answer) (isGetResponse (readOf (a .frame))) (a .remainder)
 
 -- every status but a part's leaves that buffer. Here a status word of its own clears the buffer for part and status
-abbrev partBy : (List ℕ → List ℕ) → (List ℕ → List ℕ) → Outcome Given → List ℕ → List ℕ
+abbrev partBy : (List ℕ → List ℕ) → (List ℕ → List ℕ) → Outcome DecisionGives → List ℕ → List ℕ
 partBy status part (R n) old = old
 partBy status part (Word s) old = status old
 partBy status part (Gives (Body n)) old = old
 partBy status part (Gives Ordered) old = old
 partBy status part (Gives (Part n after)) old = part old
 
-abbrev pub statusClears : Inputs → Result → (body old : List ℕ) → List ℕ
+abbrev pub statusClears : Inputs → DecisionResult → (body old : List ℕ) → List ℕ
 statusClears a r body old = partBy (λ (l : List ℕ). []) (laid (partResponse body (a .remainder) (frameLimit (a .frame)))) (r .answer) old
 
 -- the part is taken from the body's start again
-abbrev pub partAgain : Inputs → Result → (body old : List ℕ) → List ℕ
+abbrev pub partAgain : Inputs → DecisionResult → (body old : List ℕ) → List ℕ
 partAgain a r body old = partBy (λ (l : List ℕ). l) (laid (partResponse body (rest 0 (a .remainder .count)) (frameLimit (a .frame)))) (r .answer) old
 
 -- ---- another role in the history
-abbrev rolesBy : (ℕ → Path → Role) → PanelCall → Call
+abbrev rolesBy : (ℕ → DecisionPath → Role) → PanelCall → Call
 rolesBy role (TouchAt t) = callOf (TouchAt t)
 rolesBy role (CheckAt s t) = callOf (CheckAt s t)
 rolesBy role (AskAt t) = callOf (AskAt t)
 rolesBy role (DecideAt t a) = record { role = role (a .side) (pathOf a); moment = t }
 
-abbrev doesBy : (ℕ → Path → Result → Told) → Presence → PanelCall → Told
+abbrev doesBy : (ℕ → DecisionPath → DecisionResult → Told) → Presence → PanelCall → Told
 doesBy told p (TouchAt t) = panelDoes decisionOf p (TouchAt t)
 doesBy told p (CheckAt s t) = panelDoes decisionOf p (CheckAt s t)
 doesBy told p (AskAt t) = panelDoes decisionOf p (AskAt t)
 doesBy told p (DecideAt t a) = told (a .side) (pathOf a) (decisionOf p t a)
 
-abbrev callsBy : (ℕ → Path → Role) → Caller PanelCall
+abbrev callsBy : (ℕ → DecisionPath → Role) → Caller PanelCall
 callsBy role = record { asCall = rolesBy role; does = doesBy (λ side x r. toldBy (role side x) r) }
 
 -- "never a 6985 from P1 07": it is taken for a prompting refusal
-abbrev roleOf07 : ℕ → Path → Role
-roleOf07 side NoRoom = Short side
+abbrev roleOf07 : ℕ → DecisionPath → Role
+roleOf07 side NoRoom = TooShort side
 roleOf07 side (Ends s) = if eqb (s .number) 0x6985 then Checking side else Settling side
 roleOf07 side SixBytes = Settling side
 roleOf07 side (Fetches sent) = Settling side
@@ -511,8 +511,8 @@ abbrev pub fetchAsCheck : Caller PanelCall
 fetchAsCheck = callsBy roleOf07
 
 -- "a 6985 from Register or from P1 03": it is taken for an answer without the touch check
-abbrev roleOfTouch : ℕ → Path → Role
-roleOfTouch side NoRoom = Short side
+abbrev roleOfTouch : ℕ → DecisionPath → Role
+roleOfTouch side NoRoom = TooShort side
 roleOfTouch side (Ends s) = Settling side
 roleOfTouch side SixBytes = Settling side
 roleOfTouch side (Fetches sent) = Settling side
@@ -527,7 +527,7 @@ abbrev pub sideLost : Caller PanelCall
 sideLost = record { asCall = rolesBy (λ side x. roleOfPath 0 x); does = doesBy (λ side x r. toldBy (roleOfPath 0 x) r) }
 
 -- "A call spends a touch if the check succeeds, also when a later step answers 6f00 or 6a80": seen to spend by orders alone
-abbrev orderSeen : Outcome Given → Outcome Bool
+abbrev orderSeen : Outcome DecisionGives → Outcome Bool
 orderSeen (R n) = R n
 orderSeen (Word s) = Gives false
 orderSeen (Gives g) = Gives true

@@ -47,7 +47,7 @@ pub struct Hardware {
     pub counter: Counter,
 }
 
-pub enum Decided {
+pub enum DecisionAnswer {
     Refused(Refusal),
     Status(ApduStatusCode),
     Body(usize),
@@ -57,7 +57,7 @@ pub enum Decided {
 // The answer, the record to go on with, the order's head (blank where the answer is none; its block is in the lent one), and whether
 // the counter was taken.
 pub struct Decision {
-    pub answer: Decided,
+    pub answer: DecisionAnswer,
     pub presence: Presence,
     pub order: Head,
     pub taken: bool,
@@ -65,8 +65,8 @@ pub struct Decision {
 
 // A decision where nothing is left to fetch, how many bytes of body the frame takes at a time, 0 for all of them, and whether it asks for
 // the next part. What a frame that asks is answered where something is left, its caller finds: it writes the part where it wants it.
-pub struct Ruling {
+pub struct DecisionAndLimit {
     pub decision: Decision,
     pub limit: u32,
-    pub asks_on: bool,
+    pub is_get_response: bool,
 }

@@ -1,10 +1,10 @@
 -- The three demands are met: each field is the theorem of its claim's name.
 use Rattle.outcome.proofs.Theorems as Numbers
 use Rattle.octets.proofs.Theorems as Bytes
-use Rattle.le.proofs.Theorems as LeFields
-use Rattle.fields.proofs.Theorems as Fields
+use Rattle.apdu_le.proofs.Theorems as LeFields
+use Rattle.signing_fields.proofs.Theorems as Fields
 use Rattle.apdu_stated.proofs.Theorems as Frames
-use Rattle.table_stated.proofs.Theorems as Tables
+use Rattle.apdu_table_stated.proofs.Theorems as Tables
 use Rattle.convert_stated.proofs.Theorems as Converter
 use Rattle.command_stated.proofs.Theorems as Commands
 use Rattle.response_stated.proofs.Theorems as Responses
@@ -65,7 +65,7 @@ answered =
       remainder = Decision.RemainderExactly;
       old-form-refused = Decision.OldFormRefused;
       part-buffer = Decision.PartsExactly;
-      room-was-asked = Decision.RoomWasAsked;
+      order-has-room = Decision.OrderHasRoom;
     }
 
 pub documents : AsTheDocumentsSay

@@ -7,18 +7,18 @@ use Rattle.outcome.specs.Claims as Numbers
 use Rattle.outcome.specs.Outcome.{statusNo, faultOf, wordOf, refusalNo}
 use Rattle.octets.specs.Claims as Bytes
 use Rattle.octets.specs.Bytes.{laid, bytes2, bytes4, allZero, partOf}
-use Rattle.le.specs.Claims as LeFields
-use Rattle.le.specs.Field.{saidOf, putOf, canSay}
-use Rattle.fields.specs.Claims as Fields
+use Rattle.apdu_le.specs.Claims as LeFields
+use Rattle.apdu_le.specs.Field.{saidOf, putOf, canSay}
+use Rattle.signing_fields.specs.Claims as Fields
 use Rattle.apdu_stated.specs.Table.{leBytes}
 use Rattle.apdu_stated.specs.Claims as Frames
 use Rattle.apdu_stated.specs.Reading.{readOf, strictOf, dataOf}
 use Rattle.apdu_stated.specs.Terms.{InTable, Carries}
 use Rattle.apdu_stated.specs.Writing.{writingOf, strictWritingOf}
 use Rattle.apdu_stated.specs.declared.Entry.the-variants.{Ordinary, Strict}
-use Rattle.table_stated.specs.Claims as Tables
-use Rattle.table_stated.specs.Rows.{tableOf}
-use Rattle.table_stated.specs.Answers.{readByRows}
+use Rattle.apdu_table_stated.specs.Claims as Tables
+use Rattle.apdu_table_stated.specs.Rows.{tableOf}
+use Rattle.apdu_table_stated.specs.Answers.{readByRows}
 use Rattle.convert_stated.specs.Claims as Converter
 use Rattle.convert_stated.specs.Converting.{isOld, convertOf}
 use Rattle.command_stated.specs.Claims as Commands
@@ -110,7 +110,7 @@ pub record EveryInputIsAnswered : Type 0 where
   -- 02, E13: a decision gives the retired shape 6 its 6700, surplus at its Le byte, and such a frame drops a remainder, whatever its INS
   pub old-form-refused : Decision.OldFormRefused decisionOf remainderLeft
   -- the enrolment that was lost: an order has asked for its room before the touch was spent
-  pub room-was-asked : Decision.RoomWasAsked decisionOf
+  pub order-has-room : Decision.OrderHasRoom decisionOf
 
 -- 2. The results are the Rust's, statuses by their number alone, bodies uncut, without INS C0 (02, E2) and the old form (E13), and
 -- with one side throughout (E7): that is run, not proved (oracle/compare, and the Rust's own answers in cases/). Proved is what

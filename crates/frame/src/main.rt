@@ -9,8 +9,8 @@ use apdu::Case;
 use apdu::Reading;
 use libc::STDERR_FILENO;
 use libc::STDIN_FILENO;
-use spell::number;
-use spell::words;
+use program_spell::number;
+use program_spell::words;
 
 fn print_shape(shape: Case) -> bool {
     match shape {
@@ -35,7 +35,7 @@ fn print_reading(frame: &[u8]) -> bool {
     let reading = apdu::read(frame);
     let said = match reading {
         Reading::Frame(says) => print_frame(says),
-        Reading::Status(status) => spell::status_word(true, b"SW ", status),
+        Reading::Status(status) => program_spell::status_word(true, b"SW ", status),
     };
     words(said, b"\n")
 }
@@ -82,8 +82,8 @@ fn main() {
         return;
     }
     if left > 0 {
-        spell::close(words(true, b"too long\n"));
+        program_spell::close(words(true, b"too long\n"));
         return;
     }
-    spell::close(print_asked(way, &buffer[..n]));
+    program_spell::close(print_asked(way, &buffer[..n]));
 }

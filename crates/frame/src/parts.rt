@@ -5,8 +5,8 @@ use apdu::Reading;
 use command::U2fCommand;
 
 fn print_fields(good: bool, frame: &[u8], says: Apdu) -> bool {
-    let fine = spell::bytes(good, b"\nchallenge ", command::challenge(frame, says));
-    spell::bytes(fine, b"\napplication ", command::application(frame, says))
+    let fine = program_spell::bytes(good, b"\nchallenge ", command::challenge(frame, says));
+    program_spell::bytes(fine, b"\napplication ", command::application(frame, says))
 }
 
 fn print_command(good: bool, frame: &[u8], command: U2fCommand) -> bool {
@@ -14,11 +14,11 @@ fn print_command(good: bool, frame: &[u8], command: U2fCommand) -> bool {
         U2fCommand::Register(says) => print_fields(good, frame, says),
         U2fCommand::Authenticate(_, says) => {
             let fine = print_fields(good, frame, says);
-            spell::bytes(fine, b"\nhandle ", command::key_handle(frame, says))
+            program_spell::bytes(fine, b"\nhandle ", command::key_handle(frame, says))
         }
         U2fCommand::Version => good,
         U2fCommand::GetResponse => good,
-        U2fCommand::Status(status) => spell::status(good, b"\nno command: SW ", status),
+        U2fCommand::Status(status) => program_spell::status(good, b"\nno command: SW ", status),
     }
 }
 
@@ -26,10 +26,10 @@ pub fn print(frame: &[u8]) -> bool {
     let reading = apdu::read(frame);
     let said = match reading {
         Reading::Frame(says) => {
-            let fine = spell::bytes(true, b"data ", apdu::data(frame, says));
+            let fine = program_spell::bytes(true, b"data ", apdu::data(frame, says));
             print_command(fine, frame, command::read_command(frame))
         }
-        Reading::Status(status) => spell::status(true, b"SW ", status),
+        Reading::Status(status) => program_spell::status(true, b"SW ", status),
     };
-    spell::words(said, b"\n")
+    program_spell::words(said, b"\n")
 }

@@ -1,9 +1,9 @@
 // What the argument `table` asks for: by each of the two tables of crate table, the row that fits the frame, with its columns, and what
 // the frame says by it; or the status word, and what is wrong with the length and where.
-use spell::number;
-use spell::words;
-use table::TableReading;
-use table::Tried;
+use apdu_table::TableReading;
+use apdu_table::Tried;
+use program_spell::number;
+use program_spell::words;
 
 fn print_tried(good: bool, tried: Tried) -> bool {
     let Tried::ByRow(row) = tried else {
@@ -21,18 +21,18 @@ fn print_reading(good: bool, reading: TableReading) -> bool {
             let lc = number(good, b": Lc ", says.lc as u64);
             number(lc, b", Le ", says.le as u64)
         }
-        TableReading::Status(status) => spell::status(good, b": SW ", status),
+        TableReading::Status(status) => program_spell::status(good, b": SW ", status),
     };
     words(said, b"\n")
 }
 
 pub fn print_both(frame: &[u8]) -> bool {
-    let ordinary = table::ordinary();
+    let ordinary = apdu_table::ordinary();
     let mut good = words(true, b"ordinary");
-    good = print_tried(good, table::try_rows(&ordinary, frame));
-    good = print_reading(good, table::read(frame));
-    let strict = table::strict();
+    good = print_tried(good, apdu_table::try_rows(&ordinary, frame));
+    good = print_reading(good, apdu_table::read(frame));
+    let strict = apdu_table::strict();
     good = words(good, b"strict");
-    good = print_tried(good, table::try_rows(&strict, frame));
-    print_reading(good, table::read_strict(frame))
+    good = print_tried(good, apdu_table::try_rows(&strict, frame));
+    print_reading(good, apdu_table::read_strict(frame))
 }

@@ -2,8 +2,8 @@
 // after it: W, prompt, touch, last moment and asker, a closed window as `-`. The file stdout is written from the documents.
 mod lent;
 
-use spell::number;
-use spell::words;
+use program_spell::number;
+use program_spell::words;
 use u2f_up::Answer;
 use u2f_up::Presence;
 use u2f_up::Step;

@@ -5,12 +5,12 @@ use mathlib.Core.List.{List}
 use Rattle.outcome.specs.Outcome.{Word, wordOf}
 use Rattle.outcome.specs.declared.ApduStatusCode.{ApduStatusCode}
 use Rattle.apdu_stated.specs.declared.Entry.{Entry}
-use Rattle.table_stated.specs.Rows.{tableOf}
-use Rattle.table_stated.specs.Answers.{rowSaysOf, tableReadingOf, readByRows}
-use Rattle.table_stated.specs.declared.RowSays.{RowSays}
-use Rattle.table_stated.specs.declared.TableReading.{TableReading}
-use Rattle.table_stated.specs.declared.TableReading.the-variants.{Frame, Status}
-use Rattle.table_stated.proofs.Laws.{same-reading}
+use Rattle.apdu_table_stated.specs.Rows.{tableOf}
+use Rattle.apdu_table_stated.specs.Answers.{rowSaysOf, tableReadingOf, readByRows}
+use Rattle.apdu_table_stated.specs.declared.RowSays.{RowSays}
+use Rattle.apdu_table_stated.specs.declared.TableReading.{TableReading}
+use Rattle.apdu_table_stated.specs.declared.TableReading.the-variants.{Frame, Status}
+use Rattle.apdu_table_stated.proofs.Laws.{same-reading}
 use Rattle.panel_stated.specs.Exports.{frameNumbers, saidNumbers, readsOf}
 use Rattle.panel_stated.specs.declared.FrameSaid.{FrameSaid}
 

@@ -1,8 +1,9 @@
 // What the panel's C firmware links: every call of the core over plain numbers and byte slices. include/brinecandle.h says
-// the same in C, and .ci/header compares the two. The structs stand in panel_stated, the conversions in plain_frames,
-// plain_presence, plain_orders and plain_responses.
+// the same in C, and .ci/header compares the two. The structs stand in panel_stated, the conversions in panel_frames,
+// panel_presence, panel_orders and panel_responses.
 use apdu::Reading;
-use ctap1::Decided;
+use apdu_table::TableReading;
+use ctap1::DecisionAnswer;
 use ctap1::HardwareSaid;
 use panel_stated::Asked;
 use panel_stated::CommandSaid;
@@ -18,9 +19,8 @@ use panel_stated::Stepped;
 use panel_stated::Wrote;
 use response::Remainder;
 use signing::Head;
-use table::TableReading;
 ghost use mathlib.Core.Path.{_≡_};
-ghost use Rattle.table_stated.specs.Answers.{tableReadingOf};
+ghost use Rattle.apdu_table_stated.specs.Answers.{tableReadingOf};
 ghost use Rattle.panel_stated.specs.Exports.{frameNumbers};
 ghost use Rattle.panel_stated.specs.Contracts.{BrinecandleRead, BrinecandleReadStrict, BrinecandleReadByTable, BrinecandleReadStrictByTable, BrinecandleWrite, BrinecandleWriteStrict, BrinecandleReadCommand, BrinecandleNew, BrinecandleGrantUp, BrinecandleConsumeUp, BrinecandleIsUpNeeded, BrinecandleDecide, BrinecandleFinish, BrinecandleWriteResponse, BrinecandleReadResponse, BrinecandleNextPart};
 
@@ -32,8 +32,8 @@ pub extern "C" fn brinecandle_read(frame: &[u8]) -> FrameSaid
 {
     let reading = apdu::read(frame);
     match reading {
-        Reading::Frame(says) => return plain_frames::frame_numbers(says),
-        Reading::Status(status) => return plain_frames::frame_status(status),
+        Reading::Frame(says) => return panel_frames::frame_numbers(says),
+        Reading::Status(status) => return panel_frames::frame_status(status),
     }
 }
 
@@ -44,8 +44,8 @@ pub extern "C" fn brinecandle_read_strict(frame: &[u8]) -> FrameSaid
 {
     let reading = apdu::read_strict(frame);
     match reading {
-        Reading::Frame(says) => return plain_frames::frame_numbers(says),
-        Reading::Status(status) => return plain_frames::frame_status(status),
+        Reading::Frame(says) => return panel_frames::frame_numbers(says),
+        Reading::Status(status) => return panel_frames::frame_status(status),
     }
 }
 
@@ -72,7 +72,7 @@ fn table_plain(reading: TableReading) -> FrameSaid
                 place: 0,
             }
         }
-        TableReading::Status(status) => plain_frames::frame_status(status),
+        TableReading::Status(status) => panel_frames::frame_status(status),
     }
 }
 
@@ -81,7 +81,7 @@ fn table_plain(reading: TableReading) -> FrameSaid
 pub extern "C" fn brinecandle_read_by_table(frame: &[u8]) -> FrameSaid
     ensures { λ r. ⌜ BrinecandleReadByTable (now (frame .entry)) r ⌝ }
 {
-    table_plain(table::read(frame))
+    table_plain(apdu_table::read(frame))
 }
 
 // By ISO's table as data, as brinecandle_read_strict.
@@ -89,7 +89,7 @@ pub extern "C" fn brinecandle_read_by_table(frame: &[u8]) -> FrameSaid
 pub extern "C" fn brinecandle_read_strict_by_table(frame: &[u8]) -> FrameSaid
     ensures { λ r. ⌜ BrinecandleReadStrictByTable (now (frame .entry)) r ⌝ }
 {
-    table_plain(table::read_strict(frame))
+    table_plain(apdu_table::read_strict(frame))
 }
 
 // Writes a frame at the front of out.
@@ -113,7 +113,7 @@ pub extern "C" fn brinecandle_write(
     }) r (now (out .exit)) ⌝ }
 {
     let header = apdu::ApduHeader { cla, ins, p1, p2 };
-    plain_frames::write_plain(header, shape, content, le, out)
+    panel_frames::write_plain(header, shape, content, le, out)
 }
 
 // The same by ISO's seven cases: R5 for shape 7 without data, then as the writer.
@@ -136,7 +136,7 @@ pub extern "C" fn brinecandle_write_strict(
       out = now (out .entry);
     }) r (now (out .exit)) ⌝ }
 {
-    if !plain_frames::strict_plain(shape, content.len()) {
+    if !panel_frames::strict_plain(shape, content.len()) {
         return Wrote {
             answer: 5,
             length: 0,
@@ -150,7 +150,7 @@ pub extern "C" fn brinecandle_write_strict(
 pub extern "C" fn brinecandle_read_command(frame: &[u8]) -> CommandSaid
     ensures { λ r. ⌜ BrinecandleReadCommand (now (frame .entry)) r ⌝ }
 {
-    plain_frames::read_command_plain(frame)
+    panel_frames::read_command_plain(frame)
 }
 
 // A fresh record. What stands for one after a refusal has W 0, so no call takes it.
@@ -158,7 +158,7 @@ pub extern "C" fn brinecandle_read_command(frame: &[u8]) -> CommandSaid
 pub extern "C" fn brinecandle_new(w: u64) -> Made
     ensures { λ r. ⌜ BrinecandleNew w r ⌝ }
 {
-    plain_presence::made_plain(u2f_up::new(w))
+    panel_presence::made_plain(u2f_up::new(w))
 }
 
 // A finger touches at t.
@@ -166,7 +166,7 @@ pub extern "C" fn brinecandle_new(w: u64) -> Made
 pub extern "C" fn brinecandle_grant_up(presence: PresenceRecord, t: u64) -> Stepped
     ensures { λ r. ⌜ BrinecandleGrantUp presence t r ⌝ }
 {
-    plain_presence::step_plain(u2f_up::grant_up(plain_presence::record_lent(presence), t))
+    panel_presence::step_plain(u2f_up::grant_up(panel_presence::record_lent(presence), t))
 }
 
 // The touch check at t, for the side that checks.
@@ -174,7 +174,7 @@ pub extern "C" fn brinecandle_grant_up(presence: PresenceRecord, t: u64) -> Step
 pub extern "C" fn brinecandle_consume_up(presence: PresenceRecord, side: u32, t: u64) -> Stepped
     ensures { λ r. ⌜ BrinecandleConsumeUp presence side t r ⌝ }
 {
-    plain_presence::step_plain(u2f_up::consume_up(plain_presence::record_lent(presence), side, t))
+    panel_presence::step_plain(u2f_up::consume_up(panel_presence::record_lent(presence), side, t))
 }
 
 // Whether a prompt is live at t. It hands back no record, since it changes none.
@@ -182,7 +182,7 @@ pub extern "C" fn brinecandle_consume_up(presence: PresenceRecord, side: u32, t:
 pub extern "C" fn brinecandle_is_up_needed(presence: PresenceRecord, t: u64) -> Asked
     ensures { λ r. ⌜ BrinecandleIsUpNeeded presence t r ⌝ }
 {
-    plain_presence::asked_plain(u2f_up::is_up_needed(plain_presence::record_lent(presence), t))
+    panel_presence::asked_plain(u2f_up::is_up_needed(panel_presence::record_lent(presence), t))
 }
 
 // Decides what a frame is answered, for the side that it came from. The block is written for an order alone: a refused call leaves an order that waits
@@ -219,7 +219,7 @@ pub extern "C" fn brinecandle_decide(
       part = now (part .entry);
     }) r (now (reply .exit)) (now (block .exit)) (now (part .exit)) ⌝ }
 {
-    let kept = plain_presence::record_lent(presence);
+    let kept = panel_presence::record_lent(presence);
     let ruling = ctap1::decide(
         frame,
         side,
@@ -240,16 +240,16 @@ pub extern "C" fn brinecandle_decide(
     let taken = decision.taken;
     let after = decision.presence;
     match answer {
-        Decided::Refused(why) => return plain_orders::refused_numbers(
+        DecisionAnswer::Refused(why) => return panel_orders::refused_numbers(
             why,
             taken,
             after,
             remainder,
             limit,
         ),
-        Decided::Status(status) => return plain_responses::stated_numbers(
+        DecisionAnswer::Status(status) => return panel_responses::stated_numbers(
             status,
-            ruling.asks_on,
+            ruling.is_get_response,
             taken,
             kept,
             after,
@@ -258,14 +258,14 @@ pub extern "C" fn brinecandle_decide(
             reply,
             part,
         ),
-        Decided::Body(length) => return plain_orders::body_numbers(
+        DecisionAnswer::Body(length) => return panel_orders::body_numbers(
             length,
             taken,
             after,
             response::nothing(),
             limit,
         ),
-        Decided::Order => return plain_orders::order_numbers(
+        DecisionAnswer::Order => return panel_orders::order_numbers(
             order,
             taken,
             after,
@@ -294,7 +294,7 @@ pub extern "C" fn brinecandle_finish(
       reply = now (reply .entry);
     }) r (now (reply .exit)) ⌝ }
 {
-    let numbered = plain_orders::kind_numbered(order.kind);
+    let numbered = panel_orders::kind_numbered(order.kind);
     match numbered {
         Kinded::As(kind) => {
             let made = Head {
@@ -302,7 +302,7 @@ pub extern "C" fn brinecandle_finish(
                 to_sign: order.to_sign,
                 certificate_length: order.certificate_length,
             };
-            plain_orders::finished_plain(signing::finish(
+            panel_orders::finished_plain(signing::finish(
                 made,
                 block,
                 certificate,
@@ -323,7 +323,7 @@ pub extern "C" fn brinecandle_finish(
 pub extern "C" fn brinecandle_write_response(body: &[u8], status: u16, out: &mut [u8]) -> Wrote
     ensures { λ r. ⌜ BrinecandleWriteResponse (now (body .entry)) status (now (out .entry)) r (now (out .exit)) ⌝ }
 {
-    plain_responses::wrote_response_plain(response::write_response(body, status, out))
+    panel_responses::wrote_response_plain(response::write_response(body, status, out))
 }
 
 // Reads any bytes as a response; its body is the front of the caller's bytes.
@@ -331,7 +331,7 @@ pub extern "C" fn brinecandle_write_response(body: &[u8], status: u16, out: &mut
 pub extern "C" fn brinecandle_read_response(response: &[u8]) -> ResponseSaid
     ensures { λ r. ⌜ BrinecandleReadResponse (now (response .entry)) r ⌝ }
 {
-    plain_responses::response_plain(response::read_response(response))
+    panel_responses::response_plain(response::read_response(response))
 }
 
 // Writes the next part of what remains of a body, and its status, at the front of part. A first part is the next one of (0, n).
@@ -344,5 +344,5 @@ pub extern "C" fn brinecandle_next_part(
 ) -> PartSaid
     ensures { λ r. ⌜ BrinecandleNextPart (now (body .entry)) remainder limit (now (part .entry)) r (now (part .exit)) ⌝ }
 {
-    plain_responses::next_plain(response::next_part(body, remainder, limit, part), remainder)
+    panel_responses::next_plain(response::next_part(body, remainder, limit, part), remainder)
 }

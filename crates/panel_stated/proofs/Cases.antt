@@ -54,10 +54,10 @@ use Rattle.signing_stated.specs.declared.Finished.the-variants as Finished′
 use Rattle.signing_stated.specs.declared.Kind.{Kind}
 use Rattle.signing_stated.specs.declared.Kind.the-variants as Kind′
 use Rattle.signing_stated.specs.declared.Head.{Head}
-use Rattle.ctap1_stated.specs.Words.{Body, Ordered, Part, Result, WithBlock, decidedOf, decisionSaid, decisionWith}
+use Rattle.ctap1_stated.specs.Words.{Body, Ordered, Part, DecisionResult, DecisionLeft, decisionAnswerOf, handedFrom, leftFrom}
 use Rattle.ctap1_stated.specs.Path.{Status, frameLimit, sentPath, fetchPath}
 use Rattle.ctap1_stated.specs.Decision.{refusalResult, statusResult, partResult, along, decisionOf, replyLeft, blockLeft, leftOf}
-use Rattle.ctap1_stated.specs.Session.{asksOn, remainderAfter, remainderLeft, partAfter, partLeft}
+use Rattle.ctap1_stated.specs.Session.{isGetResponse, remainderAfter, remainderLeft, partAfter, partLeft}
 use Rattle.ctap1_stated.proofs.Laws.{same-refused, same-given, same-word, same-unasked, fetched-decision}
 use Rattle.apdu_stated.specs.Reading.{readOf}
 use Rattle.apdu_stated.proofs.Laws.{strict-out, strict-out-kept, strict-same, strict-same-buffer}
@@ -70,8 +70,8 @@ use Rattle.response_stated.specs.declared.WroteResponse.{WroteResponse}
 use Rattle.response_stated.specs.declared.WroteResponse.the-variants as WroteResponse′
 use Rattle.response_stated.specs.declared.NextPart.{NextPart}
 use Rattle.response_stated.specs.declared.NextPart.the-variants as NextPart′
-use Rattle.ctap1_stated.specs.declared.Decided.{Decided}
-use Rattle.ctap1_stated.specs.declared.Decided.the-variants as Decided′
+use Rattle.ctap1_stated.specs.declared.DecisionAnswer.{DecisionAnswer}
+use Rattle.ctap1_stated.specs.declared.DecisionAnswer.the-variants as DecisionAnswer′
 use Rattle.ctap1_stated.specs.declared.Decision.{Decision}
 use Rattle.ctap1_stated.specs.declared.Hardware.{Hardware}
 use Rattle.panel_stated.specs.declared.Kinded.the-variants as Kinded′
@@ -348,15 +348,15 @@ never-other bodyRoom k limit room n e = by (ltb bodyRoom (k .place + k .count)) 
     by false false x = absurd (r-gives _ _ x)
 
 module _ (kept settled : Presence) (k : Remainder) (limit : ℕ) (body old : List ℕ) where
-  abbrev fetched : Result
+  abbrev fetched : DecisionResult
   fetched = along (fetchPath (length body) k limit (length old)) kept settled 0 0
 
   abbrev Fetched : DecisionSaid → Type 0
   Fetched r = r ≡ decisionNumbers fetched (remainderAfter (fetched .answer) true k) limit
 
   -- a result whose numbers are these
-  at : (x : Result) (r : DecisionSaid) → x ≡ fetched → r ≡ decisionNumbers x (remainderAfter (x .answer) true k) limit → Fetched r
-  at x r e is = is ∙ ap (λ (y : Result). decisionNumbers y (remainderAfter (y .answer) true k) limit) e
+  at : (x : DecisionResult) (r : DecisionSaid) → x ≡ fetched → r ≡ decisionNumbers x (remainderAfter (x .answer) true k) limit → Fetched r
+  at x r e is = is ∙ ap (λ (y : DecisionResult). decisionNumbers y (remainderAfter (y .answer) true k) limit) e
 
   module _ (none : k .count ≡ 0) where
     nothing-is : statusResult 0x6985 settled ≡ fetched
@@ -367,7 +367,7 @@ module _ (kept settled : Presence) (k : Remainder) (limit : ℕ) (body old : Lis
     fetched-nothing r is = at (statusResult 0x6985 settled) r nothing-is is
 
     pub fetched-kept : old ≡ partAfter (fetched .answer) (partResponse body k limit) old
-    fetched-kept = ap (λ (x : Result). partAfter (x .answer) (partResponse body k limit) old) nothing-is
+    fetched-kept = ap (λ (x : DecisionResult). partAfter (x .answer) (partResponse body k limit) old) nothing-is
 
   module _ (more : k .count ≡ 0 → ⊥) (next : NextPart) (is-next : partSent next ≡ nextPartOf (length body) k limit (length old)) where
     sent-is : (n : NextPart) → next ≡ n → along (sentPath (partSent n)) kept settled 0 0 ≡ fetched
@@ -393,7 +393,7 @@ module _ (kept settled : Presence) (k : Remainder) (limit : ℕ) (body old : Lis
 
 -- ---- a ruling's status word
 module _ (s : ApduStatusCode) (b taken : Bool) (kept settled : Presence) (k : Remainder) (limit : ℕ) (body old : List ℕ) where
-  abbrev stated : Result
+  abbrev stated : DecisionResult
   stated = statedOf (wordOf s) b taken kept settled (length body) k limit (length old)
 
   abbrev Stated : DecisionSaid → Type 0
@@ -456,43 +456,43 @@ module _ (frame : List ℕ) (side t : ℕ) (handle certificate x y : List ℕ) (
   abbrev lent : Inputs
   lent = asked side frame k handle certificate x y (length reply) left (length part)
 
-  abbrev bare : Result
+  abbrev bare : DecisionResult
   bare = decisionOf p t (asked side frame k handle certificate x y (length reply) (rest 0 0) 0)
 
-  abbrev whole : Result
+  abbrev whole : DecisionResult
   whole = decisionOf (presenceOf n) t lent
 
   same-p : decisionOf p t lent ≡ whole
   same-p = rw is-p
 
-  module _ (d : Decision) (old new : List ℕ) (is-d : decisionWith d new ≡ leftOf bare old) where
-    answer-is : decidedOf (d .answer) ≡ bare .answer
-    answer-is = ap (λ (w : WithBlock). w .said .answer) is-d
+  module _ (d : Decision) (old new : List ℕ) (is-d : leftFrom d new ≡ leftOf bare old) where
+    answer-is : decisionAnswerOf (d .answer) ≡ bare .answer
+    answer-is = ap (λ (w : DecisionLeft). w .said .answer) is-d
 
     -- what the ruling is, the decision is
     module _ (is : bare ≡ whole) where
-      numbers : (r : DecisionSaid) (z : Remainder) (limit : ℕ) → r ≡ handedNumbers (decisionSaid d) z limit → z ≡ remainderLeft lent bare → limit ≡ frameLimit frame
+      numbers : (r : DecisionSaid) (z : Remainder) (limit : ℕ) → r ≡ handedNumbers (handedFrom d) z limit → z ≡ remainderLeft lent bare → limit ≡ frameLimit frame
           → r ≡ decisionNumbers whole (remainderLeft lent whole) (frameLimit frame)
       numbers r z limit e is-z is-limit =
-          e ∙ ap (λ (w : WithBlock). handedNumbers (w .said) z limit) is-d ∙ ap (λ (q : Remainder). decisionNumbers bare q limit) is-z
-          ∙ ap (λ (l : ℕ). decisionNumbers bare (remainderLeft lent bare) l) is-limit ∙ ap (λ (b : Result). decisionNumbers b (remainderLeft lent b) (frameLimit frame)) is
+          e ∙ ap (λ (w : DecisionLeft). handedNumbers (w .said) z limit) is-d ∙ ap (λ (q : Remainder). decisionNumbers bare q limit) is-z
+          ∙ ap (λ (l : ℕ). decisionNumbers bare (remainderLeft lent bare) l) is-limit ∙ ap (λ (b : DecisionResult). decisionNumbers b (remainderLeft lent b) (frameLimit frame)) is
 
       block-left : new ≡ blockLeft whole old
-      block-left = ap (λ (w : WithBlock). w .block) is-d ∙ ap (λ (b : Result). blockLeft b old) is
+      block-left = ap (λ (w : DecisionLeft). w .block) is-d ∙ ap (λ (b : DecisionResult). blockLeft b old) is
 
       reply-left : (after : List ℕ) → after ≡ replyLeft bare reply → after ≡ replyLeft whole reply
-      reply-left after e = e ∙ ap (λ (b : Result). replyLeft b reply) is
+      reply-left after e = e ∙ ap (λ (b : DecisionResult). replyLeft b reply) is
 
       part-left : part ≡ partLeft lent bare reply part → part ≡ partLeft lent whole reply part
-      part-left e = e ∙ ap (λ (b : Result). partLeft lent b reply part) is
+      part-left e = e ∙ ap (λ (b : DecisionResult). partLeft lent b reply part) is
 
     abbrev Numbers : DecisionSaid → Type 0
     Numbers r = r ≡ decisionNumbers whole (remainderLeft lent whole) (frameLimit frame)
 
     -- by the answer: a refusal
-    module _ (why : Refusal) (z : d .answer ≡ Decided′.Refused why) where
+    module _ (why : Refusal) (z : d .answer ≡ DecisionAnswer′.Refused why) where
       refusal-is : bare .answer ≡ R (refusalNo why)
-      refusal-is = sym answer-is ∙ ap decidedOf z
+      refusal-is = sym answer-is ∙ ap decisionAnswerOf z
 
       refusal-same : bare ≡ whole
       refusal-same = sym (same-refused p t lent (refusalNo why) refusal-is) ∙ same-p
@@ -510,9 +510,9 @@ module _ (frame : List ℕ) (side t : ℕ) (handle certificate x y : List ℕ) (
       refused-part = part-left refusal-same (rw refusal-is)
 
     -- a body; an order
-    module _ (long : ℕ) (z : d .answer ≡ Decided′.Body long) where
+    module _ (long : ℕ) (z : d .answer ≡ DecisionAnswer′.Body long) where
       body-is : bare .answer ≡ Gives (Body long)
-      body-is = sym answer-is ∙ ap decidedOf z
+      body-is = sym answer-is ∙ ap decisionAnswerOf z
 
       body-same : bare ≡ whole
       body-same = sym (same-given p t lent (Body long) body-is) ∙ same-p
@@ -529,9 +529,9 @@ module _ (frame : List ℕ) (side t : ℕ) (handle certificate x y : List ℕ) (
       pub body-part : part ≡ partLeft lent whole reply part
       body-part = part-left body-same (rw body-is)
 
-    module _ (z : d .answer ≡ Decided′.Order) where
+    module _ (z : d .answer ≡ DecisionAnswer′.Order) where
       order-is : bare .answer ≡ Gives Ordered
-      order-is = sym answer-is ∙ ap decidedOf z
+      order-is = sym answer-is ∙ ap decisionAnswerOf z
 
       order-same : bare ≡ whole
       order-same = sym (same-given p t lent Ordered order-is) ∙ same-p
@@ -550,21 +550,21 @@ module _ (frame : List ℕ) (side t : ℕ) (handle certificate x y : List ℕ) (
       order-part = part-left order-same (rw order-is)
 
     -- a status word: of a frame that does not ask, of one that does and did not come so far, and of one that did
-    module _ (s : ApduStatusCode) (z : d .answer ≡ Decided′.Status s) (b : Bool) (is-b : b ≡ asksOn (readOf frame)) where
+    module _ (s : ApduStatusCode) (z : d .answer ≡ DecisionAnswer′.Status s) (b : Bool) (is-b : b ≡ isGetResponse (readOf frame)) where
       word-is : bare .answer ≡ Word (wordOf s)
-      word-is = sym answer-is ∙ ap decidedOf z
+      word-is = sym answer-is ∙ ap decisionAnswerOf z
 
       module _ (body : List ℕ) (is-body : body ≡ replyLeft bare reply) (limit : ℕ) (is-limit : limit ≡ frameLimit frame) where
         body-kept : body ≡ reply
         body-kept = is-body ∙ rw word-is
 
         block-kept : new ≡ old
-        block-kept = ap (λ (w : WithBlock). w .block) is-d ∙ rw word-is
+        block-kept = ap (λ (w : DecisionLeft). w .block) is-d ∙ rw word-is
 
         -- where the decision is the ruling, its word
         module _ (is : bare ≡ whole) where
           word-whole : whole .answer ≡ Word (wordOf s)
-          word-whole = ap (λ (r : Result). r .answer) (sym is) ∙ word-is
+          word-whole = ap (λ (r : DecisionResult). r .answer) (sym is) ∙ word-is
 
           word-numbers : (r : DecisionSaid) → r ≡ decidedNumbers (Word (wordOf s)) noOrder (d .taken) (d .presence) (if b then left else rest 0 0) limit → Numbers r
           word-numbers r e = numbers is r (if b then left else rest 0 0) limit (e ∙ rw z) (ap (λ (c : Bool). if c then left else rest 0 0) is-b ∙ rw word-is) is-limit
@@ -576,27 +576,27 @@ module _ (frame : List ℕ) (side t : ℕ) (handle certificate x y : List ℕ) (
           word-part after e = e ∙ rw word-whole
 
         -- where it is the next part
-        module _ (asks : asksOn (readOf frame) ≡ true) (so-far : statusNo s ≡ 0x6985) where
+        module _ (isC0 : isGetResponse (readOf frame) ≡ true) (so-far : statusNo s ≡ 0x6985) where
           fetched-is : fetched p (d .presence) left limit body part ≡ whole
           fetched-is =
-              ap (λ (l : List ℕ). fetched p (d .presence) left limit l part) body-kept ∙ ap (λ (q : Presence). fetched p q left limit reply part) (ap (λ (w : WithBlock). w .said .presence) is-d)
-              ∙ ap (λ (l : ℕ). fetched p (bare .presence) left l reply part) is-limit ∙ sym (fetched-decision p t lent asks (wordOf s) word-is so-far) ∙ same-p
+              ap (λ (l : List ℕ). fetched p (d .presence) left limit l part) body-kept ∙ ap (λ (q : Presence). fetched p q left limit reply part) (ap (λ (w : DecisionLeft). w .said .presence) is-d)
+              ∙ ap (λ (l : ℕ). fetched p (bare .presence) left l reply part) is-limit ∙ sym (fetched-decision p t lent isC0 (wordOf s) word-is so-far) ∙ same-p
 
           fetched-numbers : (r : DecisionSaid) → Fetched p (d .presence) left limit body part r → Numbers r
           fetched-numbers r e =
-              e ∙ ap (λ (x : Result). decisionNumbers x (remainderAfter (x .answer) true left) limit) fetched-is
+              e ∙ ap (λ (x : DecisionResult). decisionNumbers x (remainderAfter (x .answer) true left) limit) fetched-is
               ∙ ap (λ (l : ℕ). decisionNumbers whole (remainderAfter (whole .answer) true left) l) is-limit
-              ∙ ap (λ (c : Bool). decisionNumbers whole (remainderAfter (whole .answer) c left) (frameLimit frame)) (sym asks)
+              ∙ ap (λ (c : Bool). decisionNumbers whole (remainderAfter (whole .answer) c left) (frameLimit frame)) (sym isC0)
 
           fetched-left : (body ≡ replyLeft whole reply) × (new ≡ blockLeft whole old)
           fetched-left = (
-            body-kept ∙ fetched-leaves p (d .presence) left limit body part reply .0 ∙ ap (λ (x : Result). replyLeft x reply) fetched-is,
-            block-kept ∙ fetched-leaves p (d .presence) left limit body part old .1 ∙ ap (λ (x : Result). blockLeft x old) fetched-is,
+            body-kept ∙ fetched-leaves p (d .presence) left limit body part reply .0 ∙ ap (λ (x : DecisionResult). replyLeft x reply) fetched-is,
+            block-kept ∙ fetched-leaves p (d .presence) left limit body part old .1 ∙ ap (λ (x : DecisionResult). blockLeft x old) fetched-is,
           )
 
           fetched-part-left : (after : List ℕ) → after ≡ partAfter (fetched p (d .presence) left limit body part .answer) (partResponse body left limit) part → after ≡ partLeft lent whole reply part
           fetched-part-left after e =
-              e ∙ ap (λ (x : Result). partAfter (x .answer) (partResponse body left limit) part) fetched-is ∙ ap (λ (l : List ℕ). partAfter (whole .answer) (partResponse l left limit) part) body-kept
+              e ∙ ap (λ (x : DecisionResult). partAfter (x .answer) (partResponse body left limit) part) fetched-is ∙ ap (λ (l : List ℕ). partAfter (whole .answer) (partResponse l left limit) part) body-kept
               ∙ ap (λ (l : ℕ). partAfter (whole .answer) (partResponse reply left l) part) is-limit
 
         -- both, by whether the frame asks and by the word
@@ -616,9 +616,9 @@ module _ (frame : List ℕ) (side t : ℕ) (handle certificate x y : List ℕ) (
           where
             by : Dec (statusNo s ≡ 0x6985) → Numbers r × (body ≡ replyLeft whole reply) × (new ≡ blockLeft whole old) × (after ≡ partLeft lent whole reply part)
             by (yes n) =
-                let asks : asksOn (readOf frame) ≡ true = sym is-b ∙ sym e in
+                let isC0 : isGetResponse (readOf frame) ≡ true = sym is-b ∙ sym e in
                 let hit : eqb (statusNo s) 0x6985 ≡ true = eq-eqb (statusNo s) 0x6985 n in
-                (fetched-numbers asks n r (rw hit at f), fetched-left asks n .0, fetched-left asks n .1, fetched-part-left asks n after (rw hit at g))
+                (fetched-numbers isC0 n r (rw hit at f), fetched-left isC0 n .0, fetched-left isC0 n .1, fetched-part-left isC0 n after (rw hit at g))
             by (no n) =
                 let is : bare ≡ whole = sym (same-word p t lent (wordOf s) word-is n) ∙ same-p in
                 let hit : eqb (statusNo s) 0x6985 ≡ false = ne-eqb (statusNo s) 0x6985 n in

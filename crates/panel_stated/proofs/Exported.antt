@@ -20,7 +20,7 @@ use Rattle.response_stated.specs.Words.{Sent}
 use Rattle.response_stated.specs.Terms.{Sender, Writer, sending, writingOf, sendingOf}
 use Rattle.response_stated.specs.Claims as Responses
 use Rattle.response_stated.proofs.Laws.{next-given, next-exactly, next-only, writes-exactly, writes-only}
-use Rattle.ctap1_stated.specs.Words.{Given, Body, Ordered, Part, Inputs}
+use Rattle.ctap1_stated.specs.Words.{DecisionGives, Body, Ordered, Part, Inputs}
 use Rattle.ctap1_stated.specs.Path.{frameLimit}
 use Rattle.ctap1_stated.proofs.Laws.{row, limits-exactly, limits-only, remainder-exactly, replies-exactly, IsPart, is-a-part}
 use Rattle.panel_stated.specs.Numbers.{decidedNo, presenceOf, shapeOf}
@@ -36,14 +36,14 @@ module _ (i : ToDecide) where
   numbered : IsNumbered (decidedBy i .answer)
   numbered = Outcomes.decision-said (presenceOf (i .presence)) (i .moment) (inputsOf i)
 
-  refused-at : (o : Outcome Given) → decidedBy i .answer ≡ o → IsNumbered o → 1 ≤ decidedNo o → decidedNo o ≤ lastRefusal → decidesOf i .said .remainder ≡ i .remainder
+  refused-at : (o : Outcome DecisionGives) → decidedBy i .answer ≡ o → IsNumbered o → 1 ≤ decidedNo o → decidedNo o ≤ lastRefusal → decidesOf i .said .remainder ≡ i .remainder
   refused-at (R n) e h low high = rw e
   refused-at (Word s) e h low high = absurd (omega (arith, h .0))
   refused-at (Gives (Body n)) e h low high = absurd (omega arith)
   refused-at (Gives Ordered) e h low high = absurd (omega arith)
   refused-at (Gives (Part n r)) e h low high = absurd (omega arith)
 
-  keeps-at : (said : Says) → readOf (i .frame) ≡ Gives said → said .header .ins ≡ 0xC0 → (o : Outcome Given) → decidedBy i .answer ≡ o → IsNumbered o → 0x6000 ≤ decidedNo o → decidedNo o < 0x9000
+  keeps-at : (said : Says) → readOf (i .frame) ≡ Gives said → said .header .ins ≡ 0xC0 → (o : Outcome DecisionGives) → decidedBy i .answer ≡ o → IsNumbered o → 0x6000 ≤ decidedNo o → decidedNo o < 0x9000
       → decidesOf i .said .remainder ≡ i .remainder
   keeps-at said r c (R n) e h low high = absurd (omega (arith, h .1))
   keeps-at said r c (Word s) e h low high = remainder-exactly .kept (presenceOf (i .presence)) (i .moment) (inputsOf i) s (said, r, c) e
@@ -51,12 +51,12 @@ module _ (i : ToDecide) where
   keeps-at said r c (Gives Ordered) e h low high = absurd (omega arith)
   keeps-at said r c (Gives (Part n k)) e h low high = absurd (omega arith)
 
-  not-refused : (o : Outcome Given) → IsNumbered o → lastRefusal < decidedNo o → (n : ℕ) → o ≡ R n → ⊥
+  not-refused : (o : Outcome DecisionGives) → IsNumbered o → lastRefusal < decidedNo o → (n : ℕ) → o ≡ R n → ⊥
   not-refused (R m) h high n e = omega (arith, h .1)
   not-refused (Word s) h high n e = r-word _ _ (sym e)
   not-refused (Gives g) h high n e = r-gives _ _ (sym e)
 
-  version-at : (o : Outcome Given) → decidedBy i .answer ≡ o → IsNumbered o → decidedNo o ≡ 0x9000 → decidesOf i .reply ≡ 0x55 ∷ 0x32 ∷ 0x46 ∷ 0x5F ∷ 0x56 ∷ 0x32 ∷ drop 6 (i .reply)
+  version-at : (o : Outcome DecisionGives) → decidedBy i .answer ≡ o → IsNumbered o → decidedNo o ≡ 0x9000 → decidesOf i .reply ≡ 0x55 ∷ 0x32 ∷ 0x46 ∷ 0x5F ∷ 0x56 ∷ 0x32 ∷ drop 6 (i .reply)
   version-at (R n) e h is = absurd (omega (arith, is, h .1))
   version-at (Word s) e h is = absurd (omega (arith, is, h .1))
   version-at (Gives (Body n)) e h is =
@@ -64,28 +64,28 @@ module _ (i : ToDecide) where
   version-at (Gives Ordered) e h is = absurd (omega arith)
   version-at (Gives (Part n k)) e h is = absurd (omega arith)
 
-  reply-at : (o : Outcome Given) → decidedBy i .answer ≡ o → (decidedNo o ≡ 0x9000 → ⊥) → decidesOf i .reply ≡ i .reply
+  reply-at : (o : Outcome DecisionGives) → decidedBy i .answer ≡ o → (decidedNo o ≡ 0x9000 → ⊥) → decidesOf i .reply ≡ i .reply
   reply-at (R n) e nay = rw e
   reply-at (Word s) e nay = rw e
   reply-at (Gives (Body n)) e nay = absurd (nay refl)
   reply-at (Gives Ordered) e nay = rw e
   reply-at (Gives (Part n k)) e nay = rw e
 
-  ordered-at : (o : Outcome Given) → decidedBy i .answer ≡ o → IsNumbered o → decidedNo o ≡ 0x0100 → decidesOf i .block ≡ decidedBy i .order .bytes
+  ordered-at : (o : Outcome DecisionGives) → decidedBy i .answer ≡ o → IsNumbered o → decidedNo o ≡ 0x0100 → decidesOf i .block ≡ decidedBy i .order .bytes
   ordered-at (R n) e h is = absurd (omega (arith, is, h .1))
   ordered-at (Word s) e h is = absurd (omega (arith, is, h .0))
   ordered-at (Gives (Body n)) e h is = absurd (omega arith)
   ordered-at (Gives Ordered) e h is = rw e
   ordered-at (Gives (Part n k)) e h is = absurd (omega arith)
 
-  block-at : (o : Outcome Given) → decidedBy i .answer ≡ o → (decidedNo o ≡ 0x0100 → ⊥) → decidesOf i .block ≡ i .block
+  block-at : (o : Outcome DecisionGives) → decidedBy i .answer ≡ o → (decidedNo o ≡ 0x0100 → ⊥) → decidesOf i .block ≡ i .block
   block-at (R n) e nay = rw e
   block-at (Word s) e nay = rw e
   block-at (Gives (Body n)) e nay = rw e
   block-at (Gives Ordered) e nay = absurd (nay refl)
   block-at (Gives (Part n k)) e nay = rw e
 
-  no-part-at : (o : Outcome Given) → decidedBy i .answer ≡ o → (decidedNo o ≡ 0x0200 → ⊥) → decidesOf i .part ≡ i .part
+  no-part-at : (o : Outcome DecisionGives) → decidedBy i .answer ≡ o → (decidedNo o ≡ 0x0200 → ⊥) → decidesOf i .part ≡ i .part
   no-part-at (R n) e nay = rw e
   no-part-at (Word s) e nay = rw e
   no-part-at (Gives (Body n)) e nay = rw e
@@ -93,7 +93,7 @@ module _ (i : ToDecide) where
   no-part-at (Gives (Part n k)) e nay = absurd (nay refl)
 
   -- a part is the one that `next` sends
-  part-at : (next : Sender) → Responses.NextExactly next → (o : Outcome Given) → decidedBy i .answer ≡ o → IsNumbered o → decidedNo o ≡ 0x0200
+  part-at : (next : Sender) → Responses.NextExactly next → (o : Outcome DecisionGives) → decidedBy i .answer ≡ o → IsNumbered o → decidedNo o ≡ 0x0200
       → next (i .reply) (i .remainder) (decidesOf i .said .limit) (i .part) ≡ (Gives (sending (decidesOf i .said .length) (decidesOf i .said .remainder)), decidesOf i .part)
   part-at next x (R n) e h is = absurd (omega (arith, is, h .1))
   part-at next x (Word s) e h is = absurd (omega (arith, is, h .0))

@@ -20,9 +20,9 @@ use Rattle.apdu_stated.specs.Claims as Frames
 use Rattle.apdu_stated.proofs.Laws.{TableOf, CarryOf, reading-exactly, FrameWay, under, found, ends, goes-on, frame-way, write-exactly, WriteWay, unfit, no-room, written, write-way}
 use Rattle.command_stated.specs.Command.{Register, Authenticate, Version, GetResponse}
 use Rattle.u2f_up_stated.specs.declared.Presence.{Presence}
-use Rattle.ctap1_stated.specs.Words.{Given, Body, Ordered, Part, Result}
+use Rattle.ctap1_stated.specs.Words.{DecisionGives, Body, Ordered, Part, DecisionResult}
 use Rattle.ctap1_stated.specs.Path.{frameLimit}
-use Rattle.ctap1_stated.specs.Terms.{AsksOn}
+use Rattle.ctap1_stated.specs.Terms.{HasInsC0}
 use Rattle.ctap1_stated.proofs.Laws.{sound, limits-exactly, Asked, is-refused, is-word, is-part, asked}
 use Rattle.response_stated.specs.Words.{Sent, rest}
 use Rattle.response_stated.specs.Terms.{sending, sendingOf, writingOf}
@@ -161,15 +161,15 @@ DecisionNumbers f g p q r k l =
         → (g r k l .answer ≡ n) × (g r k l .fault ≡ m) × (g r k l .place ≡ at) × (g r k l .length ≡ long) → Alike
     alike n m at long a b = (a .0 ∙ sym (b .0), a .1 ∙ sym (b .1), a .2 ∙ sym (b .2), a .3 ∙ sym (b .3))
 
-    by-answer : (o : Outcome Given) → r .answer ≡ o → Alike
+    by-answer : (o : Outcome DecisionGives) → r .answer ≡ o → Alike
     by-answer (R n) e = alike _ _ _ _ (p .refused r k l n e) (q .refused r k l n e)
     by-answer (Word s) e = alike _ _ _ _ (p .status r k l s e) (q .status r k l s e)
     by-answer (Gives (Body n)) e = alike _ _ _ _ (p .body r k l n e) (q .body r k l n e)
     by-answer (Gives (Part n after)) e = alike _ _ _ _ (p .part r k l n after e) (q .part r k l n after e)
     by-answer (Gives Ordered) e = alike _ _ _ _ (p .ordered r k l e) (q .ordered r k l e)
 
-pub StatedExactly : (f g : StatusWord → (asks taken : Bool) → (kept settled : Presence) → (room : ℕ) → Remainder → (limit partRoom : ℕ) → Result) → Claims.StatedExactly f → Claims.StatedExactly g
-    → (w : StatusWord) (asks taken : Bool) (kept settled : Presence) (room : ℕ) (k : Remainder) (limit partRoom : ℕ) → f w asks taken kept settled room k limit partRoom ≡ g w asks taken kept settled room k limit partRoom
+pub StatedExactly : (f g : StatusWord → (isC0 taken : Bool) → (kept settled : Presence) → (room : ℕ) → Remainder → (limit partRoom : ℕ) → DecisionResult) → Claims.StatedExactly f → Claims.StatedExactly g
+    → (w : StatusWord) (isC0 taken : Bool) (kept settled : Presence) (room : ℕ) (k : Remainder) (limit partRoom : ℕ) → f w isC0 taken kept settled room k limit partRoom ≡ g w isC0 taken kept settled room k limit partRoom
 StatedExactly f g p q w false taken kept settled room k limit partRoom = p .unasked w taken kept settled room k limit partRoom ∙ sym (q .unasked w taken kept settled room k limit partRoom)
 StatedExactly f g p q w true taken kept settled room k limit partRoom = by (ℕ-discrete (w .number) 0x6985)
   where
@@ -186,7 +186,7 @@ AnswerTells f g p q (R n) h = p .refused (R n) h n (h .1) .1 refl ∙ sym (q .re
 AnswerTells f g p q (Word s) h = p .status (Word s) h (s .number) (h .0) (h .1) .1 (itself s) ∙ sym (q .status (Word s) h (s .number) (h .0) (h .1) .1 (itself s))
 AnswerTells f g p q (Gives b) h = p .given (Gives b) h .1 (b, refl) ∙ sym (q .given (Gives b) h .1 (b, refl))
 
-pub DecisionTells : (f g : Outcome Given → ℕ) → Claims.DecisionTells f → Claims.DecisionTells g → (o : Outcome Given) → IsNumbered o → f o ≡ g o
+pub DecisionTells : (f g : Outcome DecisionGives → ℕ) → Claims.DecisionTells f → Claims.DecisionTells g → (o : Outcome DecisionGives) → IsNumbered o → f o ≡ g o
 DecisionTells f g p q (R n) h = p .refused (R n) h n (h .0) (h .1) .1 refl ∙ sym (q .refused (R n) h n (h .0) (h .1) .1 refl)
 DecisionTells f g p q (Word s) h = p .status (Word s) h (s .number) (h .0) (h .1) .1 (itself s) ∙ sym (q .status (Word s) h (s .number) (h .0) (h .1) .1 (itself s))
 DecisionTells f g p q (Gives (Body n)) h = p .body (Gives (Body n)) h .1 (n, refl) ∙ sym (q .body (Gives (Body n)) h .1 (n, refl))
@@ -194,10 +194,10 @@ DecisionTells f g p q (Gives (Part n after)) h = p .part (Gives (Part n after)) 
 DecisionTells f g p q (Gives Ordered) h = p .ordered (Gives Ordered) h .1 refl ∙ sym (q .ordered (Gives Ordered) h .1 refl)
 
 -- ---- the exported decision
-part-body : (m n : ℕ) (k : Remainder) → _≡_ {A = Outcome Given} (Gives (Part m k)) (Gives (Body n)) → ⊥
+part-body : (m n : ℕ) (k : Remainder) → _≡_ {A = Outcome DecisionGives} (Gives (Part m k)) (Gives (Body n)) → ⊥
 part-body m n k e = let z : _≡_ {A = ℕ} 0 1 = cc in omega arith
 
-part-order : (m : ℕ) (k : Remainder) → _≡_ {A = Outcome Given} (Gives (Part m k)) (Gives Ordered) → ⊥
+part-order : (m : ℕ) (k : Remainder) → _≡_ {A = Outcome DecisionGives} (Gives (Part m k)) (Gives Ordered) → ⊥
 part-order m k e = let z : _≡_ {A = ℕ} 0 1 = cc in omega arith
 
 -- what a sender hands back
@@ -206,26 +206,26 @@ leftBy (R n) = rest 0 0
 leftBy (Word s) = rest 0 0
 leftBy (Gives sent) = sent .remainder
 
-does-ask : (i : ToDecide) → Dec (AsksOn (inputsOf i))
+does-ask : (i : ToDecide) → Dec (HasInsC0 (inputsOf i))
 does-ask i = by (readOf (i .frame)) refl
   where
-    at : (said : Says) → readOf (i .frame) ≡ Gives said → Dec (said .header .ins ≡ 0xC0) → Dec (AsksOn (inputsOf i))
+    at : (said : Says) → readOf (i .frame) ≡ Gives said → Dec (said .header .ins ≡ 0xC0) → Dec (HasInsC0 (inputsOf i))
     at said e (yes k) = yes (said, e, k)
     at said e (no k) = no (λ x. k (ap (λ (s : Says). s .header .ins) (gives-same said (x .0) (sym e ∙ x .1)) ∙ x .2))
 
-    by : (o : Outcome Says) → readOf (i .frame) ≡ o → Dec (AsksOn (inputsOf i))
+    by : (o : Outcome Says) → readOf (i .frame) ≡ o → Dec (HasInsC0 (inputsOf i))
     by (R n) e = no (λ x. r-gives n (x .0) (sym e ∙ x .1))
     by (Word s) e = no (λ x. word-gives s (x .0) (sym e ∙ x .1))
     by (Gives said) e = at said e (ℕ-discrete (said .header .ins) 0xC0)
 
 module _ (i : ToDecide) where
   -- a C0 is given no body and no order
-  asked-body : (n : ℕ) (r : Result) → Asked (presenceOf (i .presence)) (i .moment) (inputsOf i) r → r .answer ≡ Gives (Body n) → ⊥
+  asked-body : (n : ℕ) (r : DecisionResult) → Asked (presenceOf (i .presence)) (i .moment) (inputsOf i) r → r .answer ≡ Gives (Body n) → ⊥
   asked-body n _ (is-refused m) e = r-gives _ _ e
   asked-body n _ (is-word w q) e = word-gives _ _ e
   asked-body n _ (is-part a b c) e = part-body _ _ _ e
 
-  asked-order : (r : Result) → Asked (presenceOf (i .presence)) (i .moment) (inputsOf i) r → r .answer ≡ Gives Ordered → ⊥
+  asked-order : (r : DecisionResult) → Asked (presenceOf (i .presence)) (i .moment) (inputsOf i) r → r .answer ≡ Gives Ordered → ⊥
   asked-order _ (is-refused m) e = r-gives _ _ e
   asked-order _ (is-word w q) e = word-gives _ _ e
   asked-order _ (is-part a b c) e = part-order _ _ e
@@ -239,7 +239,7 @@ module _ (i : ToDecide) where
     the-row = sym (sound (presenceOf (i .presence)) (i .moment) (inputsOf i) (p .row i .0) (p .row i .1))
 
     reported : Reports (f i .said) (decidedBy i)
-    reported = subst (λ (r : Result). Reports (f i .said) r) the-row (p .row i .2)
+    reported = subst (λ (r : DecisionResult). Reports (f i .said) r) the-row (p .row i .2)
 
     limited : f i .said .limit ≡ frameLimit (i .frame)
     limited = p .limit i frameLimit limits-exactly
@@ -249,17 +249,17 @@ module _ (i : ToDecide) where
     sent is = subst (λ (l : ℕ). sendingOf (i .reply) (i .remainder) l (i .part) ≡ (Gives (sending (f i .said .length) (f i .said .remainder)), f i .part)) limited (p .part i sendingOf next-exactly is)
 
     ordered : f i .said .answer ≡ 0x0100 → f i .block ≡ decidedBy i .order .bytes
-    ordered is = p .row i .3 is ∙ ap (λ (r : Result). r .order .bytes) the-row
+    ordered is = p .row i .3 is ∙ ap (λ (r : DecisionResult). r .order .bytes) the-row
 
-    dropped : (AsksOn (inputsOf i) → ⊥) → lastRefusal < f i .said .answer → f i .said .remainder ≡ rest 0 0
+    dropped : (HasInsC0 (inputsOf i) → ⊥) → lastRefusal < f i .said .answer → f i .said .remainder ≡ rest 0 0
     dropped n high = p .drops i (λ said r c. n (said, r, c)) high
 
   module _ (f g : ToDecide → AfterDeciding) (p : Claims.DecideExported f) (q : Claims.DecideExported g) where
     same-answer : f i .said .answer ≡ g i .said .answer
     same-answer = reported f p .answer ∙ sym (reported g q .answer)
 
-    by-remainder : (o : Outcome Given) → decidedBy i .answer ≡ o → IsNumbered o → f i .said .answer ≡ decidedNo o → g i .said .answer ≡ decidedNo o
-        → Dec (AsksOn (inputsOf i)) → f i .said .remainder ≡ g i .said .remainder
+    by-remainder : (o : Outcome DecisionGives) → decidedBy i .answer ≡ o → IsNumbered o → f i .said .answer ≡ decidedNo o → g i .said .answer ≡ decidedNo o
+        → Dec (HasInsC0 (inputsOf i)) → f i .said .remainder ≡ g i .said .remainder
     by-remainder (R n) e h a b d = p .refused i (omega (arith, h .0, a)) (omega (arith, h .1, a)) ∙ sym (q .refused i (omega (arith, h .0, b)) (omega (arith, h .1, b)))
     by-remainder (Word s) e h a b (yes x) =
         p .keeps i (x .0) (x .1) (x .2) (omega (arith, h .0, a)) (omega (arith, h .1, a)) ∙ sym (q .keeps i (x .0) (x .1) (x .2) (omega (arith, h .0, b)) (omega (arith, h .1, b)))

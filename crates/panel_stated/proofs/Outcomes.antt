@@ -20,7 +20,7 @@ use Rattle.command_stated.specs.Command.{Command, Register, Authenticate, Versi
 use Rattle.u2f_up_stated.specs.Moments.{isR6, isR8, isR1, onSettled, Told, newOf, settleOf, checkedOf, touchOf, checkOf, askOf}
 use Rattle.u2f_up_stated.specs.declared.Presence.{Presence}
 use Rattle.signing_stated.specs.Orders.{isOfLayout, certificateLength}
-use Rattle.signing_stated.specs.Finishing.{Finishing, finishOf, roomAsked, registerRoom, authenticateRoom}
+use Rattle.signing_stated.specs.Finishing.{Finishing, finishOf, roomNeeded, registerRoom, authenticateRoom}
 use Rattle.ctap1_stated.specs.declared.Allowed.{Allowed}
 use Rattle.ctap1_stated.specs.declared.Allowed.the-variants as Allowed′
 use Rattle.response_stated.specs.Words.{Sent}
@@ -32,7 +32,7 @@ use mathlib.Core.Path.{_≡_, refl, sym}
 use Rattle.outcome.proofs.Laws.{r-word, r-gives}
 use Rattle.ctap1_stated.specs.Decision as Decision′
 use Rattle.ctap1_stated.specs.Words.{Inputs}
-use Rattle.ctap1_stated.specs.Path.{Ending, Internal, WrongData, Orders, Path, NoRoom, Ends, SixBytes, Fetches, Signs, Touch, sentPath, fetchPath, loginPath, versionPath, registerPath, commandPath, allowedPath, pathOf}
+use Rattle.ctap1_stated.specs.Path.{PathEnd, Internal, WrongData, Orders, DecisionPath, NoRoom, Ends, SixBytes, Fetches, Signs, Touch, sentPath, fetchPath, loginPath, versionPath, registerPath, commandPath, allowedPath, pathOf}
 use Rattle.ctap1_stated.specs.Decision.{ended, along, onMoment, decisionOf}
 
 -- both branches of a test
@@ -136,7 +136,7 @@ next-said bodyRoom r limit room =
     test (ltb bodyRoom (r .place + r .count)) _ _ (omega arith, omega arith) (test (ltb room (partLength limit (r .count) + 2)) _ _ (omega arith, omega arith) tt)
 
 -- ---- the decision
-abbrev OfPath : Path → Type 0
+abbrev OfPath : DecisionPath → Type 0
 OfPath NoRoom = Unit {0}
 OfPath (Ends s) = (0x6000 ≤ s .number) × (s .number < 0x9000)
 OfPath SixBytes = Unit {0}
@@ -182,16 +182,16 @@ module _ (a : Inputs) where
   unfolding pathOf
   path-numbered = allowed-path (a .hardware .allowed)
 
-ended-numbered : (e : Ending) (p : Presence) → IsNumbered (ended e p .answer)
+ended-numbered : (e : PathEnd) (p : Presence) → IsNumbered (ended e p .answer)
 ended-numbered Internal p = (omega arith, omega arith)
 ended-numbered WrongData p = (omega arith, omega arith)
 ended-numbered (Orders o taken) p = tt
 
-touch-numbered : (yes : Bool) (e : Ending) (p : Presence) → IsNumbered ((if not yes then Decision′.statusResult 0x6985 p else ended e p) .answer)
+touch-numbered : (yes : Bool) (e : PathEnd) (p : Presence) → IsNumbered ((if not yes then Decision′.statusResult 0x6985 p else ended e p) .answer)
 touch-numbered true e p = ended-numbered e p
 touch-numbered false e p = (omega arith, omega arith)
 
-along-numbered : (path : Path) → OfPath path → (kept settled : Presence) (side t : ℕ) → IsNumbered (along path kept settled side t .answer)
+along-numbered : (path : DecisionPath) → OfPath path → (kept settled : Presence) (side t : ℕ) → IsNumbered (along path kept settled side t .answer)
 along-numbered NoRoom h kept settled side t = (omega arith, omega arith)
 along-numbered (Ends s) h kept settled side t = h
 along-numbered SixBytes h kept settled side t = tt
@@ -209,16 +209,16 @@ decision-said p t a = by-moment (settleOf p (a .side) t) (settle-said p (a .side
     by-moment (Gives settled) h = along-numbered (pathOf a) (path-numbered a) p settled (a .side) t
 
 -- a refused decision hands back the record that it was lent
-ended-refused : (e : Ending) (p : Presence) (k : ℕ) → ended e p .answer ≡ R k → ⊥
+ended-refused : (e : PathEnd) (p : Presence) (k : ℕ) → ended e p .answer ≡ R k → ⊥
 ended-refused Internal p k e = r-word _ _ (sym e)
 ended-refused WrongData p k e = r-word _ _ (sym e)
 ended-refused (Orders o taken) p k e = r-gives _ _ (sym e)
 
-touch-refused : (yes : Bool) (e : Ending) (p : Presence) (k : ℕ) → (if not yes then Decision′.statusResult 0x6985 p else ended e p) .answer ≡ R k → ⊥
+touch-refused : (yes : Bool) (e : PathEnd) (p : Presence) (k : ℕ) → (if not yes then Decision′.statusResult 0x6985 p else ended e p) .answer ≡ R k → ⊥
 touch-refused true e p k z = ended-refused e p k z
 touch-refused false e p k z = r-word _ _ (sym z)
 
-along-refused : (path : Path) (kept settled : Presence) (side t k : ℕ) → along path kept settled side t .answer ≡ R k → along path kept settled side t .presence ≡ kept
+along-refused : (path : DecisionPath) (kept settled : Presence) (side t k : ℕ) → along path kept settled side t .answer ≡ R k → along path kept settled side t .presence ≡ kept
 along-refused NoRoom kept settled side t k e = refl
 along-refused (Ends s) kept settled side t k e = absurd (r-word _ _ (sym e))
 along-refused SixBytes kept settled side t k e = absurd (r-gives _ _ (sym e))
@@ -242,6 +242,6 @@ finish-said i =
     let o = i .order in
     test (not (isOfLayout o)) _ _ (omega arith, omega arith)
     (test (not (eqb (length (i .certificate)) (certificateLength o))) _ _ (omega arith, omega arith)
-    (test (ltb (length (i .reply)) (roomAsked o)) _ _ (omega arith, omega arith)
+    (test (ltb (length (i .reply)) (roomNeeded o)) _ _ (omega arith, omega arith)
     (test (not (i .signed)) _ _ (omega arith, omega arith)
     (test (ltb 72 (length (i .signature))) _ _ (omega arith, omega arith) tt))))

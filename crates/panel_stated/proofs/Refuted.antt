@@ -19,7 +19,7 @@ use Rattle.panel_stated.specs.Terms.{numbersAfter, nought, retired, abov
 use Rattle.u2f_up_stated.specs.Moments.{touchOf, checkOf, askOf, settleOf, grantedOf, checkedOf, fresh, movedTo}
 use Rattle.u2f_up_stated.specs.declared.Window.the-variants.{Closed, Opened}
 use Rattle.u2f_up_stated.specs.declared.Presence.{Presence}
-use Rattle.ctap1_stated.specs.Words.{Ordered, Part, Result}
+use Rattle.ctap1_stated.specs.Words.{Ordered, Part, DecisionResult}
 use Rattle.ctap1_stated.specs.Path.{fetchPath, frameLimit, registerPath, registerEnding, enrolmentOrder, versionPath, commandPath, allowedPath, pathOf}
 use Rattle.ctap1_stated.specs.Decision.{decisionOf}
 use Rattle.ctap1_stated.specs.Numbers.{allowedOf, attestationOf}
@@ -209,11 +209,11 @@ limitUnsaid p = let e : _≡_ {A = ℕ} 0 256 = p .limit (record { answer = Give
 -- where nothing remains but a byte, and there is no room: R2
 pub neverFetched : Claims.StatedExactly Wrong.neverFetched → ⊥
 unfolding fetchPath nextPartOf partLength
-neverFetched p = r-word 2 (plainWord 0x6985) (sym (ap (λ (r : Result). r .answer) (p .fetched (plainWord 0x6985) false (fresh 5000) (fresh 5000) 1 (rest 0 1) 0 0 refl)))
+neverFetched p = r-word 2 (plainWord 0x6985) (sym (ap (λ (r : DecisionResult). r .answer) (p .fetched (plainWord 0x6985) false (fresh 5000) (fresh 5000) 1 (rest 0 1) 0 0 refl)))
 
 pub fetchedUnasked : Claims.StatedExactly Wrong.fetchedUnasked → ⊥
 unfolding statedOf fetchPath nextPartOf partLength
-fetchedUnasked p = r-word 2 (plainWord 0x6985) (ap (λ (r : Result). r .answer) (p .unasked (plainWord 0x6985) false (fresh 5000) (fresh 5000) 1 (rest 0 1) 0 0))
+fetchedUnasked p = r-word 2 (plainWord 0x6985) (ap (λ (r : DecisionResult). r .answer) (p .unasked (plainWord 0x6985) false (fresh 5000) (fresh 5000) 1 (rest 0 1) 0 0))
 
 -- ---- responses and parts
 pub responseStatusUnsaid : Claims.ResponseNumbers Wrong.responseStatusUnsaid → ⊥
@@ -279,7 +279,7 @@ unfolding decisionOf pathOf allowedPath commandPath versionPath registerPath reg
 roomsSwapped p =
     let i = lending (0x00 ∷ 0x03 ∷ 0x00 ∷ 0x00 ∷ []) 1 (replicate 6 0) (rest 0 0) [] in
     let x = p .row i in
-    let e : _≡_ {A = ℕ} 2 0x9000 = x .2 .answer ∙ ap (λ (r : Result). decidedNo (r .answer)) (sym (sound _ _ _ (x .0) (x .1))) in
+    let e : _≡_ {A = ℕ} 2 0x9000 = x .2 .answer ∙ ap (λ (r : DecisionResult). decidedNo (r .answer)) (sym (sound _ _ _ (x .0) (x .1))) in
     omega arith
 
 -- C0 forbidden: 6986
@@ -309,7 +309,7 @@ unfolding decisionOf pathOf allowedPath commandPath versionPath registerPath reg
 pointSwapped p =
     let i = lending (0x00 ∷ 0x01 ∷ 0x00 ∷ 0x00 ∷ 0x40 ∷ replicate 64 0x00) 1 (replicate 139 0) (rest 0 0) [] in
     let x = p .row i in
-    let e : _≡_ {A = ℕ} 2 1 = ap (λ (l : List ℕ). byte l 66) (x .3 refl ∙ ap (λ (r : Result). r .order .bytes) (sym (sound _ _ _ (x .0) (x .1)))) in
+    let e : _≡_ {A = ℕ} 2 1 = ap (λ (l : List ℕ). byte l 66) (x .3 refl ∙ ap (λ (r : DecisionResult). r .order .bytes) (sym (sound _ _ _ (x .0) (x .1)))) in
     omega arith
 
 -- ---- the exported next part and response

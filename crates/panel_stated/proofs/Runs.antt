@@ -7,7 +7,7 @@ use borrow.Author.Tests.{leb-false}
 use lib.Dec.{leb, ltb, eqb}
 use Rattle.outcome.specs.Notation.{if_then_else_}
 use Rattle.outcome.specs.Outcome.{R, Gives}
-use Rattle.u2f_up_stated.specs.History.{Role, Touching, Checking, Asking, Settling, Short}
+use Rattle.u2f_up_stated.specs.History.{Role, Touching, Checking, Asking, Settling, TooShort}
 use Rattle.u2f_up_stated.specs.Moments.{Told, isR6, isR8, isLive, isPrompting, newOf, fresh, movedTo, touchClosed, settleOf, grantedOf, checkedOf, onSettled, touchOf, checkOf, askOf}
 use Rattle.u2f_up_stated.specs.declared.Finding.{Finding}
 use Rattle.u2f_up_stated.specs.Runs.{Caller, Keeps, doneBy, after}
@@ -54,7 +54,7 @@ done Touching p t h = settled p (p .asker) t _ h (λ early. granted (movedTo p t
 done (Checking s) p t h = settled p s t _ h (λ early. checked (movedTo p t) s t early h)
 done Asking p t h = settled p (p .asker) t _ h (λ early. h)
 done (Settling s) p t h = settled p s t _ h (λ early. h)
-done (Short s) p t h = settled p s t _ h (λ early. h)
+done (TooShort s) p t h = settled p s t _ h (λ early. h)
 
 module _ {D : Type 0} (𝒞 : Caller D) (keeps : Keeps 𝒞) (w : ℕ) where
   lendable : (ds : List D) → Lendable (after 𝒞 w ds)

@@ -12,12 +12,12 @@ use Rattle.apdu_stated.specs.Writing.{partsOf}
 use Rattle.u2f_up_stated.specs.declared.Window.{Window}
 use Rattle.u2f_up_stated.specs.declared.Window.the-variants.{Closed, Opened}
 use Rattle.signing_stated.specs.Orders.{kindNo, blankOrder}
-use Rattle.ctap1_stated.specs.Words.{Given, Body, Ordered, Part}
+use Rattle.ctap1_stated.specs.Words.{DecisionGives, Body, Ordered, Part}
 use Rattle.panel_stated.specs.Numbers.{answerNo, decidedNo, faultNo, placeNo, greatestNo, windowOf, windowNo, presenceOf, presenceNumbers, shapeOf, kindOf}
 use Rattle.ctap1_stated.specs.Decision.{blockAfter}
 use Rattle.panel_stated.specs.Exports.{ToWrite, ToDecide, ToFinish, inputsOf, writeAs, finishAs, writeNumbered, readsOf, writesOf, finishNumbered, orderAfter, frameNumbers, commandNumbers, lengthNumbers, askedNumbers, stepNumbers, madeNumbers, decisionNumbers, decidedBy, saidBy, responseNumbers, partNumbers, statedOf, respondsOf, nextsOf, decidesOf, bodyLength}
 use Rattle.panel_stated.specs.Claims
-use Rattle.panel_stated.specs.Terms.{NoShape, nought, retired, above, IsNumbered, IsOfMoment, AfterWriting, AfterDeciding, AfterPart, AfterFetching, Carries, register, authenticate}
+use Rattle.panel_stated.specs.Terms.{NoShape, nought, retired, above, IsNumbered, IsOfMoment, AfterWriting, AfterDeciding, AfterPart, AfterFetching, HasData, register, authenticate}
 use Rattle.panel_stated.specs.declared.Shaped.{Shaped}
 use Rattle.panel_stated.specs.declared.Shaped.the-variants as Shaped′
 use Rattle.panel_stated.specs.declared.Kinded.{Kinded}
@@ -39,7 +39,7 @@ use Rattle.u2f_up_stated.proofs.Laws.{touches-exactly, checks-exactly, asks-exa
 use Rattle.ctap1_stated.proofs.Laws.{side-refused-exactly}
 use Rattle.u2f_up_stated.specs.Moments.{newOf, fresh, Told, settleOf, onSettled, touchOf, checkOf, askOf}
 use Rattle.u2f_up_stated.specs.declared.Presence.{Presence}
-use Rattle.ctap1_stated.specs.Words.{Inputs, Result}
+use Rattle.ctap1_stated.specs.Words.{Inputs, DecisionResult}
 use Rattle.ctap1_stated.specs.Session.{remainderLeft}
 use Rattle.response_stated.specs.declared.Remainder.{Remainder}
 use Rattle.ctap1_stated.specs.Decision.{decisionOf}
@@ -96,44 +96,44 @@ AnswerTells = record { given = given; refused = refused; status = status }
 pub DecisionTells : Claims.DecisionTells decidedNo
 DecisionTells = record { ordered = ordered; body = body; part = part; refused = refusal; status = status }
   where
-    body-order : (n : ℕ) → _≡_ {A = Outcome Given} (Gives (Body n)) (Gives Ordered) → ⊥
+    body-order : (n : ℕ) → _≡_ {A = Outcome DecisionGives} (Gives (Body n)) (Gives Ordered) → ⊥
     body-order n e = let z : _≡_ {A = ℕ} 0 1 = cc in omega arith
 
-    part-order : (n : ℕ) (r : Remainder) → _≡_ {A = Outcome Given} (Gives (Part n r)) (Gives Ordered) → ⊥
+    part-order : (n : ℕ) (r : Remainder) → _≡_ {A = Outcome DecisionGives} (Gives (Part n r)) (Gives Ordered) → ⊥
     part-order n r e = let z : _≡_ {A = ℕ} 0 1 = cc in omega arith
 
-    part-body : (n : ℕ) (r : Remainder) (m : ℕ) → _≡_ {A = Outcome Given} (Gives (Part n r)) (Gives (Body m)) → ⊥
+    part-body : (n : ℕ) (r : Remainder) (m : ℕ) → _≡_ {A = Outcome DecisionGives} (Gives (Part n r)) (Gives (Body m)) → ⊥
     part-body n r m e = let z : _≡_ {A = ℕ} 0 1 = cc in omega arith
 
-    ordered : (o : Outcome Given) → IsNumbered o → (decidedNo o ≡ 0x0100) ↔ (o ≡ Gives Ordered)
+    ordered : (o : Outcome DecisionGives) → IsNumbered o → (decidedNo o ≡ 0x0100) ↔ (o ≡ Gives Ordered)
     ordered (R n) h = (λ e. absurd (omega (arith, e, h .1)), λ e. absurd (r-gives _ _ e))
     ordered (Word s) h = (λ e. absurd (omega (arith, e, h .0)), λ e. absurd (word-gives _ _ e))
     ordered (Gives (Body n)) h = (λ e. absurd (omega (arith, e)), λ e. absurd (body-order n e))
     ordered (Gives Ordered) h = (λ e. refl, λ e. refl)
     ordered (Gives (Part n r)) h = (λ e. absurd (omega (arith, e)), λ e. absurd (part-order n r e))
 
-    body : (o : Outcome Given) → IsNumbered o → (decidedNo o ≡ 0x9000) ↔ ((n : ℕ) × (o ≡ Gives (Body n)))
+    body : (o : Outcome DecisionGives) → IsNumbered o → (decidedNo o ≡ 0x9000) ↔ ((n : ℕ) × (o ≡ Gives (Body n)))
     body (R n) h = (λ e. absurd (omega (arith, e, h .1)), λ x. absurd (r-gives _ _ (x .1)))
     body (Word s) h = (λ e. absurd (omega (arith, e, h .1)), λ x. absurd (word-gives _ _ (x .1)))
     body (Gives (Body n)) h = (λ e. (n, refl), λ x. refl)
     body (Gives Ordered) h = (λ e. absurd (omega (arith, e)), λ x. absurd (body-order (x .0) (sym (x .1))))
     body (Gives (Part n r)) h = (λ e. absurd (omega (arith, e)), λ x. absurd (part-body n r (x .0) (x .1)))
 
-    part : (o : Outcome Given) → IsNumbered o → (decidedNo o ≡ 0x0200) ↔ ((n : ℕ) × (r : Remainder) × (o ≡ Gives (Part n r)))
+    part : (o : Outcome DecisionGives) → IsNumbered o → (decidedNo o ≡ 0x0200) ↔ ((n : ℕ) × (r : Remainder) × (o ≡ Gives (Part n r)))
     part (R n) h = (λ e. absurd (omega (arith, e, h .1)), λ x. absurd (r-gives _ _ (x .2)))
     part (Word s) h = (λ e. absurd (omega (arith, e, h .0)), λ x. absurd (word-gives _ _ (x .2)))
     part (Gives (Body n)) h = (λ e. absurd (omega (arith, e)), λ x. absurd (part-body (x .0) (x .1) n (sym (x .2))))
     part (Gives Ordered) h = (λ e. absurd (omega (arith, e)), λ x. absurd (part-order (x .0) (x .1) (sym (x .2))))
     part (Gives (Part n r)) h = (λ e. (n, r, refl), λ x. refl)
 
-    refusal : (o : Outcome Given) → IsNumbered o → (n : ℕ) → 1 ≤ n → n ≤ lastRefusal → (decidedNo o ≡ n) ↔ (o ≡ R n)
+    refusal : (o : Outcome DecisionGives) → IsNumbered o → (n : ℕ) → 1 ≤ n → n ≤ lastRefusal → (decidedNo o ≡ n) ↔ (o ≡ R n)
     refusal (R m) h n low high = (λ e. ap R e, λ e. cc)
     refusal (Word s) h n low high = (λ e. absurd (omega (arith, e, h .0, high)), λ e. absurd (r-word _ _ (sym e)))
     refusal (Gives (Body m)) h n low high = (λ e. absurd (omega (arith, e, high)), λ e. absurd (r-gives _ _ (sym e)))
     refusal (Gives (Part m r)) h n low high = (λ e. absurd (omega (arith, e, high)), λ e. absurd (r-gives _ _ (sym e)))
     refusal (Gives Ordered) h n low high = (λ e. absurd (omega (arith, e, high)), λ e. absurd (r-gives _ _ (sym e)))
 
-    status : (o : Outcome Given) → IsNumbered o → (n : ℕ) → 0x6000 ≤ n → n < 0x9000 → (decidedNo o ≡ n) ↔ HasStatus n o
+    status : (o : Outcome DecisionGives) → IsNumbered o → (n : ℕ) → 0x6000 ≤ n → n < 0x9000 → (decidedNo o ≡ n) ↔ HasStatus n o
     status (R m) h n low high = (λ e. absurd (omega (arith, e, h .1, low)), λ x. absurd (r-word _ _ (x .is)))
     status (Word s) h n low high = (λ e. record { word = s; is = refl; numbered = e }, λ x. same-number s (x .word) (x .is) ∙ x .numbered)
     status (Gives (Body m)) h n low high = (λ e. absurd (omega (arith, e, high)), λ x. absurd (word-gives _ _ (sym (x .is))))
@@ -148,7 +148,7 @@ NoAnswerIs0 = record { answered = answered; decision = decision }
     answered (Word s) h e = omega (arith, e, h .0)
     answered (Gives b) h e = omega (arith, e)
 
-    decision : (o : Outcome Given) → IsNumbered o → decidedNo o ≡ 0 → ⊥
+    decision : (o : Outcome DecisionGives) → IsNumbered o → decidedNo o ≡ 0 → ⊥
     decision (R n) h e = omega (arith, e, h .0)
     decision (Word s) h e = omega (arith, e, h .0)
     decision (Gives (Body n)) h e = omega (arith, e)
@@ -285,12 +285,12 @@ unfolding statedOf
 StatedExactly =
     record {
       unasked = λ w taken kept settled room k limit partRoom. refl;
-      other = λ w asks taken kept settled room k limit partRoom n. by w asks taken kept settled room k limit partRoom n;
+      other = λ w isC0 taken kept settled room k limit partRoom n. by w isC0 taken kept settled room k limit partRoom n;
       fetched = λ w taken kept settled room k limit partRoom e. rw e;
     }
   where
-    by : (w : StatusWord) (asks taken : Bool) (kept settled : Presence) (room : ℕ) (k : Remainder) (limit partRoom : ℕ) → (w .number ≡ 0x6985 → ⊥)
-        → statedOf w asks taken kept settled room k limit partRoom ≡ record { answer = Word w; presence = settled; order = blankOrder; taken = taken }
+    by : (w : StatusWord) (isC0 taken : Bool) (kept settled : Presence) (room : ℕ) (k : Remainder) (limit partRoom : ℕ) → (w .number ≡ 0x6985 → ⊥)
+        → statedOf w isC0 taken kept settled room k limit partRoom ≡ record { answer = Word w; presence = settled; order = blankOrder; taken = taken }
     by w true taken kept settled room k limit partRoom n = rw (ne-eqb (w .number) 0x6985 n)
     by w false taken kept settled room k limit partRoom n = refl
 
@@ -309,7 +309,7 @@ PlacesCut =
       handle = λ frame p1 s e. (data-within frame s (AuthenticateExactly frame p1 s .0 e .0), refl);
     }
   where
-    room : (frame : List ℕ) (c : Command) (s : Says) → commandOf frame ≡ Gives c → Carries c s
+    room : (frame : List ℕ) (c : Command) (s : Says) → commandOf frame ≡ Gives c → HasData c s
         → (commandNumbers (Gives c) .challenge + 32 ≤ length frame) × (commandNumbers (Gives c) .application + 32 ≤ length frame)
     room frame _ _ e (register s) =
         let t = RegisterExactly frame s .0 e in
@@ -318,12 +318,12 @@ PlacesCut =
         let t = AuthenticateExactly frame p1 s .0 e in
         let within = data-within frame s (t .0) in (omega (arith, t .3), omega (arith, t .3))
 
-    cut-challenge : (frame : List ℕ) (c : Command) (s : Says) → Carries c s
+    cut-challenge : (frame : List ℕ) (c : Command) (s : Says) → HasData c s
         → partOf frame (commandNumbers (Gives c) .challenge) (commandNumbers (Gives c) .challenge + 32) ≡ challengeOf frame s
     cut-challenge frame _ _ (register s) = refl
     cut-challenge frame _ _ (authenticate p1 s) = refl
 
-    cut-application : (frame : List ℕ) (c : Command) (s : Says) → Carries c s
+    cut-application : (frame : List ℕ) (c : Command) (s : Says) → HasData c s
         → partOf frame (commandNumbers (Gives c) .application) (commandNumbers (Gives c) .application + 32) ≡ applicationOf frame s
     cut-application frame _ _ (register s) = let at : s .dataAt + 32 + 32 ≡ s .dataAt + 64 = omega arith in ap (partOf frame (s .dataAt + 32)) at
     cut-application frame _ _ (authenticate p1 s) = let at : s .dataAt + 32 + 32 ≡ s .dataAt + 64 = omega arith in ap (partOf frame (s .dataAt + 32)) at
@@ -335,7 +335,7 @@ refused-record p (R n) go h given low = refl
 refused-record p (Word s) go h given low = refl
 refused-record p (Gives q) go h given low = absurd (omega (arith, ap answerNo (given q .1)))
 
-decision-kept : (p : Presence) (t : ℕ) (a : Inputs) → (o : Outcome Given) → decisionOf p t a .answer ≡ o → IsNumbered o
+decision-kept : (p : Presence) (t : ℕ) (a : Inputs) → (o : Outcome DecisionGives) → decisionOf p t a .answer ≡ o → IsNumbered o
     → 1 ≤ decidedNo o → decidedNo o ≤ lastRefusal → decisionOf p t a .presence ≡ p
 decision-kept p t a (R n) e h low high = Outcomes.decision-refused p t a n e
 decision-kept p t a (Word s) e h low high = absurd (omega (arith, h .0))
@@ -343,7 +343,7 @@ decision-kept p t a (Gives (Body n)) e h low high = absurd (omega arith)
 decision-kept p t a (Gives Ordered) e h low high = absurd (omega arith)
 decision-kept p t a (Gives (Part n r)) e h low high = absurd (omega arith)
 
-remainder-kept : (a : Inputs) (r : Result) (o : Outcome Given) → r .answer ≡ o → IsNumbered o → 1 ≤ decidedNo o → decidedNo o ≤ lastRefusal → remainderLeft a r ≡ a .remainder
+remainder-kept : (a : Inputs) (r : DecisionResult) (o : Outcome DecisionGives) → r .answer ≡ o → IsNumbered o → 1 ≤ decidedNo o → decidedNo o ≤ lastRefusal → remainderLeft a r ≡ a .remainder
 remainder-kept a r (R n) e h low high = rw e
 remainder-kept a r (Word s) e h low high = absurd (omega (arith, h .0))
 remainder-kept a r (Gives (Body n)) e h low high = absurd (omega arith)
@@ -487,7 +487,7 @@ ResultsDetermined =
       response-plain = λ read a b. both-are a b;
       wrote-response-plain = λ written a b. both-are a b;
       next-plain = λ next kept a b. both-are a b;
-      stated-numbers = λ s asks taken kept settled k l body old a b p q. fetched a b (both-are _ _ (p .0) (q .0)) (both-are _ _ (p .1) (q .1));
+      stated-numbers = λ s isC0 taken kept settled k l body old a b p q. fetched a b (both-are _ _ (p .0) (q .0)) (both-are _ _ (p .1) (q .1));
       brinecandle-write-response = λ body status old a b p q. written a b (both-are _ _ (p .0) (q .0)) (both-are _ _ (p .1) (q .1));
       brinecandle-read-response = λ response a b. both-are a b;
       brinecandle-next-part = λ body k l old a b p q. parted a b (both-are _ _ (p .0) (q .0)) (both-are _ _ (p .1) (q .1));

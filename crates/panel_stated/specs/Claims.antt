@@ -8,7 +8,7 @@ use Rattle.panel_stated.specs.Words.{ℕ, _≡_, _≤_, _<_, Bool, List,
 use Rattle.panel_stated.specs.Words.{Instruction, Le1, Lc1Data, Lc1DataLe1, Lc3Data, Lc3DataLe2, Le3}
 use Rattle.panel_stated.specs.Words.{PresenceRecord, OrderNumbers, Shaped, Kinded}
 use Rattle.panel_stated.specs.Words.{FrameSaid, CommandSaid, Wrote, Made, Stepped, Asked, DecisionSaid, ResponseSaid, PartSaid}
-use Rattle.panel_stated.specs.Words.{Says, Entry, Case, Parts, partsOf, shapeNo, Command, Register, Authenticate, Version, GetResponse, Told, length, Remainder, Response, Sent, along, fetchPath, true, writeResponseOf, readResponseOf, nextPartOf, _+_, false, readOf, strictOf, commandOf, newOf, touchOf, checkOf, askOf, finishOf, Given, Body, Ordered, Part, Result}
+use Rattle.panel_stated.specs.Words.{Says, Entry, Case, Parts, partsOf, shapeNo, Command, Register, Authenticate, Version, GetResponse, Told, length, Remainder, Response, Sent, along, fetchPath, true, writeResponseOf, readResponseOf, nextPartOf, _+_, false, readOf, strictOf, commandOf, newOf, touchOf, checkOf, askOf, finishOf, DecisionGives, Body, Ordered, Part, DecisionResult}
 use Rattle.panel_stated.specs.Exports.{orderAfter, ToWrite, ToDecide, ToFinish, decidedBy, writeNumbered, finishNumbered}
 use Rattle.panel_stated.specs.Contracts.{ShapeNumbered, FramePlain, StrictPlain, WritePlain, CommandPlain, RecordLent, RecordPlain, MadePlain, AskedPlain, StepPlain, KindNumbered, RefusedPlain, StatusPlain, BodyPlain, PartPlain, OrderPlain, FinishedPlain, ResponsePlain, WroteResponsePlain, NextPlain, StatedPlain}
 use Rattle.panel_stated.specs.Contracts.{BrinecandleRead, BrinecandleReadStrict, BrinecandleReadByTable, BrinecandleReadStrictByTable, BrinecandleWrite, BrinecandleWriteStrict, BrinecandleReadCommand, BrinecandleNew, BrinecandleGrantUp, BrinecandleConsumeUp, BrinecandleIsUpNeeded, BrinecandleDecide, BrinecandleFinish, BrinecandleWriteResponse, BrinecandleReadResponse, BrinecandleNextPart}
@@ -25,7 +25,7 @@ use Rattle.response_stated.specs.Terms.{Sender, Writer, sending}
 use Rattle.signing_stated.specs.Orders.{blankOrder}
 use Rattle.u2f_up_stated.specs.Terms.{BadWindow, BadSide}
 use Rattle.u2f_up_stated.specs.Runs.{Caller, Keeps, after, next}
-use Rattle.panel_stated.specs.Terms.{numbersAfter, NoShape, IsNumbered, IsOfMoment, AreOf64Bits, Carries, AfterWriting, AfterDeciding, AfterPart, AfterFetching, Reports}
+use Rattle.panel_stated.specs.Terms.{numbersAfter, NoShape, IsNumbered, IsOfMoment, AreOf64Bits, HasData, AfterWriting, AfterDeciding, AfterPart, AfterFetching, Reports}
 use Rattle.outcome.specs.declared.ApduStatusCode.{ApduStatusCode}
 use Rattle.outcome.specs.declared.Refusal.{Refusal}
 use Rattle.apdu_stated.specs.declared.Apdu.{Apdu}
@@ -72,18 +72,18 @@ pub record AnswerTells (number : Outcome Bool → ℕ) : Type 0 where
 -- Of a decision, 0100 is exactly an order, 9000 exactly a body, 0200 exactly a part, a refusal's number exactly that refusal, a status word's
 -- exactly that. A table that numbers an order as R2 (`orderNumbered2`) fails it: the firmware would take the order for a refusal; and
 -- one that numbers a part as a body (`partAsBody`): it would be cut again, its status with it.
-pub record DecisionTells (number : Outcome Given → ℕ) : Type 0 where
-  pub ordered : (o : Outcome Given) → IsNumbered o → (number o ≡ 0x0100) ↔ (o ≡ Gives Ordered)
-  pub body : (o : Outcome Given) → IsNumbered o → (number o ≡ 0x9000) ↔ ((n : ℕ) × (o ≡ Gives (Body n)))
-  pub part : (o : Outcome Given) → IsNumbered o → (number o ≡ 0x0200) ↔ ((n : ℕ) × (after : Remainder) × (o ≡ Gives (Part n after)))
-  pub refused : (o : Outcome Given) → IsNumbered o → (n : ℕ) → 1 ≤ n → n ≤ lastRefusal → (number o ≡ n) ↔ (o ≡ R n)
-  pub status : (o : Outcome Given) → IsNumbered o → (n : ℕ) → 0x6000 ≤ n → n < 0x9000 → (number o ≡ n) ↔ HasStatus n o
+pub record DecisionTells (number : Outcome DecisionGives → ℕ) : Type 0 where
+  pub ordered : (o : Outcome DecisionGives) → IsNumbered o → (number o ≡ 0x0100) ↔ (o ≡ Gives Ordered)
+  pub body : (o : Outcome DecisionGives) → IsNumbered o → (number o ≡ 0x9000) ↔ ((n : ℕ) × (o ≡ Gives (Body n)))
+  pub part : (o : Outcome DecisionGives) → IsNumbered o → (number o ≡ 0x0200) ↔ ((n : ℕ) × (after : Remainder) × (o ≡ Gives (Part n after)))
+  pub refused : (o : Outcome DecisionGives) → IsNumbered o → (n : ℕ) → 1 ≤ n → n ≤ lastRefusal → (number o ≡ n) ↔ (o ≡ R n)
+  pub status : (o : Outcome DecisionGives) → IsNumbered o → (n : ℕ) → 0x6000 ≤ n → n < 0x9000 → (number o ≡ n) ↔ HasStatus n o
 
 -- 0 is no answer's number: memory of zeros is neither an order nor anything else that a call has answered. Ours; DECISIONS, one answer
 -- number. A table that numbers an order 0 (`orderIs0`) fails it: a decision that was never asked for would be signed.
-pub record NoAnswerIs0 (answer : Outcome Bool → ℕ) (decided : Outcome Given → ℕ) : Type 0 where
+pub record NoAnswerIs0 (answer : Outcome Bool → ℕ) (decided : Outcome DecisionGives → ℕ) : Type 0 where
   pub answered : (o : Outcome Bool) → IsNumbered o → answer o ≡ 0 → ⊥
-  pub decision : (o : Outcome Given) → IsNumbered o → decided o ≡ 0 → ⊥
+  pub decision : (o : Outcome DecisionGives) → IsNumbered o → decided o ≡ 0 → ⊥
 
 -- ---- records
 
@@ -168,7 +168,7 @@ pub record OthersRefused (write : Entry → ToWrite → Outcome ℕ) (finish : T
 
 -- An order that went out as numbers and block is finished as that order, its signer's answer by `YesNumbers`. A certificate length that goes out as the number of
 -- bytes to sign (`certificateLengthAsToSign`) fails it.
-abbrev pub OrderBack : (Outcome Given → Order → OrderNumbers) → Type 0
+abbrev pub OrderBack : (Outcome DecisionGives → Order → OrderNumbers) → Type 0
 OrderBack plain =
     (order : Order) (certificate : List ℕ) (signed : ℕ) (signature reply : List ℕ)
     → finishNumbered (record { order = plain (Gives Ordered) order; block = order .bytes; certificate = certificate; signed = signed; signature = signature; reply = reply })
@@ -278,7 +278,7 @@ pub record MadeNumbers (plain : Outcome Presence → Made) : Type 0 where
 
 -- The numbers of a decision's order: kind 1 or 2, the number of bytes to sign, the certificate length; zeros where there is none.
 -- A table that numbers an Authenticate order 1 (`ordersAlike`) fails it.
-pub record OrderNumbersExactly (plain : Outcome Given → Order → OrderNumbers) : Type 0 where
+pub record OrderNumbersExactly (plain : Outcome DecisionGives → Order → OrderNumbers) : Type 0 where
   pub refused : (n : ℕ) (o : Order) → plain (R n) o ≡ record { kind = 0; «to_sign» = 0; «certificate_length» = 0 }
   pub status : (s : StatusWord) (o : Order) → plain (Word s) o ≡ record { kind = 0; «to_sign» = 0; «certificate_length» = 0 }
   pub body : (n : ℕ) (o : Order) → plain (Gives (Body n)) o ≡ record { kind = 0; «to_sign» = 0; «certificate_length» = 0 }
@@ -291,28 +291,28 @@ pub record OrderNumbersExactly (plain : Outcome Given → Order → OrderNumbers
 -- A decision's numbers. A decision whose counter was taken and goes out as not taken (`takenUnsaid`) fails it: the counter would not
 -- grow; one that keeps the pair of a 6700 to itself (`decisionFaultUnsaid`), and one that never says a limit (`limitUnsaid`): every body
 -- would go out whole.
-pub record DecisionNumbers (plain : Result → Remainder → (limit : ℕ) → DecisionSaid) : Type 0 where
-  pub refused : (r : Result) (k : Remainder) (l n : ℕ) → r .answer ≡ R n → (plain r k l .answer ≡ n) × (plain r k l .fault ≡ 0) × (plain r k l .place ≡ 0) × (plain r k l .length ≡ 0)
-  pub status : (r : Result) (k : Remainder) (l : ℕ) (s : StatusWord) → r .answer ≡ Word s
+pub record DecisionNumbers (plain : DecisionResult → Remainder → (limit : ℕ) → DecisionSaid) : Type 0 where
+  pub refused : (r : DecisionResult) (k : Remainder) (l n : ℕ) → r .answer ≡ R n → (plain r k l .answer ≡ n) × (plain r k l .fault ≡ 0) × (plain r k l .place ≡ 0) × (plain r k l .length ≡ 0)
+  pub status : (r : DecisionResult) (k : Remainder) (l : ℕ) (s : StatusWord) → r .answer ≡ Word s
       → (plain r k l .answer ≡ s .number) × (plain r k l .fault ≡ s .kind) × (plain r k l .place ≡ s .place) × (plain r k l .length ≡ 0)
-  pub body : (r : Result) (k : Remainder) (l n : ℕ) → r .answer ≡ Gives (Body n) → (plain r k l .answer ≡ 0x9000) × (plain r k l .fault ≡ 0) × (plain r k l .place ≡ 0) × (plain r k l .length ≡ n)
-  pub part : (r : Result) (k : Remainder) (l n : ℕ) (after : Remainder) → r .answer ≡ Gives (Part n after)
+  pub body : (r : DecisionResult) (k : Remainder) (l n : ℕ) → r .answer ≡ Gives (Body n) → (plain r k l .answer ≡ 0x9000) × (plain r k l .fault ≡ 0) × (plain r k l .place ≡ 0) × (plain r k l .length ≡ n)
+  pub part : (r : DecisionResult) (k : Remainder) (l n : ℕ) (after : Remainder) → r .answer ≡ Gives (Part n after)
       → (plain r k l .answer ≡ 0x0200) × (plain r k l .fault ≡ 0) × (plain r k l .place ≡ 0) × (plain r k l .length ≡ n)
-  pub ordered : (r : Result) (k : Remainder) (l : ℕ) → r .answer ≡ Gives Ordered → (plain r k l .answer ≡ 0x0100) × (plain r k l .fault ≡ 0) × (plain r k l .place ≡ 0) × (plain r k l .length ≡ 0)
-  pub taken : (r : Result) (k : Remainder) (l : ℕ) → plain r k l .taken ≡ r .taken
-  pub order : (r : Result) (k : Remainder) (l : ℕ) → plain r k l .order ≡ orderAfter (r .answer) (r .order)  -- by `OrderNumbersExactly`
-  pub presence : (r : Result) (k : Remainder) (l : ℕ) → plain r k l .presence ≡ presenceNumbers (r .presence)  -- by `RecordNumbers` and `NumbersBack`
-  pub remainder : (r : Result) (k : Remainder) (l : ℕ) → plain r k l .remainder ≡ k
-  pub limit : (r : Result) (k : Remainder) (l : ℕ) → plain r k l .limit ≡ l
+  pub ordered : (r : DecisionResult) (k : Remainder) (l : ℕ) → r .answer ≡ Gives Ordered → (plain r k l .answer ≡ 0x0100) × (plain r k l .fault ≡ 0) × (plain r k l .place ≡ 0) × (plain r k l .length ≡ 0)
+  pub taken : (r : DecisionResult) (k : Remainder) (l : ℕ) → plain r k l .taken ≡ r .taken
+  pub order : (r : DecisionResult) (k : Remainder) (l : ℕ) → plain r k l .order ≡ orderAfter (r .answer) (r .order)  -- by `OrderNumbersExactly`
+  pub presence : (r : DecisionResult) (k : Remainder) (l : ℕ) → plain r k l .presence ≡ presenceNumbers (r .presence)  -- by `RecordNumbers` and `NumbersBack`
+  pub remainder : (r : DecisionResult) (k : Remainder) (l : ℕ) → plain r k l .remainder ≡ k
+  pub limit : (r : DecisionResult) (k : Remainder) (l : ℕ) → plain r k l .limit ≡ l
 
 -- What a decision's status word, found as if nothing were left, comes to where something may be: the word itself, but for the 6985 of a frame that asks
 -- for the next part, which gets it. 02, E2: "then 6985 when nothing remains; then .." the part. One that never fetches (`neverFetched`)
 -- fails it, and one that fetches at any 6985 (`fetchedUnasked`): a Register without a touch would get a part of an earlier body.
-pub record StatedExactly (stated : StatusWord → (asks taken : Bool) → (kept settled : Presence) → (room : ℕ) → Remainder → (limit partRoom : ℕ) → Result) : Type 0 where
+pub record StatedExactly (stated : StatusWord → (isC0 taken : Bool) → (kept settled : Presence) → (room : ℕ) → Remainder → (limit partRoom : ℕ) → DecisionResult) : Type 0 where
   pub unasked : (w : StatusWord) (taken : Bool) (kept settled : Presence) (room : ℕ) (k : Remainder) (limit partRoom : ℕ)
       → stated w false taken kept settled room k limit partRoom ≡ record { answer = Word w; presence = settled; order = blankOrder; taken = taken }
-  pub other : (w : StatusWord) (asks taken : Bool) (kept settled : Presence) (room : ℕ) (k : Remainder) (limit partRoom : ℕ) → (w .number ≡ 0x6985 → ⊥)
-      → stated w asks taken kept settled room k limit partRoom ≡ record { answer = Word w; presence = settled; order = blankOrder; taken = taken }
+  pub other : (w : StatusWord) (isC0 taken : Bool) (kept settled : Presence) (room : ℕ) (k : Remainder) (limit partRoom : ℕ) → (w .number ≡ 0x6985 → ⊥)
+      → stated w isC0 taken kept settled room k limit partRoom ≡ record { answer = Word w; presence = settled; order = blankOrder; taken = taken }
   pub fetched : (w : StatusWord) (taken : Bool) (kept settled : Presence) (room : ℕ) (k : Remainder) (limit partRoom : ℕ) → w .number ≡ 0x6985
       → stated w true taken kept settled room k limit partRoom ≡ along (fetchPath room k limit partRoom) kept settled 0 0
 
@@ -324,7 +324,7 @@ pub record StatedExactly (stated : StatusWord → (asks taken : Bool) → (kept 
 -- (`partOverTheBody`), or takes x for y (`pointSwapped`).
 pub record DecideExported (decide : ToDecide → AfterDeciding) : Type 0 where
   pub row : (i : ToDecide)
-      → (r : Result)
+      → (r : DecisionResult)
       × Answers (presenceOf (i .presence)) (i .moment)
       (record { side = i .side; frame = i .frame; hardware = hardwareOf (i .hardware); newHandle = i .newHandle; certificate = i .certificate; x = i .x; y = i .y; room = length (i .reply); remainder = i .remainder; partRoom = length (i .part) }) r
       × Reports (decide i .said) r
@@ -397,7 +397,7 @@ WriteStrictExported write = WriterExported Frames.StrictWriteExactly write
 
 -- 01: "the bytes to sign in a block of 385 bytes": the lent block is written for an order alone. One that is written after a status
 -- word (`blockAfterStatus`) or a refusal (`blockAfterRefusal`) fails it: an order that waits for its signature is lost.
-pub record BlockExactly (after : Outcome Given → (bytes old : List ℕ) → List ℕ) : Type 0 where
+pub record BlockExactly (after : Outcome DecisionGives → (bytes old : List ℕ) → List ℕ) : Type 0 where
   pub refused : (n : ℕ) (bytes old : List ℕ) → after (R n) bytes old ≡ old
   pub status : (s : StatusWord) (bytes old : List ℕ) → after (Word s) bytes old ≡ old
   pub body : (n : ℕ) (bytes old : List ℕ) → after (Gives (Body n)) bytes old ≡ old
@@ -411,10 +411,10 @@ pub record BlockExactly (after : Outcome Given → (bytes old : List ℕ) → Li
 pub record PlacesCut (frames : Outcome Says → FrameSaid) (commands : Outcome Command → CommandSaid) : Type 0 where
   pub «data» : (frame : List ℕ) (s : Says) → readOf frame ≡ Gives s
       → (frames (Gives s) .end ≤ length frame) × (partOf frame (frames (Gives s) .start) (frames (Gives s) .end) ≡ dataOf frame s)
-  pub challenge : (frame : List ℕ) (c : Command) (s : Says) → commandOf frame ≡ Gives c → Carries c s
+  pub challenge : (frame : List ℕ) (c : Command) (s : Says) → commandOf frame ≡ Gives c → HasData c s
       → (commands (Gives c) .challenge + 32 ≤ length frame)
       × (partOf frame (commands (Gives c) .challenge) (commands (Gives c) .challenge + 32) ≡ challengeOf frame s)
-  pub application : (frame : List ℕ) (c : Command) (s : Says) → commandOf frame ≡ Gives c → Carries c s
+  pub application : (frame : List ℕ) (c : Command) (s : Says) → commandOf frame ≡ Gives c → HasData c s
       → (commands (Gives c) .application + 32 ≤ length frame)
       × (partOf frame (commands (Gives c) .application) (commands (Gives c) .application + 32) ≡ applicationOf frame s)
   pub handle : (frame : List ℕ) (p1 : ℕ) (s : Says) → commandOf frame ≡ Gives (Authenticate p1 s)
@@ -474,8 +474,8 @@ pub record ResultsDetermined : Type 0 where
   pub response-plain : (read : ReadResponse) → AtMostOne (ResponsePlain read)
   pub wrote-response-plain : (written : WroteResponse) → AtMostOne (WroteResponsePlain written)
   pub next-plain : (next : NextPart) (kept : Remainder) → AtMostOne (NextPlain next kept)
-  pub stated-numbers : (s : ApduStatusCode) (asks taken : Bool) (kept settled : Presence) (k : Remainder) (l : ℕ) (body old : List ℕ)
-      → AtMostOne (λ (r : AfterFetching). StatedPlain s asks taken kept settled k l body old (r .said) (r .buffer))
+  pub stated-numbers : (s : ApduStatusCode) (isC0 taken : Bool) (kept settled : Presence) (k : Remainder) (l : ℕ) (body old : List ℕ)
+      → AtMostOne (λ (r : AfterFetching). StatedPlain s isC0 taken kept settled k l body old (r .said) (r .buffer))
   pub brinecandle-write-response : (body : List ℕ) (status : ℕ) (old : List ℕ) → AtMostOne (λ (r : AfterWriting). BrinecandleWriteResponse body status old (r .said) (r .buffer))
   pub brinecandle-read-response : (response : List ℕ) → AtMostOne (BrinecandleReadResponse response)
   pub brinecandle-next-part : (body : List ℕ) (k : Remainder) (l : ℕ) (old : List ℕ) → AtMostOne (λ (r : AfterPart). BrinecandleNextPart body k l old (r .said) (r .buffer))

@@ -1,4 +1,4 @@
--- What is promised of each public function of plain_frames, plain_presence, plain_orders, plain_responses and panel, over what it is lent,
+-- What is promised of each public function of panel_frames, panel_presence, panel_orders, panel_responses and panel, over what it is lent,
 -- its result, and the final contents of what it writes.
 use Rattle.panel_stated.specs.Words.{ℕ, _≡_, Bool, true, List, length, R, Word, Gives, Body, Ordered, Part, Head, Presence, Remainder, Ordinary, Strict, commandOf, newOf, touchOf, checkOf, askOf, lengthOf, replyOf, fetchPath, along, remainderAfter, partAfter, responseRead, responseWritten, partSent, readResponseOf, partResponse}
 use Rattle.panel_stated.specs.Words.{PresenceRecord, FrameSaid, CommandSaid, Wrote, Made, Stepped, Asked, DecisionSaid, ResponseSaid, PartSaid, Shaped, Kinded}
@@ -21,7 +21,7 @@ use Rattle.response_stated.specs.declared.ReadResponse.{ReadResponse}
 use Rattle.response_stated.specs.declared.WroteResponse.{WroteResponse}
 use Rattle.response_stated.specs.declared.NextPart.{NextPart}
 
--- ---- plain_frames
+-- ---- panel_frames
 abbrev pub ShapeNumbered : ℕ → Shaped → Type 0
 ShapeNumbered number r = r ≡ shapeOf number
 
@@ -37,7 +37,7 @@ WritePlain w r after = (r ≡ writesOf Ordinary w .said) × (after ≡ writesOf 
 abbrev pub CommandPlain : U2fCommand → CommandSaid → Type 0
 CommandPlain read r = r ≡ commandNumbers (commandSaid read)
 
--- ---- plain_presence
+-- ---- panel_presence
 abbrev pub RecordLent : PresenceRecord → Presence → Type 0
 RecordLent numbers r = r ≡ presenceOf numbers
 
@@ -53,7 +53,7 @@ AskedPlain answer r = r ≡ askedNumbers (outcomeOf answer)
 abbrev pub StepPlain : Step → Stepped → Type 0
 StepPlain step r = r ≡ stepNumbers (toldOf step)
 
--- ---- plain_orders
+-- ---- panel_orders
 abbrev pub KindNumbered : ℕ → Kinded → Type 0
 KindNumbered number r = r ≡ kindOf number
 
@@ -77,7 +77,7 @@ OrderPlain head taken p left limit r = r ≡ decidedNumbers (Gives Ordered) (hea
 abbrev pub FinishedPlain : Finished → Wrote → Type 0
 FinishedPlain finished r = r ≡ lengthNumbers (finishedOf finished)
 
--- ---- plain_responses
+-- ---- panel_responses
 abbrev pub ResponsePlain : ReadResponse → ResponseSaid → Type 0
 ResponsePlain read r = r ≡ responseNumbers (responseRead read)
 
@@ -94,10 +94,10 @@ FetchedPlain kept settled k limit body entry r exit =
     (r ≡ decisionNumbers fetched (remainderAfter (fetched .answer) true k) limit) × (exit ≡ partAfter (fetched .answer) (partResponse body k limit) entry)
 
 -- a ruling's status word in numbers, and what the buffer for part and status then holds
-abbrev pub StatedPlain : ApduStatusCode → (asks taken : Bool) → (kept settled : Presence) → Remainder → (limit : ℕ) → (body entry : List ℕ) → DecisionSaid → (exit : List ℕ) → Type 0
-StatedPlain status asks taken kept settled k limit body entry r exit =
-    let stated = statedOf (wordOf status) asks taken kept settled (length body) k limit (length entry) in
-    (r ≡ decisionNumbers stated (remainderAfter (stated .answer) asks k) limit) × (exit ≡ partAfter (stated .answer) (partResponse body k limit) entry)
+abbrev pub StatedPlain : ApduStatusCode → (isC0 taken : Bool) → (kept settled : Presence) → Remainder → (limit : ℕ) → (body entry : List ℕ) → DecisionSaid → (exit : List ℕ) → Type 0
+StatedPlain status isC0 taken kept settled k limit body entry r exit =
+    let stated = statedOf (wordOf status) isC0 taken kept settled (length body) k limit (length entry) in
+    (r ≡ decisionNumbers stated (remainderAfter (stated .answer) isC0 k) limit) × (exit ≡ partAfter (stated .answer) (partResponse body k limit) entry)
 
 -- ---- panel: what C links
 abbrev pub BrinecandleRead : List ℕ → FrameSaid → Type 0

@@ -3,7 +3,7 @@
 use Rattle.panel_stated.specs.Words.{ℕ, _+_, Bool, false, List, length, StatusWord, Outcome, R, Word, Gives, plainWord, ApduHeader, Presence, Kind, Head, Order, headOf}
 use Rattle.panel_stated.specs.Words.{PresenceRecord, HardwareSaid, OrderNumbers, FrameSaid, CommandSaid, Wrote, Made, Stepped, Asked, DecisionSaid, ResponseSaid, PartSaid, Shaped, Kinded}
 use Rattle.panel_stated.specs.Words.{Says, placeOf, Entry, Strict, inRow, readBy, partsOf, writeBy, bufferBy, Command, Register, Authenticate, Version, GetResponse, handlePlaceOf, Told}
-use Rattle.panel_stated.specs.Words.{kindNo, finishOf, Given, Body, Ordered, Part, Result, Handed, handedOf, decisionOf, Remainder, Response, Sent, frameLimit, fetchPath, along, remainderLeft, partLeft, replyLeft, blockLeft}
+use Rattle.panel_stated.specs.Words.{kindNo, finishOf, DecisionGives, Body, Ordered, Part, DecisionResult, DecisionHanded, handedOf, decisionOf, Remainder, Response, Sent, frameLimit, fetchPath, along, remainderLeft, partLeft, replyLeft, blockLeft}
 use Rattle.panel_stated.specs.Numbers.{answerNo, decidedNo, faultNo, placeNo, presenceOf, presenceNumbers, isYes, hardwareOf, shapeOf, kindOf, noOrder}
 use mathlib.Core.Bool.{_&&_}
 use Rattle.response_stated.specs.Terms.{writingOf, sendingOf}
@@ -179,7 +179,7 @@ nextsOf body r limit old = record { said = partNumbers (sendingOf body r limit o
 
 -- ---- decision
 -- a body's length; of a part its response's
-abbrev pub bodyLength : Outcome Given → ℕ
+abbrev pub bodyLength : Outcome DecisionGives → ℕ
 bodyLength (R n) = 0
 bodyLength (Word s) = 0
 bodyLength (Gives (Body n)) = n
@@ -187,7 +187,7 @@ bodyLength (Gives Ordered) = 0
 bodyLength (Gives (Part n after)) = n
 
 -- an order's kind, number of bytes to sign, and certificate length
-abbrev pub headAfter : Outcome Given → Head → OrderNumbers
+abbrev pub headAfter : Outcome DecisionGives → Head → OrderNumbers
 headAfter (R n) head = noOrder
 headAfter (Word s) head = noOrder
 headAfter (Gives (Body n)) head = noOrder
@@ -195,11 +195,11 @@ headAfter (Gives Ordered) head =
     record { kind = kindNo (head .kind); «to_sign» = head .«to_sign»; «certificate_length» = head .«certificate_length» }
 headAfter (Gives (Part n after)) head = noOrder
 
-abbrev pub orderAfter : Outcome Given → Order → OrderNumbers
+abbrev pub orderAfter : Outcome DecisionGives → Order → OrderNumbers
 orderAfter o order = headAfter o (headOf order)
 
 -- a decision's numbers, and what is left to fetch and how much the frame takes at a time; the block goes out beside these: `blockLeft`
-abbrev pub decidedNumbers : Outcome Given → OrderNumbers → (taken : Bool) → Presence → Remainder → (limit : ℕ) → DecisionSaid
+abbrev pub decidedNumbers : Outcome DecisionGives → OrderNumbers → (taken : Bool) → Presence → Remainder → (limit : ℕ) → DecisionSaid
 decidedNumbers answer order taken p left limit =
     record {
       answer = decidedNo answer;
@@ -213,17 +213,17 @@ decidedNumbers answer order taken p left limit =
       limit = limit;
     }
 
-abbrev pub handedNumbers : Handed → Remainder → (limit : ℕ) → DecisionSaid
+abbrev pub handedNumbers : DecisionHanded → Remainder → (limit : ℕ) → DecisionSaid
 handedNumbers h left limit = decidedNumbers (h .answer) (headAfter (h .answer) (h .head)) (h .taken) (h .presence) left limit
 
-abbrev pub decisionNumbers : Result → Remainder → (limit : ℕ) → DecisionSaid
+abbrev pub decisionNumbers : DecisionResult → Remainder → (limit : ℕ) → DecisionSaid
 decisionNumbers r left limit = handedNumbers (handedOf r) left limit
 
 -- 02, E2: what the status word of a decision that was made as if nothing were left comes to where something may be: a C0 that came so far, 6985,
 -- gets the next part of the body, if there is one. `room` and `partRoom` are the two buffers' lengths
-unfoldable pub statedOf : StatusWord → (asks taken : Bool) → (kept settled : Presence) → (room : ℕ) → Remainder → (limit partRoom : ℕ) → Result
-statedOf w asks taken kept settled room k limit partRoom =
-    if asks && eqb (w .number) 0x6985 then along (fetchPath room k limit partRoom) kept settled 0 0
+unfoldable pub statedOf : StatusWord → (isC0 taken : Bool) → (kept settled : Presence) → (room : ℕ) → Remainder → (limit partRoom : ℕ) → DecisionResult
+statedOf w isC0 taken kept settled room k limit partRoom =
+    if isC0 && eqb (w .number) 0x6985 then along (fetchPath room k limit partRoom) kept settled 0 0
     else record { answer = Word w; presence = settled; order = blankOrder; taken = taken }
 
 -- what the decision is lent, the record and the hardware's answers as numbers
@@ -259,7 +259,7 @@ inputsOf i =
     }
 
 -- the decision on them, what it leaves to fetch, and both in numbers
-abbrev pub decidedBy : ToDecide → Result
+abbrev pub decidedBy : ToDecide → DecisionResult
 decidedBy i = decisionOf (presenceOf (i .presence)) (i .moment) (inputsOf i)
 
 abbrev pub leftBy : ToDecide → Remainder

@@ -4,7 +4,7 @@ use Rattle.panel_stated.specs.Words.{ℕ, zero, suc, _+_, eqb, if_then_e
 use Rattle.panel_stated.specs.Words.{Instruction, Le1, Lc1Data, Lc1DataLe1, Lc3Data, Lc3DataLe2, Le3}
 use Rattle.panel_stated.specs.Words.{Window, Closed, Opened, Presence}
 pub use Rattle.ctap1_stated.specs.Numbers.{allowedOf, attestationOf, isYes, counterOf, hardwareOf}
-use Rattle.panel_stated.specs.Words.{PresenceRecord, OrderNumbers, Shaped, Kinded, Given, Body, Ordered, Part}
+use Rattle.panel_stated.specs.Words.{PresenceRecord, OrderNumbers, Shaped, Kinded, DecisionGives, Body, Ordered, Part}
 use Rattle.signing_stated.specs.declared.Kind.the-variants.{Register, Authenticate}
 use Rattle.panel_stated.specs.declared.Shaped.the-variants as Shaped′
 use Rattle.panel_stated.specs.declared.Kinded.the-variants as Kinded′
@@ -17,7 +17,7 @@ answerNo (Gives a) = 0x9000
 
 -- the same for a decision, where an order is 0100 and GET RESPONSE's part 0200 (ours: so C0's part is told from a body that is still to be
 -- cut): numbers of no refusal, no status word and no memory of zeros
-abbrev pub decidedNo : Outcome Given → ℕ
+abbrev pub decidedNo : Outcome DecisionGives → ℕ
 decidedNo (R n) = n
 decidedNo (Word s) = s .number
 decidedNo (Gives (Body n)) = 0x9000

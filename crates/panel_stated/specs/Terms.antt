@@ -4,7 +4,7 @@ use Rattle.u2f_up_stated.specs.Runs.{Caller}
 pub use Rattle.panel_stated.specs.Exports.{AfterWriting, AfterDeciding, AfterPart}
 use Rattle.panel_stated.specs.Numbers.{decidedNo, faultNo, placeNo, presenceNumbers}
 use Rattle.panel_stated.specs.Exports.{bodyLength, orderAfter}
-use Rattle.panel_stated.specs.Words.{Made, PresenceRecord, Presence, ℕ, _≤_, _<_, List, Outcome, R, Word, Gives, lastRefusal, Window, Closed, Opened, _^_, _≡_, DecisionSaid, Result, Says, Command, Register, Authenticate}
+use Rattle.panel_stated.specs.Words.{Made, PresenceRecord, Presence, ℕ, _≤_, _<_, List, Outcome, R, Word, Gives, lastRefusal, Window, Closed, Opened, _^_, _≡_, DecisionSaid, DecisionResult, Says, Command, Register, Authenticate}
 
 -- a refusal's number is one of the refusals', and a status word's, where it is not what was asked for, is above them and not 9000
 abbrev pub IsNumbered : {A : Type 0} → Outcome A → Type 0
@@ -28,7 +28,7 @@ pub data NoShape (n : ℕ) : Type 0 where
   above : 9 ≤ n → NoShape n
 
 -- a decision's numbers report this result: by `DecisionNumbers` and `OrderNumbersExactly`
-pub record Reports (said : DecisionSaid) (r : Result) : Type 0 where
+pub record Reports (said : DecisionSaid) (r : DecisionResult) : Type 0 where
   pub answer : said .answer ≡ decidedNo (r .answer)
   pub fault : said .fault ≡ faultNo (r .answer)
   pub place : said .place ≡ placeNo (r .answer)
@@ -43,9 +43,9 @@ pub record AfterFetching : Type 0 where
   pub buffer : List ℕ
 
 -- a command that carries data, and what its frame says
-pub data Carries : Command → Says → Type 0 where
-  register : (s : Says) → Carries (Register s) s
-  authenticate : (p1 : ℕ) (s : Says) → Carries (Authenticate p1 s) s
+pub data HasData : Command → Says → Type 0 where
+  register : (s : Says) → HasData (Register s) s
+  authenticate : (p1 : ℕ) (s : Says) → HasData (Authenticate p1 s) s
 
 -- the record's numbers after the calls, newest first: from a fresh record's, each call taking the numbers that the last one gave
 unfoldable pub numbersAfter : {D : Type 0} → (ℕ → Made) → (PresenceRecord → Presence) → (Presence → PresenceRecord) → Caller D → (w : ℕ) → List D → PresenceRecord

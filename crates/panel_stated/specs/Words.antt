@@ -47,7 +47,7 @@ pub use Rattle.command_stated.specs.Command.{Command, Register, Authenticate, V
 pub use Rattle.u2f_up_stated.specs.Moments.{Told, newOf, touchOf, checkOf, askOf}
 pub use Rattle.signing_stated.specs.Orders.{kindNo, toSign, certificateLength}
 pub use Rattle.signing_stated.specs.Finishing.{finishOf, lengthOf, replyOf}
-pub use Rattle.ctap1_stated.specs.Words.{Given, Body, Ordered, Part, Result, Handed, handedOf}
+pub use Rattle.ctap1_stated.specs.Words.{DecisionGives, Body, Ordered, Part, DecisionResult, DecisionHanded, handedOf}
 pub use Rattle.ctap1_stated.specs.Path.{frameLimit, fetchPath}
 pub use Rattle.ctap1_stated.specs.Decision.{along, decisionOf, replyLeft, blockAfter, blockLeft}
 pub use Rattle.ctap1_stated.specs.Session.{remainderAfter, remainderLeft, partAfter, partLeft}

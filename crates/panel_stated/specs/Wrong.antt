@@ -2,7 +2,7 @@
 -- its claim.
 use Rattle.panel_stated.specs.Words.{ℕ, _+_, Bool, true, false, eqb, List, if_then_else_, StatusWord, Outcome, R, Word, Gives, Window, Closed, Opened, Presence, Order, Instruction, Lc3DataLe2}
 use Rattle.panel_stated.specs.Words.{DecisionSaid, PresenceRecord, OrderNumbers, FrameSaid, CommandSaid, Wrote, Made, Stepped, Asked, ResponseSaid, PartSaid, Shaped, Kinded}
-use Rattle.panel_stated.specs.Words.{Says, Command, Register, Authenticate, Version, GetResponse, Told, touchOf, checkOf, Result, Given, Body, Ordered, Part, toSign, certificateLength, Remainder, rest, Response, Sent}
+use Rattle.panel_stated.specs.Words.{Says, Command, Register, Authenticate, Version, GetResponse, Told, touchOf, checkOf, DecisionResult, DecisionGives, Body, Ordered, Part, toSign, certificateLength, Remainder, rest, Response, Sent}
 use Rattle.panel_stated.specs.Numbers.{greatestNo, windowOf, presenceOf, presenceNumbers, shapeOf, kindOf}
 use Rattle.panel_stated.specs.Exports.{ToFinish, finishNumbered, frameNumbers, commandNumbers, lengthNumbers, madeNumbers, askedNumbers, orderAfter, decisionNumbers, stepNumbers, responseNumbers, partNumbers, statedOf}
 use Rattle.panel_stated.specs.Words.{Entry, Ordinary, Strict}
@@ -25,7 +25,7 @@ statusAs9000 (Word s) = 0x9000
 statusAs9000 (Gives b) = 0x9000
 
 -- one answer number: an order under R2's
-abbrev pub orderNumbered2 : Outcome Given → ℕ
+abbrev pub orderNumbered2 : Outcome DecisionGives → ℕ
 orderNumbered2 (R n) = n
 orderNumbered2 (Word s) = s .number
 orderNumbered2 (Gives (Body n)) = 0x9000
@@ -33,7 +33,7 @@ orderNumbered2 (Gives Ordered) = 2
 orderNumbered2 (Gives (Part n after)) = 0x0200
 
 -- C0's part is not told from a body that is still to be cut
-abbrev pub partAsBody : Outcome Given → ℕ
+abbrev pub partAsBody : Outcome DecisionGives → ℕ
 partAsBody (R n) = n
 partAsBody (Word s) = s .number
 partAsBody (Gives (Body n)) = 0x9000
@@ -41,7 +41,7 @@ partAsBody (Gives Ordered) = 0x0100
 partAsBody (Gives (Part n after)) = 0x9000
 
 -- one answer number: an order under the number of memory that nothing has written
-abbrev pub orderIs0 : Outcome Given → ℕ
+abbrev pub orderIs0 : Outcome DecisionGives → ℕ
 orderIs0 (R n) = n
 orderIs0 (Word s) = s .number
 orderIs0 (Gives (Body n)) = 0x9000
@@ -114,7 +114,7 @@ abbrev pub unknownIsAuthenticate : ℕ → Kinded
 unknownIsAuthenticate n = if leb 3 n then Kinded′.As Kind′.Authenticate else kindOf n
 
 -- an order's certificate length goes out as the number of bytes to sign
-abbrev pub certificateLengthAsToSign : Outcome Given → Order → OrderNumbers
+abbrev pub certificateLengthAsToSign : Outcome DecisionGives → Order → OrderNumbers
 certificateLengthAsToSign o order =
     let n = orderAfter o order in
     record { kind = n .kind; «to_sign» = n .«certificate_length»; «certificate_length» = n .«certificate_length» }
@@ -189,7 +189,7 @@ abbrev pub madeWithoutRecord : Outcome Presence → Made
 madeWithoutRecord o = record { answer = madeNumbers o .answer; presence = record { w = 0; prompt = 0; touch = 0; last = 0; asker = 0 } }
 
 -- every order numbered as a Register
-abbrev pub ordersAlike : Outcome Given → Order → OrderNumbers
+abbrev pub ordersAlike : Outcome DecisionGives → Order → OrderNumbers
 ordersAlike (R n) o = orderAfter (R n) o
 ordersAlike (Word s) o = orderAfter (Word s) o
 ordersAlike (Gives (Body n)) o = orderAfter (Gives (Body n)) o
@@ -197,12 +197,12 @@ ordersAlike (Gives (Part n after)) o = orderAfter (Gives (Part n after)) o
 ordersAlike (Gives Ordered) o = record { kind = 1; «to_sign» = toSign o; «certificate_length» = certificateLength o }
 
 -- "the bytes to sign in a block of 385 bytes": the lent block written after a status word, and after a refusal
-abbrev pub blockAfterStatus : Outcome Given → (bytes old : List ℕ) → List ℕ
+abbrev pub blockAfterStatus : Outcome DecisionGives → (bytes old : List ℕ) → List ℕ
 blockAfterStatus (R n) bytes old = old
 blockAfterStatus (Word s) bytes old = bytes
 blockAfterStatus (Gives g) bytes old = blockAfter (Gives g) bytes old
 
-abbrev pub blockAfterRefusal : Outcome Given → (bytes old : List ℕ) → List ℕ
+abbrev pub blockAfterRefusal : Outcome DecisionGives → (bytes old : List ℕ) → List ℕ
 blockAfterRefusal (R n) bytes old = bytes
 blockAfterRefusal (Word s) bytes old = old
 blockAfterRefusal (Gives g) bytes old = blockAfter (Gives g) bytes old
@@ -218,7 +218,7 @@ placesOneOn (Gives s) =
 
 -- ---- decisions and runs
 -- "the offered counter is reported as taken": it is not
-abbrev pub takenUnsaid : Result → Remainder → (limit : ℕ) → DecisionSaid
+abbrev pub takenUnsaid : DecisionResult → Remainder → (limit : ℕ) → DecisionSaid
 takenUnsaid r k l =
     let n = decisionNumbers r k l in
     record { answer = n .answer; fault = n .fault; taken = false; length = n .length; order = n .order; presence = n .presence; place = n .place; remainder = n .remainder; limit = n .limit }
@@ -244,13 +244,13 @@ commandFaultUnsaid o =
       place = 0;
     }
 
-abbrev pub decisionFaultUnsaid : Result → Remainder → (limit : ℕ) → DecisionSaid
+abbrev pub decisionFaultUnsaid : DecisionResult → Remainder → (limit : ℕ) → DecisionSaid
 decisionFaultUnsaid r k l =
     let n = decisionNumbers r k l in
     record { answer = n .answer; fault = 0; taken = n .taken; length = n .length; order = n .order; presence = n .presence; place = 0; remainder = n .remainder; limit = n .limit }
 
 -- the decision hands the limit out with its answer. Here it does not
-abbrev pub limitUnsaid : Result → Remainder → (limit : ℕ) → DecisionSaid
+abbrev pub limitUnsaid : DecisionResult → Remainder → (limit : ℕ) → DecisionSaid
 limitUnsaid r k l = decisionNumbers r k 0
 
 -- a response that is read: no status; and the status counted in with the body
@@ -270,11 +270,11 @@ abbrev pub partForgets : Outcome Sent → Remainder → PartSaid
 partForgets o kept = let n = partNumbers o kept in record { answer = n .answer; length = n .length; remainder = kept }
 
 -- "fetches the next part": never; and at any 6985
-abbrev pub neverFetched : StatusWord → (asks taken : Bool) → (kept settled : Presence) → (room : ℕ) → Remainder → (limit partRoom : ℕ) → Result
-neverFetched w asks taken kept settled room k limit partRoom = record { answer = Word w; presence = settled; order = blankOrder; taken = taken }
+abbrev pub neverFetched : StatusWord → (isC0 taken : Bool) → (kept settled : Presence) → (room : ℕ) → Remainder → (limit partRoom : ℕ) → DecisionResult
+neverFetched w isC0 taken kept settled room k limit partRoom = record { answer = Word w; presence = settled; order = blankOrder; taken = taken }
 
-abbrev pub fetchedUnasked : StatusWord → (asks taken : Bool) → (kept settled : Presence) → (room : ℕ) → Remainder → (limit partRoom : ℕ) → Result
-fetchedUnasked w asks taken kept settled room k limit partRoom = statedOf w true taken kept settled room k limit partRoom
+abbrev pub fetchedUnasked : StatusWord → (isC0 taken : Bool) → (kept settled : Presence) → (room : ℕ) → Remainder → (limit partRoom : ℕ) → DecisionResult
+fetchedUnasked w isC0 taken kept settled room k limit partRoom = statedOf w true taken kept settled room k limit partRoom
 
 -- kind and place change places
 abbrev pub kindForPlace : Outcome Says → FrameSaid

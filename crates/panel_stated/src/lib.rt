@@ -1,5 +1,5 @@
 // What crosses to C, as plain numbers: the structs of include/brinecandle.h, which .ci/header compares with these. No function:
-// plain_frames, plain_presence, plain_orders and plain_responses have the conversions, panel the exports.
+// panel_frames, panel_presence, panel_orders and panel_responses have the conversions, panel the exports.
 //
 // The presence record and an order cross as #[repr(C)] structs of numbers, by value: the firmware can copy, print and store
 // them, no call keeps a pointer to them, and a struct lent for writing would be proved by hand. An order's block of 385 bytes

@@ -15,10 +15,10 @@ fn whole(line: &[u8], state: State) -> State {
     if !state.within {
         return recording_line::put(line, state);
     }
-    let rest = spell::words(state.good, line);
+    let rest = program_spell::words(state.good, line);
     let mut next = state;
     next.within = false;
-    next.good = spell::words(rest, b"\n");
+    next.good = program_spell::words(rest, b"\n");
     next
 }
 
@@ -27,7 +27,7 @@ fn put_part(part: &[u8], state: State) -> State {
     let mut next = state;
     next.have = 0;
     if state.within {
-        next.good = spell::words(state.good, part);
+        next.good = program_spell::words(state.good, part);
         return next;
     }
     next.within = true;
@@ -42,12 +42,12 @@ fn cut_short(part: &[u8], state: State) -> State {
     if !state.within {
         next.line = std::num::wrapping_add_u64(state.line, 1);
         next = recording_line::unread(part, b": cut short\n# ", next);
-        next.good = spell::words(next.good, b"\n");
+        next.good = program_spell::words(next.good, b"\n");
         return next;
     }
-    let rest = spell::words(state.good, part);
-    let numbered = spell::number(rest, b"\n# line ", state.line);
-    next.good = spell::words(numbered, b": cut short\n");
+    let rest = program_spell::words(state.good, part);
+    let numbered = program_spell::number(rest, b"\n# line ", state.line);
+    next.good = program_spell::words(numbered, b": cut short\n");
     next
 }
 
@@ -69,11 +69,11 @@ fn last(line: &[u8], failed: bool, state: State) -> State {
 fn lines(text: &mut [u8], all: usize, state: State) -> State {
     let mut next = state;
     let mut at = 0;
-    let mut end = text::find(text, at, b'\n');
+    let mut end = program_text::find(text, at, b'\n');
     while end < all {
         next = whole(octets::part(text, at, end), next);
         at = end + 1;
-        end = text::find(text, at, b'\n');
+        end = program_text::find(text, at, b'\n');
     }
     next.have = forward(text, at, all);
     next
@@ -125,15 +125,15 @@ fn all(file: i32, text: &mut [u8]) -> State {
 
 // # CONVERTED converted, KEPT as they were, UNREAD not read
 fn sums(state: State) -> bool {
-    let converted = spell::number(state.good, b"# ", state.converted);
-    let kept = spell::number(converted, b" converted, ", state.kept);
-    let unread = spell::number(kept, b" as they were, ", state.unread);
-    spell::words(unread, b" not read\n")
+    let converted = program_spell::number(state.good, b"# ", state.converted);
+    let kept = program_spell::number(converted, b" converted, ", state.kept);
+    let unread = program_spell::number(kept, b" as they were, ", state.unread);
+    program_spell::words(unread, b" not read\n")
 }
 
 // A recording that was cut short has no sums.
 fn main() {
-    let file = text::input();
+    let file = program_text::input();
     if file < 0 {
         return;
     }
@@ -141,8 +141,8 @@ fn main() {
     let state = all(file, &mut text);
     if state.failed {
         io::write_all(STDERR_FILENO, b"cannot read the recording\n");
-        spell::close(state.good);
+        program_spell::close(state.good);
         return;
     }
-    spell::close(sums(state));
+    program_spell::close(sums(state));
 }

@@ -3,9 +3,9 @@ mod state;
 
 use convert::Converted;
 use outcome::ApduStatusCode;
+use program_text::Said;
 pub use state::State;
 pub use state::fresh;
-use text::Said;
 
 // What a line with a frame comes to: a frame that stays, one that is so many bytes now, one in no shape, or none.
 enum Line {
@@ -39,7 +39,7 @@ fn frame_of(frame: &[u8], out: &mut [u8]) -> Line {
 fn line_of(text: &[u8], out: &mut [u8]) -> Line {
     let mut bytes = space();
     let frame: &mut [u8] = &mut bytes;
-    let Said::Is(n) = text::frame_bytes(text, frame) else {
+    let Said::Is(n) = program_text::frame_bytes(text, frame) else {
         return Line::NotHex;
     };
     frame_of(octets::part(frame, 0, n as usize), out)
@@ -47,38 +47,38 @@ fn line_of(text: &[u8], out: &mut [u8]) -> Line {
 
 // # line NUMBER: WHY, and then the line as it came.
 pub fn unread(line: &[u8], why: &[u8], state: State) -> State {
-    let numbered = spell::number(state.good, b"# line ", state.line);
-    let told = spell::words(numbered, why);
+    let numbered = program_spell::number(state.good, b"# line ", state.line);
+    let told = program_spell::words(numbered, why);
     let mut next = state;
     next.unread = std::num::wrapping_add_u64(state.unread, 1);
-    next.good = spell::words(told, line);
+    next.good = program_spell::words(told, line);
     next
 }
 
 // # line NUMBER: STATUS, and then the line as it came.
 fn in_no_shape(line: &[u8], status: ApduStatusCode, state: State) -> State {
-    let numbered = spell::number(state.good, b"# line ", state.line);
-    let told = spell::status(numbered, b": ", status);
-    let behind = spell::words(told, b"\n");
+    let numbered = program_spell::number(state.good, b"# line ", state.line);
+    let told = program_spell::status(numbered, b": ", status);
+    let behind = program_spell::words(told, b"\n");
     let mut next = state;
     next.unread = std::num::wrapping_add_u64(state.unread, 1);
-    next.good = spell::words(behind, line);
+    next.good = program_spell::words(behind, line);
     next
 }
 
 fn kept(line: &[u8], state: State) -> State {
     let mut next = state;
     next.kept = std::num::wrapping_add_u64(state.kept, 1);
-    next.good = spell::words(state.good, line);
+    next.good = program_spell::words(state.good, line);
     next
 }
 
 // What a frame of the old form has become, and what stood behind it.
 fn converted(result: &[u8], behind: &[u8], state: State) -> State {
-    let said = spell::bytes(state.good, b"", result);
+    let said = program_spell::bytes(state.good, b"", result);
     let mut next = state;
     next.converted = std::num::wrapping_add_u64(state.converted, 1);
-    next.good = spell::words(said, behind);
+    next.good = program_spell::words(said, behind);
     next
 }
 
@@ -110,7 +110,7 @@ fn framed(line: &[u8], end: usize, state: State) -> State {
 // A line that is a remark, or empty, goes out as it came.
 fn other(line: &[u8], state: State) -> State {
     let mut next = state;
-    next.good = spell::words(state.good, line);
+    next.good = program_spell::words(state.good, line);
     next
 }
 
@@ -118,12 +118,12 @@ fn other(line: &[u8], state: State) -> State {
 pub fn put(line: &[u8], state: State) -> State {
     let mut numbered = state;
     numbered.line = std::num::wrapping_add_u64(state.line, 1);
-    let end = text::frame_end(line);
+    let end = program_text::frame_end(line);
     let mut next = if end == 0 {
         other(line, numbered)
     } else {
         framed(line, end, numbered)
     };
-    next.good = spell::words(next.good, b"\n");
+    next.good = program_spell::words(next.good, b"\n");
     next
 }

@@ -2,7 +2,7 @@
 -- ways back from the answers' words; and the theorems on limits and on sequences of calls.
 pub use Rattle.response_stated.proofs.Cases.{limit-said, limit-absent, limit-extended, write-short, write-room, next-short-body, next-no-room, next-given, left-none, left-some, left-many}
 pub use Rattle.response_stated.proofs.Ways.{PartWay, whole, cut, last, part-way, part-most, part-limit, part-some, rest-end, rest-less, part-and-rest, part-joins, part-long, NextWay, short-body, short-buffer, given, next-way}
-pub use Rattle.response_stated.proofs.Told.{pair-is, split, long-two, cut-back, read-back, halves, front-of, laid-spelled, sends-given, Shown, shown}
+pub use Rattle.response_stated.proofs.OnBytes.{pair-is, split, long-two, cut-back, read-back, halves, front-of, laid-spelled, sends-given, Shown, shown}
 pub use Rattle.response_stated.proofs.Numbers.{read-same, wrote-same, next-same}
 pub use Rattle.response_stated.proofs.Walks.{step-within, step-joins, joins, joined-done}
 pub use Rattle.response_stated.proofs.Only.{NextExactly as next-only, WritesExactly as writes-only}

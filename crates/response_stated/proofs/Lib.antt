@@ -4,7 +4,7 @@ pub mod Refuted
 pub mod Cases
 pub mod Numbers
 pub mod Ways
-pub mod Told
+pub mod OnBytes
 pub mod Walks
 pub mod Laws
 pub mod Follows

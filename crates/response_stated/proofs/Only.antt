@@ -17,7 +17,7 @@ use Rattle.response_stated.specs.Parts.{partLength, leftStatus}
 use Rattle.response_stated.specs.Terms.{Writer, Sender, reading, sending, spelled, sendingOf, Goes}
 use Rattle.response_stated.specs.Claims
 use Rattle.response_stated.proofs.Theorems.{goes, tells}
-use Rattle.response_stated.proofs.Told.{pair-is, split}
+use Rattle.response_stated.proofs.OnBytes.{pair-is, split}
 use Rattle.response_stated.proofs.Ways.{part-most}
 
 pub WritesExactly : Determines3 Claims.WritesExactly

@@ -15,7 +15,7 @@ use Rattle.response_stated.specs.Words.{Says, Remainder, rest, Response,
 use Rattle.response_stated.specs.Responses.{writeResponseOf, readResponseOf, responseBodyOf}
 use Rattle.response_stated.specs.Parts.{limitOf, partLength, leftStatus, nextPartOf}
 use Rattle.response_stated.specs.Terms.{sending, sendingOf, writingOf, cut, last, nothing-left, some-left, more-left}
-use Rattle.response_stated.specs.Fetching.{Ask, also, none, up}
+use Rattle.response_stated.specs.Fetching.{Fetch, also, none, up}
 use Rattle.response_stated.specs.Claims
 use Rattle.response_stated.specs.Wrong
 
@@ -214,7 +214,7 @@ atMost255 p =
     omega (arith, ap (λ (s : Sent). s .length) (gives-same _ _ e))
 
 -- ---- all parts: two bytes, fetched one by one
-abbrev ask : (limit : ℕ) → Ask
+abbrev ask : (limit : ℕ) → Fetch
 ask limit = record { limit = limit; buffer = 0 ∷ 0 ∷ 0 ∷ 0 ∷ [] }
 
 pub fromTheStartJoined : Claims.PartsJoin Wrong.fromTheStart → ⊥

@@ -21,7 +21,7 @@ use Rattle.response_stated.specs.Terms.{writingOf, sendingOf, reading, s
 use Rattle.response_stated.specs.Claims
 use Rattle.response_stated.proofs.Cases
 use Rattle.response_stated.proofs.Numbers.{read-same, wrote-same, next-same}
-use Rattle.response_stated.proofs.Told.{pair-is, laid-spelled, split, long-two, cut-back, read-back, halves, front-of, sends-given, shown}
+use Rattle.response_stated.proofs.OnBytes.{pair-is, laid-spelled, split, long-two, cut-back, read-back, halves, front-of, sends-given, shown}
 use Rattle.response_stated.proofs.Ways
 use Rattle.response_stated.proofs.Walks
 
@@ -340,17 +340,17 @@ LongestIs258 = record { within = within; reached = reached }
 pub PartsJoin : Claims.PartsJoin sendingOf
 PartsJoin =
     record {
-      so-far = λ body n asks h. Walks.joins body (rest 0 n) asks (omega arith);
-      done = λ body n asks a part left h s. Walks.joined-done body (rest 0 n) asks a part left (omega arith) s;
+      so-far = λ body n fetches h. Walks.joins body (rest 0 n) fetches (omega arith);
+      done = λ body n fetches a part left h s. Walks.joined-done body (rest 0 n) fetches a part left (omega arith) s;
     }
 
 pub NumberOfParts : Claims.NumberOfParts sendingOf
 NumberOfParts =
     record {
-      at-most = λ body n asks h some rooms. Walks.calls-most body n (rest 0 n) asks (omega arith) (omega arith) some rooms;
-      of-none = λ body asks rooms. Walks.calls-none body asks rooms;
-      nothing-left = λ body n asks h rooms many. Walks.nothing-left body n (rest 0 n) asks (omega arith) (omega arith) rooms many;
-      exactly = λ body n L k asks h some up takes many. Walks.calls-exactly body L some k (rest 0 n) asks (omega arith) up takes many;
+      at-most = λ body n fetches h some rooms. Walks.calls-most body n (rest 0 n) fetches (omega arith) (omega arith) some rooms;
+      of-none = λ body fetches rooms. Walks.calls-none body fetches rooms;
+      nothing-left = λ body n fetches h rooms many. Walks.nothing-left body n (rest 0 n) fetches (omega arith) (omega arith) rooms many;
+      exactly = λ body n L k fetches h some up takes many. Walks.calls-exactly body L some k (rest 0 n) fetches (omega arith) up takes many;
     }
 
 -- ---- the contracts

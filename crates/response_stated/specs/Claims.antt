@@ -7,7 +7,7 @@ use lib.ListN.{replicate}
 use Rattle.response_stated.specs.Words.{ℕ, _+_, _<_, _≤_, _≡_, List, [], _∷_, _++_, length, take, drop, AtMostOne, Outcome, R, Gives, AreBytes, Apdu, Says, Remainder, rest, ReadResponse, WroteResponse, NextPart, Response, responseRead, responseWritten, partSent}
 use Rattle.response_stated.specs.Contracts.{Limit, Nothing, WriteResponse, ReadsResponse, ResponseBody, PartNext}
 use Rattle.response_stated.specs.Terms.{Writer, Sender, reading, sending, spelled, IsResponse, Goes, Tells, Sends}
-use Rattle.response_stated.specs.Fetching.{Ask, called, remaining, joined, after, callsUntilDone, Each, HasRoom, Takes, RoundsUp}
+use Rattle.response_stated.specs.Fetching.{Fetch, called, remaining, joined, after, callsUntilDone, Each, HasRoom, Takes, RoundsUp}
 
 -- ---- a response, written and read
 
@@ -124,22 +124,22 @@ pub record LongestIs258 (read : List ℕ → Outcome Says) (limit : Says → ℕ
 -- limits and buffers: the parts sent so far, joined, and then what remains, are those n bytes; and once a call carries 9000 the parts alone are.
 -- Rejects `fromTheStart` and `doesNotMove` at two bytes fetched one by one.
 pub record PartsJoin (next : Sender) : Type 0 where
-  pub so-far : (body : List ℕ) (n : ℕ) (asks : List Ask) → n ≤ length body
-      → joined next body (rest 0 n) asks ++ remaining body (after next body (rest 0 n) asks) ≡ take n body
-  pub done : (body : List ℕ) (n : ℕ) (asks : List Ask) (a : Ask) (part : List ℕ) (left : Remainder) → n ≤ length body
-      → Sends (called next body (after next body (rest 0 n) asks) a) part 0x9000 left
-      → joined next body (rest 0 n) asks ++ part ≡ take n body
+  pub so-far : (body : List ℕ) (n : ℕ) (fetches : List Fetch) → n ≤ length body
+      → joined next body (rest 0 n) fetches ++ remaining body (after next body (rest 0 n) fetches) ≡ take n body
+  pub done : (body : List ℕ) (n : ℕ) (fetches : List Fetch) (a : Fetch) (part : List ℕ) (left : Remainder) → n ≤ length body
+      → Sends (called next body (after next body (rest 0 n) fetches) a) part 0x9000 left
+      → joined next body (rest 0 n) fetches ++ part ≡ take n body
 
 -- Ours: a body of n bytes takes at most n parts (one where n is 0), and exactly n / L rounded up (one where n is 0) where every limit is L, counted up to
 -- the part that carries 9000, of calls that each have room. Rejects a sender that keeps to one byte a call (`oneAtATime`) and `doesNotMove`. Bites at 2 bytes.
 pub record NumberOfParts (next : Sender) : Type 0 where
-  pub at-most : (body : List ℕ) (n : ℕ) (asks : List Ask) → n ≤ length body → 1 ≤ n → Each (HasRoom n) asks
-      → callsUntilDone next body (rest 0 n) asks ≤ n
-  pub of-none : (body : List ℕ) (asks : List Ask) → Each (HasRoom 0) asks → callsUntilDone next body (rest 0 0) asks ≤ 1
-  pub nothing-left : (body : List ℕ) (n : ℕ) (asks : List Ask) → n ≤ length body → Each (HasRoom n) asks → n ≤ length asks
-      → after next body (rest 0 n) asks .count ≡ 0
-  pub exactly : (body : List ℕ) (n L k : ℕ) (asks : List Ask) → n ≤ length body → 1 ≤ L → RoundsUp n L k → Each (Takes L) asks → k ≤ length asks
-      → callsUntilDone next body (rest 0 n) asks ≡ k
+  pub at-most : (body : List ℕ) (n : ℕ) (fetches : List Fetch) → n ≤ length body → 1 ≤ n → Each (HasRoom n) fetches
+      → callsUntilDone next body (rest 0 n) fetches ≤ n
+  pub of-none : (body : List ℕ) (fetches : List Fetch) → Each (HasRoom 0) fetches → callsUntilDone next body (rest 0 0) fetches ≤ 1
+  pub nothing-left : (body : List ℕ) (n : ℕ) (fetches : List Fetch) → n ≤ length body → Each (HasRoom n) fetches → n ≤ length fetches
+      → after next body (rest 0 n) fetches .count ≡ 0
+  pub exactly : (body : List ℕ) (n L k : ℕ) (fetches : List Fetch) → n ≤ length body → 1 ≤ L → RoundsUp n L k → Each (Takes L) fetches → k ≤ length fetches
+      → callsUntilDone next body (rest 0 n) fetches ≡ k
 
 -- ---- the contracts
 

@@ -7,7 +7,7 @@ use Rattle.response_stated.specs.Responses.{readResponseOf, responseBody
 use Rattle.response_stated.specs.Terms.{Sender}
 
 -- a call: how much it takes, and what the buffer for part and status holds before it
-pub record Ask : Type 0 where
+pub record Fetch : Type 0 where
   pub limit : ℕ
   pub buffer : List ℕ
 
@@ -35,37 +35,37 @@ remaining body r = take (r .count) (drop (r .place) body)
 
 module _ (next : Sender) (body : List ℕ) where
   -- one call
-  abbrev pub called : Remainder → Ask → Outcome Sent × List ℕ
+  abbrev pub called : Remainder → Fetch → Outcome Sent × List ℕ
   called r a = next body r (a .limit) (a .buffer)
 
   -- the bodies of all responses, joined
-  abbrev pub joined : Remainder → List Ask → List ℕ
+  abbrev pub joined : Remainder → List Fetch → List ℕ
   joined r [] = []
-  joined r (a ∷ asks) = responseBodyOf (got (called r a)) ++ joined (left r (called r a .0)) asks
+  joined r (a ∷ fetches) = responseBodyOf (got (called r a)) ++ joined (left r (called r a .0)) fetches
 
   -- what remains after all calls
-  abbrev pub after : Remainder → List Ask → Remainder
+  abbrev pub after : Remainder → List Fetch → Remainder
   after r [] = r
-  after r (a ∷ asks) = after (left r (called r a .0)) asks
+  after r (a ∷ fetches) = after (left r (called r a .0)) fetches
 
   -- how many calls there are up to and with the first that carries 9000
-  abbrev pub callsUntilDone : Remainder → List Ask → ℕ
+  abbrev pub callsUntilDone : Remainder → List Fetch → ℕ
   callsUntilDone r [] = 0
-  callsUntilDone r (a ∷ asks) =
+  callsUntilDone r (a ∷ fetches) =
       if isDone (readResponseOf (got (called r a))) then 1
-      else 1 + callsUntilDone (left r (called r a .0)) asks
+      else 1 + callsUntilDone (left r (called r a .0)) fetches
 
--- `Each P asks`: each of the calls is so
-pub data Each (P : Ask → Type 0) : List Ask → Type 0 where
+-- `Each P fetches`: each of the calls is so
+pub data Each (P : Fetch → Type 0) : List Fetch → Type 0 where
   none : Each P []
-  also : {a : Ask} {asks : List Ask} → P a → Each P asks → Each P (a ∷ asks)
+  also : {a : Fetch} {fetches : List Fetch} → P a → Each P fetches → Each P (a ∷ fetches)
 
 -- the call's buffer has room for all of n bytes and a status, or for as much as the call takes
-abbrev pub HasRoom : (n : ℕ) → Ask → Type 0
+abbrev pub HasRoom : (n : ℕ) → Fetch → Type 0
 HasRoom n a = (n + 2 ≤ length (a .buffer)) ⊎ ((1 ≤ a .limit) × (a .limit + 2 ≤ length (a .buffer)))
 
 -- the call takes L bytes at a time, and has room for them
-abbrev pub Takes : (L : ℕ) → Ask → Type 0
+abbrev pub Takes : (L : ℕ) → Fetch → Type 0
 Takes L a = (a .limit ≡ L) × (L + 2 ≤ length (a .buffer))
 
 -- `RoundsUp n L k`: k is n / L rounded up, and 1 where n is 0

@@ -10,13 +10,13 @@ use Rattle.response_stated.specs.declared.Remainder.{Remainder}
 use Rattle.response_stated.specs.Parts.{partLength, restAfter}
 use Rattle.response_stated.specs.Fetching.{RoundsUp, one, up}
 use Rattle.response_stated.proofs.Laws.{PartWay, whole, cut, last, part-way, rest-end}
-use Rattle.ctap1_stated.specs.Words.{Result}
+use Rattle.ctap1_stated.specs.Words.{DecisionResult}
 use Rattle.ctap1_stated.specs.Path.{frameLimit}
 use Rattle.ctap1_stated.specs.Decision.{decisionOf}
 use Rattle.ctap1_stated.specs.Session.{remainderLeft, partLeft}
 use Rattle.ctap1_stated.specs.Terms.{Fetching}
-use Rattle.ctap1_stated.proofs.Laws.{served, nothing-left, comes-asking}
-use Rattle.session_stated.specs.Sessions.{Visit, lentIn, isPart, decidedIn, leftIn, partsOver, Each, none, also, Serves}
+use Rattle.ctap1_stated.proofs.Laws.{served, nothing-left, comes-c0}
+use Rattle.session_stated.specs.Sessions.{Visit, lentIn, partCount, decidedIn, leftIn, partsOver, Each, none, also, Serves}
 
 -- so many parts take c bytes, L at a time; none where c is 0
 pub data Need (c L : ℕ) : ℕ → Type 0 where
@@ -56,15 +56,15 @@ module _ (L : ℕ) (some : 1 ≤ L) where
     counted r [] _ h (more k a b) e low = absurd (omega arith)
     counted r (v ∷ visits) _ h (done z) (also (ok, c, l, room) e) low =
         let is = nothing-left (v .presence) (v .moment) (lentIn body r v) ok c z in
-        let none-sent : isPart (decidedIn decisionOf remainderLeft partLeft body r v .answer) ≡ 0 = ap (λ (x : Result). isPart (x .answer)) is in
-        let kept : leftIn decisionOf remainderLeft partLeft body r v ≡ r = ap (λ (x : Result). remainderLeft (lentIn body r v) x) is ∙ rw (comes-asking (v .lent) c) in
+        let none-sent : partCount (decidedIn decisionOf remainderLeft partLeft body r v .answer) ≡ 0 = ap (λ (x : DecisionResult). partCount (x .answer)) is in
+        let kept : leftIn decisionOf remainderLeft partLeft body r v ≡ r = ap (λ (x : DecisionResult). remainderLeft (lentIn body r v) x) is ∙ rw (comes-c0 (v .lent) c) in
         omega (arith, none-sent, ap (λ (k : Remainder). partsOver decisionOf remainderLeft partLeft body k visits) kept, counted r visits 0 h (done z) e (omega arith))
     counted r (v ∷ visits) _ h (more k a b) (also (ok, c, l, room) e) low =
         let x : Fetching (v .presence) (v .moment) (lentIn body r v) = (ok, c, omega arith) in
         let most : partLength (frameLimit (v .lent .frame)) (r .count) + 2 ≤ length (v .buffer) = fits in
         let is = served (v .presence) (v .moment) (lentIn body r v) x h most in
-        let sent : isPart (decidedIn decisionOf remainderLeft partLeft body r v .answer) ≡ 1 = ap (λ (y : Result). isPart (y .answer)) is in
-        let kept : leftIn decisionOf remainderLeft partLeft body r v ≡ restAfter r L = ap (λ (y : Result). remainderLeft (lentIn body r v) y) is ∙ ap (restAfter r) l in
+        let sent : partCount (decidedIn decisionOf remainderLeft partLeft body r v .answer) ≡ 1 = ap (λ (y : DecisionResult). partCount (y .answer)) is in
+        let kept : leftIn decisionOf remainderLeft partLeft body r v ≡ restAfter r L = ap (λ (y : DecisionResult). remainderLeft (lentIn body r v) y) is ∙ ap (restAfter r) l in
         omega (
           arith,
           sent,

@@ -18,7 +18,7 @@ use Rattle.response_stated.specs.Parts.{limitOf, partLength, leftStatus, nextPa
 use Rattle.response_stated.specs.Terms.{sendingOf, sending, Tells, nothing-left, some-left, more-left}
 use Rattle.response_stated.specs.Fetching.{up}
 use Rattle.u2f_up_stated.specs.Moments.{fresh, settleOf}
-use Rattle.u2f_up_stated.specs.Terms.{Passes}
+use Rattle.u2f_up_stated.specs.Terms.{NotRefused}
 use Rattle.ctap1_stated.specs.Words.{Inputs, Part}
 use Rattle.ctap1_stated.specs.Path.{frameLimit, fetchPath, commandPath, allowedPath, pathOf}
 use Rattle.ctap1_stated.specs.Decision.{decisionOf}
@@ -102,7 +102,7 @@ forgets c =
     not-two (c (fresh 1000) 0 (lent (rest 1 2)) body (replicate 4 0) 3 (rest 1 2) (8 ∷ []) 0x6101 refl refl refl (record { sw1 = 0x61; sw2 = 0x01; are = refl; is = refl })) refl
 
 -- three bytes, one at a time: three parts, and here two
-ok : Passes (fresh 1000) 0 0
+ok : NotRefused (fresh 1000) 0 0
 ok = (λ b. ⊎-elim (λ e. omega (arith, e)) (λ h. omega (arith, h)) b, λ b. ⊎-elim (λ h. omega (arith, h)) (λ h. omega (arith, h)) b, λ b. ⊎-elim (λ h. omega (arith, h)) (λ h. omega (arith, h)) b)
 
 pub takes256InSession : Claims.SessionParts Wrong.takes256 frameLimit remainderLeft partLeft sendingOf → ⊥

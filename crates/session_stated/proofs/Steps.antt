@@ -12,21 +12,21 @@ use Rattle.response_stated.specs.Words.{rest, Sent}
 use Rattle.response_stated.specs.Responses.{responseBodyOf}
 use Rattle.response_stated.specs.Parts.{partLength, restAfter, partResponse, partLaid, nextPartOf}
 use Rattle.response_stated.specs.Terms.{sendingOf}
-use Rattle.response_stated.specs.Fetching.{Ask, got, left, remaining, called}
+use Rattle.response_stated.specs.Fetching.{Fetch, got, left, remaining, called}
 use Rattle.response_stated.proofs.Laws.{next-given, step-within, step-joins, part-some, part-most}
-use Rattle.ctap1_stated.specs.Words.{Inputs, Result}
+use Rattle.ctap1_stated.specs.Words.{Inputs, DecisionResult}
 use Rattle.ctap1_stated.specs.Path.{frameLimit}
 use Rattle.ctap1_stated.specs.Decision.{decisionOf}
-use Rattle.ctap1_stated.specs.Session.{asksOn, remainderLeft, partLeft}
-use Rattle.ctap1_stated.specs.Terms.{AsksOn}
+use Rattle.ctap1_stated.specs.Session.{isGetResponse, remainderLeft, partLeft}
+use Rattle.ctap1_stated.specs.Terms.{HasInsC0}
 use Rattle.ctap1_stated.proofs.Laws.{Asked, is-refused, is-word, is-part, asked}
-use Rattle.session_stated.specs.Sessions.{Visit, lentIn, sentWith, isPart, decidedIn, sentIn, leftIn, joinedOver, leftOver, partsOver, Each, none, also, Asks}
+use Rattle.session_stated.specs.Sessions.{Visit, lentIn, sentWith, partCount, decidedIn, sentIn, leftIn, joinedOver, leftOver, partsOver, Each, none, also, IsFetch}
 
 -- the call of `next` that a visit comes to
-abbrev pub ask : Visit → Ask
-ask v = record { limit = frameLimit (v .lent .frame); buffer = v .buffer }
+abbrev pub fetch : Visit → Fetch
+fetch v = record { limit = frameLimit (v .lent .frame); buffer = v .buffer }
 
-asks-so : (a : Inputs) → AsksOn a → asksOn (readOf (a .frame)) ≡ true
+asks-so : (a : Inputs) → HasInsC0 a → isGetResponse (readOf (a .frame)) ≡ true
 asks-so a x = rw (x .1, x .2)
 
 module _ (body : List ℕ) where
@@ -35,15 +35,15 @@ module _ (body : List ℕ) where
     pub data Step : List ℕ → Remainder → ℕ → Type 0 where
       keeps : Step [] r 0
       sends : 0 < r .count → r .place + r .count ≤ length body → partLength (frameLimit (v .lent .frame)) (r .count) + 2 ≤ length (v .buffer)
-          → Step (got (called sendingOf body r (ask v))) (left r (called sendingOf body r (ask v) .0)) 1
+          → Step (got (called sendingOf body r (fetch v))) (left r (called sendingOf body r (fetch v) .0)) 1
 
-    abbrev Came : Result → Type 0
-    Came x = Step (sentWith (x .answer) (partLeft (lentIn body r v) x body (v .buffer))) (remainderLeft (lentIn body r v) x) (isPart (x .answer))
+    abbrev Came : DecisionResult → Type 0
+    Came x = Step (sentWith (x .answer) (partLeft (lentIn body r v) x body (v .buffer))) (remainderLeft (lentIn body r v) x) (partCount (x .answer))
 
-    pub step : Asks v → Step (sentIn decisionOf remainderLeft partLeft body r v) (leftIn decisionOf remainderLeft partLeft body r v) (isPart (decidedIn decisionOf remainderLeft partLeft body r v .answer))
+    pub step : IsFetch v → Step (sentIn decisionOf remainderLeft partLeft body r v) (leftIn decisionOf remainderLeft partLeft body r v) (partCount (decidedIn decisionOf remainderLeft partLeft body r v .answer))
     step asks = by (decidedIn decisionOf remainderLeft partLeft body r v) (asked (v .presence) (v .moment) (lentIn body r v) asks)
       where
-        by : (x : Result) → Asked (v .presence) (v .moment) (lentIn body r v) x → Came x
+        by : (x : DecisionResult) → Asked (v .presence) (v .moment) (lentIn body r v) x → Came x
         by _ (is-refused n) = keeps
         by _ (is-word w q) = rw (asks-so (v .lent) asks) keeps
         by _ (is-part some within room) =
@@ -53,18 +53,18 @@ module _ (body : List ℕ) where
   -- ---- joined
   step-in : (r : Remainder) (v : Visit) {s : List ℕ} {k : Remainder} {n : ℕ} → Step r v s k n → r .place + r .count ≤ length body → k .place + k .count ≤ length body
   step-in r v keeps h = h
-  step-in r v (sends some within room) h = step-within body r (ask v) within
+  step-in r v (sends some within room) h = step-within body r (fetch v) within
 
   step-on : (r : Remainder) (v : Visit) {s : List ℕ} {k : Remainder} {n : ℕ} → Step r v s k n → responseBodyOf s ++ remaining body k ≡ remaining body r
   step-on r v keeps = refl
-  step-on r v (sends some within room) = step-joins body r (ask v) within
+  step-on r v (sends some within room) = step-joins body r (fetch v) within
 
-  pub within-over : (r : Remainder) (visits : List Visit) → Each Asks visits → r .place + r .count ≤ length body
+  pub within-over : (r : Remainder) (visits : List Visit) → Each IsFetch visits → r .place + r .count ≤ length body
       → leftOver decisionOf remainderLeft partLeft body r visits .place + leftOver decisionOf remainderLeft partLeft body r visits .count ≤ length body
   within-over r [] e h = h
   within-over r (v ∷ visits) (also x e) h = within-over (leftIn decisionOf remainderLeft partLeft body r v) visits e (step-in r v (step r v x) h)
 
-  pub joins-over : (r : Remainder) (visits : List Visit) → Each Asks visits
+  pub joins-over : (r : Remainder) (visits : List Visit) → Each IsFetch visits
       → joinedOver decisionOf remainderLeft partLeft body r visits ++ remaining body (leftOver decisionOf remainderLeft partLeft body r visits) ≡ remaining body r
   joins-over r [] e = refl
   joins-over r (v ∷ visits) (also x e) =
@@ -77,10 +77,10 @@ module _ (body : List ℕ) where
   step-takes r v keeps = omega arith
   step-takes r v (sends some within room) =
       let limit = frameLimit (v .lent .frame) in
-      let is : left r (called sendingOf body r (ask v) .0) .count ≡ restAfter r limit .count = ap (λ (o : Outcome Sent). left r o .count) (sym (next-given (length body) r limit (length (v .buffer)) within room)) in
+      let is : left r (called sendingOf body r (fetch v) .0) .count ≡ restAfter r limit .count = ap (λ (o : Outcome Sent). left r o .count) (sym (next-given (length body) r limit (length (v .buffer)) within room)) in
       omega (arith, is, part-some limit (r .count) some, part-most limit (r .count))
 
-  pub parts-over : (r : Remainder) (visits : List Visit) → Each Asks visits → partsOver decisionOf remainderLeft partLeft body r visits ≤ r .count
+  pub parts-over : (r : Remainder) (visits : List Visit) → Each IsFetch visits → partsOver decisionOf remainderLeft partLeft body r visits ≤ r .count
   parts-over r [] e = omega arith
   parts-over r (v ∷ visits) (also x e) =
       omega (arith, step-takes r v (step r v x), parts-over (leftIn decisionOf remainderLeft partLeft body r v) visits e)

@@ -16,11 +16,11 @@ use Rattle.response_stated.specs.Words.{rest, Response, Sent}
 use Rattle.response_stated.specs.Responses.{readResponseOf, responseBodyOf}
 use Rattle.response_stated.specs.Parts.{limitOf, partLength, leftStatus, restAfter, nextPartOf, partBytes, partResponse, partLaid}
 use Rattle.response_stated.specs.Terms.{sendingOf, sending, spelled, IsResponse, Tells, nothing-left, some-left, more-left}
-use Rattle.response_stated.specs.Fetching.{Ask, got, left, remaining, called}
+use Rattle.response_stated.specs.Fetching.{Fetch, got, left, remaining, called}
 use Rattle.response_stated.proofs.Laws.{PartWay, whole, cut, last, part-way, part-limit, part-some, part-most, part-long, part-joins, next-given, pair-is, long-two, cut-back, read-back, halves, front-of, laid-spelled, sends-given, step-within, step-joins, tells, limit-range, given-is}
 use Rattle.u2f_up_stated.specs.Moments.{fresh, settleOf}
 use Rattle.u2f_up_stated.specs.declared.Presence.{Presence}
-use Rattle.ctap1_stated.specs.Words.{Inputs, Part, Given}
+use Rattle.ctap1_stated.specs.Words.{Inputs, Part, DecisionGives}
 use Rattle.ctap1_stated.specs.Path.{frameLimit, fetchPath, commandPath, allowedPath, pathOf}
 use Rattle.ctap1_stated.specs.Decision.{decisionOf}
 use Rattle.ctap1_stated.specs.Session.{remainderLeft, partAfter, partLeft}
@@ -28,9 +28,9 @@ use Rattle.ctap1_stated.specs.declared.Allowed.the-variants as Allowed′
 use Rattle.ctap1_stated.specs.declared.Attestation.the-variants as Attestation′
 use Rattle.ctap1_stated.specs.declared.Counter.the-variants as Counter′
 use Rattle.ctap1_stated.proofs.Laws.{takes, IsPart, is-a-part, limits-exactly}
-use Rattle.session_stated.specs.Sessions.{Visit, sentIn, leftIn, joinedOver, leftOver, partsOver, Each, Asks, Serves}
+use Rattle.session_stated.specs.Sessions.{Visit, sentIn, leftIn, joinedOver, leftOver, partsOver, Each, IsFetch, Serves}
 use Rattle.session_stated.specs.Claims
-use Rattle.session_stated.proofs.Steps.{ask, Step, keeps, sends, step, within-over, joins-over, parts-over}
+use Rattle.session_stated.proofs.Steps.{fetch, Step, keeps, sends, step, within-over, joins-over, parts-over}
 use Rattle.session_stated.proofs.Counts.{Need, exact, need-first}
 
 pub FetchesNext : Claims.FetchesNext decisionOf frameLimit partLeft sendingOf
@@ -40,7 +40,7 @@ FetchesNext p t a body old n after lb lo e =
     pair-is _ _ _ _
     (sym g ∙ ap₂ (λ (k : ℕ) (r : Remainder). Gives (sending k r)) (sym (f .long)) (sym (f .left)))
     (ap (λ (o : Outcome Sent). partLaid o (partResponse body (a .remainder) (frameLimit (a .frame))) old) (sym g)
-    ∙ ap (λ (o : Outcome Given). partAfter o (partResponse body (a .remainder) (frameLimit (a .frame))) old) (sym e))
+    ∙ ap (λ (o : Outcome DecisionGives). partAfter o (partResponse body (a .remainder) (frameLimit (a .frame))) old) (sym e))
 
 -- ---- a response is read in one way
 read-so : (l bytes part : List ℕ) (told status : ℕ) → l ≡ spelled bytes told → IsResponse l part status → (part ≡ bytes) × (status ≡ told)
@@ -62,7 +62,7 @@ module _ (body : List ℕ) where
   no-response part status is = omega (arith, ap (length {A = ℕ}) (is .are), long-two part (is .sw1) (is .sw2))
 
   -- what went out is the part's response
-  got-is : (r : Remainder) (a : Ask) → r .place + r .count ≤ length body → partLength (a .limit) (r .count) + 2 ≤ length (a .buffer)
+  got-is : (r : Remainder) (a : Fetch) → r .place + r .count ≤ length body → partLength (a .limit) (r .count) + 2 ≤ length (a .buffer)
       → got (called sendingOf body r a) ≡ spelled (partBytes body r (a .limit)) (leftStatus (restAfter r (a .limit) .count))
   got-is r a within room =
       ap got (sends-given body r (a .limit) (a .buffer) within room)
@@ -77,7 +77,7 @@ module _ (body : List ℕ) where
   last-one r v keeps part is = absurd (no-response part 0x9000 is)
   last-one r v (sends some within room) part is =
       let limit = frameLimit (v .lent .frame) in
-      let x = read-so _ (partBytes body r limit) part (leftStatus (restAfter r limit .count)) 0x9000 (got-is r (ask v) within room) is in
+      let x = read-so _ (partBytes body r limit) part (leftStatus (restAfter r limit .count)) 0x9000 (got-is r (fetch v) within room) is in
       let z : restAfter r limit .count ≡ 0 = told-done (tells (restAfter r limit .count)) (sym (x .1)) in
       (ap (λ (o : Outcome Sent). left r o .count) (sym (next-given (length body) r limit (length (v .buffer)) within room)) ∙ z, x .0 ∙ all-gone r limit z)
 
@@ -85,7 +85,7 @@ pub SessionJoins : Claims.SessionJoins decisionOf frameLimit remainderLeft partL
 SessionJoins =
     record {
       so-far = λ body n frame buffer visits h each.
-          let a : Ask = record { limit = frameLimit frame; buffer = buffer } in
+          let a : Fetch = record { limit = frameLimit frame; buffer = buffer } in
           ap (λ (l : List ℕ). responseBodyOf (got (called sendingOf body (rest 0 n) a)) ++ l) (joins-over body (left (rest 0 n) (called sendingOf body (rest 0 n) a .0)) visits each)
           ∙ step-joins body (rest 0 n) a (omega arith);
       done = λ body r visits v part h each asks is.
@@ -153,7 +153,7 @@ SessionTells p t a body old n after part status lb lo e is =
     let told = leftStatus (restAfter (a .remainder) limit .count) in
     let long = part-long body (a .remainder) limit (omega (arith, f .within, lb)) in
     let there : partLeft a (decisionOf p t a) body old ≡ spelled (partBytes body (a .remainder) limit) told ++ drop (length (partBytes body (a .remainder) limit) + 2) old =
-    ap (λ (o : Outcome Given). partAfter o (partResponse body (a .remainder) limit) old) e ∙ laid-spelled (partBytes body (a .remainder) limit) told old (omega (arith, f .room, lo, long)) in
+    ap (λ (o : Outcome DecisionGives). partAfter o (partResponse body (a .remainder) limit) old) e ∙ laid-spelled (partBytes body (a .remainder) limit) told old (omega (arith, f .room, lo, long)) in
     let out : take n (partLeft a (decisionOf p t a) body old) ≡ spelled (partBytes body (a .remainder) limit) told =
     ap₂ (λ (k : ℕ) (l : List ℕ). take k l) (f .long ∙ ap (λ (k : ℕ). k + 2) (sym long)) there ∙ front-of (partBytes body (a .remainder) limit) told _ in
     let x = read-so _ (partBytes body (a .remainder) limit) part told status out is in
@@ -179,5 +179,5 @@ SessionParts =
 
     within-first : (body : List ℕ) (n : ℕ) (frame buffer : List ℕ) (sent : Sent) → n ≤ length body → sendingOf body (rest 0 n) (frameLimit frame) buffer .0 ≡ Gives sent → sent .remainder .place + sent .remainder .count ≤ length body
     within-first body n frame buffer sent h e =
-        let a : Ask = record { limit = frameLimit frame; buffer = buffer } in
+        let a : Fetch = record { limit = frameLimit frame; buffer = buffer } in
         subst (λ (o : Outcome Sent). left (rest 0 n) o .place + left (rest 0 n) o .count ≤ length body) e (step-within body (rest 0 n) a (omega arith))

@@ -17,7 +17,7 @@ use Rattle.response_stated.specs.Fetching.{got, left, remaining, RoundsUp}
 use Rattle.u2f_up_stated.specs.declared.Presence.{Presence}
 use Rattle.ctap1_stated.specs.Words.{Inputs, Part}
 use Rattle.ctap1_stated.specs.Terms.{Decider}
-use Rattle.session_stated.specs.Sessions.{Visit, Leaver, PartWriter, sentIn, leftIn, joinedOver, leftOver, partsOver, Each, Asks, Serves}
+use Rattle.session_stated.specs.Sessions.{Visit, Leaver, PartWriter, sentIn, leftIn, joinedOver, leftOver, partsOver, Each, IsFetch, Serves}
 
 -- 02, E2: "INS C0 .. fetches the next part under the same rule": the part that a decision sends is the one that `next` sends of the body in the reply
 -- buffer, by the frame's own limit: answer, buffer and what remains. A decision that leaves out a byte between two parts (`skips`) fails it, and one
@@ -32,12 +32,12 @@ FetchesNext decide limit write next =
 -- sent by `next` of (0, n) under the first frame's limit; every C0 that follows may be refused or not. `skips` and `again` fail it, at three
 -- bytes.
 pub record SessionJoins (decide : Decider) (limit : List ℕ → ℕ) (leaves : Leaver) (write : PartWriter) (next : Sender) : Type 0 where
-  pub so-far : (body : List ℕ) (n : ℕ) (frame buffer : List ℕ) (visits : List Visit) → n ≤ length body → Each Asks visits
+  pub so-far : (body : List ℕ) (n : ℕ) (frame buffer : List ℕ) (visits : List Visit) → n ≤ length body → Each IsFetch visits
       → responseBodyOf (got (next body (rest 0 n) (limit frame) buffer))
       ++ (joinedOver decide leaves write body (left (rest 0 n) (next body (rest 0 n) (limit frame) buffer .0)) visits
       ++ remaining body (leftOver decide leaves write body (left (rest 0 n) (next body (rest 0 n) (limit frame) buffer .0)) visits))
       ≡ take n body
-  pub done : (body : List ℕ) (r : Remainder) (visits : List Visit) (v : Visit) (part : List ℕ) → r .place + r .count ≤ length body → Each Asks visits → Asks v
+  pub done : (body : List ℕ) (r : Remainder) (visits : List Visit) (v : Visit) (part : List ℕ) → r .place + r .count ≤ length body → Each IsFetch visits → IsFetch v
       → IsResponse (sentIn decide leaves write body (leftOver decide leaves write body r visits) v) part 0x9000
       → (leftIn decide leaves write body (leftOver decide leaves write body r visits) v .count ≡ 0)
       × (joinedOver decide leaves write body r visits ++ part ≡ remaining body r)
@@ -68,10 +68,10 @@ SessionTells decide write =
 -- A body of n bytes takes at most n parts (one where n is 0), and exactly n / L rounded up (one where n is 0) where every limit is L: the first
 -- part, where it goes out, and those of the decisions after it; exactly, where nothing stands against them. `takes256` fails it at L 1.
 pub record SessionParts (decide : Decider) (limit : List ℕ → ℕ) (leaves : Leaver) (write : PartWriter) (next : Sender) : Type 0 where
-  pub at-most : (body : List ℕ) (n : ℕ) (frame buffer : List ℕ) (sent : Sent) (visits : List Visit) → n ≤ length body → 1 ≤ n → Each Asks visits
+  pub at-most : (body : List ℕ) (n : ℕ) (frame buffer : List ℕ) (sent : Sent) (visits : List Visit) → n ≤ length body → 1 ≤ n → Each IsFetch visits
       → next body (rest 0 n) (limit frame) buffer .0 ≡ Gives sent
       → 1 + partsOver decide leaves write body (sent .remainder) visits ≤ n
-  pub of-none : (body frame buffer : List ℕ) (sent : Sent) (visits : List Visit) → Each Asks visits
+  pub of-none : (body frame buffer : List ℕ) (sent : Sent) (visits : List Visit) → Each IsFetch visits
       → next body (rest 0 0) (limit frame) buffer .0 ≡ Gives sent
       → partsOver decide leaves write body (sent .remainder) visits ≡ 0
   pub exactly : (body : List ℕ) (n L k : ℕ) (frame buffer : List ℕ) (sent : Sent) (visits : List Visit) → n ≤ length body → 1 ≤ L → RoundsUp n L k

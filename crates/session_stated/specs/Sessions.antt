@@ -10,9 +10,9 @@ use Rattle.command_stated.specs.Command.{GetResponse}
 use Rattle.response_stated.specs.Responses.{responseBodyOf}
 use Rattle.response_stated.specs.declared.Remainder.{Remainder}
 use Rattle.u2f_up_stated.specs.declared.Presence.{Presence}
-use Rattle.u2f_up_stated.specs.Terms.{Passes}
-use Rattle.ctap1_stated.specs.Words.{Inputs, Given, Body, Ordered, Part, Result}
-use Rattle.ctap1_stated.specs.Terms.{Decider, AsksOn, Comes}
+use Rattle.u2f_up_stated.specs.Terms.{NotRefused}
+use Rattle.ctap1_stated.specs.Words.{Inputs, DecisionGives, Body, Ordered, Part, DecisionResult}
+use Rattle.ctap1_stated.specs.Terms.{Decider, HasInsC0, Comes}
 
 -- a frame that is decided, and all that is lent with it; of `lent` neither room nor remainder is looked at
 pub record Visit : Type 0 where
@@ -38,30 +38,30 @@ lentIn body r v =
     }
 
 -- the response that goes out with a part, at the buffer's front; nothing with any other answer
-abbrev pub sentWith : Outcome Given → (after : List ℕ) → List ℕ
+abbrev pub sentWith : Outcome DecisionGives → (after : List ℕ) → List ℕ
 sentWith (R n) after = []
 sentWith (Word w) after = []
 sentWith (Gives (Body n)) after = []
 sentWith (Gives Ordered) after = []
 sentWith (Gives (Part n left)) after = take n after
 
-abbrev pub isPart : Outcome Given → ℕ
-isPart (R n) = 0
-isPart (Word w) = 0
-isPart (Gives (Body n)) = 0
-isPart (Gives Ordered) = 0
-isPart (Gives (Part n left)) = 1
+abbrev pub partCount : Outcome DecisionGives → ℕ
+partCount (R n) = 0
+partCount (Word w) = 0
+partCount (Gives (Body n)) = 0
+partCount (Gives Ordered) = 0
+partCount (Gives (Part n left)) = 1
 
 -- what is left to fetch, and what the buffer for part and status holds, after a decision
 abbrev pub Leaver : Type 0
-Leaver = Inputs → Result → Remainder
+Leaver = Inputs → DecisionResult → Remainder
 
 abbrev pub PartWriter : Type 0
-PartWriter = Inputs → Result → (body old : List ℕ) → List ℕ
+PartWriter = Inputs → DecisionResult → (body old : List ℕ) → List ℕ
 
 module _ (decide : Decider) (left : Leaver) (write : PartWriter) (body : List ℕ) where
   -- one visit: its result, the response that goes out, what is left
-  abbrev pub decidedIn : Remainder → Visit → Result
+  abbrev pub decidedIn : Remainder → Visit → DecisionResult
   decidedIn r v = decide (v .presence) (v .moment) (lentIn body r v)
 
   abbrev pub sentIn : Remainder → Visit → List ℕ
@@ -81,7 +81,7 @@ module _ (decide : Decider) (left : Leaver) (write : PartWriter) (body : List �
 
   abbrev pub partsOver : Remainder → List Visit → ℕ
   partsOver r [] = 0
-  partsOver r (v ∷ visits) = isPart (decidedIn r v .answer) + partsOver (leftIn r v) visits
+  partsOver r (v ∷ visits) = partCount (decidedIn r v .answer) + partsOver (leftIn r v) visits
 
 -- each of the visits is so
 pub data Each (P : Visit → Type 0) : List Visit → Type 0 where
@@ -89,9 +89,9 @@ pub data Each (P : Visit → Type 0) : List Visit → Type 0 where
   also : {v : Visit} {visits : List Visit} → P v → Each P visits → Each P (v ∷ visits)
 
 -- a shaped C0, whatever it is answered
-abbrev pub Asks : Visit → Type 0
-Asks v = AsksOn (v .lent)
+abbrev pub IsFetch : Visit → Type 0
+IsFetch v = HasInsC0 (v .lent)
 
 -- a C0 that nothing stands against, that takes L bytes at a time, and with room for them
 abbrev pub Serves : (limit : List ℕ → ℕ) → (L : ℕ) → Visit → Type 0
-Serves limit L v = Passes (v .presence) (v .lent .side) (v .moment) × Comes (v .lent) GetResponse × (limit (v .lent .frame) ≡ L) × (L + 2 ≤ length (v .buffer))
+Serves limit L v = NotRefused (v .presence) (v .lent .side) (v .moment) × Comes (v .lent) GetResponse × (limit (v .lent .frame) ≡ L) × (L + 2 ≤ length (v .buffer))

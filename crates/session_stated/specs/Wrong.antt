@@ -6,21 +6,21 @@ use Rattle.octets.specs.Bytes.{laid}
 use Rattle.response_stated.specs.declared.Remainder.{Remainder}
 use Rattle.response_stated.specs.Words.{rest}
 use Rattle.response_stated.specs.Parts.{partLength, restAfter, partResponse}
-use Rattle.ctap1_stated.specs.Words.{Inputs, Given, Body, Ordered, Part, Result}
+use Rattle.ctap1_stated.specs.Words.{Inputs, DecisionGives, Body, Ordered, Part, DecisionResult}
 use Rattle.ctap1_stated.specs.Path.{frameLimit}
 use Rattle.ctap1_stated.specs.Decision.{decisionOf}
 use Rattle.ctap1_stated.specs.Terms.{Decider}
 use Rattle.session_stated.specs.Sessions.{PartWriter}
 
 -- another part in the decision's place
-abbrev partAs : (ℕ → Remainder → Given) → Outcome Given → Outcome Given
+abbrev partAs : (ℕ → Remainder → DecisionGives) → Outcome DecisionGives → Outcome DecisionGives
 partAs part (R n) = R n
 partAs part (Word w) = Word w
 partAs part (Gives (Body n)) = Gives (Body n)
 partAs part (Gives Ordered) = Gives Ordered
 partAs part (Gives (Part n after)) = Gives (part n after)
 
-abbrev decides : (Inputs → ℕ → Remainder → Given) → Decider
+abbrev decides : (Inputs → ℕ → Remainder → DecisionGives) → Decider
 decides part p t a =
     let r = decisionOf p t a in
     record { answer = partAs (part a) (r .answer); presence = r .presence; order = r .order; taken = r .taken }
@@ -38,7 +38,7 @@ abbrev pub takes256 : Decider
 takes256 = decides (λ a n after. Part (partLength 256 (a .remainder .count) + 2) (restAfter (a .remainder) 256))
 
 -- the part is taken from the body's start again
-abbrev partBy : (List ℕ → List ℕ) → Outcome Given → List ℕ → List ℕ
+abbrev partBy : (List ℕ → List ℕ) → Outcome DecisionGives → List ℕ → List ℕ
 partBy part (R n) old = old
 partBy part (Word w) old = old
 partBy part (Gives (Body n)) old = old

@@ -20,7 +20,7 @@ ghost use lib.ListN.{length};
 ghost use Rattle.octets.specs.Bytes.{byte, laid};
 ghost use Rattle.signing_stated.specs.Layouts.{presenceByte, registerBody, authenticateBody};
 ghost use Rattle.signing_stated.specs.Orders.{orderWith, blankOrder, certificateLength, isOfLayout, registerFieldsOf, authenticateFieldsOf};
-ghost use Rattle.signing_stated.specs.Finishing.{roomOf, roomAsked, bodyOf, CountsHandle};
+ghost use Rattle.signing_stated.specs.Finishing.{roomOf, roomNeeded, bodyOf, CountsHandle};
 ghost use Rattle.signing_stated.specs.Contracts.{KindNumber, Blank, RegisterOrder, AuthenticateOrder, HasRegisterRoom, HasAuthenticateRoom, Finish};
 
 // 05, public key, h and the longest signature: what a Register reply takes beside handle and certificate.
@@ -87,9 +87,9 @@ pub fn register_order(
         return unfit(block);
     }
     let mut key = [0u8; 65];
-    fields::put_three(&mut key, &[0x04], x, y);
+    signing_fields::put_three(&mut key, &[0x04], x, y);
     let mut bytes = [0u8; 385];
-    fields::put_five(&mut bytes, &[0x00], application, challenge, handle, &key);
+    signing_fields::put_five(&mut bytes, &[0x00], application, challenge, handle, &key);
     *block = bytes;
     Head {
         kind: Kind::Register,
@@ -124,7 +124,7 @@ pub fn authenticate_order(
     let mut count = [0u8; 4];
     octets::put_word(&mut count, counter);
     let mut bytes = [0u8; 385];
-    fields::put_four(&mut bytes, application, &[presence], &count, challenge);
+    signing_fields::put_four(&mut bytes, application, &[presence], &count, challenge);
     *block = bytes;
     Head {
         kind: Kind::Authenticate,
@@ -181,8 +181,8 @@ fn put_register_body(
     let key = to_sign - 65;
     let bytes: &[u8] = block;
     let mut head = [0u8; 67];
-    fields::put_three(&mut head, &[0x05], &bytes[key..to_sign], &[h as u8]);
-    fields::put_long_four(reply, &head, &bytes[65..key], certificate, signature);
+    signing_fields::put_three(&mut head, &[0x05], &bytes[key..to_sign], &[h as u8]);
+    signing_fields::put_long_four(reply, &head, &bytes[65..key], certificate, signature);
     67 + h + certificate.len() + signature.len()
 }
 
@@ -192,7 +192,7 @@ fn put_authenticate_body(block: &[u8; 385], signature: &[u8], reply: &mut [u8]) 
     ensures { λ _. ⌜ now (reply .exit) ≡ laid (authenticateBody (authenticateFieldsOf (now (block .entry))) (now (signature .entry))) (now (reply .entry)) ⌝ }
 {
     let bytes: &[u8] = block;
-    fields::put_three(reply, &[bytes[32]], &bytes[33..37], signature);
+    signing_fields::put_three(reply, &[bytes[32]], &bytes[33..37], signature);
     5 + signature.len()
 }
 
@@ -234,7 +234,7 @@ pub fn finish(
       reply = now (reply .entry);
     }) r (now (reply .exit)) ⌝ }
 {
-    if !layouts::has_layout(order, block) {
+    if !signing_layouts::has_layout(order, block) {
         return Finished::Refused(Refusal::R7);
     }
     if certificate.len() != order.certificate_length {

@@ -16,9 +16,9 @@ use Rattle.signing_stated.specs.Layouts.{RegisterFields, AuthenticateFie
 use Rattle.signing_stated.proofs.Fit.{register-order-fit, authenticate-order-fit}
 use Rattle.signing_stated.proofs.Shapes.{register-shaped}
 use Rattle.signing_stated.specs.Contracts.{Finish}
-use Rattle.signing_stated.specs.Terms.{part, RegisterLengths, AuthenticateLengths}
+use Rattle.signing_stated.specs.Terms.{bytesAt, RegisterLengths, AuthenticateLengths}
 use Rattle.signing_stated.proofs.Ways.{comes-to-r7, comes-to-r4, comes-to-r2, comes-to-6f00, comes-to-r3, comes-to-body}
-use Rattle.signing_stated.specs.Finishing.{registerRoom, authenticateRoom, roomOf, roomAsked, CountsHandle, bodyOf, Finishing, Finished, Refused, Status, Body, finishOf, finishedOf, lengthOf, replyOf}
+use Rattle.signing_stated.specs.Finishing.{registerRoom, authenticateRoom, roomOf, roomNeeded, CountsHandle, bodyOf, Finishing, Finished, Refused, Status, Body, finishOf, finishedOf, lengthOf, replyOf}
 use Rattle.octets.proofs.Laws.{length-part, parts-join}
 use Rattle.outcome.specs.Outcome.{Outcome, R, SW, Gives}
 use Rattle.outcome.specs.declared.ApduStatusCode.the-variants.{InternalException}
@@ -214,21 +214,21 @@ six a b c d e f = simp append-assoc
 
 module _ (n : ℕ) (b : List ℕ) (few : 130 ≤ n) (many : n ≤ 385) (whole : length b ≡ 385) where
   -- the public key is the last 65 bytes to sign
-  pub key-at : byte b (n - 65) ≡ 0x04 → part (n - 65) 65 b ≡ publicKey (part (n - 64) 32 b) (part (n - 32) 32 b)
+  pub key-at : byte b (n - 65) ≡ 0x04 → bytesAt (n - 65) 65 b ≡ publicKey (bytesAt (n - 64) 32 b) (bytesAt (n - 32) 32 b)
   key-at marker =
       let next : suc (n - 65) ≡ n - 64 = omega arith in
       let last : n - 64 + 32 ≡ n - 32 = omega arith in
       let split : drop (n - 65) b ≡ 0x04 ∷ drop (n - 64) b = drop-cons b (n - 65) 0 (omega arith) ∙ rw (marker, next) in
       ap (take 65) split
-      ∙ ap (λ (l : List ℕ). 0x04 ∷ l) (sym (parts-join (n - 64) 32 32 b) ∙ ap (λ (m : ℕ). part (n - 64) 32 b ++ part m 32 b) last)
+      ∙ ap (λ (l : List ℕ). 0x04 ∷ l) (sym (parts-join (n - 64) 32 32 b) ∙ ap (λ (m : ℕ). bytesAt (n - 64) 32 b ++ bytesAt m 32 b) last)
 
-  key-is : byte b (n - 65) ≡ 0x04 → take (n - (n - 65)) (drop (n - 65) b) ≡ publicKey (part (n - 64) 32 b) (part (n - 32) 32 b)
+  key-is : byte b (n - 65) ≡ 0x04 → take (n - (n - 65)) (drop (n - 65) b) ≡ publicKey (bytesAt (n - 64) 32 b) (bytesAt (n - 32) 32 b)
   key-is marker = let one : n - (n - 65) ≡ 65 = omega arith in ap (λ (m : ℕ). take m (drop (n - 65) b)) one ∙ key-at marker
 
-  handle-is : take (n - 65 - 65) (drop 65 b) ≡ part 65 (n - 130) b
+  handle-is : take (n - 65 - 65) (drop 65 b) ≡ bytesAt 65 (n - 130) b
   handle-is = let same : n - 65 - 65 ≡ n - 130 = omega arith in rw same
 
-  handle-length : length (part 65 (n - 130) b) ≡ n - 130
+  handle-length : length (bytesAt 65 (n - 130) b) ≡ n - 130
   handle-length = length-part 65 (n - 130) b (omega arith)
 
   module _ (certificate signature : List ℕ) where
@@ -238,8 +238,8 @@ module _ (n : ℕ) (b : List ℕ) (few : 130 ≤ n) (many : n ≤ 385) (whole : 
         → out ≡ laid (head ++ (take (n - 65 - 65) (drop 65 b) ++ (certificate ++ signature))) old
         → out ≡ laid (registerBody (registerFieldsOf n b) certificate signature) old
     register-written old out head room marker long is-head e =
-        let key : List ℕ = publicKey (part (n - 64) 32 b) (part (n - 32) 32 b) in
-        let handle : List ℕ = part 65 (n - 130) b in
+        let key : List ℕ = publicKey (bytesAt (n - 64) 32 b) (bytesAt (n - 32) 32 b) in
+        let handle : List ℕ = bytesAt 65 (n - 130) b in
         let front : List ℕ = 0x05 ∷ [] ++ (key ++ length handle ∷ []) in
         let sixty-seven : length front ≡ 67 =
         simp length-append (omega (arith, length-part (n - 64) 32 b (omega arith), length-part (n - 32) 32 b (omega arith))) in
@@ -322,11 +322,11 @@ module _ (o : Order) (certificate : List ℕ) (signed : Bool) (signature reply :
     answers-r4 other =
         finishes (lent o certificate signed signature reply) (R 4) _ _ (comes-to-r4 _ (of-layout o ok is-ok pass) other) refl refl
 
-    module _ (its : length certificate ≡ certificateLength o) (has : Bool) (is-has : has ≡ leb (roomAsked o) (length reply)) where
+    module _ (its : length certificate ≡ certificateLength o) (has : Bool) (is-has : has ≡ leb (roomNeeded o) (length reply)) where
       pub answers-r2 : not has ≡ true → Finish (lent o certificate signed signature reply) (Refused R2) reply
       answers-r2 told =
           finishes (lent o certificate signed signature reply) (R 2) _ _
-          (comes-to-r2 _ (of-layout o ok is-ok pass) its (leb-false (roomAsked o) (length reply) (sym is-has ∙ not-true has told))) refl refl
+          (comes-to-r2 _ (of-layout o ok is-ok pass) its (leb-false (roomNeeded o) (length reply) (sym is-has ∙ not-true has told))) refl refl
 
       module _ (room : not has ≡ false) where
         pub answers-6f00 : not signed ≡ true → Finish (lent o certificate signed signature reply) (Status InternalException) reply

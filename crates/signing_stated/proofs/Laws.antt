@@ -7,8 +7,8 @@ use lib.ListN.{length}
 use Rattle.outcome.specs.Outcome.{R}
 use Rattle.signing_stated.specs.Layouts.{RegisterFields, AuthenticateFields, isRegisterFit, isAuthenticateFit}
 use Rattle.signing_stated.specs.Orders.{Order, toSign, certificateLength, blankOrder, registerOrderOf, authenticateOrderOf, isRegisterLayout, isOfLayout, registerFieldsOf, authenticateFieldsOf}
-use Rattle.signing_stated.specs.Finishing.{Finishing, finishOf, registerRoom, authenticateRoom, roomAsked}
-use Rattle.signing_stated.proofs.Kept.{register-kept, authenticate-kept, register-made-shape, authenticate-made-shape}
+use Rattle.signing_stated.specs.Finishing.{Finishing, finishOf, registerRoom, authenticateRoom, roomNeeded}
+use Rattle.signing_stated.proofs.FieldsKept.{register-kept, authenticate-kept, register-made-shape, authenticate-made-shape}
 use Rattle.signing_stated.proofs.Shapes.{shape-register, shape-authenticate}
 use Rattle.signing_stated.proofs.Ways.{comes-to-r7, way, told-r3}
 pub use Rattle.signing_stated.proofs.Fit.{RegisterLengths, AuthenticateLengths, register-fit, authenticate-fit, register-lengths, authenticate-lengths, register-order-fit, authenticate-order-fit}
@@ -48,18 +48,18 @@ fields-kept = (
 
 -- the room that a made order asks for
 pub room-of-made :
-    ((f : RegisterFields) (c : ℕ) → isRegisterFit f ≡ true → roomAsked (registerOrderOf f c) ≡ registerRoom (length (f .handle)) c)
-    × ((f : AuthenticateFields) → isAuthenticateFit f ≡ true → roomAsked (authenticateOrderOf f) ≡ authenticateRoom)
+    ((f : RegisterFields) (c : ℕ) → isRegisterFit f ≡ true → roomNeeded (registerOrderOf f c) ≡ registerRoom (length (f .handle)) c)
+    × ((f : AuthenticateFields) → isAuthenticateFit f ≡ true → roomNeeded (authenticateOrderOf f) ≡ authenticateRoom)
 room-of-made = (
   λ f c fit.
       let same : 130 + length (f .handle) - 130 ≡ length (f .handle) = omega arith in
-      ap roomAsked (register-order-fit f c (register-lengths f fit)) ∙ ap (λ (h : ℕ). registerRoom h c) same,
-  λ f fit. ap roomAsked (authenticate-order-fit f (authenticate-lengths f fit)),
+      ap roomNeeded (register-order-fit f c (register-lengths f fit)) ∙ ap (λ (h : ℕ). registerRoom h c) same,
+  λ f fit. ap roomNeeded (authenticate-order-fit f (authenticate-lengths f fit)),
 )
 
 -- once the layout is right, the certificate is the order's and the room is there, finishing gives none of R7, R4 and R2
 pub room-kept : (i : Finishing) → isOfLayout (i .order) ≡ true → length (i .certificate) ≡ certificateLength (i .order)
-    → roomAsked (i .order) ≤ length (i .reply) → (finishOf i ≡ R 7 → ⊥) × (finishOf i ≡ R 4 → ⊥) × (finishOf i ≡ R 2 → ⊥)
+    → roomNeeded (i .order) ≤ length (i .reply) → (finishOf i ≡ R 7 → ⊥) × (finishOf i ≡ R 4 → ⊥) × (finishOf i ≡ R 2 → ⊥)
 room-kept i ok its room = (
   λ e. let z = told-r3 7 (way i) e ok its room in omega arith,
   λ e. let z = told-r3 4 (way i) e ok its room in omega arith,

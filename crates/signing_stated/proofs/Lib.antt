@@ -2,7 +2,7 @@ pub mod Fit
 pub mod Shapes
 pub mod Ways
 pub mod Cases
-pub mod Kept
+pub mod FieldsKept
 pub mod Numbers
 pub mod Spelled
 pub mod Laws

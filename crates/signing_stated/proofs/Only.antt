@@ -13,13 +13,13 @@ use Rattle.octets.specs.Bytes.{byte, bytes4}
 use Rattle.signing_stated.specs.Claims
 use Rattle.signing_stated.specs.Layouts.{RegisterFields, AuthenticateFields, presenceByte, isRegisterFit}
 use Rattle.signing_stated.specs.Orders.{Order, Register, Authenticate, AuthenticateParts, certificateLength, registerOrderOf, authenticateOrderOf, authenticateOrderFor, registerFieldsOf, authenticateFieldsOf}
-use Rattle.signing_stated.specs.Finishing.{Finishing, Ended, finishOf, roomAsked}
-use Rattle.signing_stated.specs.Terms.{part, RegisterLengths, PartsLengths, IsWhole, IsBlank, AsksFor, register, authenticate, OfLayout}
+use Rattle.signing_stated.specs.Finishing.{Finishing, Ended, finishOf, roomNeeded}
+use Rattle.signing_stated.specs.Terms.{bytesAt, RegisterLengths, PartsLengths, IsWhole, IsBlank, NeedsRoom, register, authenticate, OfLayout}
 use Rattle.signing_stated.proofs.Fit.{register-fit, register-lengths}
-use Rattle.signing_stated.proofs.Shapes.{RegisterShape, AuthenticateShape, from-zeros, asks, of-no-layout}
-use Rattle.signing_stated.proofs.Kept.{register-equal, authenticate-equal, order-equal, register-order-of, authenticate-order-of}
+use Rattle.signing_stated.proofs.Shapes.{RegisterShape, AuthenticateShape, from-zeros, needs-room, of-no-layout}
+use Rattle.signing_stated.proofs.FieldsKept.{register-equal, authenticate-equal, order-equal, register-order-of, authenticate-order-of}
 use Rattle.signing_stated.proofs.Spelled.{four-at}
-use Rattle.signing_stated.proofs.Ways.{Passed, Way, no-layout, no-certificate, no-room, no-signature, long-signature, passed, way}
+use Rattle.signing_stated.proofs.Ways.{ChecksPassed, Way, no-layout, no-certificate, no-room, no-signature, long-signature, passed, way}
 
 -- two answers of a test that hold exactly when the same does
 same-test : {P : Type 0} (a b : Bool) → (a ≡ true) ↔ P → (b ≡ true) ↔ P → a ≡ b
@@ -59,9 +59,9 @@ register-is make p f c l =
     } in
     let fields : registerFieldsOf n b ≡ f =
     register-equal (registerFieldsOf n b) f (p .application f c l) (p .challenge f c l)
-    (ap (λ (k : ℕ). part 65 k b) h ∙ p .handle f c l)
-    (ap (λ (k : ℕ). part k 32 b) x ∙ p .x f c l)
-    (ap (λ (k : ℕ). part k 32 b) y ∙ p .y f c l) in
+    (ap (λ (k : ℕ). bytesAt 65 k b) h ∙ p .handle f c l)
+    (ap (λ (k : ℕ). bytesAt k 32 b) x ∙ p .x f c l)
+    (ap (λ (k : ℕ). bytesAt k 32 b) y ∙ p .y f c l) in
     register-order-of n b (p .whole f c l) shape o (p .kind f c l) (p .counts f c l) refl
     ∙ ap (λ (g : RegisterFields). registerOrderOf g (certificateLength o)) fields
     ∙ ap (registerOrderOf f) (p .certificate f c l)
@@ -87,7 +87,7 @@ authenticate-is make p a l =
     let presence : byte b 32 ≡ presenceByte (a .present) = by-presence (a .present) refl in
     let shape : AuthenticateShape 69 0 b =
     record { long = refl; presence = small (a .present) presence; rest = from-zeros b 69 (p .rest a l); no-certificate = refl } in
-    let counter : part 33 4 b ≡ bytes4 (a .counter) =
+    let counter : bytesAt 33 4 b ≡ bytes4 (a .counter) =
     four-at b 33 (omega arith) ∙ rw (p .counter-1 a l, p .counter-2 a l, p .counter-3 a l, p .counter-4 a l) in
     authenticate-order-of b long 69 0 shape (make a) (p .kind a l) (p .counts a l) (p .certificate a l) refl
     ∙ ap authenticateOrderOf (authenticate-equal (authenticateFieldsOf b) (fieldsOf a) (p .application a l) presence counter (p .challenge a l))
@@ -126,16 +126,16 @@ pub AuthenticateRoomExactly : Determines Claims.AuthenticateRoomExactly
 AuthenticateRoomExactly f g p q room = same-test (f room) (g room) (p room) (q room)
 
 -- of orders of their layout: no other is asked
-pub RoomAskedExactly : (f g : Order → ℕ) → Claims.RoomAskedExactly f → Claims.RoomAskedExactly g
-    → (o : Order) (room : ℕ) → AsksFor o room → f o ≡ g o
-RoomAskedExactly f g p q o room a = p o room a ∙ sym (q o room a)
+pub RoomNeededExactly : (f g : Order → ℕ) → Claims.RoomNeededExactly f → Claims.RoomNeededExactly g
+    → (o : Order) (room : ℕ) → NeedsRoom o room → f o ≡ g o
+RoomNeededExactly f g p q o room a = p o room a ∙ sym (q o room a)
 
 -- of any order with a block of 385 bytes, as every order in memory has
 pub FinishesExactly : (f g : Finishing → Ended) → Claims.FinishesExactly f → Claims.FinishesExactly g
     → (i : Finishing) → IsWhole (i .order) → f i ≡ g i
 FinishesExactly f g p q i whole = by-way (finishOf i) (way i)
   where
-    by-room : (room : ℕ) → AsksFor (i .order) room → room ≤ length (i .reply) → Passed i → f i ≡ g i
+    by-room : (room : ℕ) → NeedsRoom (i .order) room → room ≤ length (i .reply) → ChecksPassed i → f i ≡ g i
     by-room _ (register h s) fits k =
         let enough : 139 + h + length (i .certificate) ≤ length (i .reply) = omega (arith, k .certificate) in
         p .register-body i h whole s (k .certificate) enough (k .signer) (k .signature)
@@ -148,10 +148,10 @@ FinishesExactly f g p q i whole = by-way (finishOf i) (way i)
     by-way : (x : Outcome (List ℕ)) → Way i x → f i ≡ g i
     by-way _ (no-layout bad) = let none = of-no-layout (i .order) bad in p .r7 i none ∙ sym (q .r7 i none)
     by-way _ (no-certificate ok other) =
-        let a : OfLayout (i .order) = (roomAsked (i .order), asks (i .order) ok) in p .r4 i a other ∙ sym (q .r4 i a other)
-    by-way _ (no-room ok its short) = let a = asks (i .order) ok in p .r2 i _ a its short ∙ sym (q .r2 i _ a its short)
+        let a : OfLayout (i .order) = (roomNeeded (i .order), needs-room (i .order) ok) in p .r4 i a other ∙ sym (q .r4 i a other)
+    by-way _ (no-room ok its short) = let a = needs-room (i .order) ok in p .r2 i _ a its short ∙ sym (q .r2 i _ a its short)
     by-way _ (no-signature ok its room failed) =
-        let a = asks (i .order) ok in p .signer-failed i _ a its room failed ∙ sym (q .signer-failed i _ a its room failed)
+        let a = needs-room (i .order) ok in p .signer-failed i _ a its room failed ∙ sym (q .signer-failed i _ a its room failed)
     by-way _ (long-signature ok its room done long) =
-        let a = asks (i .order) ok in p .r3 i _ a its room done long ∙ sym (q .r3 i _ a its room done long)
-    by-way _ (passed k) = by-room (roomAsked (i .order)) (asks (i .order) (k .layout)) (k .room) k
+        let a = needs-room (i .order) ok in p .r3 i _ a its room done long ∙ sym (q .r3 i _ a its room done long)
+    by-way _ (passed k) = by-room (roomNeeded (i .order)) (needs-room (i .order) (k .layout)) (k .room) k

@@ -13,9 +13,9 @@ use Rattle.signing_stated.specs.Claims
 use Rattle.signing_stated.specs.Wrong
 use Rattle.signing_stated.specs.Layouts.{RegisterFields, AuthenticateFields}
 use Rattle.signing_stated.specs.Orders.{Order, Register, Authenticate, AuthenticateParts, block, blankOrder, registerOrderOf, authenticateOrderOf, isRegisterLayout, isAuthenticateLayout, authenticateFieldsOf}
-use Rattle.signing_stated.specs.Finishing.{Finishing, Refused, Ended, finishOf, endOf, roomAsked}
-use Rattle.signing_stated.specs.Terms.{IsRegisterOrder, IsAuthenticateOrder, RegisterLengths, PartsLengths, RegisterShaped, AuthenticateShaped, AsksFor, register, authenticate, OfLayout}
-use Rattle.signing_stated.proofs.Shapes.{zeros-from, asks}
+use Rattle.signing_stated.specs.Finishing.{Finishing, Refused, Ended, finishOf, endOf, roomNeeded}
+use Rattle.signing_stated.specs.Terms.{IsRegisterOrder, IsAuthenticateOrder, RegisterLengths, PartsLengths, RegisterShaped, AuthenticateShaped, NeedsRoom, register, authenticate, OfLayout}
+use Rattle.signing_stated.proofs.Shapes.{zeros-from, needs-room}
 use Rattle.signing_stated.proofs.Theorems.{LayoutExactly, BlankRefused}
 
 -- the number of an answer, to tell two apart
@@ -130,7 +130,7 @@ enrolment-shaped =
 tailed-unshaped : OfLayout tailed → ⊥
 tailed-unshaped a = go (a .0) (a .1)
   where
-    go : (room : ℕ) → AsksFor tailed room → ⊥
+    go : (room : ℕ) → NeedsRoom tailed room → ⊥
     go _ (register h s) = let e : Authenticate ≡ Register = s .kind in let z : _≡_ {A = ℕ} 0 1 = cc in omega arith
     go _ (authenticate s) = let e : _≡_ {A = ℕ} 1 0 = s .rest 200 (omega arith) in omega arith
 
@@ -139,7 +139,7 @@ unfolding isAuthenticateLayout block
 testsNoTail p = tailed-unshaped (of (p tailed refl .0 refl))
   where
     of : IsRegisterOrder tailed ⊎ IsAuthenticateOrder tailed → OfLayout tailed
-    of m = (roomAsked tailed, asks tailed (LayoutExactly tailed refl .1 m))
+    of m = (roomNeeded tailed, needs-room tailed (LayoutExactly tailed refl .1 m))
 
 -- an application of F0s
 abbrev begun : Order
@@ -169,7 +169,7 @@ room76 p = let e : 77 ≤ 76 = p 76 .0 refl in omega arith
 pub room78 : Claims.AuthenticateRoomExactly Wrong.room78 → ⊥
 room78 p = let e : _≡_ {A = Bool} false true = p 77 .1 (omega arith) in let z : _≡_ {A = ℕ} 0 1 = cc in omega arith
 
-pub lengthForHandle : Claims.RoomAskedExactly Wrong.lengthForHandle → ⊥
+pub lengthForHandle : Claims.RoomNeededExactly Wrong.lengthForHandle → ⊥
 lengthForHandle p = let e : _≡_ {A = ℕ} 269 139 = p enrolment 139 (register 0 enrolment-shaped) in omega arith
 
 -- ---- finishing

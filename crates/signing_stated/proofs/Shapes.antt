@@ -13,8 +13,8 @@ use lib.Seq.{getD-drop}
 use Rattle.octets.specs.Bytes.{byte, allZero}
 use Rattle.octets.proofs.Laws.{both}
 use Rattle.signing_stated.specs.Orders.{headOf, Order, Kind, Register, Authenticate, isRegisterLayout, isAuthenticateLayout, isLayout, isOfLayout, toSign, certificateLength}
-use Rattle.signing_stated.specs.Finishing.{registerRoom, authenticateRoom, roomOf, roomAsked}
-use Rattle.signing_stated.specs.Terms.{AsksFor, register, authenticate, OfLayout}
+use Rattle.signing_stated.specs.Finishing.{registerRoom, authenticateRoom, roomOf, roomNeeded}
+use Rattle.signing_stated.specs.Terms.{NeedsRoom, register, authenticate, OfLayout}
 
 pub record RegisterShape (n : ℕ) (b : List ℕ) : Type 0 where
   pub least : 130 ≤ n
@@ -95,8 +95,8 @@ module _ (b : List ℕ) (n : ℕ) where
   from-zeros h = at-zeros (drop n b) (λ i. getD-drop n b i 0 ∙ h (n + i) (omega arith))
 
 module _ (o : Order) where
-  pub asks : isOfLayout o ≡ true → AsksFor o (roomAsked o)
-  asks ok = by-kind (o .kind) refl
+  pub needs-room : isOfLayout o ≡ true → NeedsRoom o (roomNeeded o)
+  needs-room ok = by-kind (o .kind) refl
     where
       small : byte (o .bytes) 32 ≤ 1 → (byte (o .bytes) 32 ≡ 0x00) ⊎ (byte (o .bytes) 32 ≡ 0x01)
       small h = by-byte (ℕ-discrete (byte (o .bytes) 32) 0)
@@ -105,13 +105,13 @@ module _ (o : Order) where
           by-byte (yes e) = inl e
           by-byte (no n) = inr (omega arith)
 
-      by-kind : (k : Kind) → o .kind ≡ k → AsksFor o (roomAsked o)
+      by-kind : (k : Kind) → o .kind ≡ k → NeedsRoom o (roomNeeded o)
       by-kind Register k =
           let s = register-shaped o k ok in
           let h : ℕ = toSign o - 130 in
           let at : 65 + (toSign o - 130) ≡ toSign o - 65 = omega (arith, s .least) in
-          let asked : registerRoom (toSign o - 130) (certificateLength o) ≡ roomAsked o = ap (λ (kind : Kind). roomOf kind (headOf o)) (sym k) in
-          subst (λ (n : ℕ). AsksFor o n) asked
+          let asked : registerRoom (toSign o - 130) (certificateLength o) ≡ roomNeeded o = ap (λ (kind : Kind). roomOf kind (headOf o)) (sym k) in
+          subst (λ (n : ℕ). NeedsRoom o n) asked
           (register (toSign o - 130)
           (record {
             kind = k;
@@ -123,8 +123,8 @@ module _ (o : Order) where
           }))
       by-kind Authenticate k =
           let s = authenticate-shaped o k ok in
-          let asked : authenticateRoom ≡ roomAsked o = ap (λ (kind : Kind). roomOf kind (headOf o)) (sym k) in
-          subst (λ (n : ℕ). AsksFor o n) asked
+          let asked : authenticateRoom ≡ roomNeeded o = ap (λ (kind : Kind). roomOf kind (headOf o)) (sym k) in
+          subst (λ (n : ℕ). NeedsRoom o n) asked
           (authenticate
           (record {
             kind = k;
@@ -134,8 +134,8 @@ module _ (o : Order) where
             no-certificate = s .no-certificate;
           }))
 
-  pub asked-for : (room : ℕ) → AsksFor o room → (isOfLayout o ≡ true) × (roomAsked o ≡ room)
-  asked-for _ (register h s) =
+  pub needed : (room : ℕ) → NeedsRoom o room → (isOfLayout o ≡ true) × (roomNeeded o ≡ room)
+  needed _ (register h s) =
       let at : toSign o - 65 ≡ 65 + h = omega (arith, s .counts) in
       let long : toSign o - 130 ≡ h = omega (arith, s .counts) in (
         ap (λ (kind : Kind). isLayout kind o) (s .kind)
@@ -149,7 +149,7 @@ module _ (o : Order) where
             }),
         ap (λ (kind : Kind). roomOf kind (headOf o)) (s .kind) ∙ ap (λ (n : ℕ). registerRoom n (certificateLength o)) long,
       )
-  asked-for _ (authenticate s) = (
+  needed _ (authenticate s) = (
     ap (λ (kind : Kind). isLayout kind o) (s .kind)
         ∙ shape-authenticate (toSign o) (certificateLength o) (o .bytes)
         (record {
@@ -169,9 +169,9 @@ module _ (o : Order) where
   not-of-layout none = by-test (isOfLayout o) refl
     where
       by-test : (t : Bool) → isOfLayout o ≡ t → isOfLayout o ≡ false
-      by-test true ok = absurd (none (roomAsked o, asks ok))
+      by-test true ok = absurd (none (roomNeeded o, needs-room ok))
       by-test false bad = bad
 
   pub of-no-layout : isOfLayout o ≡ false → OfLayout o → ⊥
   of-no-layout bad a =
-      let z : _≡_ {A = Bool} true false = sym (asked-for (a .0) (a .1) .0) ∙ bad in let y : _≡_ {A = ℕ} 0 1 = cc in omega arith
+      let z : _≡_ {A = Bool} true false = sym (needed (a .0) (a .1) .0) ∙ bad in let y : _≡_ {A = ℕ} 0 1 = cc in omega arith

@@ -16,11 +16,11 @@ use Rattle.octets.proofs.Laws.{length-part}
 use Rattle.signing_stated.specs.Claims
 use Rattle.signing_stated.specs.Layouts.{RegisterFields, AuthenticateFields, registerToSign, authenticateToSign, registerBody, authenticateBody, presenceByte, isRegisterFit, isAuthenticateFit}
 use Rattle.signing_stated.specs.Orders.{Head, Order, headOf, orderWith, Kind, Register, Authenticate, AuthenticateParts, kindNo, toSign, certificateLength, blankOrder, registerOrderOf, authenticateOrderOf, authenticateOrderFor, block, isOfLayout, registerFieldsOf, authenticateFieldsOf}
-use Rattle.signing_stated.specs.Finishing.{registerRoom, authenticateRoom, Finishing, Ended, finishOf, finishedOf, endOf, lengthOf, replyOf, roomAsked, bodyOf}
-use Rattle.signing_stated.specs.Terms.{part, RegisterLengths, AuthenticateLengths, PartsLengths, IsWhole, IsRegisterOrder, IsAuthenticateOrder, HoldsJust, RegisterShaped, AuthenticateShaped, register, authenticate}
+use Rattle.signing_stated.specs.Finishing.{registerRoom, authenticateRoom, Finishing, Ended, finishOf, finishedOf, endOf, lengthOf, replyOf, roomNeeded, bodyOf}
+use Rattle.signing_stated.specs.Terms.{bytesAt, RegisterLengths, AuthenticateLengths, PartsLengths, IsWhole, IsRegisterOrder, IsAuthenticateOrder, HoldsJust, RegisterShaped, AuthenticateShaped, register, authenticate}
 use Rattle.signing_stated.proofs.Fit.{register-fit, authenticate-fit, register-lengths, authenticate-lengths, register-order-fit, authenticate-order-fit}
-use Rattle.signing_stated.proofs.Shapes.{register-shaped, authenticate-shaped, zeros-from, asked-for, not-of-layout, of-no-layout}
-use Rattle.signing_stated.proofs.Kept.{block-front, register-to-sign-length, authenticate-to-sign-length, register-made-shape, authenticate-made-shape, register-fields-lengths, authenticate-fields-lengths, register-order-of, authenticate-order-of, found, found-in, one-byte}
+use Rattle.signing_stated.proofs.Shapes.{register-shaped, authenticate-shaped, zeros-from, needed, not-of-layout, of-no-layout}
+use Rattle.signing_stated.proofs.FieldsKept.{block-front, register-to-sign-length, authenticate-to-sign-length, register-made-shape, authenticate-made-shape, register-fields-lengths, authenticate-fields-lengths, register-order-of, authenticate-order-of, found, found-in, one-byte}
 use Rattle.signing_stated.proofs.Ways.{comes-to-r7, comes-to-r4, comes-to-r2, comes-to-6f00, comes-to-r3, comes-to-body, way, told-r3, told-body, body-within}
 use Rattle.signing_stated.proofs.Numbers.{kind-one-to-one, finished-one-to-one}
 use Rattle.signing_stated.proofs.Spelled.{four-at, register-spelled, authenticate-spelled}
@@ -82,15 +82,15 @@ MakesRegister =
       certificate = λ f c l. ap certificateLength (register-order-fit f c l);
       whole = λ f c l. ap length (bytes-are f c l) ∙ block-length (registerToSign f);
       first = λ f c l. ap (λ (b : List ℕ). byte b 0) (bytes-are f c l) ∙ register-made-shape f l .first;
-      application = λ f c l. ap (part 1 32) (bytes-are f c l) ∙ found f l .application;
-      challenge = λ f c l. ap (part 33 32) (bytes-are f c l) ∙ found f l .challenge;
-      handle = λ f c l. ap (part 65 (length (f .handle))) (bytes-are f c l) ∙ found f l .handle;
+      application = λ f c l. ap (bytesAt 1 32) (bytes-are f c l) ∙ found f l .application;
+      challenge = λ f c l. ap (bytesAt 33 32) (bytes-are f c l) ∙ found f l .challenge;
+      handle = λ f c l. ap (bytesAt 65 (length (f .handle))) (bytes-are f c l) ∙ found f l .handle;
       marker =
           λ f c l.
           ap (λ (b : List ℕ). byte b (65 + length (f .handle))) (bytes-are f c l)
           ∙ one-byte (block (registerToSign f)) (65 + length (f .handle)) 0x04 (found f l .marker);
-      x = λ f c l. ap (part (66 + length (f .handle)) 32) (bytes-are f c l) ∙ found f l .x;
-      y = λ f c l. ap (part (98 + length (f .handle)) 32) (bytes-are f c l) ∙ found f l .y;
+      x = λ f c l. ap (bytesAt (66 + length (f .handle)) 32) (bytes-are f c l) ∙ found f l .x;
+      y = λ f c l. ap (bytesAt (98 + length (f .handle)) 32) (bytes-are f c l) ∙ found f l .y;
       rest =
           λ f c l i from.
           ap (λ (b : List ℕ). byte b i) (bytes-are f c l)
@@ -129,14 +129,14 @@ MakesAuthenticate =
       counts = λ p l. ap toSign (fits p l);
       certificate = λ p l. ap certificateLength (fits p l);
       whole = λ p l. ap length (bytes-are p l) ∙ block-length (authenticateToSign (fieldsOf p));
-      application = λ p l. ap (part 0 32) (bytes-are p l) ∙ found-in (fieldsOf p) (lengths-of p l) .application;
+      application = λ p l. ap (bytesAt 0 32) (bytes-are p l) ∙ found-in (fieldsOf p) (lengths-of p l) .application;
       present = λ p l is. presence-at p l ∙ ap presenceByte is;
       absent = λ p l is. presence-at p l ∙ ap presenceByte is;
       counter-1 = λ p l. ap (λ (s : List ℕ). byte s 0) (counter-at p l);
       counter-2 = λ p l. ap (λ (s : List ℕ). byte s 1) (counter-at p l);
       counter-3 = λ p l. ap (λ (s : List ℕ). byte s 2) (counter-at p l);
       counter-4 = λ p l. ap (λ (s : List ℕ). byte s 3) (counter-at p l);
-      challenge = λ p l. ap (part 37 32) (bytes-are p l) ∙ found-in (fieldsOf p) (lengths-of p l) .challenge;
+      challenge = λ p l. ap (bytesAt 37 32) (bytes-are p l) ∙ found-in (fieldsOf p) (lengths-of p l) .challenge;
       rest =
           λ p l i from.
           ap (λ (b : List ℕ). byte b i) (bytes-are p l)
@@ -162,7 +162,7 @@ MakesAuthenticate =
     counter-at p l =
         let long : length (authenticateOrderFor p .bytes) ≡ 385 = ap length (bytes-are p l) ∙ block-length (authenticateToSign (fieldsOf p)) in
         sym (four-at (authenticateOrderFor p .bytes) 33 (omega arith))
-        ∙ ap (part 33 4) (bytes-are p l)
+        ∙ ap (bytesAt 33 4) (bytes-are p l)
         ∙ found-in (fieldsOf p) (lengths-of p l) .counter
 
 pub BytesToSign : Claims.BytesToSign registerOrderOf authenticateOrderOf
@@ -215,8 +215,8 @@ RegisterRoomExactly room h c = (leb-true (registerRoom h c) room, λ enough. le-
 pub AuthenticateRoomExactly : Claims.AuthenticateRoomExactly (λ room. leb authenticateRoom room)
 AuthenticateRoomExactly room = (leb-true authenticateRoom room, λ enough. le-leb authenticateRoom room enough)
 
-pub RoomAskedExactly : Claims.RoomAskedExactly roomAsked
-RoomAskedExactly o room a = asked-for o room a .1
+pub RoomNeededExactly : Claims.RoomNeededExactly roomNeeded
+RoomNeededExactly o room a = needed o room a .1
 
 -- ---- finishing
 gives-length : (x : Outcome (List ℕ)) (n : ℕ) → lengthOf x ≡ Gives n → (body : List ℕ) × (x ≡ Gives body) × (n ≡ length body)
@@ -229,7 +229,7 @@ BodyWithinRoom i room n a e =
     let given = gives-length (finishOf i) n e in
     let told = told-body (given .0) (way i) (given .1) in
     let within = body-within (i .order .kind) (i .order) (i .certificate) (i .signature) (told .0 .certificate) (told .0 .signature) in
-    omega (arith, within, ap length (told .1), given .2, asked-for (i .order) room a .1)
+    omega (arith, within, ap length (told .1), given .2, needed (i .order) room a .1)
 
 ended : (i : Finishing) (x : Outcome (List ℕ)) → finishOf i ≡ x → endOf i ≡ record { answer = lengthOf x; reply = replyOf x (i .reply) }
 ended i x e = ap (λ (y : Outcome (List ℕ)). record { answer = lengthOf y; reply = replyOf y (i .reply) }) e
@@ -247,18 +247,18 @@ pub FinishesExactly : Claims.FinishesExactly endOf
 FinishesExactly =
     record {
       r7 = λ i none. ended i (R 7) (comes-to-r7 i (not-of-layout (i .order) none));
-      r4 = λ i a other. ended i (R 4) (comes-to-r4 i (asked-for (i .order) (a .0) (a .1) .0) other);
+      r4 = λ i a other. ended i (R 4) (comes-to-r4 i (needed (i .order) (a .0) (a .1) .0) other);
       r2 =
           λ i room a its short.
-          let q = asked-for (i .order) room a in
+          let q = needed (i .order) room a in
           ended i (R 2) (comes-to-r2 i (q .0) its (omega (arith, q .1)));
       signer-failed =
           λ i room a its fits failed.
-          let q = asked-for (i .order) room a in
+          let q = needed (i .order) room a in
           ended i (SW 0x6f00) (comes-to-6f00 i (q .0) its (omega (arith, q .1)) failed);
       r3 =
           λ i room a its fits done long.
-          let q = asked-for (i .order) room a in
+          let q = needed (i .order) room a in
           ended i (R 3) (comes-to-r3 i (q .0) its (omega (arith, q .1)) done long);
       register-body = register-body;
       authenticate-body = authenticate-body;
@@ -272,16 +272,16 @@ FinishesExactly =
           answer = Gives (67 + h + length (i .certificate) + length (i .signature));
           reply =
               0x05 ∷ 0x04 ∷ []
-              ++ part (66 + h) 64 (i .order .bytes)
+              ++ bytesAt (66 + h) 64 (i .order .bytes)
               ++ h ∷ []
-              ++ part 65 h (i .order .bytes)
+              ++ bytesAt 65 h (i .order .bytes)
               ++ i .certificate
               ++ i .signature
               ++ drop (67 + h + length (i .certificate) + length (i .signature)) (i .reply);
         }
     register-body i h whole s its room done short =
-        let q = asked-for (i .order) _ (register h s) in
-        let fits : roomAsked (i .order) ≤ length (i .reply) = omega (arith, q .1, its) in
+        let q = needed (i .order) _ (register h s) in
+        let fits : roomNeeded (i .order) ≤ length (i .reply) = omega (arith, q .1, its) in
         let b : List ℕ = i .order .bytes in
         let body : List ℕ = registerBody (registerFieldsOf (130 + h) b) (i .certificate) (i .signature) in
         let its-body : bodyOf (i .order .kind) (i .order) (i .certificate) (i .signature) ≡ body =
@@ -298,11 +298,11 @@ FinishesExactly =
         → endOf i
         ≡ record {
           answer = Gives (5 + length (i .signature));
-          reply = part 32 5 (i .order .bytes) ++ i .signature ++ drop (5 + length (i .signature)) (i .reply);
+          reply = bytesAt 32 5 (i .order .bytes) ++ i .signature ++ drop (5 + length (i .signature)) (i .reply);
         }
     authenticate-body i whole s none room done short =
-        let q = asked-for (i .order) 77 (authenticate s) in
-        let fits : roomAsked (i .order) ≤ length (i .reply) = omega (arith, q .1) in
+        let q = needed (i .order) 77 (authenticate s) in
+        let fits : roomNeeded (i .order) ≤ length (i .reply) = omega (arith, q .1) in
         let its : length (i .certificate) ≡ certificateLength (i .order) = none ∙ sym (s .no-certificate) in
         let b : List ℕ = i .order .bytes in
         let body : List ℕ = authenticateBody (authenticateFieldsOf b) (i .signature) in
@@ -323,10 +323,10 @@ BlankRefused = (
 -- a made order, with the certificate and the room that it was made for, passes the first three checks
 register-ready : (i : Finishing) (f : RegisterFields) → isRegisterFit f ≡ true → i .order ≡ registerOrderOf f (length (i .certificate))
     → registerRoom (length (f .handle)) (length (i .certificate)) ≤ length (i .reply)
-    → (isOfLayout (i .order) ≡ true) × (length (i .certificate) ≡ certificateLength (i .order)) × (roomAsked (i .order) ≤ length (i .reply))
+    → (isOfLayout (i .order) ≡ true) × (length (i .certificate) ≡ certificateLength (i .order)) × (roomNeeded (i .order) ≤ length (i .reply))
 register-ready i f fit e room =
     let c : ℕ = length (i .certificate) in
-    let asked = ap roomAsked e ∙ Laws.room-of-made .0 f c fit in (
+    let asked = ap roomNeeded e ∙ Laws.room-of-made .0 f c fit in (
       ap isOfLayout e ∙ Laws.made-of-layout .0 f c fit,
       sym (ap certificateLength (e ∙ register-order-fit f c (register-lengths f fit))),
       rw asked room,
@@ -334,9 +334,9 @@ register-ready i f fit e room =
 
 authenticate-ready : (i : Finishing) (f : AuthenticateFields) → isAuthenticateFit f ≡ true → i .order ≡ authenticateOrderOf f
     → length (i .certificate) ≡ 0 → authenticateRoom ≤ length (i .reply)
-    → (isOfLayout (i .order) ≡ true) × (length (i .certificate) ≡ certificateLength (i .order)) × (roomAsked (i .order) ≤ length (i .reply))
+    → (isOfLayout (i .order) ≡ true) × (length (i .certificate) ≡ certificateLength (i .order)) × (roomNeeded (i .order) ≤ length (i .reply))
 authenticate-ready i f fit e none room =
-    let asked = ap roomAsked e ∙ Laws.room-of-made .1 f fit in (
+    let asked = ap roomNeeded e ∙ Laws.room-of-made .1 f fit in (
       ap isOfLayout e ∙ Laws.made-of-layout .1 f fit,
       none ∙ sym (ap certificateLength (e ∙ authenticate-order-fit f (authenticate-lengths f fit))),
       rw asked room,

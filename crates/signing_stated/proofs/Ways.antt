@@ -11,7 +11,7 @@ use lib.ListN.{length, drop, length-append}
 use Rattle.outcome.specs.Outcome.{Outcome, R, SW, Gives}
 use Rattle.octets.proofs.Laws.{length-take-most}
 use Rattle.signing_stated.specs.Orders.{headOf, Order, Kind, Register, Authenticate, toSign, certificateLength, isOfLayout}
-use Rattle.signing_stated.specs.Finishing.{Finishing, finishOf, roomOf, roomAsked, bodyOf}
+use Rattle.signing_stated.specs.Finishing.{Finishing, finishOf, roomOf, roomNeeded, bodyOf}
 
 module _ (i : Finishing) where
   pub comes-to-r7 : isOfLayout (i .order) ≡ false → finishOf i ≡ R 7
@@ -24,34 +24,34 @@ module _ (i : Finishing) where
     comes-to-r4 other = rw (ok, ne-eqb (length (i .certificate)) (certificateLength (i .order)) other)
 
     module _ (its : length (i .certificate) ≡ certificateLength (i .order)) where
-      pub comes-to-r2 : length (i .reply) < roomAsked (i .order) → finishOf i ≡ R 2
+      pub comes-to-r2 : length (i .reply) < roomNeeded (i .order) → finishOf i ≡ R 2
       unfolding finishOf
       comes-to-r2 short =
-          rw (ok, eq-eqb (length (i .certificate)) (certificateLength (i .order)) its, lt-ltb (length (i .reply)) (roomAsked (i .order)) short)
+          rw (ok, eq-eqb (length (i .certificate)) (certificateLength (i .order)) its, lt-ltb (length (i .reply)) (roomNeeded (i .order)) short)
 
-      module _ (room : roomAsked (i .order) ≤ length (i .reply)) where
+      module _ (room : roomNeeded (i .order) ≤ length (i .reply)) where
         pub comes-to-6f00 : i .signed ≡ false → finishOf i ≡ SW 0x6f00
         unfolding finishOf
         comes-to-6f00 failed =
-            rw (ok, eq-eqb (length (i .certificate)) (certificateLength (i .order)) its, le-ltb (length (i .reply)) (roomAsked (i .order)) room, failed)
+            rw (ok, eq-eqb (length (i .certificate)) (certificateLength (i .order)) its, le-ltb (length (i .reply)) (roomNeeded (i .order)) room, failed)
 
         module _ (done : i .signed ≡ true) where
           pub comes-to-r3 : 72 < length (i .signature) → finishOf i ≡ R 3
           unfolding finishOf
           comes-to-r3 long =
-              rw (ok, eq-eqb (length (i .certificate)) (certificateLength (i .order)) its, le-ltb (length (i .reply)) (roomAsked (i .order)) room, done, lt-ltb 72 (length (i .signature)) long)
+              rw (ok, eq-eqb (length (i .certificate)) (certificateLength (i .order)) its, le-ltb (length (i .reply)) (roomNeeded (i .order)) room, done, lt-ltb 72 (length (i .signature)) long)
 
           pub comes-to-body : length (i .signature) ≤ 72
               → finishOf i ≡ Gives (bodyOf (i .order .kind) (i .order) (i .certificate) (i .signature))
           unfolding finishOf
           comes-to-body short =
-              rw (ok, eq-eqb (length (i .certificate)) (certificateLength (i .order)) its, le-ltb (length (i .reply)) (roomAsked (i .order)) room, done, le-ltb 72 (length (i .signature)) short)
+              rw (ok, eq-eqb (length (i .certificate)) (certificateLength (i .order)) its, le-ltb (length (i .reply)) (roomNeeded (i .order)) room, done, le-ltb 72 (length (i .signature)) short)
 
 -- every check passed
-pub record Passed (i : Finishing) : Type 0 where
+pub record ChecksPassed (i : Finishing) : Type 0 where
   pub layout : isOfLayout (i .order) ≡ true
   pub certificate : length (i .certificate) ≡ certificateLength (i .order)
-  pub room : roomAsked (i .order) ≤ length (i .reply)
+  pub room : roomNeeded (i .order) ≤ length (i .reply)
   pub signer : i .signed ≡ true
   pub signature : length (i .signature) ≤ 72
 
@@ -59,18 +59,18 @@ pub data Way (i : Finishing) : Outcome (List ℕ) → Type 0 where
   no-layout : isOfLayout (i .order) ≡ false → Way i (R 7)
   no-certificate : isOfLayout (i .order) ≡ true → (length (i .certificate) ≡ certificateLength (i .order) → ⊥) → Way i (R 4)
   no-room : isOfLayout (i .order) ≡ true → length (i .certificate) ≡ certificateLength (i .order)
-      → length (i .reply) < roomAsked (i .order) → Way i (R 2)
+      → length (i .reply) < roomNeeded (i .order) → Way i (R 2)
   no-signature : isOfLayout (i .order) ≡ true → length (i .certificate) ≡ certificateLength (i .order)
-      → roomAsked (i .order) ≤ length (i .reply) → i .signed ≡ false → Way i (SW 0x6f00)
+      → roomNeeded (i .order) ≤ length (i .reply) → i .signed ≡ false → Way i (SW 0x6f00)
   long-signature : isOfLayout (i .order) ≡ true → length (i .certificate) ≡ certificateLength (i .order)
-      → roomAsked (i .order) ≤ length (i .reply) → i .signed ≡ true → 72 < length (i .signature) → Way i (R 3)
-  passed : Passed i → Way i (Gives (bodyOf (i .order .kind) (i .order) (i .certificate) (i .signature)))
+      → roomNeeded (i .order) ≤ length (i .reply) → i .signed ≡ true → 72 < length (i .signature) → Way i (R 3)
+  passed : ChecksPassed i → Way i (Gives (bodyOf (i .order .kind) (i .order) (i .certificate) (i .signature)))
 
 pub way : (i : Finishing) → Way i (finishOf i)
 way i = by-layout (isOfLayout (i .order)) refl
   where
     by-signature : (ok : isOfLayout (i .order) ≡ true) (its : length (i .certificate) ≡ certificateLength (i .order))
-        (room : roomAsked (i .order) ≤ length (i .reply)) (done : i .signed ≡ true)
+        (room : roomNeeded (i .order) ≤ length (i .reply)) (done : i .signed ≡ true)
         (t : Bool) → ltb 72 (length (i .signature)) ≡ t → Way i (finishOf i)
     by-signature ok its room done true e = rw (comes-to-r3 i ok its room done (ltb-true 72 (length (i .signature)) e)) (long-signature ok its room done (ltb-true 72 (length (i .signature)) e))
     by-signature ok its room done false e =
@@ -78,18 +78,18 @@ way i = by-layout (isOfLayout (i .order)) refl
         (passed (record { layout = ok; certificate = its; room = room; signer = done; signature = ltb-false 72 (length (i .signature)) e }))
 
     by-signer : (ok : isOfLayout (i .order) ≡ true) (its : length (i .certificate) ≡ certificateLength (i .order))
-        (room : roomAsked (i .order) ≤ length (i .reply)) (t : Bool) → i .signed ≡ t → Way i (finishOf i)
+        (room : roomNeeded (i .order) ≤ length (i .reply)) (t : Bool) → i .signed ≡ t → Way i (finishOf i)
     by-signer ok its room true e = by-signature ok its room e (ltb 72 (length (i .signature))) refl
     by-signer ok its room false e = rw (comes-to-6f00 i ok its room e) (no-signature ok its room e)
 
     by-room : (ok : isOfLayout (i .order) ≡ true) (its : length (i .certificate) ≡ certificateLength (i .order))
-        (t : Bool) → ltb (length (i .reply)) (roomAsked (i .order)) ≡ t → Way i (finishOf i)
+        (t : Bool) → ltb (length (i .reply)) (roomNeeded (i .order)) ≡ t → Way i (finishOf i)
     by-room ok its true e = rw (comes-to-r2 i ok its (ltb-true _ _ e)) (no-room ok its (ltb-true _ _ e))
     by-room ok its false e = by-signer ok its (ltb-false _ _ e) (i .signed) refl
 
     by-certificate : (ok : isOfLayout (i .order) ≡ true) (t : Bool)
         → eqb (length (i .certificate)) (certificateLength (i .order)) ≡ t → Way i (finishOf i)
-    by-certificate ok true e = by-room ok (eqb-true _ _ e) (ltb (length (i .reply)) (roomAsked (i .order))) refl
+    by-certificate ok true e = by-room ok (eqb-true _ _ e) (ltb (length (i .reply)) (roomNeeded (i .order))) refl
     by-certificate ok false e = rw (comes-to-r4 i ok (eqb-false _ _ e)) (no-certificate ok (eqb-false _ _ e))
 
     by-layout : (t : Bool) → isOfLayout (i .order) ≡ t → Way i (finishOf i)
@@ -98,7 +98,7 @@ way i = by-layout (isOfLayout (i .order)) refl
 
 module _ {i : Finishing} where
   pub told-body : {x : Outcome (List ℕ)} (body : List ℕ) → Way i x → x ≡ Gives body
-      → Passed i × (body ≡ bodyOf (i .order .kind) (i .order) (i .certificate) (i .signature))
+      → ChecksPassed i × (body ≡ bodyOf (i .order .kind) (i .order) (i .certificate) (i .signature))
   told-body body (no-layout bad) e = let z : _≡_ {A = ℕ} 0 1 = cc in absurd (omega arith)
   told-body body (no-certificate _ other) e = let z : _≡_ {A = ℕ} 0 1 = cc in absurd (omega arith)
   told-body body (no-room _ _ short) e = let z : _≡_ {A = ℕ} 0 1 = cc in absurd (omega arith)
@@ -108,7 +108,7 @@ module _ {i : Finishing} where
 
   -- past layout, certificate and room, the one refusal left is R3
   pub told-r3 : {x : Outcome (List ℕ)} (n : ℕ) → Way i x → x ≡ R n → isOfLayout (i .order) ≡ true
-      → length (i .certificate) ≡ certificateLength (i .order) → roomAsked (i .order) ≤ length (i .reply) → n ≡ 3
+      → length (i .certificate) ≡ certificateLength (i .order) → roomNeeded (i .order) ≤ length (i .reply) → n ≡ 3
   told-r3 n (no-layout bad) e ok its room =
       let z : _≡_ {A = Bool} true false = sym ok ∙ bad in let y : _≡_ {A = ℕ} 0 1 = cc in absurd (omega arith)
   told-r3 n (no-certificate _ other) e ok its room = absurd (other its)

@@ -14,7 +14,7 @@ use Rattle.signing_stated.specs.Layouts.{RegisterFields, AuthenticateFie
 use Rattle.signing_stated.specs.Orders.{Kind, Register, Authenticate, Head, Order, AuthenticateParts, toSign, certificateLength, registerOrderOf, authenticateOrderOf}
 use Rattle.signing_stated.specs.Finishing.{Finishing, Finished, Ended}
 use Rattle.signing_stated.specs.Contracts.{KindNumber, Blank, RegisterOrder, AuthenticateOrder, HasLayout, HasRegisterRoom, HasAuthenticateRoom, Finish}
-use Rattle.signing_stated.specs.Terms.{part, RegisterLengths, PartsLengths, IsWhole, IsBlank, IsRegisterOrder, IsAuthenticateOrder, HoldsJust, RegisterShaped, AuthenticateShaped, AsksFor, OfLayout, keeping}
+use Rattle.signing_stated.specs.Terms.{bytesAt, RegisterLengths, PartsLengths, IsWhole, IsBlank, IsRegisterOrder, IsAuthenticateOrder, HoldsJust, RegisterShaped, AuthenticateShaped, NeedsRoom, OfLayout, keeping}
 
 -- ---- numbers and results
 
@@ -61,12 +61,12 @@ pub record MakesRegister (make : RegisterFields → ℕ → Order) : Type 0 wher
   pub certificate : (f : RegisterFields) (c : ℕ) → RegisterLengths f → certificateLength (make f c) ≡ c
   pub whole : (f : RegisterFields) (c : ℕ) → RegisterLengths f → length (make f c .bytes) ≡ 385
   pub first : (f : RegisterFields) (c : ℕ) → RegisterLengths f → byte (make f c .bytes) 0 ≡ 0x00
-  pub application : (f : RegisterFields) (c : ℕ) → RegisterLengths f → part 1 32 (make f c .bytes) ≡ f .application
-  pub challenge : (f : RegisterFields) (c : ℕ) → RegisterLengths f → part 33 32 (make f c .bytes) ≡ f .challenge
-  pub handle : (f : RegisterFields) (c : ℕ) → RegisterLengths f → part 65 (length (f .handle)) (make f c .bytes) ≡ f .handle
+  pub application : (f : RegisterFields) (c : ℕ) → RegisterLengths f → bytesAt 1 32 (make f c .bytes) ≡ f .application
+  pub challenge : (f : RegisterFields) (c : ℕ) → RegisterLengths f → bytesAt 33 32 (make f c .bytes) ≡ f .challenge
+  pub handle : (f : RegisterFields) (c : ℕ) → RegisterLengths f → bytesAt 65 (length (f .handle)) (make f c .bytes) ≡ f .handle
   pub marker : (f : RegisterFields) (c : ℕ) → RegisterLengths f → byte (make f c .bytes) (65 + length (f .handle)) ≡ 0x04
-  pub x : (f : RegisterFields) (c : ℕ) → RegisterLengths f → part (66 + length (f .handle)) 32 (make f c .bytes) ≡ f .x
-  pub y : (f : RegisterFields) (c : ℕ) → RegisterLengths f → part (98 + length (f .handle)) 32 (make f c .bytes) ≡ f .y
+  pub x : (f : RegisterFields) (c : ℕ) → RegisterLengths f → bytesAt (66 + length (f .handle)) 32 (make f c .bytes) ≡ f .x
+  pub y : (f : RegisterFields) (c : ℕ) → RegisterLengths f → bytesAt (98 + length (f .handle)) 32 (make f c .bytes) ≡ f .y
   pub rest : (f : RegisterFields) (c : ℕ) → RegisterLengths f
       → (i : ℕ) → 130 + length (f .handle) ≤ i → byte (make f c .bytes) i ≡ 0x00
   -- ours: DECISIONS, blank order: fields of other lengths make none
@@ -81,14 +81,14 @@ pub record MakesAuthenticate (make : AuthenticateParts → Order) : Type 0 where
   pub counts : (p : AuthenticateParts) → PartsLengths p → toSign (make p) ≡ 69
   pub certificate : (p : AuthenticateParts) → PartsLengths p → certificateLength (make p) ≡ 0
   pub whole : (p : AuthenticateParts) → PartsLengths p → length (make p .bytes) ≡ 385
-  pub application : (p : AuthenticateParts) → PartsLengths p → part 0 32 (make p .bytes) ≡ p .application
+  pub application : (p : AuthenticateParts) → PartsLengths p → bytesAt 0 32 (make p .bytes) ≡ p .application
   pub present : (p : AuthenticateParts) → PartsLengths p → p .present ≡ true → byte (make p .bytes) 32 ≡ 0x01
   pub absent : (p : AuthenticateParts) → PartsLengths p → p .present ≡ false → byte (make p .bytes) 32 ≡ 0x00
   pub counter-1 : (p : AuthenticateParts) → PartsLengths p → byte (make p .bytes) 33 ≡ p .counter / 16777216
   pub counter-2 : (p : AuthenticateParts) → PartsLengths p → byte (make p .bytes) 34 ≡ p .counter / 65536 % 256
   pub counter-3 : (p : AuthenticateParts) → PartsLengths p → byte (make p .bytes) 35 ≡ p .counter / 256 % 256
   pub counter-4 : (p : AuthenticateParts) → PartsLengths p → byte (make p .bytes) 36 ≡ p .counter % 256
-  pub challenge : (p : AuthenticateParts) → PartsLengths p → part 37 32 (make p .bytes) ≡ p .challenge
+  pub challenge : (p : AuthenticateParts) → PartsLengths p → bytesAt 37 32 (make p .bytes) ≡ p .challenge
   pub rest : (p : AuthenticateParts) → PartsLengths p → (i : ℕ) → 69 ≤ i → byte (make p .bytes) i ≡ 0x00
   pub unfit : (p : AuthenticateParts) → (PartsLengths p → ⊥) → IsBlank (make p)
 
@@ -124,12 +124,12 @@ AuthenticateRoomExactly has = (room : ℕ) → (has room ≡ true) ↔ (77 ≤ r
 
 -- The room that an order of its layout asks for. A made order's handle is read off its length: one that takes the length
 -- itself for h (`lengthForHandle`) fails it.
-abbrev pub RoomAskedExactly : (Order → ℕ) → Type 0
-RoomAskedExactly asked = (o : Order) (room : ℕ) → AsksFor o room → asked o ≡ room
+abbrev pub RoomNeededExactly : (Order → ℕ) → Type 0
+RoomNeededExactly asked = (o : Order) (room : ℕ) → NeedsRoom o room → asked o ≡ room
 
 -- 01: "A body never exceeds the room asked for". A finisher that takes a signature of 73 bytes (`overlongBody`) fails it.
 abbrev pub BodyWithinRoom : (Finishing → Ended) → Type 0
-BodyWithinRoom finish = (i : Finishing) (room n : ℕ) → AsksFor (i .order) room → finish i .answer ≡ Gives n → n ≤ room
+BodyWithinRoom finish = (i : Finishing) (room n : ℕ) → NeedsRoom (i .order) room → finish i .answer ≡ Gives n → n ≤ room
 
 -- ---- finishing
 
@@ -144,12 +144,12 @@ pub record FinishesExactly (finish : Finishing → Ended) : Type 0 where
   pub r7 : (i : Finishing) → (OfLayout (i .order) → ⊥) → finish i ≡ keeping (R 7) i
   pub r4 : (i : Finishing) → OfLayout (i .order)
       → (length (i .certificate) ≡ certificateLength (i .order) → ⊥) → finish i ≡ keeping (R 4) i
-  pub r2 : (i : Finishing) (room : ℕ) → AsksFor (i .order) room → length (i .certificate) ≡ certificateLength (i .order)
+  pub r2 : (i : Finishing) (room : ℕ) → NeedsRoom (i .order) room → length (i .certificate) ≡ certificateLength (i .order)
       → length (i .reply) < room → finish i ≡ keeping (R 2) i
-  pub signer-failed : (i : Finishing) (room : ℕ) → AsksFor (i .order) room
+  pub signer-failed : (i : Finishing) (room : ℕ) → NeedsRoom (i .order) room
       → length (i .certificate) ≡ certificateLength (i .order) → room ≤ length (i .reply)
       → i .signed ≡ false → finish i ≡ keeping (SW 0x6f00) i
-  pub r3 : (i : Finishing) (room : ℕ) → AsksFor (i .order) room → length (i .certificate) ≡ certificateLength (i .order)
+  pub r3 : (i : Finishing) (room : ℕ) → NeedsRoom (i .order) room → length (i .certificate) ≡ certificateLength (i .order)
       → room ≤ length (i .reply) → i .signed ≡ true → 72 < length (i .signature) → finish i ≡ keeping (R 3) i
   pub register-body : (i : Finishing) (h : ℕ) → IsWhole (i .order) → RegisterShaped h (i .order)
       → length (i .certificate) ≡ certificateLength (i .order)
@@ -159,9 +159,9 @@ pub record FinishesExactly (finish : Finishing → Ended) : Type 0 where
         answer = Gives (67 + h + length (i .certificate) + length (i .signature));
         reply =
             0x05 ∷ 0x04 ∷ []
-            ++ part (66 + h) 64 (i .order .bytes)  -- x and y
+            ++ bytesAt (66 + h) 64 (i .order .bytes)  -- x and y
             ++ h ∷ []
-            ++ part 65 h (i .order .bytes)  -- the handle
+            ++ bytesAt 65 h (i .order .bytes)  -- the handle
             ++ i .certificate
             ++ i .signature
             ++ drop (67 + h + length (i .certificate) + length (i .signature)) (i .reply);
@@ -172,7 +172,7 @@ pub record FinishesExactly (finish : Finishing → Ended) : Type 0 where
       ≡ record {
         answer = Gives (5 + length (i .signature));
         reply =
-            part 32 5 (i .order .bytes)  -- presence byte and counter
+            bytesAt 32 5 (i .order .bytes)  -- presence byte and counter
             ++ i .signature
             ++ drop (5 + length (i .signature)) (i .reply);
       }

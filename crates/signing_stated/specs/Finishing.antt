@@ -33,8 +33,8 @@ abbrev pub roomOf : Kind → Head → ℕ
 roomOf Register h = registerRoom (h .«to_sign» - 130) (h .«certificate_length»)
 roomOf Authenticate h = authenticateRoom
 
-abbrev pub roomAsked : Order → ℕ
-roomAsked o = roomOf (o .kind) (headOf o)
+abbrev pub roomNeeded : Order → ℕ
+roomNeeded o = roomOf (o .kind) (headOf o)
 
 -- what the layout tests have seen of the number of bytes to sign: in a Register order it counts the handle's from 130 on
 abbrev pub CountsHandle : Kind → (size : ℕ) → Type 0
@@ -51,7 +51,7 @@ finishOf i =
     let o = i .order in
     if not (isOfLayout o) then R 7
     else if not (eqb (length (i .certificate)) (certificateLength o)) then R 4
-    else if ltb (length (i .reply)) (roomAsked o) then R 2
+    else if ltb (length (i .reply)) (roomNeeded o) then R 2
     else if not (i .signed) then SW 0x6f00
     else if ltb 72 (length (i .signature)) then R 3
     else Gives (bodyOf (o .kind) o (i .certificate) (i .signature))

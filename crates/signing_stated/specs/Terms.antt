@@ -12,9 +12,9 @@ use Rattle.signing_stated.specs.Layouts.{RegisterFields, AuthenticateFie
 use Rattle.signing_stated.specs.Orders.{Register, Authenticate, Order, AuthenticateParts, toSign, certificateLength, registerOrderOf, authenticateOrderOf}
 use Rattle.signing_stated.specs.Finishing.{Finishing, Ended}
 
--- `part from count s`: count bytes of s, the first at place from
-abbrev pub part : (from count : ℕ) → List ℕ → List ℕ
-part from count s = take count (drop from s)
+-- `bytesAt from count s`: count bytes of s, the first at place from
+abbrev pub bytesAt : (from count : ℕ) → List ℕ → List ℕ
+bytesAt from count s = take count (drop from s)
 
 -- ---- fields that fit their layout
 pub record RegisterLengths (f : RegisterFields) : Type 0 where
@@ -75,12 +75,12 @@ pub record AuthenticateShaped (o : Order) : Type 0 where
   pub no-certificate : certificateLength o ≡ 0
 
 -- an order of one of the layouts, and the room that it asks for. 01: "R2 (139 + h + c, or 77)"
-pub data AsksFor (o : Order) : ℕ → Type 0 where
-  register : (h : ℕ) → RegisterShaped h o → AsksFor o (139 + h + certificateLength o)
-  authenticate : AuthenticateShaped o → AsksFor o 77
+pub data NeedsRoom (o : Order) : ℕ → Type 0 where
+  register : (h : ℕ) → RegisterShaped h o → NeedsRoom o (139 + h + certificateLength o)
+  authenticate : AuthenticateShaped o → NeedsRoom o 77
 
 abbrev pub OfLayout : Order → Type 0
-OfLayout o = (room : ℕ) × AsksFor o room
+OfLayout o = (room : ℕ) × NeedsRoom o room
 
 -- ---- finishing
 -- this answer, and the reply buffer as it was

@@ -11,7 +11,7 @@ use Rattle.outcome.specs.declared.Refusal.the-variants.{R1, R2, R3, R4, R5, R6,
 use Rattle.octets.specs.Bytes.{byte, laid}
 use Rattle.signing_stated.specs.Layouts.{RegisterFields, registerToSign, registerBody, presenceByte}
 use Rattle.signing_stated.specs.Orders.{Kind, Register, Authenticate, Order, AuthenticateParts, kindNo, toSign, certificateLength, block, registerOrderOf, authenticateOrderOf, authenticateOrderFor, isOfLayout, registerFieldsOf}
-use Rattle.signing_stated.specs.Finishing.{Finishing, Finished, Refused, Status, Body, Ended, endOf, finishOf, registerRoom, roomAsked, bodyOf}
+use Rattle.signing_stated.specs.Finishing.{Finishing, Finished, Refused, Status, Body, Ended, endOf, finishOf, registerRoom, roomNeeded, bodyOf}
 use Rattle.signing_stated.specs.Terms.{keeping}
 
 -- ---- numbers
@@ -161,7 +161,7 @@ abbrev isReady : Finishing → Bool
 isReady i =
     isOfLayout (i .order)
     && eqb (length (i .certificate)) (certificateLength (i .order))
-    && leb (roomAsked (i .order)) (length (i .reply))
+    && leb (roomNeeded (i .order)) (length (i .reply))
 
 -- "Checks: R7, R4, R2 (..), signer failed 6f00, R3": R4 before R7
 abbrev pub certificateBeforeLayout : Finishing → Ended
@@ -170,7 +170,7 @@ certificateBeforeLayout i = if not (eqb (length (i .certificate)) (certificateLe
 -- R2 before R4
 abbrev pub roomBeforeCertificate : Finishing → Ended
 roomBeforeCertificate i =
-    if isOfLayout (i .order) && ltb (length (i .reply)) (roomAsked (i .order)) then keeping (R 2) i else endOf i
+    if isOfLayout (i .order) && ltb (length (i .reply)) (roomNeeded (i .order)) then keeping (R 2) i else endOf i
 
 -- 6f00 before R2
 abbrev pub signerBeforeRoom : Finishing → Ended
@@ -212,7 +212,7 @@ firstByteOfBoth i = if eqb (byte (i .order .bytes) 0) 0x00 then endOf i else kee
 -- "R2 (139 + h + c, or 77)": one byte more is wanted, of either kind
 abbrev pub wantsRoom140 : Finishing → Ended
 wantsRoom140 i =
-    if isOfLayout (i .order) && eqb (length (i .certificate)) (certificateLength (i .order)) && leb (length (i .reply)) (roomAsked (i .order)) then keeping (R 2) i
+    if isOfLayout (i .order) && eqb (length (i .certificate)) (certificateLength (i .order)) && leb (length (i .reply)) (roomNeeded (i .order)) then keeping (R 2) i
     else endOf i
 
 -- R3, "signature longer than 72": at 72 already
@@ -251,7 +251,7 @@ inventedFor (Word s) m = Word s
 inventedFor (Gives n) m = Gives m
 
 abbrev pub lengthInvented : Finishing → Ended
-lengthInvented i = record { answer = inventedFor (endOf i .answer) (roomAsked (i .order)); reply = endOf i .reply }
+lengthInvented i = record { answer = inventedFor (endOf i .answer) (roomNeeded (i .order)); reply = endOf i .reply }
 
 -- "An R refusal changes no buffer": the buffer is cleared
 abbrev pub clearsReply : Finishing → Ended
@@ -273,4 +273,4 @@ leavesCounterOut i =
 
 -- "R2 found after the touch is spent or the counter taken": one byte more is wanted
 abbrev pub asksAgain : Finishing → Outcome (List ℕ)
-asksAgain i = if isReady i && leb (length (i .reply)) (roomAsked (i .order)) then R 2 else finishOf i
+asksAgain i = if isReady i && leb (length (i .reply)) (roomNeeded (i .order)) then R 2 else finishOf i

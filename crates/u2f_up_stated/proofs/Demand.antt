@@ -12,7 +12,7 @@ use Rattle.outcome.specs.Notation.{if_then_else_}
 use Rattle.outcome.specs.Outcome.{Outcome, R, Gives}
 use Rattle.u2f_up_stated.specs.Words.{Presence, Opened}
 use Rattle.u2f_up_stated.specs.Moments.{Told, isLive, isR6, isBadSide, isR1, movedTo, grantedOf, checkedOf}
-use Rattle.u2f_up_stated.specs.History.{Role, Touching, Checking, Asking, Settling, Short, RefusedBy, TouchAccepted, TouchIgnored, TouchFound, NoTouchFound, PromptStands, NoPromptStands, Event, Mark, touchMark, sideOf, those, isYoung, isFound, isAny, heldAt, heldFor, lastMoment, latestPrompt, unspent, askerOf, isPromptStanding, unrefused, foretold, serverOf}
+use Rattle.u2f_up_stated.specs.History.{Role, Touching, Checking, Asking, Settling, TooShort, RefusedBy, TouchAccepted, TouchIgnored, TouchFound, NoTouchFound, PromptStands, NoPromptStands, Event, Mark, touchMark, sideOf, those, isYoung, isFound, isAny, heldAt, heldFor, lastMoment, latestPrompt, unspent, askerOf, isPromptStanding, unrefused, foretold, serverOf}
 use Rattle.u2f_up_stated.specs.Runs.{Caller, Keeps, after, comesTo, cameOf, history, doneBy}
 use Rattle.u2f_up_stated.proofs.Roles.{settledAs, done-refused, done-touching, done-checking, done-asking, done-settling, done-short}
 use Rattle.u2f_up_stated.proofs.Lists.{stay-old}
@@ -36,7 +36,7 @@ module _ (w : ℕ) (h : List Event) (t : ℕ) (within : isR6 w ≡ false) (i : I
   gives (Checking s) = Gives (isLive (heldOf h) w t && eqb (askerOf w h) s)
   gives Asking = Gives (isLive (promptOf w h) 10000 t)
   gives (Settling s) = Gives true
-  gives (Short s) = R 2
+  gives (TooShort s) = R 2
 
   yes-granted : (b : Bool) → isLive (promptOf w h) 10000 t ≡ b → grantedOf (movedTo p t) t .yes ≡ isLive (promptOf w h) 10000 t
   unfolding grantedOf
@@ -56,7 +56,7 @@ module _ (w : ℕ) (h : List Event) (t : ℕ) (within : isR6 w ≡ false) (i : I
       ap outcome (done-checking p t (movedTo p t) s (settles w h t within (i .real) s n e)) ∙ ap {B = Outcome Bool} Gives (yes-checked s (isLive (heldOf h) w t) (eqb (askerOf w h) s) refl refl)
   outcome-given e Asking n = ap outcome (done-asking p t (movedTo p t) (settles w h t within (i .real) (askerOf w h) (i .real) e))
   outcome-given e (Settling s) n = ap outcome (done-settling p t (movedTo p t) s (settles w h t within (i .real) s n e))
-  outcome-given e (Short s) n = ap outcome (done-short p t (movedTo p t) s (settles w h t within (i .real) s n e))
+  outcome-given e (TooShort s) n = ap outcome (done-short p t (movedTo p t) s (settles w h t within (i .real) s n e))
 
   -- a side finds a touch exactly when one is live and it asked
   any-found : (s : ℕ) → lastMoment h ≤ t → isLive (heldOf h) w t && eqb (askerOf w h) s ≡ isAny (heldFor w h s t)
@@ -74,7 +74,7 @@ module _ (w : ℕ) (h : List Event) (t : ℕ) (within : isR6 w ≡ false) (i : I
   gives-foretold late (Checking s) = ap (λ (b : Bool). if b then TouchFound else NoTouchFound) (any-found s late)
   gives-foretold late Asking = ap (λ (b : Bool). if b then PromptStands else NoPromptStands) (g .agrees t)
   gives-foretold late (Settling s) = refl
-  gives-foretold late (Short s) = refl
+  gives-foretold late (TooShort s) = refl
 
   pub outcome-foretold : (k : Role) → cameOf k (doneBy k p t .outcome) ≡ foretold w h (record { role = k; moment = t })
   unfolding foretold

@@ -11,7 +11,7 @@ use lib.ListN.{length}
 use borrow.Author.Tests.{ltb-true, leb-true, lt-ltb}
 use Rattle.outcome.specs.Notation.{if_then_else_}
 use Rattle.u2f_up_stated.specs.Moments.{isBadSide, isR1}
-use Rattle.u2f_up_stated.specs.History.{Role, Touching, Checking, Asking, Settling, Short, Came, RefusedBy, TouchAccepted, TouchIgnored, TouchFound, NoTouchFound, PromptStands, NoPromptStands, Event, Mark, sideOf, isAny, heldFor, lastMoment, isPromptStanding, latestPrompt, latestTouch, isAfter, isStandingBy, unrefused, foretold}
+use Rattle.u2f_up_stated.specs.History.{Role, Touching, Checking, Asking, Settling, TooShort, Came, RefusedBy, TouchAccepted, TouchIgnored, TouchFound, NoTouchFound, PromptStands, NoPromptStands, Event, Mark, sideOf, isAny, heldFor, lastMoment, isPromptStanding, latestPrompt, latestTouch, isAfter, isStandingBy, unrefused, foretold}
 use Rattle.u2f_up_stated.specs.Terms.{RefusedAt, NamesBadSide}
 use Rattle.u2f_up_stated.proofs.Cases.{r1-beyond}
 
@@ -94,7 +94,7 @@ module _ (w : ℕ) (h : List Event) (t : ℕ) (k : Role) where
   unrefused-no-r n d (Checking s) e = no-refusal TouchFound NoTouchFound found-refusal not-found-refusal not-found-found n (isAny (heldFor w h s t)) e
   unrefused-no-r n d Asking e = no-refusal PromptStands NoPromptStands stands-refusal stands-not-refusal stands-not-stands n (isPromptStanding w h t) e
   unrefused-no-r n d (Settling s) e = let z : _≡_ {A = ℕ} 0 1 = cc in omega arith
-  unrefused-no-r n d (Short s) e = d (cc)
+  unrefused-no-r n d (TooShort s) e = d (cc)
 
   -- what is foretold of a call: R8, R1, or what comes once both have passed
   data Way : Came → Type 0 where
@@ -229,4 +229,4 @@ module _ (w : ℕ) (h : List Event) (t : ℕ) (o : Came) where
       two true e = let z : _≡_ {A = ℕ} 0 1 = cc in omega arith
       two false e = let z : _≡_ {A = ℕ} 0 1 = cc in omega arith
   checks (Settling s) f q = absurd (other (Settling s) f (λ e. let z : _≡_ {A = ℕ} 0 1 = cc in omega arith) q)
-  checks (Short s) f q = absurd (other (Short s) f (found-refusal 2) q)
+  checks (TooShort s) f q = absurd (other (TooShort s) f (found-refusal 2) q)

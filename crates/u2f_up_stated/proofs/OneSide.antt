@@ -11,7 +11,7 @@ use Rattle.outcome.specs.Outcome.{StatusWord, Outcome, R, Word, Gives}
 use Rattle.outcome.proofs.Laws.{r-word, r-gives, word-gives}
 use Rattle.u2f_up_stated.specs.Words.{Presence, Closed}
 use Rattle.u2f_up_stated.specs.Moments.{Told, isLive, isR6, isR8, isR1, movedTo, settleOf, grantedOf, checkedOf, gave, refused}
-use Rattle.u2f_up_stated.specs.History.{Role, Touching, Checking, Asking, Settling, Short}
+use Rattle.u2f_up_stated.specs.History.{Role, Touching, Checking, Asking, Settling, TooShort}
 use Rattle.u2f_up_stated.specs.Runs.{Caller, Keeps, after, next, doneBy}
 use Rattle.u2f_up_stated.specs.OneSide.{baseSettleOf, baseCheckedOf, baseBy, KeepsToBase, sideless, NamesOnly, OnlySide}
 use Rattle.u2f_up_stated.specs.Claims.{OneSideIsBase}
@@ -30,7 +30,7 @@ module _ (p : Presence) (t : ℕ) where
   base-refused n e (Checking s) = rw e
   base-refused n e Asking = rw e
   base-refused n e (Settling s) = rw e
-  base-refused n e (Short s) = rw e
+  base-refused n e (TooShort s) = rw e
 
   base-r6 : isR6 (p .w) ≡ true → baseSettleOf p t ≡ R 6
   unfolding baseSettleOf
@@ -72,7 +72,7 @@ module _ (s : ℕ) (one : s ≤ 1) (p : Presence) (mine : Mine s p) (t : ℕ) wh
   named (Checking r) n = omega (arith, n)
   named Asking n = asker-small
   named (Settling r) n = omega (arith, n)
-  named (Short r) n = omega (arith, n)
+  named (TooShort r) n = omega (arith, n)
 
   no-r8 : (r : ℕ) → r ≤ 1 → isR8 r (p .asker) ≡ false
   no-r8 r m = rw (le-ltb 1 r m, le-ltb 1 (p .asker) asker-small)
@@ -122,7 +122,7 @@ module _ (s : ℕ) (one : s ≤ 1) (p : Presence) (mine : Mine s p) (t : ℕ) wh
   does e own-e f (Checking r) n = rw (n, done-checking p t (movedTo p t) s e, f) (checks (isLive (p .touch) (p .w) t) refl)
   does e own-e f Asking n = rw (done-asking p t (movedTo p t) own-e, f) (record { outcome = refl; presence = refl; still-mine = mine })
   does e own-e f (Settling r) n = rw (n, done-settling p t (movedTo p t) s e, f) (record { outcome = refl; presence = refl; still-mine = mine })
-  does e own-e f (Short r) n = rw (n, done-short p t (movedTo p t) s e, f) (refuses 2)
+  does e own-e f (TooShort r) n = rw (n, done-short p t (movedTo p t) s e, f) (refuses 2)
 
   pub same : (k : Role) → NamesOnly s k → Same (doneBy k p t) (baseBy k b t)
   same k n = go (settled-same (settledAs p k) (named k n)) (settled-same s one) (settled-same (p .asker) asker-small)

@@ -10,7 +10,7 @@ use Rattle.u2f_up_stated.specs.Moments.{Told}
 use Rattle.u2f_up_stated.specs.History.{Call, Came, Event, foretold}
 use Rattle.u2f_up_stated.specs.Runs.{Caller, after, next, history}
 use Rattle.u2f_up_stated.specs.OneSide.{sideless, NamesOnly, OnlySide}
-use Rattle.u2f_up_stated.specs.Terms.{BadWindow, BadSide, BadMoment, Passes, HasPrompt, HasTouch, SettlesFirst}
+use Rattle.u2f_up_stated.specs.Terms.{BadWindow, BadSide, BadMoment, NotRefused, HasPrompt, HasTouch, SettlesFirst}
 use Rattle.u2f_up_stated.specs.Claims
 use Rattle.u2f_up_stated.proofs.Ways.{bad-window, bad-side, bad-moment, has-touch, has-prompt}
 
@@ -38,7 +38,7 @@ module _ (named : Presence → ℕ) (f g : Presence → ℕ → Told) (F : Settl
   refuse : (n : ℕ) → f p t .outcome ≡ R n → g p t .outcome ≡ R n → f p t ≡ g p t
   refuse n a b = same (a ∙ sym b) (F .keeps p t n a ∙ sym (G .keeps p t n b))
 
-  settled : (Passes p (named p) t → f p t ≡ g p t) → f p t ≡ g p t
+  settled : (NotRefused p (named p) t → f p t ≡ g p t) → f p t ≡ g p t
   settled more = by (bad-window (p .w)) (bad-side (named p) (p .asker)) (bad-moment (p .last) t)
     where
       by : Dec (BadWindow (p .w)) → Dec (BadSide (named p) (p .asker)) → Dec (BadMoment (p .last) t) → f p t ≡ g p t
@@ -50,14 +50,14 @@ module _ (named : Presence → ℕ) (f g : Presence → ℕ → Told) (F : Settl
 pub TouchesExactly : Determines2 Claims.TouchesExactly
 TouchesExactly f g F G p t = settled (λ p. p .asker) f g (F .settles) (G .settles) p t (λ ok. by ok (has-prompt p t))
   where
-    by : Passes p (p .asker) t → Dec (HasPrompt p t) → f p t ≡ g p t
+    by : NotRefused p (p .asker) t → Dec (HasPrompt p t) → f p t ≡ g p t
     by ok (yes h) = F .accepts p t ok h ∙ sym (G .accepts p t ok h)
     by ok (no h) = F .otherwise p t ok h ∙ sym (G .otherwise p t ok h)
 
 pub ChecksExactly : Determines3 Claims.ChecksExactly
 ChecksExactly f g F G p s t = settled (λ p. s) (λ p t. f p s t) (λ p t. g p s t) (F .settles s) (G .settles s) p t (λ ok. by ok (has-touch p t) (ℕ-discrete (p .asker) s))
   where
-    by : Passes p s t → Dec (HasTouch p t) → Dec (p .asker ≡ s) → f p s t ≡ g p s t
+    by : NotRefused p s t → Dec (HasTouch p t) → Dec (p .asker ≡ s) → f p s t ≡ g p s t
     by ok (yes h) (yes o) = F .finds p s t ok h o ∙ sym (G .finds p s t ok h o)
     by ok (yes h) (no o) = F .other p s t ok h o ∙ sym (G .other p s t ok h o)
     by ok (no h) o = F .prompts p s t ok h ∙ sym (G .prompts p s t ok h)
@@ -73,7 +73,7 @@ FindsExactly f g F G p s t = by (has-touch p t) (ℕ-discrete (p .asker) s)
 pub AsksExactly : Determines2 Claims.AsksExactly
 AsksExactly f g F G p t = settled (λ p. p .asker) f g (F .settles) (G .settles) p t (λ ok. by ok (has-prompt p t))
   where
-    by : Passes p (p .asker) t → Dec (HasPrompt p t) → f p t ≡ g p t
+    by : NotRefused p (p .asker) t → Dec (HasPrompt p t) → f p t ≡ g p t
     by ok (yes h) = F .live p t ok h ∙ sym (G .live p t ok h)
     by ok (no h) = F .not-live p t ok h ∙ sym (G .not-live p t ok h)
 

@@ -8,10 +8,10 @@ use native.Mathlib.Omega.{arith}
 use Rattle.outcome.proofs.Laws.{r-gives}
 use Rattle.u2f_up_stated.specs.Words.{Outcome, R, Gives, Closed, Opened, Presence, Finding}
 use Rattle.u2f_up_stated.specs.Moments.{Told, fresh, settleOf, grantedOf, checkedOf, checkOf}
-use Rattle.u2f_up_stated.specs.History.{Touching, Checking, Short, RefusedBy, TouchAccepted, TouchIgnored, TouchFound, NoTouchFound, Call, lastMoment, latestPrompt, latestTouch, isPromptStanding, accepted, unspent, servers, foretold}
+use Rattle.u2f_up_stated.specs.History.{Touching, Checking, TooShort, RefusedBy, TouchAccepted, TouchIgnored, TouchFound, NoTouchFound, Call, lastMoment, latestPrompt, latestTouch, isPromptStanding, accepted, unspent, servers, foretold}
 use Rattle.u2f_up_stated.specs.Runs.{after, history, doneBy}
 use Rattle.u2f_up_stated.specs.OneSide.{base, baseBy, baseSettleOf, baseCheckedOf}
-use Rattle.u2f_up_stated.specs.Terms.{BadWindow, BadSide, BadMoment, Passes, HasTouch, HasPrompt, ServesOnce}
+use Rattle.u2f_up_stated.specs.Terms.{BadWindow, BadSide, BadMoment, NotRefused, HasTouch, HasPrompt, ServesOnce}
 use Rattle.u2f_up_stated.specs.Claims
 use Rattle.u2f_up_stated.specs.Wrong
 
@@ -90,7 +90,7 @@ pub goesBack : Claims.SettlesExactly Wrong.goesBack → ⊥
 goesBack d = r-gives 1 _ (sym (d .r1 later 0 0 .1 (in-range, sided 0 0 (omega arith) (omega arith), inr (omega arith))))
 
 -- ---- touches
-passes : (p : Presence) (s t : ℕ) → p .w ≡ 100 → s ≤ 1 → p .asker ≤ 1 → p .last ≤ t → t < 2 ^ 48 → Passes p s t
+passes : (p : Presence) (s t : ℕ) → p .w ≡ 100 → s ≤ 1 → p .asker ≤ 1 → p .last ≤ t → t < 2 ^ 48 → NotRefused p s t
 passes p s t w a b c d = (within (p .w) (omega (arith, w)) (omega (arith, w)), sided s (p .asker) a b, timely (p .last) t c d)
 
 yes-same : {a b : Bool} → _≡_ {A = Outcome Bool} (Gives a) (Gives b) → a ≡ b
@@ -311,7 +311,7 @@ refusesAll d = ⊎-elim (λ z. omega arith) (λ z. omega arith) (d 100 (omega ar
 -- R2 at 7, and then R1 at 3
 pub shortMoves : Claims.Demand3 Wrong.shortMoves → ⊥
 unfolding after history lastMoment doneBy checkOf settleOf
-shortMoves d = ⊎-elim (λ z. omega arith) (λ z. omega arith) (d 100 (omega arith) (omega arith) (record { role = Short 0; moment = 7 } ∷ []) .refuses (check 3) .0 refl .1)
+shortMoves d = ⊎-elim (λ z. omega arith) (λ z. omega arith) (d 100 (omega arith) (omega arith) (record { role = TooShort 0; moment = 7 } ∷ []) .refuses (check 3) .0 refl .1)
 
 -- a history that no program here made
 pub servedTwice : ServesOnce 100 Wrong.servedTwice → ⊥

@@ -6,7 +6,7 @@ use mathlib.Core.Bool.{true}
 use Rattle.outcome.specs.Outcome.{R, Gives}
 use Rattle.u2f_up_stated.specs.Words.{Presence}
 use Rattle.u2f_up_stated.specs.Moments.{isPrompting, settleOf, grantedOf, checkedOf, gave, refused, touchOf, checkOf, askOf}
-use Rattle.u2f_up_stated.specs.History.{Role, Touching, Checking, Asking, Settling, Short}
+use Rattle.u2f_up_stated.specs.History.{Role, Touching, Checking, Asking, Settling, TooShort}
 use Rattle.u2f_up_stated.specs.Runs.{doneBy}
 
 -- the side that a call of each role settles as
@@ -15,7 +15,7 @@ settledAs p Touching = p .asker
 settledAs p (Checking s) = s
 settledAs p Asking = p .asker
 settledAs p (Settling s) = s
-settledAs p (Short s) = s
+settledAs p (TooShort s) = s
 
 module _ (p : Presence) (t : ℕ) where
   -- a refused side or moment refuses a call of any role, and moves nothing
@@ -25,7 +25,7 @@ module _ (p : Presence) (t : ℕ) where
   done-refused n (Checking s) e = rw e
   done-refused n Asking e = rw e
   done-refused n (Settling s) e = rw e
-  done-refused n (Short s) e = rw e
+  done-refused n (TooShort s) e = rw e
 
   module _ (q : Presence) where
     pub done-touching : settleOf p (p .asker) t ≡ Gives q → doneBy Touching p t ≡ gave (grantedOf q t)
@@ -45,7 +45,7 @@ module _ (p : Presence) (t : ℕ) where
       unfolding doneBy
       done-settling = rw e
 
-      pub done-short : doneBy (Short s) p t ≡ refused 2 p
+      pub done-short : doneBy (TooShort s) p t ≡ refused 2 p
       unfolding doneBy
       done-short = rw e
 

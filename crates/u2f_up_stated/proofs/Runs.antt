@@ -10,7 +10,7 @@ use Rattle.outcome.specs.Notation.{if_then_else_}
 use Rattle.outcome.specs.Outcome.{Outcome, R, Gives}
 use Rattle.u2f_up_stated.specs.Words.{Presence, Window, Closed, Opened}
 use Rattle.u2f_up_stated.specs.Moments.{Told, isLive, isR6, isBadSide, isR8, isR1, movedTo, settleOf, grantedOf, checkedOf, gave, refused}
-use Rattle.u2f_up_stated.specs.History.{Role, Touching, Checking, Asking, Settling, Short, Event, Mark, marked, sideOf, isAccepted, isSpending, isPromptingBy, isMoving, isAny, heldAt, lastMoment, latestPrompt, sideAsked, askerOf}
+use Rattle.u2f_up_stated.specs.History.{Role, Touching, Checking, Asking, Settling, TooShort, Event, Mark, marked, sideOf, isAccepted, isSpending, isPromptingBy, isMoving, isAny, heldAt, lastMoment, latestPrompt, sideAsked, askerOf}
 use Rattle.u2f_up_stated.specs.Runs.{doneBy, cameOf}
 use Rattle.u2f_up_stated.proofs.Cases.{settle-r8, settle-r1, settled}
 use Rattle.u2f_up_stated.proofs.Roles.{settledAs, done-refused, done-touching, done-checking, done-asking, done-settling, done-short}
@@ -175,14 +175,14 @@ module _ (w : ℕ) (h : List Event) (t : ℕ) where
     real-as (Checking s) n = n
     real-as Asking n = own
     real-as (Settling s) n = n
-    real-as (Short s) n = n
+    real-as (TooShort s) n = n
 
     pub settles-as-r8 : (k : Role) → isBadSide (sideOf k) ≡ true → settleOf p (settledAs p k) t ≡ R 8
     settles-as-r8 Touching n = absurd (true≢false (sym n))
     settles-as-r8 (Checking s) n = settles-r8 s n
     settles-as-r8 Asking n = absurd (true≢false (sym n))
     settles-as-r8 (Settling s) n = settles-r8 s n
-    settles-as-r8 (Short s) n = settles-r8 s n
+    settles-as-r8 (TooShort s) n = settles-r8 s n
 
     module _ (agree : lastMoment h ≤ t → isLive (heldOf h) w t ≡ isAny (heldAt w h t)) where
       follows-settled : isR1 (lastMoment h) t ≡ false → lastMoment h ≤ t → (k : Role) → isBadSide (sideOf k) ≡ false → Follows k (doneBy k p t)
@@ -190,7 +190,7 @@ module _ (w : ℕ) (h : List Event) (t : ℕ) where
       follows-settled e late (Checking s) n = rw (done-checking p t (movedTo p t) s (settles s n e)) (checking late (agree late) s n (isLive (heldOf h) w t) (eqb (askerOf w h) s) refl refl)
       follows-settled e late Asking n = rw (done-asking p t (movedTo p t) (settles (askerOf w h) own e)) (asking late (isLive (promptOf w h) 10000 t))
       follows-settled e late (Settling s) n = rw (done-settling p t (movedTo p t) s (settles s n e)) (settling late s)
-      follows-settled e late (Short s) n = rw (done-short p t (movedTo p t) s (settles s n e)) (stays-refused (Short s) 2)
+      follows-settled e late (TooShort s) n = rw (done-short p t (movedTo p t) s (settles s n e)) (stays-refused (TooShort s) 2)
 
       pub follows : (k : Role) → Follows k (doneBy k p t)
       follows k = go (isBadSide (sideOf k)) refl (isR1 (lastMoment h) t) refl

@@ -10,7 +10,7 @@ use borrow.Author.Tests.{lt-ltb, le-ltb, le-leb, lt-leb, eq-eqb, ne-eqb}
 use Rattle.outcome.proofs.Laws.{r-gives, r-word, word-gives}
 use Rattle.u2f_up_stated.specs.Words.{StatusWord, Outcome, R, Word, Gives, Window, Closed, Opened, Presence}
 use Rattle.u2f_up_stated.specs.Moments.{Told, isLive, isR6, isR8, isR1, movedTo, touchClosed, promptOpened, settleOf, checkedOf, onSettled}
-use Rattle.u2f_up_stated.specs.Terms.{BadWindow, BadSide, BadMoment, Passes, HasPrompt, HasTouch, SettlesFirst}
+use Rattle.u2f_up_stated.specs.Terms.{BadWindow, BadSide, BadMoment, NotRefused, HasPrompt, HasTouch, SettlesFirst}
 
 -- ---- R6, R8 and R1
 either : {A B : Type 0} → Dec A → Dec B → Dec (A ⊎ B)
@@ -67,7 +67,7 @@ module _ (p : Presence) (s t : ℕ) where
   unfolding settleOf
   settle-r1 g h b = rw (not-r6 (p .w) g, not-r8 s (p .asker) h, is-r1 (p .last) t b)
 
-  pub settle-moves : Passes p s t → settleOf p s t ≡ Gives (movedTo p t)
+  pub settle-moves : NotRefused p s t → settleOf p s t ≡ Gives (movedTo p t)
   unfolding settleOf
   settle-moves ok = rw (not-r6 (p .w) (ok .0), not-r8 s (p .asker) (ok .1), not-r1 (p .last) t (ok .2))
 
@@ -75,7 +75,7 @@ module _ (p : Presence) (s t : ℕ) where
     r6 : BadWindow (p .w) → SettleWay (R 6)
     r8 : (BadWindow (p .w) → ⊥) → BadSide s (p .asker) → SettleWay (R 8)
     r1 : (BadWindow (p .w) → ⊥) → (BadSide s (p .asker) → ⊥) → BadMoment (p .last) t → SettleWay (R 1)
-    moves : Passes p s t → SettleWay (Gives (movedTo p t))
+    moves : NotRefused p s t → SettleWay (Gives (movedTo p t))
 
   pub settle-way : SettleWay (settleOf p s t)
   settle-way = by (bad-window (p .w)) (bad-side s (p .asker)) (bad-moment (p .last) t)

@@ -8,7 +8,7 @@ use Rattle.u2f_up_stated.specs.Answers.{Ready, Answer, Step, readyOf, ou
 use Rattle.u2f_up_stated.specs.Contracts.{New, Settle, TouchCheck, GrantUp, ConsumeUp, IsUpNeeded, GrantUpLent, ConsumeUpLent, IsUpNeededLent}
 use Rattle.u2f_up_stated.specs.Runs.{Caller, after, next}
 use Rattle.u2f_up_stated.specs.OneSide.{sideless, NamesOnly, OnlySide}
-use Rattle.u2f_up_stated.specs.Terms.{BadWindow, BadSide, BadMoment, Passes, HasPrompt, HasTouch, SettlesFirst}
+use Rattle.u2f_up_stated.specs.Terms.{BadWindow, BadSide, BadMoment, NotRefused, HasPrompt, HasTouch, SettlesFirst}
 use Rattle.u2f_up_stated.specs.Demand.{RunMeets}
 
 -- ---- each call, on any record
@@ -29,7 +29,7 @@ pub record SettlesExactly (settle : Presence → (side t : ℕ) → Outcome Pres
   pub r6 : (p : Presence) (s t : ℕ) → (settle p s t ≡ R 6) ↔ BadWindow (p .w)
   pub r8 : (p : Presence) (s t : ℕ) → (settle p s t ≡ R 8) ↔ ((BadWindow (p .w) → ⊥) × BadSide s (p .asker))
   pub r1 : (p : Presence) (s t : ℕ) → (settle p s t ≡ R 1) ↔ ((BadWindow (p .w) → ⊥) × (BadSide s (p .asker) → ⊥) × BadMoment (p .last) t)
-  pub moves : (p : Presence) (s t : ℕ) → Passes p s t → settle p s t ≡ Gives (record { w = p .w; prompt = p .prompt; touch = p .touch; last = t; asker = p .asker })
+  pub moves : (p : Presence) (s t : ℕ) → NotRefused p s t → settle p s t ≡ Gives (record { w = p .w; prompt = p .prompt; touch = p .touch; last = t; asker = p .asker })
 
 -- Touch. 01, Moments and touches: "Touch (`grant_up`) is accepted when the prompt is live; then the prompt closes and a touch window
 -- opens. Otherwise nothing but the last moment moves." 02, E7: "An accepted touch belongs to the asker", so the asker stays. It names no
@@ -38,9 +38,9 @@ pub record SettlesExactly (settle : Presence → (side t : ℕ) → Outcome Pres
 -- it a moment before and at the end; a touch that is given to side 0 whoever asked (`touchTo0`) fails it where side 1 did.
 pub record TouchesExactly (touch : Presence → ℕ → Told) : Type 0 where
   pub settles : SettlesFirst (λ p. p .asker) touch
-  pub accepts : (p : Presence) (t : ℕ) → Passes p (p .asker) t → HasPrompt p t
+  pub accepts : (p : Presence) (t : ℕ) → NotRefused p (p .asker) t → HasPrompt p t
       → touch p t ≡ record { outcome = Gives true; presence = record { w = p .w; prompt = Closed; touch = Opened t; last = t; asker = p .asker } }
-  pub otherwise : (p : Presence) (t : ℕ) → Passes p (p .asker) t → (HasPrompt p t → ⊥)
+  pub otherwise : (p : Presence) (t : ℕ) → NotRefused p (p .asker) t → (HasPrompt p t → ⊥)
       → touch p t ≡ record { outcome = Gives false; presence = record { w = p .w; prompt = p .prompt; touch = p .touch; last = t; asker = p .asker } }
 
 -- The touch check. 01, Moments and touches: "The touch check (`consume_up`): with a live touch, it is spent; without, a prompt window
@@ -52,11 +52,11 @@ pub record TouchesExactly (touch : Presence → ℕ → Told) : Type 0 where
 -- (`checkKeepsAsker`).
 pub record ChecksExactly (check : Presence → (side t : ℕ) → Told) : Type 0 where
   pub settles : (s : ℕ) → SettlesFirst (λ p. s) (λ p t. check p s t)
-  pub finds : (p : Presence) (s t : ℕ) → Passes p s t → HasTouch p t → p .asker ≡ s
+  pub finds : (p : Presence) (s t : ℕ) → NotRefused p s t → HasTouch p t → p .asker ≡ s
       → check p s t ≡ record { outcome = Gives true; presence = record { w = p .w; prompt = p .prompt; touch = Closed; last = t; asker = p .asker } }
-  pub other : (p : Presence) (s t : ℕ) → Passes p s t → HasTouch p t → (p .asker ≡ s → ⊥)
+  pub other : (p : Presence) (s t : ℕ) → NotRefused p s t → HasTouch p t → (p .asker ≡ s → ⊥)
       → check p s t ≡ record { outcome = Gives false; presence = record { w = p .w; prompt = p .prompt; touch = p .touch; last = t; asker = p .asker } }
-  pub prompts : (p : Presence) (s t : ℕ) → Passes p s t → (HasTouch p t → ⊥)
+  pub prompts : (p : Presence) (s t : ℕ) → NotRefused p s t → (HasTouch p t → ⊥)
       → check p s t ≡ record { outcome = Gives false; presence = record { w = p .w; prompt = Opened t; touch = p .touch; last = t; asker = s } }
 
 -- The same check by itself, on any record, for callers that have settled the moment: no refusal, and the last moment stays.
@@ -72,8 +72,8 @@ pub record FindsExactly (checked : Presence → (side t : ℕ) → Finding) : Ty
 -- that moves the last moment (`askMoves`) fails it at any later moment.
 pub record AsksExactly (ask : Presence → ℕ → Told) : Type 0 where
   pub settles : SettlesFirst (λ p. p .asker) ask
-  pub live : (p : Presence) (t : ℕ) → Passes p (p .asker) t → HasPrompt p t → ask p t ≡ record { outcome = Gives true; presence = p }
-  pub not-live : (p : Presence) (t : ℕ) → Passes p (p .asker) t → (HasPrompt p t → ⊥) → ask p t ≡ record { outcome = Gives false; presence = p }
+  pub live : (p : Presence) (t : ℕ) → NotRefused p (p .asker) t → HasPrompt p t → ask p t ≡ record { outcome = Gives true; presence = p }
+  pub not-live : (p : Presence) (t : ℕ) → NotRefused p (p .asker) t → (HasPrompt p t → ⊥) → ask p t ≡ record { outcome = Gives false; presence = p }
 
 -- ---- demand 3
 

@@ -14,7 +14,7 @@ pub data Role : Type 0 where
   Checking : (side : ℕ) → Role  -- a call that reaches the touch check: a direct check, or a decision that comes so far
   Asking : Role  -- whether a prompt is live
   Settling : (side : ℕ) → Role  -- a decision that is answered before the touch check
-  Short : (side : ℕ) → Role  -- a decision whose buffer is too short, or whose lent body is shorter than its remainder's end, R2
+  TooShort : (side : ℕ) → Role  -- a decision whose buffer is too short, or whose lent body is shorter than its remainder's end, R2
 
 pub record Call : Type 0 where
   pub role : Role
@@ -26,7 +26,7 @@ sideOf Touching = 0
 sideOf (Checking s) = s
 sideOf Asking = 0
 sideOf (Settling s) = s
-sideOf (Short s) = s
+sideOf (TooShort s) = s
 
 -- What came of a call, as its history tells it.
 pub data Came : Type 0 where
@@ -37,7 +37,7 @@ pub data Came : Type 0 where
   NoTouchFound : Came  -- none was
   PromptStands : Came  -- an ask
   NoPromptStands : Came
-  Passed : Came  -- a decision that is answered before the touch check
+  AnsweredBefore : Came  -- a decision that is answered before the touch check
 
 -- A call and what came of it.
 pub record Event : Type 0 where
@@ -52,7 +52,7 @@ isTouchAccepted TouchFound = false
 isTouchAccepted NoTouchFound = false
 isTouchAccepted PromptStands = false
 isTouchAccepted NoPromptStands = false
-isTouchAccepted Passed = false
+isTouchAccepted AnsweredBefore = false
 
 abbrev pub isTouchFound : Came → Bool
 isTouchFound (RefusedBy n) = false
@@ -62,7 +62,7 @@ isTouchFound TouchFound = true
 isTouchFound NoTouchFound = false
 isTouchFound PromptStands = false
 isTouchFound NoPromptStands = false
-isTouchFound Passed = false
+isTouchFound AnsweredBefore = false
 
 abbrev pub isNoTouchFound : Came → Bool
 isNoTouchFound (RefusedBy n) = false
@@ -72,7 +72,7 @@ isNoTouchFound TouchFound = false
 isNoTouchFound NoTouchFound = true
 isNoTouchFound PromptStands = false
 isNoTouchFound NoPromptStands = false
-isNoTouchFound Passed = false
+isNoTouchFound AnsweredBefore = false
 
 -- 01, Refusal numbers: "Without an R refusal, each touch, direct check and decision sets the last moment to t"; an ask does not
 abbrev pub isTimed : Came → Bool
@@ -83,7 +83,7 @@ isTimed TouchFound = true
 isTimed NoTouchFound = true
 isTimed PromptStands = false
 isTimed NoPromptStands = false
-isTimed Passed = true
+isTimed AnsweredBefore = true
 
 -- 01, Moments and touches: "A touch at t is accepted"
 abbrev pub isAccepted : Event → Bool
@@ -124,8 +124,8 @@ isAny (k ∷ ks) = true
 abbrev pub isYoung : ℕ → ℕ → Mark → Bool
 isYoung w t k = ltb t (k .moment + w)
 
-abbrev pub isOld : ℕ → ℕ → Mark → Bool
-isOld w t k = not (isYoung w t k)
+abbrev pub isPastW : ℕ → ℕ → Mark → Bool
+isPastW w t k = not (isYoung w t k)
 
 abbrev pub isOf : (side : ℕ) → Mark → Bool
 isOf s k = eqb (k .side) s
@@ -204,7 +204,7 @@ isPromptStanding w past t = isStandingBy (latestPrompt w past) (latestTouch w pa
 
 -- 01, Moments and touches: "A touch has lapsed when it is unspent and W has passed at the last moment."
 abbrev pub lapsed : ℕ → List Event → List Mark
-lapsed w past = those (isOld w (lastMoment past)) (unspent w past)
+lapsed w past = those (isPastW w (lastMoment past)) (unspent w past)
 
 -- The touches that are gone from the unspent ones, call by call: what its past held for its side when a call spent.
 unfoldable pub served : ℕ → List Event → List Mark
@@ -239,8 +239,8 @@ abbrev pub unrefused : ℕ → List Event → Role → ℕ → Came
 unrefused w past Touching t = if isPromptStanding w past t then TouchAccepted else TouchIgnored
 unrefused w past (Checking s) t = if isAny (heldFor w past s t) then TouchFound else NoTouchFound
 unrefused w past Asking t = if isPromptStanding w past t then PromptStands else NoPromptStands
-unrefused w past (Settling s) t = Passed
-unrefused w past (Short s) t = RefusedBy 2
+unrefused w past (Settling s) t = AnsweredBefore
+unrefused w past (TooShort s) t = RefusedBy 2
 
 -- 02, E7: R8 "for a side other than 0 or 1"; then 01, Refusal numbers, R1: "moment 2^48 or more, or before the record's last moment"
 unfoldable pub foretold : ℕ → List Event → Call → Came

@@ -3,7 +3,7 @@
 use mathlib.Core.List.{List, [], _∷_}
 use Rattle.u2f_up_stated.specs.Words.{ℕ, _≡_, Bool, true, false, if_then_else_, Outcome, R, Gives, Opened, Presence, Finding}
 use Rattle.u2f_up_stated.specs.Moments.{Told, isLive, isPrompting, isR6, isR1, movedTo, touchClosed, grantedOf, gave, refused, onSettled}
-use Rattle.u2f_up_stated.specs.History.{Role, Touching, Checking, Asking, Settling, Short, Call}
+use Rattle.u2f_up_stated.specs.History.{Role, Touching, Checking, Asking, Settling, TooShort, Call}
 use Rattle.u2f_up_stated.specs.Runs.{Caller}
 
 -- 01, Moments and touches: "Touch, check and ask give R6, then R1, before all else."
@@ -25,7 +25,7 @@ baseBy Touching p t = onSettled p (baseSettleOf p t) (λ q. gave (grantedOf q t)
 baseBy (Checking s) p t = onSettled p (baseSettleOf p t) (λ q. gave (baseCheckedOf q t))
 baseBy Asking p t = onSettled p (baseSettleOf p t) (λ q. record { outcome = Gives (isPrompting p t); presence = p })
 baseBy (Settling s) p t = onSettled p (baseSettleOf p t) (λ q. record { outcome = Gives true; presence = q })
-baseBy (Short s) p t = onSettled p (baseSettleOf p t) (λ q. refused 2 p)
+baseBy (TooShort s) p t = onSettled p (baseSettleOf p t) (λ q. refused 2 p)
 
 -- A way of calling that does to the record what the base did.
 abbrev pub KeepsToBase : {D : Type 0} → Caller D → Type 0
@@ -44,7 +44,7 @@ NamesOnly s Touching = Unit {0}
 NamesOnly s (Checking r) = r ≡ s
 NamesOnly s Asking = Unit {0}
 NamesOnly s (Settling r) = r ≡ s
-NamesOnly s (Short r) = r ≡ s
+NamesOnly s (TooShort r) = r ≡ s
 
 abbrev pub OnlySide : {D : Type 0} → Caller D → (side : ℕ) → List D → Type 0
 OnlySide 𝒞 s [] = Unit {0}

@@ -2,8 +2,8 @@
 use mathlib.Core.List.{List, [], _∷_}
 use Rattle.u2f_up_stated.specs.Words.{ℕ, Bool, true, if_then_else_, Outcome, R, Word, Gives, _≡_, Presence}
 use Rattle.u2f_up_stated.specs.Moments.{Told, fresh, settleOf, refused, onSettled, touchOf, checkOf, askOf}
-use Rattle.u2f_up_stated.specs.History.{Role, Touching, Checking, Asking, Settling, Short, Call, Event}
-use Rattle.u2f_up_stated.specs.History.{Came, RefusedBy, TouchAccepted, TouchIgnored, TouchFound, NoTouchFound, PromptStands, NoPromptStands, Passed}
+use Rattle.u2f_up_stated.specs.History.{Role, Touching, Checking, Asking, Settling, TooShort, Call, Event}
+use Rattle.u2f_up_stated.specs.History.{Came, RefusedBy, TouchAccepted, TouchIgnored, TouchFound, NoTouchFound, PromptStands, NoPromptStands, AnsweredBefore}
 
 -- What a call of each role does to the record.
 unfoldable pub doneBy : Role → Presence → ℕ → Told
@@ -13,7 +13,7 @@ doneBy Asking p t = askOf p t
 -- 01, Refusal numbers: "Without an R refusal, each .. decision sets the last moment to t"
 doneBy (Settling s) p t = onSettled p (settleOf p s t) (λ q. record { outcome = Gives true; presence = q })
 -- 01, Refusal numbers: "An R refusal changes no buffer and no record."
-doneBy (Short s) p t = onSettled p (settleOf p s t) (λ q. refused 2 p)
+doneBy (TooShort s) p t = onSettled p (settleOf p s t) (λ q. refused 2 p)
 
 -- A way of calling, with calls of any type D: what each call is in history terms, and what it does to the record.
 pub record Caller (D : Type 0) : Type 0 where
@@ -33,12 +33,12 @@ abbrev pub cameOfGiven : Role → Bool → Came
 cameOfGiven Touching given = if given then TouchAccepted else TouchIgnored
 cameOfGiven (Checking s) given = if given then TouchFound else NoTouchFound
 cameOfGiven Asking given = if given then PromptStands else NoPromptStands
-cameOfGiven (Settling s) given = Passed
-cameOfGiven (Short s) given = Passed
+cameOfGiven (Settling s) given = AnsweredBefore
+cameOfGiven (TooShort s) given = AnsweredBefore
 
 abbrev pub cameOf : Role → Outcome Bool → Came
 cameOf role (R n) = RefusedBy n
-cameOf role (Word s) = Passed
+cameOf role (Word s) = AnsweredBefore
 cameOf role (Gives given) = cameOfGiven role given
 
 module _ {D : Type 0} (𝒞 : Caller D) (w : ℕ) where

@@ -28,8 +28,8 @@ abbrev pub NamesBadSide : Role → Type 0
 NamesBadSide role = 1 < sideOf role
 
 -- neither R6 nor R8 nor R1
-abbrev pub Passes : Presence → (side t : ℕ) → Type 0
-Passes p s t = (BadWindow (p .w) → ⊥) × (BadSide s (p .asker) → ⊥) × (BadMoment (p .last) t → ⊥)
+abbrev pub NotRefused : Presence → (side t : ℕ) → Type 0
+NotRefused p s t = (BadWindow (p .w) → ⊥) × (BadSide s (p .asker) → ⊥) × (BadMoment (p .last) t → ⊥)
 
 -- 01, Moments and touches: "A window opened at m with length d is live at t when t < m + d", "The prompt window is 10,000."
 abbrev pub HasPrompt : Presence → ℕ → Type 0

@@ -2,7 +2,7 @@
 use mathlib.Core.List.{List, [], _∷_}
 use Rattle.u2f_up_stated.specs.Words.{ℕ, _+_, _^_, Bool, true, false, not, _&&_, _||_, eqb, ltb, leb, if_then_else_, Outcome, R, Gives, Window, Closed, Opened, Presence, Finding}
 use Rattle.u2f_up_stated.specs.Moments.{fresh, Told, isLive, isPrompting, isR6, isBadSide, isR8, isR1, movedTo, settleOf, gave, refused, touchOpened, touchClosed, promptOpened, onSettled, grantedOf, checkedOf}
-use Rattle.u2f_up_stated.specs.History.{Role, Touching, Checking, Asking, Settling, Short, Call, Event, TouchAccepted, TouchFound, NoTouchFound}
+use Rattle.u2f_up_stated.specs.History.{Role, Touching, Checking, Asking, Settling, TooShort, Call, Event, TouchAccepted, TouchFound, NoTouchFound}
 use Rattle.u2f_up_stated.specs.Runs.{Caller, doneBy}
 use Rattle.u2f_up_stated.specs.OneSide.{baseSettleOf, baseCheckedOf}
 
@@ -206,7 +206,7 @@ doing grants checks Touching p t = touching grants p t
 doing grants checks (Checking s) p t = checking checks p s t
 doing grants checks Asking p t = doneBy Asking p t
 doing grants checks (Settling s) p t = doneBy (Settling s) p t
-doing grants checks (Short s) p t = doneBy (Short s) p t
+doing grants checks (TooShort s) p t = doneBy (TooShort s) p t
 
 abbrev calling : (Presence → ℕ → Finding) → (Presence → (side t : ℕ) → Finding) → Caller Call
 calling grants checks = record { asCall = λ c. c; does = λ p c. doing grants checks (c .role) p (c .moment) }
@@ -257,7 +257,7 @@ asks2Does Touching p t = onSettled p (movedBy p t) (λ q. gave (grantedOf q t))
 asks2Does (Checking s) p t = onSettled p (movedBy p t) (λ q. gave (checkedOf q s t))
 asks2Does Asking p t = doneBy Asking p t
 asks2Does (Settling s) p t = doneBy (Settling s) p t
-asks2Does (Short s) p t = doneBy (Short s) p t
+asks2Does (TooShort s) p t = doneBy (TooShort s) p t
 
 abbrev pub asks2 : Caller Call
 asks2 = record { asCall = λ c. c; does = λ p c. asks2Does (c .role) p (c .moment) }
@@ -268,7 +268,7 @@ r8LastDoes Touching p t = doneBy Touching p t
 r8LastDoes (Checking s) p t = onSettled p (r8AfterR1 p s t) (λ q. gave (checkedOf q s t))
 r8LastDoes Asking p t = doneBy Asking p t
 r8LastDoes (Settling s) p t = doneBy (Settling s) p t
-r8LastDoes (Short s) p t = doneBy (Short s) p t
+r8LastDoes (TooShort s) p t = doneBy (TooShort s) p t
 
 abbrev pub r8Last : Caller Call
 r8Last = record { asCall = λ c. c; does = λ p c. r8LastDoes (c .role) p (c .moment) }
@@ -283,7 +283,7 @@ shortDoes Touching p t = doneBy Touching p t
 shortDoes (Checking s) p t = doneBy (Checking s) p t
 shortDoes Asking p t = doneBy Asking p t
 shortDoes (Settling s) p t = doneBy (Settling s) p t
-shortDoes (Short s) p t = onSettled p (settleOf p s t) (λ q. refused 2 q)
+shortDoes (TooShort s) p t = onSettled p (settleOf p s t) (λ q. refused 2 q)
 
 abbrev pub shortMoves : Caller Call
 shortMoves = record { asCall = λ c. c; does = λ p c. shortDoes (c .role) p (c .moment) }

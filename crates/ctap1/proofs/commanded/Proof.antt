@@ -2,22 +2,22 @@
 use borrow.Author.Needs.{needs}
 use Rattle.ctap1.proofs.commanded.Statement.{statement}
 use Rattle.ctap1.proofs.commanded.Tie as tie
-use Rattle.ctap1_stated.proofs.Tops as Tops
+use Rattle.ctap1_stated.proofs.OuterChecks
 
 returns : tie.Need-returns
-returns c = (search (needs, Tops.on-status, Tops.command-is), search (needs, Tops.status-kept, Tops.command-is))
+returns c = (search (needs, OuterChecks.on-status, OuterChecks.command-is), search (needs, OuterChecks.status-kept, OuterChecks.command-is))
 
 returns-2 : tie.Need-returns-2
-returns-2 c = (search (needs, Tops.on-version, Tops.command-is), search (needs, Tops.version-left, Tops.command-is))
+returns-2 c = (search (needs, OuterChecks.on-version, OuterChecks.command-is), search (needs, OuterChecks.version-left, OuterChecks.command-is))
 
 returns-3 : tie.Need-returns-3
-returns-3 c = (search (needs, Tops.on-fetch, Tops.command-is), search (needs, Tops.fetch-kept, Tops.command-is))
+returns-3 c = (search (needs, OuterChecks.on-fetch, OuterChecks.command-is), search (needs, OuterChecks.fetch-kept, OuterChecks.command-is))
 
 returns-4 : tie.Need-returns-4
-returns-4 c = (search (needs, Tops.on-register, Tops.command-is), search (needs, Tops.register-kept, Tops.command-is))
+returns-4 c = (search (needs, OuterChecks.on-register, OuterChecks.command-is), search (needs, OuterChecks.register-kept, OuterChecks.command-is))
 
 returns-5 : tie.Need-returns-5
-returns-5 c = (search (needs, Tops.on-authenticate, Tops.command-is), search (needs, Tops.authenticate-kept, Tops.command-is))
+returns-5 c = (search (needs, OuterChecks.on-authenticate, OuterChecks.command-is), search (needs, OuterChecks.authenticate-kept, OuterChecks.command-is))
 
 pub commanded-spec : {M : Type 1} → statement M
 commanded-spec =

@@ -2,10 +2,10 @@
 use borrow.Author.Needs.{needs}
 use Rattle.ctap1.proofs.limit_of.Statement.{statement}
 use Rattle.ctap1.proofs.limit_of.Tie as tie
-use Rattle.ctap1_stated.proofs.Tops as Tops
+use Rattle.ctap1_stated.proofs.OuterChecks
 
 returns : tie.Need-returns
-returns c = search (needs, Tops.limit-of-frame)
+returns c = search (needs, OuterChecks.limit-of-frame)
 
 pub limit-of-spec : {M : Type 1} → statement M
 limit-of-spec =

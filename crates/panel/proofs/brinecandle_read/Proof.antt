@@ -2,7 +2,7 @@
 use borrow.Author.Needs.{needs}
 use Rattle.panel.proofs.brinecandle_read.Statement.{statement}
 use Rattle.panel.proofs.brinecandle_read.Tie as tie
-use Rattle.plain_frames.proofs.Laws
+use Rattle.panel_frames.proofs.Laws
 
 returns : tie.Need-returns
 returns c = search (needs, Laws.frame-read)

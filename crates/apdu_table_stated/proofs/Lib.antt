@@ -1,0 +1,14 @@
+pub mod Columns
+pub mod Fitting
+pub mod ByRows
+pub mod Turns
+pub mod Agreement
+pub mod OneRow
+pub mod FramesOfRows
+pub mod AnyTable
+pub mod Numbers
+pub mod Theorems
+pub mod Only
+pub mod Refuted
+pub mod Cases
+pub mod Laws
