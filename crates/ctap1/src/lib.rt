@@ -296,7 +296,7 @@ fn limit_of(reading: Reading) -> u32
     }
 }
 
-// Whether a frame that was read so asks for the next part, whatever it is answered.
+// Whether a frame that was read so is a GET RESPONSE, whatever it is answered.
 fn is_get_response(reading: Reading) -> bool
     ensures { λ r. ⌜ r ≡ isGetResponse (readingOf reading) ⌝ }
 {

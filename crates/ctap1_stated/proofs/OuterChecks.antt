@@ -247,7 +247,7 @@ module _ (frame : List ℕ) (r : Reading) (is-r : readingOf r ≡ readOf frame) 
   pub asks-is : (b : Bool) → b ≡ isGetResponse (readingOf r) → b ≡ isGetResponse (readOf frame)
   asks-is b e = e ∙ ap isGetResponse is-r
 
--- a ruling as it is put together
+-- a decision and its limit as they are put together
 module _ (r : DecisionAndLimit) (d : Decision) (n : ℕ) (b : Bool) (is : r ≡ record { decision = d; limit = n; «is_get_response» = b }) where
   pub ruled : (block : List ℕ) (x : DecisionLeft) → leftFrom d block ≡ x → leftFrom (r .decision) block ≡ x
   ruled block x e = ap (λ (q : DecisionAndLimit). leftFrom (q .decision) block) is ∙ e

@@ -220,7 +220,7 @@ pub extern "C" fn brinecandle_decide(
     }) r (now (reply .exit)) (now (block .exit)) (now (part .exit)) ⌝ }
 {
     let kept = panel_presence::record_lent(presence);
-    let ruling = ctap1::decide(
+    let decided = ctap1::decide(
         frame,
         side,
         t,
@@ -233,8 +233,8 @@ pub extern "C" fn brinecandle_decide(
         reply,
         block,
     );
-    let limit = ruling.limit;
-    let decision = ruling.decision;
+    let limit = decided.limit;
+    let decision = decided.decision;
     let answer = decision.answer;
     let order = decision.order;
     let taken = decision.taken;
@@ -249,7 +249,7 @@ pub extern "C" fn brinecandle_decide(
         ),
         DecisionAnswer::Status(status) => return panel_responses::stated_numbers(
             status,
-            ruling.is_get_response,
+            decided.is_get_response,
             taken,
             kept,
             after,

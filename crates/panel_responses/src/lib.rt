@@ -1,4 +1,4 @@
-// Responses and parts as plain numbers; and what a frame that asks for the next part is answered.
+// Responses and parts as plain numbers; and what a GET RESPONSE is answered.
 use outcome::ApduStatusCode;
 use panel_stated::DecisionSaid;
 use panel_stated::PartSaid;
@@ -61,10 +61,10 @@ pub fn next_plain(next: NextPart, kept: Remainder) -> PartSaid
     }
 }
 
-// What GET RESPONSE is answered where nothing is left and every check before that is passed: the ruling says it as if nothing were.
+// What GET RESPONSE is answered where nothing is left and every check before that is passed: ctap1 says it as if nothing were.
 const NOTHING_LEFT: u16 = 0x6985;
 
-// A frame that asks for the next part and comes so far: 6985 where nothing is left, else the next part of the body in `reply`.
+// A GET RESPONSE that comes so far: 6985 where nothing is left, else the next part of the body in `reply`.
 fn fetched_numbers(
     kept: Presence,
     settled: Presence,
@@ -92,7 +92,7 @@ fn fetched_numbers(
     }
 }
 
-// The status word of a ruling, where something may be left: a frame that asks for the next part keeps it, or gets it where only that was
+// The status word of a decision that knew of nothing left, where something may be: a GET RESPONSE keeps it, or gets it where only that was
 // missing; any other drops it.
 pub fn stated_numbers(
     status: ApduStatusCode,

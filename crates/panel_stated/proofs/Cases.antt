@@ -391,7 +391,7 @@ module _ (kept settled : Presence) (k : Remainder) (limit : ℕ) (body old : Lis
         by (Word s) = refl
         by (Gives sent) = refl
 
--- ---- a ruling's status word
+-- ---- the status word of a decision that knew of nothing left
 module _ (s : ApduStatusCode) (b taken : Bool) (kept settled : Presence) (k : Remainder) (limit : ℕ) (body old : List ℕ) where
   abbrev stated : DecisionResult
   stated = statedOf (wordOf s) b taken kept settled (length body) k limit (length old)
@@ -446,7 +446,7 @@ fetched-leaves kept settled k limit body part old = by (eqb (k .count) 0)
     by true = (refl, refl)
     by false = sent-leaves kept settled old (nextPartOf (length body) k limit (length part))
 
--- ---- a decision on lent numbers is the decision on the record that they stand for; and a ruling, where nothing is left, is the decision, but
+-- ---- a decision on lent numbers is the decision on the record that they stand for; and one that knows of nothing left is the decision, but
 -- for a C0 that comes so far
 abbrev asked : (side : ℕ) (frame : List ℕ) (k : Hardware) (handle certificate x y : List ℕ) (room : ℕ) (left : Remainder) (partRoom : ℕ) → Inputs
 asked side frame k handle certificate x y room left partRoom =
@@ -469,7 +469,7 @@ module _ (frame : List ℕ) (side t : ℕ) (handle certificate x y : List ℕ) (
     answer-is : decisionAnswerOf (d .answer) ≡ bare .answer
     answer-is = ap (λ (w : DecisionLeft). w .said .answer) is-d
 
-    -- what the ruling is, the decision is
+    -- what it is without a remainder, the decision is
     module _ (is : bare ≡ whole) where
       numbers : (r : DecisionSaid) (z : Remainder) (limit : ℕ) → r ≡ handedNumbers (handedFrom d) z limit → z ≡ remainderLeft lent bare → limit ≡ frameLimit frame
           → r ≡ decisionNumbers whole (remainderLeft lent whole) (frameLimit frame)
@@ -561,7 +561,7 @@ module _ (frame : List ℕ) (side t : ℕ) (handle certificate x y : List ℕ) (
         block-kept : new ≡ old
         block-kept = ap (λ (w : DecisionLeft). w .block) is-d ∙ rw word-is
 
-        -- where the decision is the ruling, its word
+        -- where the decision is the one without a remainder, its word
         module _ (is : bare ≡ whole) where
           word-whole : whole .answer ≡ Word (wordOf s)
           word-whole = ap (λ (r : DecisionResult). r .answer) (sym is) ∙ word-is

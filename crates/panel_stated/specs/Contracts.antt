@@ -93,7 +93,7 @@ FetchedPlain kept settled k limit body entry r exit =
     let fetched = along (fetchPath (length body) k limit (length entry)) kept settled 0 0 in
     (r ≡ decisionNumbers fetched (remainderAfter (fetched .answer) true k) limit) × (exit ≡ partAfter (fetched .answer) (partResponse body k limit) entry)
 
--- a ruling's status word in numbers, and what the buffer for part and status then holds
+-- the status word of a decision that knew of nothing left, in numbers, and what the buffer for part and status then holds
 abbrev pub StatedPlain : ApduStatusCode → (isC0 taken : Bool) → (kept settled : Presence) → Remainder → (limit : ℕ) → (body entry : List ℕ) → DecisionSaid → (exit : List ℕ) → Type 0
 StatedPlain status isC0 taken kept settled k limit body entry r exit =
     let stated = statedOf (wordOf status) isC0 taken kept settled (length body) k limit (length entry) in
