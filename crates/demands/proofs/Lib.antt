@@ -1,1 +1,7 @@
+pub mod Runs
+pub mod Fetched
+pub mod Answers
+pub mod Reached
 pub mod Theorems
+pub mod Refuted
+pub mod Index

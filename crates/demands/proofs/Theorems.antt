@@ -1,146 +1,153 @@
--- The three demands are met: each field is the theorem of its claim's name.
-use Rattle.outcome.proofs.Theorems as Numbers
-use Rattle.octets.proofs.Theorems as Bytes
-use Rattle.apdu_le.proofs.Theorems as LeFields
-use Rattle.signing_fields.proofs.Theorems as Fields
-use Rattle.apdu_stated.proofs.Theorems as Frames
-use Rattle.apdu_table_stated.proofs.Theorems as Tables
-use Rattle.convert_stated.proofs.Theorems as Converter
-use Rattle.command_stated.proofs.Theorems as Commands
-use Rattle.response_stated.proofs.Theorems as Responses
-use Rattle.session_stated.proofs.Theorems as Sessions
-use Rattle.u2f_up_stated.proofs.Theorems as Presence
-use Rattle.signing_stated.proofs.Theorems as Signing
+-- The theorem on top, from the theorems of the crates below: by proofs/Runs.antt each sentence is one of theirs.
+use Prim.Native.Nat.{ℕ, zero, suc, _+_, _<_, _≤_}
+use mathlib.Core.Path.{_≡_, ap, sym, subst, _∙_}
+use mathlib.Core.List.{List, _∷_, _++_}
+use mathlib.Core.Logic.{_↔_, _⊎_, inl, inr, ⊎-elim}
+use native.Mathlib.Omega.{arith}
+use Rattle.octets.specs.Bytes.{byte}
+use Rattle.outcome.specs.Outcome.{Outcome, Gives}
+use Rattle.u2f_up_stated.specs.declared.Presence.{Presence}
+use Rattle.u2f_up_stated.specs.declared.Window.the-variants.{Opened}
+use Rattle.u2f_up_stated.specs.Moments.{newOf}
+use Rattle.u2f_up_stated.specs.Terms.{BadWindow}
+use Rattle.u2f_up_stated.specs.Demand.{RunOf}
+use Rattle.u2f_up_stated.proofs.Theorems as Up
+use Rattle.u2f_up_stated.proofs.Laws.{bad-window}
+use Rattle.signing_stated.specs.Words.{Order}
+use Rattle.ctap1_stated.specs.Words.{DecisionGives, Ordered, Inputs}
+use Rattle.ctap1_stated.specs.Decision.{decisionOf, blockAfter}
+use Rattle.ctap1_stated.specs.Calls.{panelCalls}
+use Rattle.ctap1_stated.specs.Terms as Terms
 use Rattle.ctap1_stated.proofs.Theorems as Decision
-use Rattle.panel_stated.proofs.Theorems as Panel
-use Rattle.demands.specs.Demands.{EveryInputIsAnswered, AsTheDocumentsSay, TouchesAreAsTheHistorySays, Demands}
+use Rattle.panel_stated.specs.declared.Made.{Made}
+use Rattle.panel_stated.specs.declared.DecisionSaid.{DecisionSaid}
+use Rattle.panel_stated.specs.Numbers.{answerNo, decidedNo, windowOf, presenceOf}
+use Rattle.panel_stated.specs.Exports.{AfterDeciding, orderAfter}
+use Rattle.panel_stated.proofs.Outcomes as Outcomes
+use Rattle.panel_stated.proofs.Theorems as Panel′
+use Rattle.demands.specs.Panel.{Panel, Meets}
+use Rattle.demands.specs.Calls.{Lent, CCall, Decide, on, lentOf, recordAfter}
+use Rattle.demands.specs.Demands as Claims
+use Rattle.demands.specs.Demands.{Demand3, OrdersPresent, OrdersNext, OrdersHaveTheirTouch}
+use Rattle.demands.proofs.Fetched.{so-far, takes, enough}
+use Rattle.demands.proofs.Reached.{reached}
+use Rattle.demands.proofs.Answers.{commands, responses, finishing, finishes, presences, sides, hands-back}
+use Rattle.demands.proofs.Runs.{asPanel, allAs, all-append, all-length, there, record-in, came-same, call-same, history-same}
 
-pub answered : EveryInputIsAnswered
-answered =
-    record {
-      numbers-determined = Numbers.ResultsDetermined;
-      bytes-determined = Bytes.ResultsDetermined;
-      le-determined = LeFields.ResultsDetermined;
-      fields-determined = Fields.ResultsDetermined;
-      frames-determined = Frames.ResultsDetermined;
-      tables-determined = Tables.ResultsDetermined;
-      converter-determined = Converter.ResultsDetermined;
-      commands-determined = Commands.ResultsDetermined;
-      presence-determined = Presence.ResultsDetermined;
-      responses-determined = Responses.ResultsDetermined;
-      signing-determined = Signing.ResultsDetermined;
-      decision-determined = Decision.ResultsDetermined;
-      exports-determined = Panel.ResultsDetermined;
-      records = Presence.MakesExactly;
-      moments = Presence.SettlesExactly;
-      touches = Presence.TouchesExactly;
-      checks = Presence.ChecksExactly;
-      asks = Presence.AsksExactly;
-      writing = Frames.WriteExactly;
-      strict-writing = Frames.StrictWriteExactly;
-      frames-as-claimed = Frames.ContractsAsClaimed;
-      tables-as-claimed = Tables.ContractsAsClaimed;
-      converting = Converter.ConvertExactly;
-      converter-as-claimed = Converter.ContractsAsClaimed;
-      commands = Commands.CommandExactly;
-      responses-written = Responses.WritesExactly;
-      responses-read = Responses.ReadsExactly;
-      next-parts = Responses.NextExactly;
-      decision = Decision.DecidesExactly;
-      sides-refused = Decision.SideRefusedExactly;
-      sides-cross = Panel.SideCrosses;
-      finishing = Signing.FinishesExactly;
-      refusals-change-nothing = Decision.RefusalChangesNothing;
-      replies = Decision.RepliesExactly;
-      block = Panel.BlockExactly;
-      exported-readings = Panel.ReadExported;
-      exported-strict-readings = Panel.ReadStrictExported;
-      exported-writing = Panel.WriteExported;
-      exported-strict-writing = Panel.WriteStrictExported;
-      exported-decisions = Panel.DecideExported;
-      exported-parts = Panel.NextPartExported;
-      exported-responses = Panel.ResponseExported;
-      exports-as-claimed = Panel.ContractsAsClaimed;
-      refusals-hand-back = Panel.RefusalHandsBack;
-      remainder = Decision.RemainderExactly;
-      old-form-refused = Decision.OldFormRefused;
-      part-buffer = Decision.PartsExactly;
-      order-has-room = Decision.OrderHasRoom;
-    }
+-- a window's number, opened
+opened-no : (n m : ℕ) → windowOf n ≡ Opened m → n ≡ m + 1
+opened-no zero m e = let z : _≡_ {A = ℕ} 0 1 = cc in absurd (omega arith)
+opened-no (suc n) m e = let z : n ≡ m = cc in omega arith
 
-pub documents : AsTheDocumentsSay
-documents =
-    record {
-      base-presence = Presence.BaseExactly;
-      base-decisions = Decision.BaseDecidesExactly;
-      one-side = Presence.OneSideIsBase;
-      one-side-decided = Decision.OneSideIsBase;
-      lent-records-differ = Presence.LentRecordDiffers;
-      status-numbers = Numbers.StatusNumbers;
-      refusal-numbers = Numbers.RefusalNumbers;
-      fault-numbers = Numbers.FaultExactly;
-      status-words = Numbers.WordExactly;
-      slices = Bytes.PartExactly;
-      zeros = Bytes.ZeroExactly;
-      two-bytes = Bytes.TwoBytesExactly;
-      four-bytes = Bytes.FourBytesExactly;
-      laid-bytes = Bytes.LaidExactly;
-      two-fields = Fields.WritesTwo;
-      three-fields = Fields.WritesThree;
-      four-fields = Fields.WritesFour;
-      five-fields = Fields.WritesFive;
-      le-read = LeFields.ReadExactly;
-      le-written = LeFields.PutExactly;
-      le-fits = LeFields.FitsExactly;
-      le-both-ways = LeFields.BothWays;
-      reading = Frames.ReadingExactly;
-      strict = Frames.StrictExactly;
-      iso = Frames.IsoExactly;
-      tolerated = Frames.ToleratedExactly;
-      strict-iso = Frames.StrictIsIso;
-      differences = Frames.DifferExactly;
-      frames-to-try = Frames.ExamplesRead;
-      old-form = Converter.OldExactly;
-      converted-is-read = Converter.ConvertedIsRead;
-      changes = Converter.ChangesExactly;
-      converts-to-itself = Converter.ConvertsToItself;
-      second-reader = Tables.SameReading;
-      readers-agree = Tables.ReadersAgree;
-      one-row = Tables.OneRowFits;
-      tables = Tables.TablesExactly;
-      rows-as-the-table = Tables.RowsAsTheTable;
-      any-table = Tables.AnswersExactly;
-      places = Frames.PlacesExactly;
-      carried-by-decisions = Decision.LengthsCarried;
-      response-read-back = Responses.WrittenThenRead;
-      response-written-back = Responses.ReadThenWritten;
-      limits = Decision.LimitsExactly;
-      fetched-parts = Sessions.FetchesNext;
-      parts-joined = Sessions.SessionJoins;
-      parts-within = Sessions.SessionLimits;
-      parts-counted = Sessions.SessionParts;
-      parts-tell = Sessions.SessionTells;
-      parts = Commands.CutAtPlaces;
-      parts-in-c = Panel.PlacesCut;
-      register-orders = Signing.MakesRegister;
-      authenticate-orders = Signing.MakesAuthenticate;
-      register-replies = Signing.RegisterRoundTrip;
-      authenticate-replies = Signing.AuthenticateRoundTrip;
-      read-then-written = Frames.ReadThenWritten;
-      written-then-read = Frames.WrittenThenRead;
-      accepted-as-read = Frames.AcceptsWhatIsRead;
-      strict-there-and-back = Frames.StrictThereAndBack;
-    }
+-- ---- making a record
+made-exactly : (w : ℕ) → (answerNo (newOf w) ≡ 0x9000) ↔ ((1 ≤ w) × (w ≤ 60000))
+made-exactly w = by (bad-window w)
+  where
+    by : Dec (BadWindow w) → (answerNo (newOf w) ≡ 0x9000) ↔ ((1 ≤ w) × (w ≤ 60000))
+    by (yes b) =
+        let six : answerNo (newOf w) ≡ 6 = ap answerNo (Up.MakesExactly .r6 w .1 b) in
+        (λ e. absurd (omega (arith, six)), λ h. absurd (⊎-elim (λ z. omega arith) (λ z. omega arith) b))
+    by (no n) =
+        (λ e. (omega (arith, not-zero), omega (arith, not-above)), λ h. ap answerNo (Up.MakesExactly .makes w n))
+      where
+        not-zero : w ≡ 0 → ⊥
+        not-zero z = n (inl z)
 
-pub touches : TouchesAreAsTheHistorySays
-touches =
-    record {
-      over-every-run = Decision.Demand3OfThePanel;
-      decisions-keep = Decision.KeepsToItsRole;
-      orders-need-a-touch = Decision.OrdersNeedATouch;
-      orders-have-their-touch = Decision.OrdersHaveTheirTouch;
-      over-numbers = Panel.RunsOverNumbers;
-    }
+        not-above : 60000 < w → ⊥
+        not-above z = n (inr z)
 
-pub met : Demands
-met = record { answered = answered; documents = documents; touches = touches }
+-- ---- demand 3
+module _ (P : Panel) (M : Meets P) (w : ℕ) (low : 0 < w) (high : w ≤ 60000) (calls : List CCall) where
+  meets : RunOf panelCalls w (allAs calls)
+  meets = Decision.Demand3OfThePanel w low high (allAs calls)
+
+  demand3 : Demand3 P w calls
+  demand3 = record {
+    foretells = λ c. rw (came-same P M w low high calls c, history-same P M w low high calls, call-same P M w low high c) (meets .foretells (asPanel c));
+    refuses-side = λ c. rw (came-same P M w low high calls c, call-same P M w low high c) (meets .refuses-side (asPanel c));
+    refuses = λ c. rw (came-same P M w low high calls c, history-same P M w low high calls, call-same P M w low high c) (meets .refuses (asPanel c));
+    refuses-no-window = λ c. rw (came-same P M w low high calls c) (meets .refuses-no-window (asPanel c));
+    accepts = λ c. rw (came-same P M w low high calls c, history-same P M w low high calls, call-same P M w low high c) (meets .accepts (asPanel c));
+    finds = λ c s. rw (came-same P M w low high calls c, history-same P M w low high calls, call-same P M w low high c) (meets .finds (asPanel c) s);
+    serves = λ c. rw (came-same P M w low high calls c, history-same P M w low high calls, call-same P M w low high c) (meets .serves (asPanel c));
+    once = rw (history-same P M w low high calls) (meets .once);
+    holds = λ k t late held later earlier split long.
+        opened-no _ _
+        (ap (λ (p : Presence). p .touch) (record-in P M w low high earlier)
+        ∙ meets .holds k t (rw (← history-same P M w low high calls) late) (rw (← history-same P M w low high calls) held) (allAs later) (allAs earlier)
+        (ap allAs split ∙ all-append later earlier) (omega (arith, all-length earlier, long)));
+    asker = rw (history-same P M w low high calls) (ap (λ (p : Presence). p .asker) (record-in P M w low high calls) ∙ meets .asker);
+    side-totals = λ s. rw (history-same P M w low high calls) (meets .side-totals s);
+    totals = rw (history-same P M w low high calls) (meets .totals);
+    one-held = rw (history-same P M w low high calls) (meets .one-held);
+    two-sides = rw (history-same P M w low high calls) (meets .two-sides);
+  }
+
+-- ---- orders
+says-present : (o : Outcome DecisionGives) (order : Order) (old : List ℕ) → o ≡ Gives Ordered
+    → (orderAfter o order .kind ≡ 1) ⊎ ((orderAfter o order .kind ≡ 2) × (byte (blockAfter o (order .bytes) old) 32 ≡ 0x01)) → Terms.SaysPresent order
+says-present o order old e h = rw e at h
+
+-- such an order in C's numbers is one of the definition
+orders-there : (p : Presence) (t : ℕ) (a : Inputs) (old : List ℕ) (r : AfterDeciding)
+    → r .said .answer ≡ decidedNo (decisionOf p t a .answer)
+    → r .said .order ≡ orderAfter (decisionOf p t a .answer) (decisionOf p t a .order)
+    → r .block ≡ blockAfter (decisionOf p t a .answer) (decisionOf p t a .order .bytes) old
+    → OrdersPresent r → Terms.OrdersPresent (decisionOf p t a)
+orders-there p t a old r answer order block (e, h) =
+    let ordered = Panel′.DecisionTells .ordered (decisionOf p t a .answer) (Outcomes.decision-said p t a) .0 (sym answer ∙ e) in
+    (ordered, says-present (decisionOf p t a .answer) (decisionOf p t a .order) old ordered (rw (← order, ← block) h))
+
+module _ (P : Panel) (M : Meets P) (w : ℕ) (low : 0 < w) (high : w ≤ 60000) where
+  ordered-in : (earlier : List CCall) (i : Lent) → OrdersNext P w earlier i → Terms.OrdersPresent (decisionOf (there P M w low high earlier) (i .moment) (lentOf i))
+  ordered-in earlier i o =
+      let n = recordAfter P w earlier in
+      let m = M .decide (on n i) in
+      subst (λ (p : Presence). Terms.OrdersPresent (decisionOf p (i .moment) (lentOf i))) (record-in P M w low high earlier)
+      (orders-there (presenceOf n) (i .moment) (lentOf i) (i .block) (P .decide (on n i)) (ap (λ (r : DecisionSaid). r .answer) (m .0)) (ap (λ (r : DecisionSaid). r .order) (m .0)) (m .2) o)
+
+  orders : OrdersHaveTheirTouch P w
+  orders = record {
+    own = λ earlier i o. rw (history-same P M w low high earlier) (Decision.OrdersHaveTheirTouch .own w low high (allAs earlier) (i .moment) (lentOf i) (ordered-in earlier i o));
+    apart = λ earlier later i j k l o e q f.
+        Decision.OrdersHaveTheirTouch .apart w low high (allAs earlier) (allAs later) (i .moment) (j .moment) (lentOf i) (lentOf j) k l
+        (ordered-in earlier i o)
+        (rw (← history-same P M w low high earlier) e)
+        (rw (← all-append later (Decide i ∷ earlier)) (ordered-in (later ++ Decide i ∷ earlier) j q))
+        (rw (← all-append later (Decide i ∷ earlier), ← history-same P M w low high (later ++ Decide i ∷ earlier)) f);
+  }
+
+-- ---- the theorem
+pub OnTop : Claims.OnTop
+OnTop P M = record {
+  makes = λ w. rw (M .new w) (made-exactly w);
+  touches = λ w made calls. let h = made-exactly w .0 (from w made) in demand3 P M w (h .0) (h .1) calls;
+  orders = λ w made. let h = made-exactly w .0 (from w made) in orders P M w (h .0) (h .1);
+  bodies = record {
+    so-far = λ body buffer n limit asks. so-far P M body buffer n limit asks;
+    takes = λ body r i. takes P M body r i;
+    enough = λ body r asks. enough P M body r asks;
+  };
+  reaches = λ i. reached P M i;
+  finished = finishes P M;
+  answers = record {
+    presences = presences P M;
+    sides = sides P M;
+    hands-back = hands-back P M;
+    reads = Panel′.ContractsAsClaimed .read (P .read) (M .read);
+    reads-strictly = Panel′.ContractsAsClaimed .read-strict (P .read-strict) (M .read-strict);
+    reads-by-table = Panel′.ContractsAsClaimed .read-by-table (P .read-by-table) (M .read-by-table);
+    reads-strictly-by-table = Panel′.ContractsAsClaimed .read-strict-by-table (P .read-strict-by-table) (M .read-strict-by-table);
+    writes = Panel′.ContractsAsClaimed .write (P .write) (M .write);
+    writes-strictly = Panel′.ContractsAsClaimed .write-strict (P .write-strict) (M .write-strict);
+    commands = commands P M;
+    decides = Panel′.ContractsAsClaimed .decide (P .decide) (M .decide);
+    finishes = finishing P M;
+    responds = Panel′.ContractsAsClaimed .write-response (P .write-response) (M .write-response);
+    responses = responses P M;
+    parts = Panel′.ContractsAsClaimed .next-part (P .next-part) (M .next-part);
+  };
+}
+  where
+    from : (w : ℕ) → P .new w .answer ≡ 0x9000 → answerNo (newOf w) ≡ 0x9000
+    from w made = ap (λ (m : Made). m .answer) (sym (M .new w)) ∙ made

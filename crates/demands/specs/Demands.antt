@@ -1,215 +1,126 @@
--- The three demands on this panel's core, in its users' words; each field is the claim that meets the sentence above it.
--- proofs/Theorems.antt inhabits the record. A claim `X f` of a crate speaks of any function f: here it is said of the definition f, and
--- that crate's contracts say that its functions give what f gives. What each claim means, a wrong program that it rejects and an
--- input where it bites stand beside it in that crate's specs/Claims.antt; that nothing but f meets it, in proofs/Only.antt.
-use mathlib.Core.List.{_++_}
-use Rattle.outcome.specs.Claims as Numbers
-use Rattle.outcome.specs.Outcome.{statusNo, faultOf, wordOf, refusalNo}
-use Rattle.octets.specs.Claims as Bytes
-use Rattle.octets.specs.Bytes.{laid, bytes2, bytes4, allZero, partOf}
-use Rattle.apdu_le.specs.Claims as LeFields
-use Rattle.apdu_le.specs.Field.{saidOf, putOf, canSay}
-use Rattle.signing_fields.specs.Claims as Fields
-use Rattle.apdu_stated.specs.Table.{leBytes}
-use Rattle.apdu_stated.specs.Claims as Frames
-use Rattle.apdu_stated.specs.Reading.{readOf, strictOf, dataOf}
-use Rattle.apdu_stated.specs.Terms.{InTable, Carries}
-use Rattle.apdu_stated.specs.Writing.{writingOf, strictWritingOf}
-use Rattle.apdu_stated.specs.declared.Entry.the-variants.{Ordinary, Strict}
-use Rattle.apdu_table_stated.specs.Claims as Tables
-use Rattle.apdu_table_stated.specs.Rows.{tableOf}
-use Rattle.apdu_table_stated.specs.Answers.{readByRows}
-use Rattle.convert_stated.specs.Claims as Converter
-use Rattle.convert_stated.specs.Converting.{isOld, convertOf}
-use Rattle.command_stated.specs.Claims as Commands
-use Rattle.command_stated.specs.Command.{commandOf, challengeOf, applicationOf, handleOf, challengePlaceOf, applicationPlaceOf, handlePlaceOf}
-use Rattle.response_stated.specs.Claims as Responses
-use Rattle.response_stated.specs.Responses.{readResponseOf, responseBodyOf}
-use Rattle.response_stated.specs.Terms.{writingOf as respondingOf, sendingOf}
-use Rattle.u2f_up_stated.specs.Claims as Presence
-use Rattle.u2f_up_stated.specs.Moments.{newOf, settleOf, touchOf, checkOf, askOf}
-use Rattle.u2f_up_stated.specs.History.{Checking}
-use Rattle.u2f_up_stated.specs.Runs.{own}
-use Rattle.u2f_up_stated.specs.OneSide.{base, baseBy, baseSettleOf, baseCheckedOf}
-use Rattle.signing_stated.specs.Claims as Signing
-use Rattle.signing_stated.specs.Orders.{registerOrderOf, authenticateOrderFor}
-use Rattle.signing_stated.specs.Finishing.{finishOf, endOf}
-use Rattle.ctap1_stated.specs.Claims as Decision
-use Rattle.ctap1_stated.specs.Path.{frameLimit}
-use Rattle.ctap1_stated.specs.Decision.{decisionOf, replyLeft, blockAfter}
-use Rattle.ctap1_stated.specs.Session.{remainderLeft, partLeft}
-use Rattle.session_stated.specs.Claims as Sessions
-use Rattle.ctap1_stated.specs.Calls.{panelCalls}
-use Rattle.ctap1_stated.specs.OneSide.{baseDecisionOf}
-use Rattle.panel_stated.specs.Claims as Panel
-use Rattle.panel_stated.specs.Numbers.{presenceOf, presenceNumbers}
-use Rattle.panel_stated.specs.Exports.{madeNumbers, askedNumbers, stepNumbers, saidBy, frameNumbers, commandNumbers, readsOf, writesOf, decidesOf, nextsOf, respondsOf}
+-- ONE THEOREM ON TOP. Of any panel P, that is of any sixteen functions that C could link (specs/Panel.antt):
+--
+--     OnTop = (P : Panel) → Meets P → Demands P
+--
+-- If each meets the contract of its export at every input, then over any calls that C makes (specs/Calls.antt, specs/Sessions.antt)
+--   touches   what C sees of a touch, a check, an ask or a decision is what the calls before it foretell, per side: demand 3;
+--   orders    no order says that a person was there without a touch of its own, of its own side;
+--   finished  an order that was given is finished, if the signer does not fail;
+--   bodies    GET RESPONSEs at any mixture of Le fetch a body whole, and come to an end;
+--   answers   each call by itself answers, and leaves, what the documents say.
+-- The words of a history (Mark, accepted, heldAt, serverOf, ..) are those of u2f_up_stated's specs/History.antt. Lists of calls are NEWEST FIRST, lists of
+-- GET RESPONSEs run from left to right. Proved in proofs/Theorems.antt; proofs/Refuted.antt has a panel that meets the contracts, and wrong ones that fail.
+use Prim.Native.Nat.{ℕ, _+_, _<_, _≤_}
+use mathlib.Core.Path.{_≡_}
+use mathlib.Core.List.{List, [], _∷_, _++_}
+use mathlib.Core.Logic.{_↔_, _⊎_}
+use mathlib.Core.Option.{some}
+use lib.ListN.{length, take}
+use Rattle.octets.specs.Bytes.{byte}
+use Rattle.outcome.specs.Outcome.{lastRefusal}
+use Rattle.response_stated.specs.declared.Remainder.{Remainder}
+use Rattle.response_stated.specs.Words.{rest}
+use Rattle.response_stated.specs.Fetching.{remaining}
+use Rattle.u2f_up_stated.specs.Demand.{RunMeets}
+use Rattle.u2f_up_stated.specs.History.{Checking, Mark, heldAt, serverOf}
+use Rattle.panel_stated.specs.Exports.{ToDecide, ToFinish, AfterDeciding}
+use Rattle.panel_stated.specs.Claims as Exports
+use Rattle.demands.specs.Panel.{Panel, Meets}
+use Rattle.demands.specs.Answers.{CommandExported, ResponseReadExported, FinishExported, PresenceExported}
+use Rattle.demands.specs.Sessions.{IsC0, IsGetResponse, Unhindered, Each, bytesOf, firstBytes, fetch, fetched, leftAfter}
+use Rattle.demands.specs.Calls.{Lent, CCall, Decide, on, asCall, Reaches, recordAfter, cameNext, historyOf}
 
--- 1. Every frame, moment, answer and buffer length gets an answer, and nothing is asked of the caller beforehand. Every function ends and
--- meets its contract on every input: the check of its crate. That none has a `requires`: the gate's look at the contracts.
-pub record EveryInputIsAnswered : Type 0 where
-  -- the contracts leave nothing open: two results, and two final contents of what was lent, that meet one are equal
-  pub numbers-determined : Numbers.ResultsDetermined
-  pub bytes-determined : Bytes.ResultsDetermined
-  pub le-determined : LeFields.ResultsDetermined
-  pub fields-determined : Fields.ResultsDetermined
-  pub frames-determined : Frames.ResultsDetermined
-  pub tables-determined : Tables.ResultsDetermined
-  pub converter-determined : Converter.ResultsDetermined
-  pub commands-determined : Commands.ResultsDetermined
-  pub presence-determined : Presence.ResultsDetermined
-  pub responses-determined : Responses.ResultsDetermined
-  pub signing-determined : Signing.ResultsDetermined
-  pub decision-determined : Decision.ResultsDetermined
-  pub exports-determined : Panel.ResultsDetermined
-  -- each refusal comes exactly under its condition: R6, R8 (02, E7) and R1, making and settling a record; touch, check, ask
-  pub records : Presence.MakesExactly newOf
-  pub moments : Presence.SettlesExactly settleOf
-  pub touches : Presence.TouchesExactly touchOf
-  pub checks : Presence.ChecksExactly checkOf
-  pub asks : Presence.AsksExactly askOf
-  -- R5 and R2 of the writer, and of the strict one (02, E4); what meets a contract of reading or writing meets these claims
-  pub writing : Frames.WriteExactly Carries InTable writingOf
-  pub strict-writing : Frames.StrictWriteExactly strictWritingOf
-  pub frames-as-claimed : Frames.ContractsAsClaimed
-  pub tables-as-claimed : Tables.ContractsAsClaimed
-  -- the converter's status and R2, and what it leaves of the buffer: 02, E13
-  pub converting : Converter.ConvertExactly convertOf
-  pub converter-as-claimed : Converter.ContractsAsClaimed
-  -- every status of command reading
-  pub commands : Commands.CommandExactly commandOf
-  -- R2 of responses, written and read, and of the next part of a body: 02, E2
-  pub responses-written : Responses.WritesExactly respondingOf
-  pub responses-read : Responses.ReadsExactly readResponseOf
-  pub next-parts : Responses.NextExactly sendingOf
-  -- every answer of the decision, by document 01's table, E2's rows and E7's: R6, R8, R1, R2, 6f00, 6986, 6985, 6a80, the frame's own, bodies, orders, parts
-  pub decision : Decision.DecidesExactly decisionOf
-  -- 02, E7: R8 at every decision, and over plain numbers for every number that is no side's, as it was lent
-  pub sides-refused : Decision.SideRefusedExactly decisionOf
-  pub sides-cross : Panel.SideCrosses (λ n t. stepNumbers (touchOf (presenceOf n) t)) (λ n t. askedNumbers (askOf (presenceOf n) t .outcome)) (λ n s t. stepNumbers (checkOf (presenceOf n) s t)) decidesOf
-  -- R7, R4, R2, 6f00, R3 and the bodies of finishing
-  pub finishing : Signing.FinishesExactly endOf
-  -- and leaves buffers and records as they were
-  pub refusals-change-nothing : Decision.RefusalChangesNothing decisionOf replyLeft
-  pub replies : Decision.RepliesExactly decisionOf replyLeft
-  pub block : Panel.BlockExactly blockAfter
-  -- the same over plain numbers, as C calls it: each lent thing under its name, what it is answered, and what is left in every buffer
-  pub exported-readings : Panel.ReadExported (readsOf Ordinary)
-  pub exported-strict-readings : Panel.ReadStrictExported (readsOf Strict)
-  pub exported-writing : Panel.WriteExported (writesOf Ordinary)
-  pub exported-strict-writing : Panel.WriteStrictExported (writesOf Strict)
-  pub exported-decisions : Panel.DecideExported decidesOf
-  pub exported-parts : Panel.NextPartExported nextsOf
-  pub exported-responses : Panel.ResponseExported respondsOf
-  -- what meets an export's contract meets its claim
-  pub exports-as-claimed : Panel.ContractsAsClaimed
-  pub refusals-hand-back : Panel.RefusalHandsBack (λ n t. stepNumbers (touchOf (presenceOf n) t)) (λ n s t. stepNumbers (checkOf (presenceOf n) s t)) saidBy
-  -- 02, E2: the remainder is dropped exactly when the document says, and only a part changes the buffer for part and status
-  pub remainder : Decision.RemainderExactly decisionOf remainderLeft
-  pub part-buffer : Decision.PartsExactly decisionOf frameLimit partLeft
-  -- 02, E13: a decision gives the retired shape 6 its 6700, surplus at its Le byte, and such a frame drops a remainder, whatever its INS
-  pub old-form-refused : Decision.OldFormRefused decisionOf remainderLeft
-  -- the enrolment that was lost: an order has asked for its room before the touch was spent
-  pub order-has-room : Decision.OrderHasRoom decisionOf
+-- ---- demand 3, after the calls `calls` (newest first) from `brinecandle_new w` on: u2f_up_stated's sentences (specs/Demand.antt), of what C sees. The touch window is
+-- the third number in C's hand, a moment and one more
+abbrev pub Demand3 : (P : Panel) (w : ℕ) → List CCall → Type 0
+Demand3 P w calls =
+    RunMeets w asCall calls (historyOf P w calls) (cameNext P w calls) (λ earlier m. recordAfter P w earlier .touch ≡ m + 1) (recordAfter P w calls .asker)
 
--- 2. The results are the Rust's, statuses by their number alone, bodies uncut, without INS C0 (02, E2) and the old form (E13), and
--- with one side throughout (E7): that is run, not proved (oracle/compare, and the Rust's own answers in cases/). Proved is what
--- stands below.
-pub record AsTheDocumentsSay : Type 0 where
-  -- 02, E7: "demand 2 compares runs with one side only": from a fresh record, with one side throughout, calls and decisions are those of the base, which had no sides
-  pub base-presence : Presence.BaseExactly baseSettleOf baseCheckedOf
-  pub base-decisions : Decision.BaseDecidesExactly baseDecisionOf
-  pub one-side : Presence.OneSideIsBase own base
-  pub one-side-decided : Decision.OneSideIsBase decisionOf baseDecisionOf
-  pub lent-records-differ : Presence.LentRecordDiffers checkOf (baseBy (Checking 1))
-  -- the numbers of status words and refusals, what a 6700 says of the length, and the word that carries both
-  pub status-numbers : Numbers.StatusNumbers statusNo
-  pub refusal-numbers : Numbers.RefusalNumbers refusalNo
-  pub fault-numbers : Numbers.FaultExactly faultOf
-  pub status-words : Numbers.WordExactly statusNo faultOf wordOf
-  -- bytes in and out of lent slices: a part of one, zeros, big-endian numbers, fields laid at its front one behind the other
-  pub slices : Bytes.PartExactly partOf
-  pub zeros : Bytes.ZeroExactly allZero
-  pub two-bytes : Bytes.TwoBytesExactly bytes2
-  pub four-bytes : Bytes.FourBytesExactly bytes4
-  pub laid-bytes : Bytes.LaidExactly laid
-  pub two-fields : Fields.WritesTwo (λ a b old. laid (a ++ b) old)
-  pub three-fields : Fields.WritesThree (λ a b c old. laid (a ++ (b ++ c)) old)
-  pub four-fields : Fields.WritesFour (λ a b c d old. laid (a ++ (b ++ (c ++ d))) old)
-  pub five-fields : Fields.WritesFive (λ a b c d e old. laid (a ++ (b ++ (c ++ (d ++ e)))) old)
-  -- the rule of Le by itself, read and written (02, E5)
-  pub le-read : LeFields.ReadExactly saidOf
-  pub le-written : LeFields.PutExactly putOf
-  pub le-fits : LeFields.FitsExactly canSay
-  pub le-both-ways : LeFields.BothWays saidOf leBytes
-  -- frames are read and written by the case table of ISO 7816-3, with the tolerated forms listed: since 02, E13, one form
-  pub reading : Frames.ReadingExactly InTable readOf
-  pub strict : Frames.StrictExactly strictOf
-  pub iso : Frames.IsoExactly readOf
-  pub tolerated : Frames.ToleratedExactly readOf
-  -- 02, E4: "The strict frames are then ISO's seven cases"; where the two readings agree, and what each says where they do not
-  pub strict-iso : Frames.StrictIsIso strictOf
-  pub differences : Frames.DifferExactly readOf strictOf
-  pub frames-to-try : Frames.ExamplesRead readOf
-  -- 02, E13: the converter knows the old form by its own condition; what it makes of a frame is read with the same header, data and Le; only the old form changes,
-  -- and what was converted converts to itself
-  pub old-form : Converter.OldExactly isOld
-  pub converted-is-read : Converter.ConvertedIsRead convertOf
-  pub changes : Converter.ChangesExactly convertOf
-  pub converts-to-itself : Converter.ConvertsToItself convertOf
-  -- 02, E9: the second reader, by a table of rows, is "equal to the branching reader on every frame, E1's pairs included", by both tables; at most one row fits; and by
-  -- any other table it answers by that table's rows
-  pub second-reader : Tables.SameReading tableOf readByRows
-  pub readers-agree : Tables.ReadersAgree
-  pub one-row : Tables.OneRowFits tableOf
-  pub tables : Tables.TablesExactly tableOf
-  pub rows-as-the-table : Tables.RowsAsTheTable tableOf
-  pub any-table : Tables.AnswersExactly readByRows
-  -- 02, E1: "Tell us where the length went wrong": the places in the document's numbers (that they are the only ones, and when each
-  -- comes, is in `reading`, `strict` and the demand above); "Command reading, strict reading and decision carry the pair upward"
-  pub places : Frames.PlacesExactly readOf strictOf
-  pub carried-by-decisions : Decision.LengthsCarried decisionOf
-  -- 02, E2: "body then two status bytes, written and read"; how much a frame takes; "Joining the parts, at any Le values, gives the uncut body", by
-  -- decision after decision; how many there are; each 61 XX tells the truth
-  pub response-read-back : Responses.WrittenThenRead readResponseOf responseBodyOf respondingOf
-  pub response-written-back : Responses.ReadThenWritten readResponseOf responseBodyOf respondingOf
-  pub limits : Decision.LimitsExactly frameLimit
-  pub fetched-parts : Sessions.FetchesNext decisionOf frameLimit partLeft sendingOf
-  pub parts-joined : Sessions.SessionJoins decisionOf frameLimit remainderLeft partLeft sendingOf
-  pub parts-within : Sessions.SessionLimits decisionOf
-  pub parts-counted : Sessions.SessionParts decisionOf frameLimit remainderLeft partLeft sendingOf
-  pub parts-tell : Sessions.SessionTells decisionOf partLeft
-  -- the parts of a frame that are handed back stand where they are said to
-  pub parts : Commands.CutAtPlaces challengeOf applicationOf handleOf challengePlaceOf applicationPlaceOf handlePlaceOf
-  pub parts-in-c : Panel.PlacesCut frameNumbers commandNumbers
-  -- replies are those of FIDO U2F Raw Message Formats 1.2: the bytes to sign, byte by byte, and the replies made of them
-  pub register-orders : Signing.MakesRegister registerOrderOf
-  pub authenticate-orders : Signing.MakesAuthenticate authenticateOrderFor
-  pub register-replies : Signing.RegisterRoundTrip finishOf
-  pub authenticate-replies : Signing.AuthenticateRoundTrip finishOf
-  -- a frame that is read and, given room, written again is the same frame; fields that the writer takes are read back as themselves
-  pub read-then-written : Frames.ReadThenWritten readOf dataOf writingOf
-  pub written-then-read : Frames.WrittenThenRead readOf dataOf writingOf
-  -- the same strictly; and given room, each writer takes exactly what its reader reads
-  pub accepted-as-read : Frames.AcceptsWhatIsRead readOf dataOf writingOf
-  pub strict-there-and-back : Frames.StrictThereAndBack strictOf dataOf strictWritingOf
+-- ---- the sentence on the box: no order without a touch of its own, of its own side
 
--- 3. From a fresh presence record, each call taking the record that the last one gave back, for any sequence of calls:
-pub record TouchesAreAsTheHistorySays : Type 1 where
-  -- (decisions on C0 among them: 02, E2, "demand 3 is unchanged")
-  -- a call that comes to the touch check finds a touch exactly when the history holds an accepted one, unspent and younger than the
-  -- touch window; no touch serves two calls; touches accepted = calls that spent one + lapsed touches + at most one still live; 02, E7: 'a touch
-  -- of its own side', "totals kept per side"
-  pub over-every-run : Decision.Demand3OfThePanel panelCalls
-  -- a decision does nothing else to a record, whatever record is lent
-  pub decisions-keep : Decision.KeepsToItsRole decisionOf
-  -- the sentence on the box: no order says that a person was there but for a touch of its own, of its own side
-  pub orders-need-a-touch : Decision.OrdersNeedATouch decisionOf
-  pub orders-have-their-touch : Decision.OrdersHaveTheirTouch decisionOf
-  -- the same over the numbers that the firmware holds, from `brinecandle_new` on
-  pub over-numbers : Panel.RunsOverNumbers (λ w. madeNumbers (newOf w)) presenceOf presenceNumbers
+-- an order to sign that says a person was there: answer 0100, and a Register, or an Authenticate whose presence byte (block[32]) is 01
+abbrev pub OrdersPresent : AfterDeciding → Type 0
+OrdersPresent r = (r .said .answer ≡ 0x0100) × ((r .said .order .kind ≡ 1) ⊎ ((r .said .order .kind ≡ 2) × (byte (r .block) 32 ≡ 0x01)))
 
-pub record Demands : Type 1 where
-  pub answered : EveryInputIsAnswered
-  pub documents : AsTheDocumentsSay
-  pub touches : TouchesAreAsTheHistorySays
+module _ (P : Panel) (w : ℕ) where
+  -- the next call is a decision, and gives such an order
+  abbrev pub OrdersNext : (earlier : List CCall) → Lent → Type 0
+  OrdersNext earlier i = OrdersPresent (P .decide (on (recordAfter P w earlier) i))
+
+  -- the touch that a call after these is served by
+  abbrev pub ServedBy : (earlier : List CCall) → Mark → Type 0
+  ServedBy earlier k = serverOf w (historyOf P w earlier) ≡ some k
+
+  pub record OrdersHaveTheirTouch : Type 0 where
+    -- it has a touch: the latest accepted one, live, the only one, and of the side that the decision names
+    pub own : (earlier : List CCall) (i : Lent) → OrdersNext earlier i
+        → (k : Mark) × ServedBy earlier k × (heldAt w (historyOf P w earlier) (i .moment) ≡ k ∷ []) × (k .side ≡ i .side)
+    -- and no later order has the same
+    pub apart : (earlier later : List CCall) (i j : Lent) (k l : Mark)
+        → OrdersNext earlier i → ServedBy earlier k
+        → OrdersNext (later ++ Decide i ∷ earlier) j → ServedBy (later ++ Decide i ∷ earlier) l
+        → k .number ≡ l .number → ⊥
+
+-- ---- a body fetched by GET RESPONSEs, at any mixture of Le
+pub record BodiesAreFetched (P : Panel) : Type 0 where
+  -- a body of n bytes, a first part at any limit, and any GET RESPONSEs, refused or not: what went out so far, joined, is the body's front, and
+  -- followed by what is left it is the body
+  pub so-far : (body buffer : List ℕ) (n limit : ℕ) (asks : List ToDecide) → n ≤ length body → Each (IsC0 P) asks
+      → firstBytes (P .next-part body (rest 0 n) limit buffer)
+      ++ (fetched P body (P .next-part body (rest 0 n) limit buffer .said .remainder) asks
+      ++ remaining body (leftAfter P body (P .next-part body (rest 0 n) limit buffer .said .remainder) asks))
+      ≡ take n body
+  -- one that is not refused and finds something left takes at least one byte of it, and leaves the rest
+  pub takes : (body : List ℕ) (r : Remainder) (i : ToDecide) → IsGetResponse P i → 0 < r .count → lastRefusal < fetch P body r i .said .answer
+      → (fetch P body r i .said .answer ≡ 0x0200)
+      × (1 ≤ length (bytesOf (fetch P body r i)))
+      × (length (bytesOf (fetch P body r i)) + fetch P body r i .said .remainder .count ≡ r .count)
+  -- after enough that nothing stands against nothing is left, and what went out is all that was
+  pub enough : (body : List ℕ) (r : Remainder) (asks : List ToDecide) → r .place + r .count ≤ length body
+      → Each (Unhindered P (r .count)) asks → r .count ≤ length asks
+      → (leftAfter P body r asks .count ≡ 0) × (fetched P body r asks ≡ remaining body r)
+
+-- ---- an order is finished: nothing but a failed signer stands between a spent touch and its reply
+abbrev pub OrdersAreFinished : Panel → Type 0
+OrdersAreFinished P =
+    (i : ToDecide) (f : ToFinish) → (length (i .x) ≡ 32) × (length (i .y) ≡ 32)
+    → P .decide i .said .answer ≡ 0x0100 → f .order ≡ P .decide i .said .order → f .block ≡ P .decide i .block
+    → length (f .certificate) ≡ f .order .«certificate_length» → length (i .reply) ≤ length (f .reply) → f .signed ≡ 1 → length (f .signature) ≤ 72
+    → P .finish f .said .answer ≡ 0x9000
+
+-- ---- each call by itself, in numbers: panel_stated's claims on its exports, and specs/Answers.antt
+pub record CallsAnswer (P : Panel) : Type 0 where
+  -- on any record that is lent: touch, check and ask; which of them are R8; a refusal hands back the record that was lent
+  pub presences : PresenceExported (P .grant-up) (P .consume-up) (P .is-up-needed)
+  pub sides : Exports.SideCrosses (P .grant-up) (P .is-up-needed) (P .consume-up) (P .decide)
+  pub hands-back : Exports.RefusalHandsBack (P .grant-up) (P .consume-up) (λ i. P .decide i .said)
+  -- on any frame, order, body and buffer
+  pub reads : Exports.ReadExported (P .read)
+  pub reads-strictly : Exports.ReadStrictExported (P .read-strict)
+  pub reads-by-table : Exports.ReadExported (P .read-by-table)
+  pub reads-strictly-by-table : Exports.ReadStrictExported (P .read-strict-by-table)
+  pub writes : Exports.WriteExported (P .write)
+  pub writes-strictly : Exports.WriteStrictExported (P .write-strict)
+  pub commands : CommandExported (P .read-command)
+  pub decides : Exports.DecideExported (P .decide)
+  pub finishes : FinishExported (P .finish)
+  pub responds : Exports.ResponseExported (P .write-response)
+  pub responses : ResponseReadExported (P .read-response)
+  pub parts : Exports.NextPartExported (P .next-part)
+
+-- ---- all demands on a panel
+pub record Demands (P : Panel) : Type 0 where
+  -- a record is made for W from 1 to 60,000, and for no other
+  pub makes : (w : ℕ) → (P .new w .answer ≡ 0x9000) ↔ ((1 ≤ w) × (w ≤ 60000))
+  -- which decisions reach the touch check, in C's numbers
+  pub reaches : (i : Lent) → (asCall (Decide i) .role ≡ Checking (i .side)) ↔ Reaches P i
+  -- and then, whatever is called, in any order
+  pub touches : (w : ℕ) → P .new w .answer ≡ 0x9000 → (calls : List CCall) → Demand3 P w calls
+  pub orders : (w : ℕ) → P .new w .answer ≡ 0x9000 → OrdersHaveTheirTouch P w
+  pub finished : OrdersAreFinished P
+  pub bodies : BodiesAreFetched P
+  pub answers : CallsAnswer P
+
+-- THE THEOREM, proved in proofs/Theorems.antt
+abbrev pub OnTop : Type 0
+OnTop = (P : Panel) → Meets P → Demands P

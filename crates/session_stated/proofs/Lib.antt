@@ -1,4 +1,5 @@
 pub mod Steps
+pub mod Laws
 pub mod Counts
 pub mod Theorems
 pub mod Refuted

@@ -13,7 +13,7 @@ use Rattle.u2f_up_stated.specs.Moments.{isR6}
 use Rattle.u2f_up_stated.specs.History.{Role, Touching, Checking, TouchFound, Event, Mark, sideOf, isOf, lastMoment, heldAt, heldFor, serverOf, foretold}
 use Rattle.u2f_up_stated.specs.Terms.{RefusedAt, NamesBadSide}
 use Rattle.u2f_up_stated.specs.Runs.{Caller, Keeps, after, comesTo, history}
-use Rattle.u2f_up_stated.specs.Demand.{RunMeets}
+use Rattle.u2f_up_stated.specs.Demand.{RunOf}
 use Rattle.u2f_up_stated.specs.Claims.{Demand3}
 use Rattle.u2f_up_stated.proofs.Cases.{r6-above}
 use Rattle.u2f_up_stated.proofs.Demand as Demand
@@ -53,7 +53,7 @@ module _ {D : Type 0} (𝒞 : Caller D) (keeping : Keeps 𝒞) (w : ℕ) (within
       → (later earlier : List D) → ds ≡ later ++ earlier → k .number < length earlier → after 𝒞 w earlier .touch ≡ Opened (k .moment)
   holds k t late l later earlier e n = Demand.holds 𝒞 keeping w within later earlier k t (rw e at late) (rw e at l) n
 
-  met : RunMeets 𝒞 w ds
+  met : RunOf 𝒞 w ds
   met = record {
     foretells = Demand.foretells 𝒞 keeping w within ds;
     refuses-side = λ d. Exactly.refuses-side w past (moment d) (𝒞 .asCall d .role) (comesTo 𝒞 w ds d) (foretold-own d);
@@ -69,7 +69,6 @@ module _ {D : Type 0} (𝒞 : Caller D) (keeping : Keeps 𝒞) (w : ℕ) (within
     two-sides = Ledger.two-sides w past (Demand.two-sided 𝒞 keeping w within ds);
     totals = Ledger.totals w past (Demand.balanced 𝒞 keeping w within (λ _. true) ds) (Demand.one-each 𝒞 keeping w within ds);
     one-held = Demand.one-held-at 𝒞 keeping w within ds (lastMoment past) (omega arith);
-    each = λ picks. Ledger.accounted w picks past (Demand.balanced 𝒞 keeping w within picks ds);
   }
 
 pub within : (w : ℕ) → 0 < w → w ≤ 60000 → isR6 w ≡ false

@@ -9,7 +9,7 @@ use Rattle.u2f_up_stated.specs.Contracts.{New, Settle, TouchCheck, Grant
 use Rattle.u2f_up_stated.specs.Runs.{Caller, after, next}
 use Rattle.u2f_up_stated.specs.OneSide.{sideless, NamesOnly, OnlySide}
 use Rattle.u2f_up_stated.specs.Terms.{BadWindow, BadSide, BadMoment, NotRefused, HasPrompt, HasTouch, SettlesFirst}
-use Rattle.u2f_up_stated.specs.Demand.{RunMeets}
+use Rattle.u2f_up_stated.specs.Demand.{RunOf}
 
 -- ---- each call, on any record
 
@@ -81,7 +81,7 @@ pub record AsksExactly (ask : Presence → ℕ → Told) : Type 0 where
 -- is proved of the calls of this crate, and of every way of calling that does to the record only what its roles say
 -- (proofs/Laws.antt): decisions join in the crate that has them.
 abbrev pub Demand3 : {D : Type 0} → Caller D → Type 0
-Demand3 {D} 𝒞 = (w : ℕ) → 0 < w → w ≤ 60000 → (ds : List D) → RunMeets 𝒞 w ds
+Demand3 {D} 𝒞 = (w : ℕ) → 0 < w → w ≤ 60000 → (ds : List D) → RunOf 𝒞 w ds
 
 -- ---- runs with one side only
 

@@ -1,0 +1,152 @@
+-- Commands, responses read and finishing, by the contracts and the theorems of the crates below; and that an order is finished.
+use Prim.Native.Nat.{ℕ, _+_, _≤_}
+use mathlib.Core.Path.{_≡_, refl, ap, ap₂, sym, _∙_}
+use mathlib.Core.Bool.{Bool, true, false, not}
+use mathlib.Core.List.{List, [], _∷_, _++_}
+use borrow.Author.Tests.{eq-eqb, le-ltb}
+use lib.Dec.{eqb, ltb}
+use lib.ListN.{length}
+use Rattle.outcome.specs.Notation.{if_then_else_}
+use Rattle.outcome.specs.Outcome.{Outcome, R, Gives}
+use Rattle.command_stated.specs.Command.{Command, commandOf}
+use Rattle.command_stated.specs.Claims as Commands
+use Rattle.command_stated.proofs.Only as CommandsOnly
+use Rattle.command_stated.proofs.Theorems as CommandsProved
+use Rattle.response_stated.proofs.Laws.{read-back, reads-exactly}
+use Rattle.signing_stated.specs.declared.Kind.{Kind}
+use Rattle.signing_stated.specs.Words.{Order}
+use Rattle.signing_stated.specs.Orders.{kindNo, certificateLength, isOfLayout}
+use Rattle.signing_stated.specs.Finishing.{Finishing, Ended, finishOf, endOf, lengthOf, replyOf, roomNeeded, bodyOf}
+use Rattle.signing_stated.specs.Claims as Signing
+use Rattle.signing_stated.proofs.Only as SigningOnly
+use Rattle.signing_stated.proofs.Theorems as SigningProved
+use Rattle.ctap1_stated.specs.Words.{DecisionGives, Ordered}
+use Rattle.ctap1_stated.specs.Decision.{decisionOf, blockAfter}
+use Rattle.ctap1_stated.proofs.Theorems as Decision
+use Rattle.u2f_up_stated.specs.Moments.{Told, touchOf, checkOf, askOf}
+use Rattle.u2f_up_stated.proofs.Only as UpOnly
+use Rattle.u2f_up_stated.proofs.Theorems as UpProved
+use Rattle.panel_stated.specs.Claims as Exports
+use Rattle.panel_stated.specs.declared.Wrote.{Wrote}
+use Rattle.panel_stated.specs.declared.Kinded.{Kinded}
+use Rattle.panel_stated.specs.declared.OrderNumbers.{OrderNumbers}
+use Rattle.panel_stated.specs.declared.DecisionSaid.{DecisionSaid}
+use Rattle.panel_stated.specs.Numbers.{answerNo, presenceOf}
+use Rattle.panel_stated.specs.Exports.{ToDecide, ToFinish, inputsOf, commandNumbers, responseNumbers, lengthNumbers, finishAs, finishNumbered, orderAfter, orderFrom, stepNumbers, askedNumbers}
+use Rattle.panel_stated.proofs.Cases as Cases
+use Rattle.panel_stated.proofs.Outcomes as Outcomes
+use Rattle.panel_stated.proofs.Theorems as Panel′
+use Rattle.demands.specs.Panel.{Panel, Meets}
+use Rattle.demands.specs.Answers.{CommandExported, ResponseReadExported, FinishExported, PresenceExported, toEnd}
+
+module _ (P : Panel) (M : Meets P) where
+  read-by : (reader : List ℕ → Outcome Command) → Commands.CommandExactly reader → (frame : List ℕ) (o : Outcome Command) → reader frame ≡ o → P .read-command frame ≡ commandNumbers o
+  read-by reader is frame o e = M .read-command frame ∙ ap commandNumbers (CommandsOnly.CommandExactly commandOf reader CommandsProved.CommandExactly is frame ∙ e)
+
+  pub commands : CommandExported (P .read-command)
+  commands = record {
+    status = λ reader is frame w e. read-by reader is frame _ e;
+    version = λ reader is frame e. read-by reader is frame _ e;
+    get-response = λ reader is frame e. read-by reader is frame _ e;
+    register = λ reader is frame s e. read-by reader is frame _ e;
+    authenticate = λ reader is frame p1 s e. read-by reader is frame _ e;
+  }
+
+  pub responses : ResponseReadExported (P .read-response)
+  responses = record {
+    short = λ response h. M .read-response response ∙ ap responseNumbers (reads-exactly .r2 response .1 h);
+    given = λ body sw1 sw2. M .read-response (body ++ (sw1 ∷ sw2 ∷ [])) ∙ ap responseNumbers (read-back body sw1 sw2);
+  }
+
+  -- finishing of a kind
+  ends : (i : ToFinish) (k : Kind) → i .order .kind ≡ kindNo k → finishNumbered i ≡ finishOf (toEnd k i)
+  ends i k e = ap (λ (q : Kinded). finishAs q i) (sym (Cases.kinded k (i .order .kind) e))
+
+  end-by : (end : Finishing → Ended) → Signing.FinishesExactly end → (i : ToFinish) (k : Kind) (o : Outcome ℕ) → i .order .kind ≡ kindNo k → length (i .block) ≡ 385 → end (toEnd k i) .answer ≡ o
+      → (P .finish i .said ≡ lengthNumbers o) × (P .finish i .buffer ≡ end (toEnd k i) .reply)
+  end-by end is i k o e whole f =
+      let same : endOf (toEnd k i) ≡ end (toEnd k i) = SigningOnly.FinishesExactly endOf end SigningProved.FinishesExactly is (toEnd k i) whole in (
+        M .finish i .0 ∙ ap (λ (x : Outcome (List ℕ)). lengthNumbers (lengthOf x)) (ends i k e) ∙ ap (λ (x : Ended). lengthNumbers (x .answer)) same ∙ ap lengthNumbers f,
+        M .finish i .1 ∙ ap (λ (x : Outcome (List ℕ)). replyOf x (i .reply)) (ends i k e) ∙ ap (λ (x : Ended). x .reply) same,
+      )
+
+  none-of : (i : ToFinish) → (i .order .kind ≡ 1 → ⊥) → (i .order .kind ≡ 2 → ⊥) → finishNumbered i ≡ R 7
+  none-of i a b = ap (λ (q : Kinded). finishAs q i) (sym (Cases.no-kind (i .order .kind) a b))
+
+  pub finishing : FinishExported (P .finish)
+  finishing = record {
+    given = λ end is i k n e whole f. end-by end is i k _ e whole f;
+    refused = λ end is i k m e whole f. end-by end is i k _ e whole f;
+    status = λ end is i k w e whole f. end-by end is i k _ e whole f;
+    no-kind = λ i a b.
+        (M .finish i .0 ∙ ap (λ (x : Outcome (List ℕ)). lengthNumbers (lengthOf x)) (none-of i a b), M .finish i .1 ∙ ap (λ (x : Outcome (List ℕ)). replyOf x (i .reply)) (none-of i a b));
+  }
+
+  -- a finishing that is none of R7, R4, R2, with a signer that did not fail and a signature that fits, gives a body
+  gives-by : (a b c : Bool) (body : List ℕ)
+      → ((if not a then R 7 else if not b then R 4 else if c then R 2 else Gives body) ≡ R 7 → ⊥)
+      → ((if not a then R 7 else if not b then R 4 else if c then R 2 else Gives body) ≡ R 4 → ⊥)
+      → ((if not a then R 7 else if not b then R 4 else if c then R 2 else Gives body) ≡ R 2 → ⊥)
+      → (if not a then R 7 else if not b then R 4 else if c then R 2 else Gives body) ≡ Gives body
+  gives-by false b c body x y z = absurd (x refl)
+  gives-by true false c body x y z = absurd (y refl)
+  gives-by true true true body x y z = absurd (z refl)
+  gives-by true true false body x y z = refl
+
+  gives : (f : Finishing) → f .signed ≡ true → length (f .signature) ≤ 72 → (finishOf f ≡ R 7 → ⊥) → (finishOf f ≡ R 4 → ⊥) → (finishOf f ≡ R 2 → ⊥)
+      → answerNo (lengthOf (finishOf f)) ≡ 0x9000
+  unfolding finishOf
+  gives f signed fits x y z =
+      let short = le-ltb 72 (length (f .signature)) fits in
+      let same = gives-by (isOfLayout (f .order)) (eqb (length (f .certificate)) (certificateLength (f .order))) (ltb (length (f .reply)) (roomNeeded (f .order)))
+      (bodyOf (f .order .kind) (f .order) (f .certificate) (f .signature)) (rw (signed, short) at x) (rw (signed, short) at y) (rw (signed, short) at z) in
+      rw (signed, short) (ap (λ (o : Outcome (List ℕ)). answerNo (lengthOf o)) same)
+
+  -- the order that the numbers and the block of a decision stand for is its order
+  ordered-back : (k : Kind) (o : Order) → k ≡ o .kind → orderFrom k (orderAfter (Gives Ordered) o) (o .bytes) ≡ o
+  ordered-back k o e = rw e refl
+
+  pub finishes : (i : ToDecide) (f : ToFinish) → (length (i .x) ≡ 32) × (length (i .y) ≡ 32) → P .decide i .said .answer ≡ 0x0100
+      → f .order ≡ P .decide i .said .order → f .block ≡ P .decide i .block
+      → length (f .certificate) ≡ f .order .«certificate_length» → length (i .reply) ≤ length (f .reply) → f .signed ≡ 1 → length (f .signature) ≤ 72
+      → P .finish f .said .answer ≡ 0x9000
+  finishes i f blocks e order block certificate room signed fits =
+      let p = presenceOf (i .presence) in
+      let t = i .moment in
+      let a = inputsOf i in
+      let m = M .decide i in
+      let r = decisionOf p t a in
+      let ordered : r .answer ≡ Gives Ordered = Panel′.DecisionTells .ordered (r .answer) (Outcomes.decision-said p t a) .0 (ap (λ (s : DecisionSaid). s .answer) (sym (m .0)) ∙ e) in
+      let k = r .order .kind in
+      let numbers : f .order ≡ orderAfter (Gives Ordered) (r .order) = order ∙ ap (λ (s : DecisionSaid). s .order) (m .0) ∙ ap (λ (o : Outcome DecisionGives). orderAfter o (r .order)) ordered in
+      let bytes : f .block ≡ r .order .bytes = block ∙ m .2 ∙ ap (λ (o : Outcome DecisionGives). blockAfter o (r .order .bytes) (i .block)) ordered in
+      let is : orderFrom k (f .order) (f .block) ≡ r .order = ap₂ (λ (n : OrderNumbers) (l : List ℕ). orderFrom k n l) numbers bytes ∙ ordered-back k (r .order) refl in
+      let kind : f .order .kind ≡ kindNo k = ap (λ (n : OrderNumbers). n .kind) numbers in
+      let long : length (f .certificate) ≡ certificateLength (r .order) = certificate ∙ ap (λ (n : OrderNumbers). n .«certificate_length») numbers in
+      let asked = Decision.OrderHasRoom p t a (toEnd k f) blocks ordered is long room in
+      ap (λ (s : Wrote). s .answer) (M .finish f .0)
+      ∙ ap (λ (x : Outcome (List ℕ)). answerNo (lengthOf x)) (ends f k kind)
+      ∙ gives (toEnd k f) (eq-eqb (f .signed) 1 signed) fits (asked .0) (asked .1) (asked .2)
+
+  -- ---- on any record
+  pub presences : PresenceExported (P .grant-up) (P .consume-up) (P .is-up-needed)
+  presences = record {
+    touched = λ touch is n t. M .grant-up n t ∙ ap stepNumbers (UpOnly.TouchesExactly touchOf touch UpProved.TouchesExactly is (presenceOf n) t);
+    checked = λ check is n s t. M .consume-up n s t ∙ ap stepNumbers (UpOnly.ChecksExactly checkOf check UpProved.ChecksExactly is (presenceOf n) s t);
+    asked = λ ask is n t. M .is-up-needed n t ∙ ap (λ (o : Told). askedNumbers (o .outcome)) (UpOnly.AsksExactly askOf ask UpProved.AsksExactly is (presenceOf n) t);
+  }
+
+  pub sides : Exports.SideCrosses (P .grant-up) (P .is-up-needed) (P .consume-up) (P .decide)
+  sides = record {
+    touched = λ n t. rw (M .grant-up n t) (Panel′.SideCrosses .touched n t);
+    asked = λ n t. rw (M .is-up-needed n t) (Panel′.SideCrosses .asked n t);
+    checked = λ n s t. rw (M .consume-up n s t) (Panel′.SideCrosses .checked n s t);
+    decided = λ i. rw (M .decide i .0) (Panel′.SideCrosses .decided i);
+  }
+
+  pub hands-back : Exports.RefusalHandsBack (P .grant-up) (P .consume-up) (λ i. P .decide i .said)
+  hands-back = record {
+    grant-up = λ n t. rw (M .grant-up n t) (Panel′.RefusalHandsBack .grant-up n t);
+    consume-up = λ n s t. rw (M .consume-up n s t) (Panel′.RefusalHandsBack .consume-up n s t);
+    decided = λ i. rw (M .decide i .0) (Panel′.RefusalHandsBack .decided i);
+  }

@@ -1,0 +1,235 @@
+-- The definitions' panel meets every contract, so that the theorem on top speaks of something; and the wrong panels of specs/Wrong.antt fail the demands.
+use Prim.Native.Nat.{ℕ}
+use mathlib.Core.Path.{_≡_, refl, ap}
+use mathlib.Core.List.{List, [], _∷_}
+use native.Mathlib.Omega.{arith}
+use Rattle.u2f_up_stated.specs.Moments.{newOf, settleOf, grantedOf, checkedOf, touchOf, checkOf, askOf}
+use Rattle.u2f_up_stated.specs.History.{RefusedBy, TouchFound, NoTouchFound, PromptStands, NoPromptStands, foretold, latestPrompt, unspent, latestTouch, isPromptStanding, lastMoment, serverOf}
+use mathlib.Core.Logic.{inr}
+use mathlib.Core.Option.{Option, none, some}
+use lib.ListN.{replicate}
+use Rattle.u2f_up_stated.specs.History.{Mark}
+use Rattle.octets.specs.Bytes.{partOf}
+use Rattle.apdu_stated.specs.Reading.{readBy, dataOf, sayOf, lengthsOf, shortOf, extendedOf, afterData}
+use Rattle.command_stated.specs.Command.{commandOf, onReading, byInstruction, getResponseOf, registerOf, versionOf, authenticateOf, challengeOf, applicationOf}
+use Rattle.response_stated.specs.Parts.{limitOf, partLength, nextPartOf}
+use Rattle.ctap1_stated.specs.Path.{frameLimit, fetchPath, commandPath, allowedPath, pathOf, registerPath, loginPath, countedEnding}
+use Rattle.ctap1_stated.specs.Numbers.{allowedOf, attestationOf}
+use Rattle.ctap1_stated.specs.Decision.{decisionOf}
+use Rattle.signing_stated.specs.Orders.{authenticateOrderOf, block}
+use Rattle.panel_stated.specs.declared.Wrote.{Wrote}
+use Rattle.panel_stated.specs.declared.CommandSaid.{CommandSaid}
+use Rattle.panel_stated.specs.declared.ResponseSaid.{ResponseSaid}
+use Rattle.panel_stated.specs.declared.Stepped.{Stepped}
+use Rattle.panel_stated.specs.declared.PresenceRecord.{PresenceRecord}
+use Rattle.panel_stated.specs.Exports.{ToDecide, ToFinish, decidesOf}
+use Rattle.panel_stated.proofs.Refuted as Exports
+use Rattle.command_stated.proofs.Theorems as Commands
+use Rattle.u2f_up_stated.proofs.Theorems as Up
+use Rattle.demands.specs.Panel.{Meets}
+use Rattle.demands.specs.Calls.{Lent, Touch, Check, Ask, Decide, on, recordAfter, cameNext, historyOf}
+use Rattle.demands.specs.Demands.{Demands}
+use Rattle.demands.specs.Wrong as Wrong
+
+pub meets : Meets Wrong.defined
+meets = record {
+  new = λ w. refl;
+  grant-up = λ n t. refl;
+  consume-up = λ n s t. refl;
+  is-up-needed = λ n t. refl;
+  decide = λ i. (refl, refl, refl, refl);
+  finish = λ i. (refl, refl);
+  read = λ frame. refl;
+  read-strict = λ frame. refl;
+  read-by-table = λ frame. refl;
+  read-strict-by-table = λ frame. refl;
+  write = λ w. (refl, refl);
+  write-strict = λ w. (refl, refl);
+  read-command = λ frame. refl;
+  write-response = λ body status buffer. (refl, refl);
+  read-response = λ response. refl;
+  next-part = λ body k limit buffer. (refl, refl);
+}
+
+-- what is lent with a frame at a moment, CTAP1 allowed
+lent : (frame : List ℕ) (t : ℕ) → Lent
+lent frame t =
+    record {
+      frame = frame;
+      side = 0;
+      moment = t;
+      hardware = record { allowed = 1; attestation = 1; stored = 1; good = 1; counted = 1; counter = 5 };
+      newHandle = [];
+      certificate = [];
+      x = replicate 32 0;
+      y = replicate 32 0;
+      reply = replicate 139 0;
+      block = replicate 385 0;
+      remainder = record { place = 0; count = 0 };
+      part = replicate 258 0;
+    }
+
+-- a record that nothing was done with
+abbrev unused : PresenceRecord
+unused = record { w = 1000; prompt = 0; touch = 0; last = 0; asker = 0 }
+
+-- ---- making a record
+-- 65,537 is taken for 1
+pub newCut : Demands Wrong.newCut → ⊥
+unfolding newOf
+newCut d = omega (arith, d .makes 65537 .0 refl .1)
+
+-- ---- which decisions reach the touch check
+-- a Register with room is no command
+pub knowsNoCommand : Demands Wrong.knowsNoCommand → ⊥
+unfolding lent pathOf allowedPath commandPath registerPath commandOf onReading byInstruction registerOf readBy sayOf lengthsOf shortOf extendedOf afterData allowedOf attestationOf
+knowsNoCommand d =
+    let e = d .reaches (lent (0x00 ∷ 0x01 ∷ 0x00 ∷ 0x00 ∷ 64 ∷ replicate 64 0) 0) .0 refl .1 in
+    omega (arith, e)
+
+-- ---- demand 3
+-- side 0 asks, the finger touches, and side 0 finds nothing
+pub touchAsks : Demands Wrong.touchAsks → ⊥
+unfolding cameNext historyOf recordAfter touchOf checkOf askOf settleOf grantedOf checkedOf foretold latestPrompt unspent latestTouch isPromptStanding lastMoment newOf
+touchAsks d =
+    let e : NoTouchFound ≡ TouchFound = d .touches 1000 refl (Touch 1 ∷ Check 0 0 ∷ []) .foretells (Check 0 2) in
+    let z : _≡_ {A = ℕ} 0 1 = cc in omega arith
+
+-- side 0 asks, the finger touches, and side 1 finds the touch
+pub checkIs0 : Demands Wrong.checkIs0 → ⊥
+unfolding cameNext historyOf recordAfter touchOf checkOf askOf settleOf grantedOf checkedOf foretold latestPrompt unspent latestTouch isPromptStanding lastMoment newOf
+checkIs0 d =
+    let e : TouchFound ≡ NoTouchFound = d .touches 1000 refl (Touch 1 ∷ Check 0 0 ∷ []) .foretells (Check 1 2) in
+    let z : _≡_ {A = ℕ} 0 1 = cc in omega arith
+
+-- the touch that it finds is another side's
+pub checkIs0Serves : Demands Wrong.checkIs0 → ⊥
+unfolding cameNext historyOf recordAfter touchOf checkOf askOf settleOf grantedOf checkedOf foretold latestPrompt unspent latestTouch isPromptStanding lastMoment newOf serverOf
+checkIs0Serves d =
+    let x = d .touches 1000 refl (Touch 1 ∷ Check 0 0 ∷ []) .serves (Check 1 2) refl in
+    let k : _≡_ {A = ℕ} 0 (x .0 .side) = cc in
+    let l : _≡_ {A = ℕ} 1 (x .0 .side) = cc in omega arith
+
+-- side 2 is taken for side 0, where R8 is due
+pub sideCut : Demands Wrong.sideCut → ⊥
+unfolding cameNext historyOf recordAfter touchOf checkOf askOf settleOf grantedOf checkedOf foretold latestPrompt unspent latestTouch isPromptStanding lastMoment newOf
+sideCut d =
+    let e : NoTouchFound ≡ RefusedBy 8 = d .touches 1000 refl [] .refuses-side (Check 2 0) .1 (omega arith) in
+    let z : _≡_ {A = ℕ} 0 1 = cc in omega arith
+
+-- R6, from a record that was made
+pub refusesWindow : Demands Wrong.refusesWindow → ⊥
+unfolding cameNext newOf
+refusesWindow d = d .touches 1000 refl [] .refuses-no-window (Check 0 0) refl
+
+-- nobody asked, and the light blinks
+pub askSwapped : Demands Wrong.askSwapped → ⊥
+unfolding cameNext historyOf recordAfter touchOf checkOf askOf settleOf grantedOf checkedOf foretold latestPrompt unspent latestTouch isPromptStanding lastMoment newOf
+askSwapped d =
+    let e : PromptStands ≡ NoPromptStands = d .touches 1000 refl [] .foretells (Ask 0) in
+    let z : _≡_ {A = ℕ} 0 1 = cc in omega arith
+
+-- a decision at 5 does not move the last moment, and a check at 3 is taken
+pub recordKept : Demands Wrong.recordKept → ⊥
+unfolding lent decisionOf pathOf allowedPath commandPath commandOf onReading byInstruction readBy sayOf lengthsOf shortOf extendedOf afterData allowedOf attestationOf cameNext historyOf recordAfter touchOf checkOf askOf settleOf grantedOf checkedOf foretold latestPrompt unspent latestTouch isPromptStanding lastMoment newOf
+recordKept d =
+    let e : NoTouchFound ≡ RefusedBy 1 = d .touches 1000 refl (Decide (lent [] 5) ∷ []) .foretells (Check 0 3) in
+    let z : _≡_ {A = ℕ} 0 1 = cc in omega arith
+
+-- one touch, and two checks find it
+pub touchKept : Demands Wrong.touchKept → ⊥
+unfolding cameNext historyOf recordAfter touchOf checkOf askOf settleOf grantedOf checkedOf foretold latestPrompt unspent latestTouch isPromptStanding lastMoment newOf
+touchKept d =
+    let e : TouchFound ≡ NoTouchFound = d .touches 1000 refl (Check 0 2 ∷ Touch 1 ∷ Check 0 0 ∷ []) .foretells (Check 0 3) in
+    let z : _≡_ {A = ℕ} 0 1 = cc in omega arith
+
+-- ---- orders
+-- an Authenticate with P1 03 and no touch at all gets an order with presence byte 01
+pub untouched : Demands Wrong.untouched → ⊥
+unfolding lent decisionOf pathOf allowedPath commandPath loginPath countedEnding authenticateOrderOf block partOf dataOf commandOf onReading byInstruction authenticateOf challengeOf applicationOf readBy sayOf lengthsOf shortOf extendedOf afterData allowedOf attestationOf historyOf recordAfter settleOf checkedOf latestTouch newOf
+untouched d =
+    let k = d .orders 1000 refl .own [] (lent (0x00 ∷ 0x02 ∷ 0x03 ∷ 0x00 ∷ 65 ∷ replicate 65 0) 0) (refl, inr (refl, refl)) in
+    let e : _≡_ {A = Option Mark} none (some (k .0)) = k .1 in
+    let z : _≡_ {A = ℕ} 0 1 = cc in omega arith
+
+-- ---- finishing
+-- an order of no kind
+noKind : ToFinish
+noKind = record { order = record { kind = 0; «to_sign» = 0; «certificate_length» = 0 }; block = []; certificate = []; signed = 1; signature = []; reply = [] }
+
+pub finishClaims : Demands Wrong.finishClaims → ⊥
+unfolding noKind
+finishClaims d =
+    let e = ap (λ (w : Wrote). w .answer) (d .answers .finishes .no-kind noKind (λ e. omega arith) (λ e. omega arith) .0) in
+    omega (arith, e)
+
+-- an Authenticate with P1 08, whose order is then not finished
+pub finishRefuses : Demands Wrong.finishRefuses → ⊥
+unfolding lent decisionOf pathOf allowedPath commandPath loginPath countedEnding authenticateOrderOf block partOf dataOf commandOf onReading byInstruction authenticateOf challengeOf applicationOf readBy sayOf lengthsOf shortOf extendedOf afterData allowedOf attestationOf settleOf
+finishRefuses d =
+    let i : ToDecide = on unused (lent (0x00 ∷ 0x02 ∷ 0x08 ∷ 0x00 ∷ 65 ∷ replicate 65 0) 0) in
+    let f : ToFinish = record { order = decidesOf i .said .order; block = decidesOf i .block; certificate = []; signed = 1; signature = []; reply = replicate 139 0 } in
+    let e = d .finished i f (refl, refl) refl refl refl refl (omega arith) refl (omega arith) in
+    omega (arith, e)
+
+-- ---- bodies
+-- one byte of two is left, and never goes out
+pub stalls : Demands Wrong.stalls → ⊥
+unfolding lent decisionOf pathOf allowedPath commandPath fetchPath settleOf nextPartOf frameLimit limitOf partLength commandOf onReading byInstruction getResponseOf readBy sayOf lengthsOf shortOf extendedOf afterData allowedOf attestationOf
+stalls d =
+    let e = d .bodies .takes (7 ∷ 8 ∷ []) (record { place = 1; count = 1 }) (on unused (lent (0x00 ∷ 0xC0 ∷ 0x00 ∷ 0x00 ∷ []) 0)) (refl, refl, refl) (omega arith) (omega arith) .0 in
+    omega (arith, e)
+
+-- ---- each call by itself
+pub readPlaceless : Demands Wrong.readPlaceless → ⊥
+readPlaceless d = Exports.placeUnsaid (d .answers .reads)
+
+pub tablePlaceless : Demands Wrong.tablePlaceless → ⊥
+tablePlaceless d = Exports.placeUnsaid (d .answers .reads-by-table)
+
+pub strictIsOrdinary : Demands Wrong.strictIsOrdinary → ⊥
+strictIsOrdinary d = Exports.strictExportReads (d .answers .reads-strictly)
+
+pub strictTableIsOrdinary : Demands Wrong.strictTableIsOrdinary → ⊥
+strictTableIsOrdinary d = Exports.strictExportReads (d .answers .reads-strictly-by-table)
+
+pub writeClears : Demands Wrong.writeClears → ⊥
+writeClears d = Exports.noShapeClears (d .answers .writes)
+
+pub strictWriteIsOrdinary : Demands Wrong.strictWriteIsOrdinary → ⊥
+strictWriteIsOrdinary d = Exports.strictExportWrites (d .answers .writes-strictly)
+
+-- a Version is 6d00
+pub knowsNoVersion : Demands Wrong.knowsNoCommand → ⊥
+unfolding commandOf onReading byInstruction versionOf readBy sayOf lengthsOf shortOf extendedOf afterData
+knowsNoVersion d =
+    let e = ap (λ (r : CommandSaid). r .answer) (d .answers .commands .version commandOf Commands.CommandExactly (0x00 ∷ 0x03 ∷ 0x00 ∷ 0x00 ∷ []) refl) in
+    omega (arith, e)
+
+pub responds9000 : Demands Wrong.responds9000 → ⊥
+responds9000 d = Exports.responds9000 (d .answers .responds)
+
+-- 9000 alone is a response
+pub readsNoResponse : Demands Wrong.readsNoResponse → ⊥
+readsNoResponse d =
+    let e = ap (λ (r : ResponseSaid). r .answer) (d .answers .responses .given [] 0x90 0x00) in
+    omega (arith, e)
+
+pub nextForgets : Demands Wrong.nextForgets → ⊥
+nextForgets d = Exports.nextForgets (d .answers .parts)
+
+pub refusedMoves : Demands Wrong.refusedMoves → ⊥
+refusedMoves d = Exports.refusedMoves (d .answers .hands-back)
+
+pub sideCutInDecide : Demands Wrong.sideCutInDecide → ⊥
+sideCutInDecide d = Exports.sideCutInDecide (d .answers .sides)
+
+pub dropsAtC0 : Demands Wrong.dropsAtC0 → ⊥
+dropsAtC0 d = Exports.dropsAtC0 (d .answers .decides)
+
+-- on a lent record whose prompt is live, a touch opens nothing
+pub touchOpensNothing : Demands Wrong.touchAsks → ⊥
+unfolding touchOf askOf settleOf grantedOf
+touchOpensNothing d =
+    let e = ap (λ (r : Stepped). r .presence .touch) (d .answers .presences .touched touchOf Up.TouchesExactly (record { w = 1000; prompt = 1; touch = 0; last = 0; asker = 0 }) 0) in
+    omega (arith, e)

@@ -1,0 +1,76 @@
+-- A body that goes out in parts, as C sends it: the first by brinecandle_next_part, each further one by brinecandle_decide on a GET RESPONSE. The body stands in
+-- the reply buffer all the while, and each call is lent what the last one left of it. Whatever else is lent may differ from call to call: record, moment, side,
+-- hardware, Le, the buffer for part and status. Lists of GET RESPONSEs run from left to right.
+use Prim.Native.Nat.{ℕ, _+_, _<_, _≤_, _^_}
+use mathlib.Core.Path.{_≡_}
+use mathlib.Core.List.{List, [], _∷_, _++_}
+use mathlib.Core.Logic.{_⊎_}
+use lib.Dec.{eqb}
+use lib.ListN.{length, take}
+use Rattle.outcome.specs.Notation.{if_then_else_}
+use Rattle.response_stated.specs.declared.Remainder.{Remainder}
+use Rattle.response_stated.specs.Responses.{responseBodyOf}
+use Rattle.panel_stated.specs.Exports.{ToDecide, AfterDeciding, AfterPart}
+use Rattle.demands.specs.Panel.{Panel}
+
+-- all that is lent, with this body in the reply buffer and this remainder of it
+abbrev pub asking : (body : List ℕ) → Remainder → ToDecide → ToDecide
+asking body r i =
+    record {
+      frame = i .frame;
+      side = i .side;
+      moment = i .moment;
+      presence = i .presence;
+      hardware = i .hardware;
+      newHandle = i .newHandle;
+      certificate = i .certificate;
+      x = i .x;
+      y = i .y;
+      reply = body;
+      block = i .block;
+      remainder = r;
+      part = i .part;
+    }
+
+-- a frame with INS C0 that brinecandle_read takes, whatever else it says and whatever it is answered
+abbrev pub IsC0 : Panel → ToDecide → Type 0
+IsC0 P i = (P .read (i .frame) .answer ≡ 0x9000) × (P .read (i .frame) .ins ≡ 0xC0)
+
+-- one that brinecandle_read_command takes, too (CLA, P1, P2 and Lc are 0), where CTAP1 is allowed
+abbrev pub IsGetResponse : Panel → ToDecide → Type 0
+IsGetResponse P i = (P .read-command (i .frame) .answer ≡ 0x9000) × (P .read-command (i .frame) .command ≡ 0xC0) × (i .hardware .allowed ≡ 1)
+
+-- one that nothing stands against, where n bytes or fewer remain
+pub record Unhindered (P : Panel) (n : ℕ) (i : ToDecide) : Type 0 where
+  pub get-response : IsGetResponse P i
+  pub window : (1 ≤ i .presence .w) × (i .presence .w ≤ 60000)  -- not R6
+  pub sides : (i .side ≤ 1) × (i .presence .asker ≤ 1)  -- nor R8
+  pub moments : (i .presence .last ≤ i .moment) × (i .moment < 2 ^ 48)  -- nor R1
+  -- nor R2: room for all that remains, or for as much as the frame takes at a time; two bytes more for the status
+  pub room : (n + 2 ≤ length (i .part)) ⊎ ((1 ≤ P .decide i .said .limit) × (P .decide i .said .limit + 2 ≤ length (i .part)))
+
+-- each of them is so
+pub data Each (Is : ToDecide → Type 0) : List ToDecide → Type 0 where
+  none : Each Is []
+  also : {i : ToDecide} {rest : List ToDecide} → Is i → Each Is rest → Each Is (i ∷ rest)
+
+-- the bytes of the body that go out with a call: the response at the buffer's front, without its status; none but with 0200, of a first part 9000
+abbrev pub bytesOf : AfterDeciding → List ℕ
+bytesOf d = if eqb (d .said .answer) 0x0200 then responseBodyOf (take (d .said .length) (d .part)) else []
+
+abbrev pub firstBytes : AfterPart → List ℕ
+firstBytes p = if eqb (p .said .answer) 0x9000 then responseBodyOf (take (p .said .length) (p .buffer)) else []
+
+module _ (P : Panel) (body : List ℕ) where
+  -- one GET RESPONSE
+  abbrev pub fetch : Remainder → ToDecide → AfterDeciding
+  fetch r i = P .decide (asking body r i)
+
+  -- one after the other: what went out, joined; what is left
+  unfoldable pub fetched : Remainder → List ToDecide → List ℕ
+  fetched r [] = []
+  fetched r (i ∷ later) = bytesOf (fetch r i) ++ fetched (fetch r i .said .remainder) later
+
+  unfoldable pub leftAfter : Remainder → List ToDecide → Remainder
+  leftAfter r [] = r
+  leftAfter r (i ∷ later) = leftAfter (fetch r i .said .remainder) later
