@@ -4,7 +4,7 @@ use mathlib.Core.Path.{_≡_, refl, ap}
 use mathlib.Core.List.{List, [], _∷_}
 use native.Mathlib.Omega.{arith}
 use Rattle.u2f_up_stated.specs.Moments.{newOf, settleOf, grantedOf, checkedOf, touchOf, checkOf, askOf}
-use Rattle.u2f_up_stated.specs.History.{RefusedBy, TouchFound, NoTouchFound, PromptStands, NoPromptStands, foretold, latestPrompt, unspent, latestTouch, isPromptStanding, lastMoment, serverOf}
+use Rattle.u2f_up_stated.specs.History.{RefusedBy, TouchFound, NoTouchFound, PromptStands, NoPromptStands, foretold, latestPrompt, unspent, latestTouch, isPromptStanding, lastMoment}
 use mathlib.Core.Logic.{inr}
 use mathlib.Core.Option.{Option, none, some}
 use lib.ListN.{replicate}
@@ -104,7 +104,7 @@ checkIs0 d =
 
 -- the touch that it finds is another side's
 pub checkIs0Serves : Demands Wrong.checkIs0 → ⊥
-unfolding cameNext historyOf recordAfter touchOf checkOf askOf settleOf grantedOf checkedOf foretold latestPrompt unspent latestTouch isPromptStanding lastMoment newOf serverOf
+unfolding cameNext historyOf recordAfter touchOf checkOf askOf settleOf grantedOf checkedOf foretold latestPrompt unspent latestTouch isPromptStanding lastMoment newOf
 checkIs0Serves d =
     let x = d .touches 1000 refl (Touch 1 ∷ Check 0 0 ∷ []) .serves (Check 1 2) refl in
     let k : _≡_ {A = ℕ} 0 (x .0 .side) = cc in

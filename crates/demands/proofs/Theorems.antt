@@ -9,8 +9,9 @@ use Rattle.outcome.specs.Outcome.{Outcome, Gives}
 use Rattle.u2f_up_stated.specs.declared.Presence.{Presence}
 use Rattle.u2f_up_stated.specs.declared.Window.the-variants.{Opened}
 use Rattle.u2f_up_stated.specs.Moments.{newOf}
+use Rattle.u2f_up_stated.specs.History.{Call}
 use Rattle.u2f_up_stated.specs.Terms.{BadWindow}
-use Rattle.u2f_up_stated.specs.Demand.{RunOf}
+use Rattle.u2f_up_stated.specs.Demand.{RunMeets, RunOf}
 use Rattle.u2f_up_stated.proofs.Theorems as Up
 use Rattle.u2f_up_stated.proofs.Laws.{bad-window}
 use Rattle.signing_stated.specs.Words.{Order}
@@ -26,7 +27,7 @@ use Rattle.panel_stated.specs.Exports.{AfterDeciding, orderAfter}
 use Rattle.panel_stated.proofs.Outcomes as Outcomes
 use Rattle.panel_stated.proofs.Theorems as Panel′
 use Rattle.demands.specs.Panel.{Panel, Meets}
-use Rattle.demands.specs.Calls.{Lent, CCall, Decide, on, lentOf, recordAfter}
+use Rattle.demands.specs.Calls.{Lent, CCall, Decide, on, lentOf, asCall, recordAfter, cameNext, historyOf}
 use Rattle.demands.specs.Demands as Claims
 use Rattle.demands.specs.Demands.{Demand3, OrdersPresent, OrdersNext, OrdersHaveTheirTouch}
 use Rattle.demands.proofs.Fetched.{so-far, takes, enough}
@@ -61,15 +62,22 @@ module _ (P : Panel) (M : Meets P) (w : ℕ) (low : 0 < w) (high : w ≤ 60000) 
   meets : RunOf panelCalls w (allAs calls)
   meets = Decision.Demand3OfThePanel w low high (allAs calls)
 
-  demand3 : Demand3 P w calls
-  demand3 = record {
-    foretells = λ c. rw (came-same P M w low high calls c, history-same P M w low high calls, call-same P M w low high c) (meets .foretells (asPanel c));
-    refuses-side = λ c. rw (came-same P M w low high calls c, call-same P M w low high c) (meets .refuses-side (asPanel c));
-    refuses = λ c. rw (came-same P M w low high calls c, history-same P M w low high calls, call-same P M w low high c) (meets .refuses (asPanel c));
+  -- what a call is there is what it is here
+  same-calls : _≡_ {A = CCall → Call} (λ c. panelCalls .asCall (asPanel c)) asCall
+  same-calls = λ i c. sym (call-same P M w low high c) i
+
+  abbrev Met : (CCall → Call) → Type 0
+  Met call = RunMeets w call calls (historyOf P w calls) (cameNext P w calls) (λ earlier m. recordAfter P w earlier .touch ≡ m + 1) (recordAfter P w calls .asker)
+
+  run-there : Met (λ c. panelCalls .asCall (asPanel c))
+  run-there = record {
+    foretells = λ c. rw (came-same P M w low high calls c, history-same P M w low high calls) (meets .foretells (asPanel c));
+    refuses-side = λ c. rw (came-same P M w low high calls c) (meets .refuses-side (asPanel c));
+    refuses = λ c. rw (came-same P M w low high calls c, history-same P M w low high calls) (meets .refuses (asPanel c));
     refuses-no-window = λ c. rw (came-same P M w low high calls c) (meets .refuses-no-window (asPanel c));
-    accepts = λ c. rw (came-same P M w low high calls c, history-same P M w low high calls, call-same P M w low high c) (meets .accepts (asPanel c));
-    finds = λ c s. rw (came-same P M w low high calls c, history-same P M w low high calls, call-same P M w low high c) (meets .finds (asPanel c) s);
-    serves = λ c. rw (came-same P M w low high calls c, history-same P M w low high calls, call-same P M w low high c) (meets .serves (asPanel c));
+    accepts = λ c. rw (came-same P M w low high calls c, history-same P M w low high calls) (meets .accepts (asPanel c));
+    finds = λ c s. rw (came-same P M w low high calls c, history-same P M w low high calls) (meets .finds (asPanel c) s);
+    serves = λ c. rw (came-same P M w low high calls c, history-same P M w low high calls) (meets .serves (asPanel c));
     once = rw (history-same P M w low high calls) (meets .once);
     holds = λ k t late held later earlier split long.
         opened-no _ _
@@ -82,6 +90,9 @@ module _ (P : Panel) (M : Meets P) (w : ℕ) (low : 0 < w) (high : w ≤ 60000) 
     one-held = rw (history-same P M w low high calls) (meets .one-held);
     two-sides = rw (history-same P M w low high calls) (meets .two-sides);
   }
+
+  demand3 : Demand3 P w calls
+  demand3 = subst Met same-calls run-there
 
 -- ---- orders
 says-present : (o : Outcome DecisionGives) (order : Order) (old : List ℕ) → o ≡ Gives Ordered

@@ -13,7 +13,8 @@ use Rattle.u2f_up_stated.specs.History.{Role, Touching, Checking, Asking, Call,
 use Rattle.u2f_up_stated.specs.Runs.{cameOfGiven}
 use Rattle.ctap1_stated.specs.Path.{roleOf}
 use Rattle.panel_stated.specs.declared.PresenceRecord.{PresenceRecord}
-use Rattle.ctap1_stated.specs.Words.{Inputs, HardwareSaid}
+use Rattle.ctap1_stated.specs.Words.{Inputs}
+use Rattle.ctap1_stated.specs.declared.HardwareSaid.{HardwareSaid}
 use Rattle.response_stated.specs.declared.Remainder.{Remainder}
 use Rattle.panel_stated.specs.Exports.{ToDecide, inputsOf, noRecord}
 use Rattle.demands.specs.Panel.{Panel}
