@@ -1,13 +1,14 @@
 -- The definitions' panel meets every contract, so that the theorem on top speaks of something; and the wrong panels of specs/Wrong.antt fail the demands.
 use Prim.Native.Nat.{ℕ}
 use mathlib.Core.Path.{_≡_, refl, ap}
+use mathlib.Core.Bool.{Bool, true, false, false≢true}
 use mathlib.Core.List.{List, [], _∷_}
 use native.Mathlib.Omega.{arith}
 use Rattle.u2f_up_stated.specs.Moments.{newOf, settleOf, grantedOf, checkedOf, touchOf, checkOf, askOf}
-use Rattle.u2f_up_stated.specs.History.{RefusedBy, TouchFound, NoTouchFound, PromptStands, NoPromptStands, foretold, latestPrompt, unspent, latestTouch, isPromptStanding, lastMoment}
-use mathlib.Core.Logic.{inr}
+use Rattle.u2f_up_stated.specs.History.{RefusedBy, TouchFound, NoTouchFound, PromptStands, NoPromptStands, foretold, latestPrompt, unspent, latestTouch, isPromptStanding, lastMoment, servers, accepted}
+use mathlib.Core.Logic.{inl, inr}
 use mathlib.Core.Option.{Option, none, some}
-use lib.ListN.{replicate}
+use lib.ListN.{length, replicate}
 use Rattle.u2f_up_stated.specs.History.{Mark}
 use Rattle.octets.specs.Bytes.{partOf}
 use Rattle.apdu_stated.specs.Reading.{readBy, dataOf, sayOf, lengthsOf, shortOf, extendedOf, afterData}
@@ -28,6 +29,7 @@ use Rattle.command_stated.proofs.Theorems as Commands
 use Rattle.u2f_up_stated.proofs.Theorems as Up
 use Rattle.demands.specs.Panel.{Meets}
 use Rattle.demands.specs.Calls.{Lent, Touch, Check, Ask, Decide, on, recordAfter, cameNext, historyOf}
+use Rattle.demands.specs.Sessions.{none as no-more, also, fetched, leftAfter}
 use Rattle.demands.specs.Demands.{Demands}
 use Rattle.demands.specs.Wrong as Wrong
 
@@ -143,6 +145,59 @@ touchKept d =
     let e : TouchFound ≡ NoTouchFound = d .touches 1000 refl (Check 0 2 ∷ Touch 1 ∷ Check 0 0 ∷ []) .foretells (Check 0 3) in
     let z : _≡_ {A = ℕ} 0 1 = cc in omega arith
 
+-- it named the touch twice, and two calls spent the one that was accepted
+pub touchKeptTwice : Demands Wrong.touchKept → ⊥
+unfolding cameNext historyOf recordAfter touchOf checkOf askOf settleOf grantedOf checkedOf foretold latestPrompt unspent latestTouch isPromptStanding lastMoment newOf servers
+touchKeptTwice d = omega (arith, d .touches 1000 refl (Check 0 3 ∷ Check 0 2 ∷ Touch 1 ∷ Check 0 0 ∷ []) .once 1)
+
+pub touchKeptTotals : Demands Wrong.touchKept → ⊥
+unfolding cameNext historyOf recordAfter touchOf checkOf askOf settleOf grantedOf checkedOf foretold latestPrompt unspent latestTouch isPromptStanding lastMoment newOf accepted
+touchKeptTotals d = omega (arith, d .touches 1000 refl (Check 0 3 ∷ Check 0 2 ∷ Touch 1 ∷ Check 0 0 ∷ []) .side-totals 0)
+
+-- the touch at 1 is in C's hand as the one at 2
+pub touchLate : Demands Wrong.touchLate → ⊥
+unfolding cameNext historyOf recordAfter touchOf checkOf askOf settleOf grantedOf checkedOf foretold latestPrompt unspent latestTouch isPromptStanding lastMoment newOf
+touchLate d =
+    let e = d .touches 1000 refl (Touch 1 ∷ Check 0 0 ∷ []) .holds (record { number = 1; moment = 1; side = 0 }) 1 (omega arith) refl [] (Touch 1 ∷ Check 0 0 ∷ []) refl (omega arith) in
+    omega (arith, e)
+
+-- side 1 asks, and the record says side 0
+pub askerKept : Demands Wrong.askerKept → ⊥
+unfolding cameNext historyOf recordAfter touchOf checkOf askOf settleOf grantedOf checkedOf foretold latestPrompt unspent latestTouch isPromptStanding lastMoment newOf
+askerKept d = omega (arith, d .touches 1000 refl (Check 1 0 ∷ []) .asker)
+
+-- the remaining sentences of demand 3: a check before the last moment, a second touch for one prompt, another side's touch found, two touches held, a side that is none
+pub recordKeptMoment : Demands Wrong.recordKept → ⊥
+unfolding lent decisionOf pathOf allowedPath commandPath commandOf onReading byInstruction readBy sayOf lengthsOf shortOf extendedOf afterData allowedOf attestationOf cameNext historyOf recordAfter touchOf checkOf askOf settleOf grantedOf checkedOf foretold latestPrompt unspent latestTouch isPromptStanding lastMoment newOf
+recordKeptMoment d =
+    let e : NoTouchFound ≡ RefusedBy 1 = d .touches 1000 refl (Decide (lent [] 5) ∷ []) .refuses (Check 0 3) .1 ((λ z. omega arith), inr (omega arith)) in
+    let z : _≡_ {A = ℕ} 0 1 = cc in omega arith
+
+pub touchAsksTwice : Demands Wrong.touchAsks → ⊥
+unfolding cameNext historyOf recordAfter touchOf checkOf askOf settleOf grantedOf checkedOf foretold latestPrompt unspent latestTouch isPromptStanding lastMoment newOf
+touchAsksTwice d =
+    let x = d .touches 1000 refl (Touch 1 ∷ Check 0 0 ∷ []) .accepts (Touch 2) refl .0 refl .1 in
+    let z : _≡_ {A = ℕ} 0 (x .0 .number) = cc in
+    let after : _≡_ {A = Bool} false true = cc in false≢true after
+
+pub checkIs0Finds : Demands Wrong.checkIs0 → ⊥
+unfolding cameNext historyOf recordAfter touchOf checkOf askOf settleOf grantedOf checkedOf foretold latestPrompt unspent latestTouch isPromptStanding lastMoment newOf
+checkIs0Finds d =
+    let x = d .touches 1000 refl (Touch 1 ∷ Check 0 0 ∷ []) .finds (Check 1 2) 1 refl .0 refl .2 in
+    let e : _≡_ {A = ℕ} 0 1 = ap length (x .1) in omega (arith, e)
+
+pub touchAsksHeld : Demands Wrong.touchAsks → ⊥
+unfolding cameNext historyOf recordAfter touchOf checkOf askOf settleOf grantedOf checkedOf foretold latestPrompt unspent latestTouch isPromptStanding lastMoment newOf
+touchAsksHeld d = omega (arith, d .touches 1000 refl (Touch 3 ∷ Check 0 2 ∷ Touch 1 ∷ Check 0 0 ∷ []) .one-held)
+
+pub touchKeptTotalsPlain : Demands Wrong.touchKept → ⊥
+unfolding cameNext historyOf recordAfter touchOf checkOf askOf settleOf grantedOf checkedOf foretold latestPrompt unspent latestTouch isPromptStanding lastMoment newOf accepted
+touchKeptTotalsPlain d = omega (arith, d .touches 1000 refl (Check 0 3 ∷ Check 0 2 ∷ Touch 1 ∷ Check 0 0 ∷ []) .totals)
+
+pub sideCutTouch : Demands Wrong.sideCut → ⊥
+unfolding cameNext historyOf recordAfter touchOf checkOf askOf settleOf grantedOf checkedOf foretold latestPrompt unspent latestTouch isPromptStanding lastMoment newOf accepted
+sideCutTouch d = omega (arith, d .touches 1000 refl (Touch 1 ∷ Check 2 0 ∷ []) .two-sides)
+
 -- ---- orders
 -- an Authenticate with P1 03 and no touch at all gets an order with presence byte 01
 pub untouched : Demands Wrong.untouched → ⊥
@@ -151,6 +206,14 @@ untouched d =
     let k = d .orders 1000 refl .own [] (lent (0x00 ∷ 0x02 ∷ 0x03 ∷ 0x00 ∷ 65 ∷ replicate 65 0) 0) (refl, inr (refl, refl)) in
     let e : _≡_ {A = Option Mark} none (some (k .0)) = k .1 in
     let z : _≡_ {A = ℕ} 0 1 = cc in omega arith
+
+-- one touch, and two orders
+pub recordKeptTwice : Demands Wrong.recordKept → ⊥
+unfolding lent decisionOf pathOf allowedPath commandPath loginPath countedEnding authenticateOrderOf block partOf dataOf commandOf onReading byInstruction authenticateOf challengeOf applicationOf readBy sayOf lengthsOf shortOf extendedOf afterData allowedOf attestationOf historyOf recordAfter cameNext touchOf checkOf grantedOf settleOf checkedOf latestTouch latestPrompt unspent lastMoment newOf foretold isPromptStanding
+recordKeptTwice d =
+    let login : Lent = lent (0x00 ∷ 0x02 ∷ 0x03 ∷ 0x00 ∷ 65 ∷ replicate 65 0) 2 in
+    d .orders 1000 refl .apart (Touch 1 ∷ Check 0 0 ∷ []) [] login login (record { number = 1; moment = 1; side = 0 }) (record { number = 1; moment = 1; side = 0 })
+    (refl, inr (refl, refl)) refl (refl, inr (refl, refl)) refl refl
 
 -- ---- finishing
 -- an order of no kind
@@ -178,6 +241,30 @@ pub stalls : Demands Wrong.stalls → ⊥
 unfolding lent decisionOf pathOf allowedPath commandPath fetchPath settleOf nextPartOf frameLimit limitOf partLength commandOf onReading byInstruction getResponseOf readBy sayOf lengthsOf shortOf extendedOf afterData allowedOf attestationOf
 stalls d =
     let e = d .bodies .takes (7 ∷ 8 ∷ []) (record { place = 1; count = 1 }) (on unused (lent (0x00 ∷ 0xC0 ∷ 0x00 ∷ 0x00 ∷ []) 0)) (refl, refl, refl) (omega arith) (omega arith) .0 in
+    omega (arith, e)
+
+-- so that one fetch, which is enough, is not
+pub stallsForGood : Demands Wrong.stalls → ⊥
+unfolding lent decisionOf pathOf allowedPath commandPath fetchPath settleOf nextPartOf frameLimit limitOf partLength commandOf onReading byInstruction getResponseOf readBy sayOf lengthsOf shortOf extendedOf afterData allowedOf attestationOf leftAfter
+stallsForGood d =
+    let e =
+        d .bodies .enough (7 ∷ 8 ∷ []) (record { place = 1; count = 1 }) (on unused (lent (0x00 ∷ 0xC0 ∷ 0x00 ∷ 0x00 ∷ []) 0) ∷ []) (omega arith)
+        (also
+        (record {
+          get-response = (refl, refl, refl);
+          window = (omega arith, omega arith);
+          sides = (omega arith, omega arith);
+          moments = (omega arith, omega arith);
+          room = inl (omega arith);
+        })
+        no-more) (omega arith) .0 in
+    omega (arith, e)
+
+-- of three bytes, one at a time, the last never goes out
+pub skips : Demands Wrong.skips → ⊥
+unfolding lent decisionOf pathOf allowedPath commandPath fetchPath settleOf nextPartOf frameLimit limitOf partLength commandOf onReading byInstruction getResponseOf readBy sayOf lengthsOf shortOf extendedOf afterData allowedOf attestationOf fetched leftAfter
+skips d =
+    let e = ap length (d .bodies .so-far (7 ∷ 8 ∷ 9 ∷ []) (replicate 258 0) 3 1 (on unused (lent (0x00 ∷ 0xC0 ∷ 0x00 ∷ 0x00 ∷ 1 ∷ []) 0) ∷ []) (omega arith) (also (refl, refl) no-more)) in
     omega (arith, e)
 
 -- ---- each call by itself

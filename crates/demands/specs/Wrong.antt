@@ -1,6 +1,6 @@
 -- The panel of the definitions, and wrong ones, each with one fault. proofs/Refuted.antt shows that the first meets every contract, and of each other that it
 -- does not meet the demands.
-use Prim.Native.Nat.{ℕ, _+_, _%_}
+use Prim.Native.Nat.{ℕ, _+_, _-_, _%_}
 use mathlib.Core.List.{List}
 use mathlib.Core.Bool.{Bool, false, not}
 use lib.Dec.{eqb}
@@ -170,6 +170,32 @@ keptIf found n r = if found then record { answer = r .answer; yes = r .yes; pres
 abbrev pub touchKept : Panel
 touchKept = panelWith rightNew rightTouch (λ n s t. keptIf (rightCheck n s t .yes) n (rightCheck n s t)) rightAsk decidesOf rightFinish
 
+-- a touch hands back its moment and two more: the window that it opened is said to be later than it was
+abbrev pub touchLate : Panel
+touchLate =
+    panelWith rightNew
+    (λ n t.
+    let r = rightTouch n t in
+    record {
+      answer = r .answer;
+      yes = r .yes;
+      presence = record { w = r .presence .w; prompt = r .presence .prompt; touch = r .presence .touch + 1; last = r .presence .last; asker = r .presence .asker };
+    })
+    rightCheck rightAsk decidesOf rightFinish
+
+-- a check hands back the asker that it was lent
+abbrev pub askerKept : Panel
+askerKept =
+    panelWith rightNew rightTouch
+    (λ n s t.
+    let r = rightCheck n s t in
+    record {
+      answer = r .answer;
+      yes = r .yes;
+      presence = record { w = r .presence .w; prompt = r .presence .prompt; touch = r .presence .touch; last = r .presence .last; asker = n .asker };
+    })
+    rightAsk decidesOf rightFinish
+
 -- a refused call moves the record, a decision's side is cut, and what is left is dropped at a refused C0: panel_stated's
 abbrev pub refusedMoves : Panel
 refusedMoves = panelWith rightNew Exports.refusedMoves (λ n s t. Exports.refusedMoves n t) rightAsk decidesOf rightFinish
@@ -220,6 +246,12 @@ keeping k d =
 -- wherever the place is no multiple of the limit, a frame is answered as if nothing were left, and all of it is kept
 abbrev pub stalls : Panel
 stalls = panelWith rightNew rightTouch rightCheck rightAsk (λ i. if eqb (i .remainder .place % frameLimit (i .frame)) 0 then decidesOf i else keeping (i .remainder) (decidesOf (changed (i .presence) (rest 0 0) i))) rightFinish
+
+-- a part leaves a byte more behind it than it took: that byte never goes out
+abbrev pub skips : Panel
+skips =
+    panelWith rightNew rightTouch rightCheck rightAsk
+    (λ i. let d = decidesOf i in keeping (rest (d .said .remainder .place + 1) (d .said .remainder .count - 1)) d) rightFinish
 
 -- a decision hands back the record that it was lent
 abbrev handing : PresenceRecord → AfterDeciding → AfterDeciding
