@@ -7,7 +7,7 @@ use native.Mathlib.Decide.{decLt}
 use lib.ListN.{length, length-append, List·getD-append}
 use lib.Seq.{getD-append-add, ext-getD}
 use Rattle.octets.specs.Bytes.{byte, laid}
-use Rattle.octets.proofs.Theorems.{LaidExactly}
+use Rattle.octets.proofs.Laws.{laid-exactly}
 use Rattle.signing_fields.specs.Terms.{FieldsFrom, Stand}
 
 abbrev pub joined : List (List ℕ) → List ℕ
@@ -15,11 +15,11 @@ joined [] = []
 joined (f ∷ fields) = f ++ joined fields
 
 stands-from : (before : List ℕ) (fields : List (List ℕ)) (old : List ℕ) → FieldsFrom (length before) fields old (laid (before ++ joined fields) old)
-stands-from before [] old = λ i h. LaidExactly .rest (before ++ []) old i (subst (λ (s : List ℕ). length s ≤ i) (sym (append-nil before)) h)
+stands-from before [] old = λ i h. laid-exactly .rest (before ++ []) old i (subst (λ (s : List ℕ). length s ≤ i) (sym (append-nil before)) h)
 stands-from before (f ∷ fields) old =
     let long : length (before ++ (f ++ joined fields)) ≡ length before + (length f + length (joined fields)) = length-append before _ ∙ ap (λ (n : ℕ). length before + n) (length-append f _) in (
       λ i within room.
-          LaidExactly .front (before ++ (f ++ joined fields)) old (length before + i) (omega (arith, long, within)) room
+          laid-exactly .front (before ++ (f ++ joined fields)) old (length before + i) (omega (arith, long, within)) room
           ∙ getD-append-add before (f ++ joined fields) i 0
           ∙ List·getD-append f (joined fields) 0 i within,
       subst (λ (n : ℕ). FieldsFrom n fields old (laid (before ++ (f ++ joined fields)) old)) (length-append before f)
@@ -29,7 +29,7 @@ stands-from before (f ∷ fields) old =
 pub stands : (fields : List (List ℕ)) (s old : List ℕ) → joined fields ≡ s → Stand fields old (laid s old)
 stands fields s old e =
     record {
-      as-long = LaidExactly .as-long s old;
+      as-long = laid-exactly .as-long s old;
       each = subst (λ (l : List ℕ). FieldsFrom 0 fields old (laid l old)) e (stands-from [] fields old);
     }
 
