@@ -1,5 +1,5 @@
 -- ISO's seven cases and the reading, case by case, by either table.
-use Prim.Native.Nat.{ℕ, _+_, _*_, _<_, _≤_}
+use Prim.Native.Nat.{ℕ, _+_, _-_, _*_, _<_, _≤_}
 use mathlib.Core.Path.{_≡_, refl, ap, sym, subst, _∙_}
 use mathlib.Core.Bool.{Bool, true, false, not, _&&_, _||_, and-eq-true-iff, true≢false}
 use mathlib.Core.List.{List}
@@ -9,10 +9,12 @@ use lib.Dec.{leb, eqb}
 use lib.ListN.{length, drop}
 use Rattle.octets.specs.Bytes.{byte, pairAt}
 use Rattle.apdu_stated.specs.Words.{Case, Instruction, Le1, Lc1Data, Lc1DataLe1, Lc3Data, Lc3DataLe2, Le3, shapeNo}
-use Rattle.apdu_stated.specs.Table.{leRead}
+use Rattle.apdu_stated.specs.Table.{leRead, lcField}
 use Rattle.outcome.specs.Outcome.{Gives}
 use Rattle.apdu_stated.specs.Reading.{Entry, lengthsOf, sayOf, readBy}
-use Rattle.apdu_stated.specs.Iso.{IsoCase, Case1, Case2S, Case3S, Case4S, Case2E, Case3E, Case4E, isCase, shapeFor, isTolerated}
+use Rattle.apdu_stated.specs.Iso.{IsoCase, Case1, Case2S, Case3S, Case4S, Case2E, Case3E, Case4E, isCase, ncOf, lcBefore, neOf, shapeFor, isTolerated}
+use Rattle.apdu_stated.specs.Terms.{saying, apduOf, IsIso, isoHeader, isoSays}
+use Rattle.apdu_stated.specs.Answers.{saysOf}
 use Rattle.apdu_stated.specs.declared.Lengths.the-variants.{Found}
 use Rattle.apdu_stated.proofs.Cases
 use Rattle.apdu_stated.proofs.Ways.{Way, none, le1, short, short-le, le3, wide, wide-le2, saidBy}
@@ -71,6 +73,8 @@ module _ (p : List ℕ) (k : ℕ) where
 pub record ReadIn (p : List ℕ) (c : IsoCase) : Type 0 where
   pub lc : ℕ
   pub le : ℕ
+  pub nc : lc ≡ ncOf c p
+  pub ne : le ≡ neOf c p
   pub is : (entry : Entry) → Found (shapeFor c) lc le ≡ lengthsOf entry p
   pub iso : isTolerated (shapeNo (shapeFor c)) lc ≡ false
 
@@ -80,6 +84,8 @@ module _ (p : List ℕ) where
       record {
         lc = 0;
         le = leRead 3 (pairAt p 1);
+        nc = refl;
+        ne = refl;
         is = λ entry. Cases.lengths-extended entry p _ (omega arith) (omega arith) z (Cases.extended-le3 entry p (pairAt p 1) refl _ e refl);
         iso = refl;
       }
@@ -89,6 +95,8 @@ module _ (p : List ℕ) where
       record {
         lc = byte p 0;
         le = 0;
+        nc = refl;
+        ne = refl;
         is = λ entry. Cases.lengths-short entry p _ (omega arith) (omega (arith, s .not-zero)) (s .not-zero) (Cases.short-data p (byte p 0) (byte p 0) refl refl (s .long));
         iso = refl;
       }
@@ -98,6 +106,8 @@ module _ (p : List ℕ) where
       record {
         lc = byte p 0;
         le = leRead 1 (byte p (1 + byte p 0));
+        nc = refl;
+        ne = let at : 1 + byte p 0 ≡ length p - 1 = omega (arith, s .long) in ap (λ (i : ℕ). leRead 1 (byte p i)) at;
         is = λ entry. Cases.lengths-short entry p _ (omega arith) (omega arith) (s .not-zero) (Cases.short-le p (byte p 0) (byte p 0) refl refl _ (s .long) refl);
         iso = refl;
       }
@@ -107,6 +117,8 @@ module _ (p : List ℕ) where
       record {
         lc = pairAt p 1;
         le = 0;
+        nc = refl;
+        ne = refl;
         is = λ entry. Cases.lengths-extended entry p _ (omega arith) (omega arith) (s .marker)
             (Cases.extended-after entry p (pairAt p 1) refl false (sym (Cases.has-data entry (pairAt p 1) (s .not-zero))) (omega arith) (omega (arith, s .not-zero)) _ refl (Cases.after-plain p (pairAt p 1) (s .long)));
         iso = refl;
@@ -118,6 +130,8 @@ module _ (p : List ℕ) where
       record {
         lc = pairAt p 1;
         le = leRead 2 (pairAt p (3 + pairAt p 1));
+        nc = refl;
+        ne = let at : 3 + pairAt p 1 ≡ length p - 2 = omega (arith, s .long) in ap (λ (i : ℕ). leRead 2 (pairAt p i)) at;
         is = λ entry. Cases.lengths-extended entry p _ (omega arith) (omega arith) (s .marker)
             (Cases.extended-after entry p (pairAt p 1) refl false (sym (Cases.has-data entry (pairAt p 1) (s .not-zero))) (omega arith) (omega arith) _ refl
             (Cases.after-le2 p (pairAt p 1) _ (pairAt p (3 + pairAt p 1)) (s .long) (rw next) refl));
@@ -125,8 +139,8 @@ module _ (p : List ℕ) where
       }
 
   pub iso-read : (c : IsoCase) → isCase c p ≡ true → ReadIn p c
-  iso-read Case1 e = record { lc = 0; le = 0; is = λ entry. Cases.lengths-none entry p (eqb-true (length p) 0 e); iso = refl }
-  iso-read Case2S e = record { lc = 0; le = leRead 1 (byte p 0); is = λ entry. Cases.lengths-le1 entry p _ (eqb-true (length p) 1 e) refl; iso = refl }
+  iso-read Case1 e = record { lc = 0; le = 0; nc = refl; ne = refl; is = λ entry. Cases.lengths-none entry p (eqb-true (length p) 0 e); iso = refl }
+  iso-read Case2S e = record { lc = 0; le = leRead 1 (byte p 0); nc = refl; ne = refl; is = λ entry. Cases.lengths-le1 entry p _ (eqb-true (length p) 1 e) refl; iso = refl }
   iso-read Case3S e = three-s (short-test p 1 e)
   iso-read Case4S e = four-s (short-test p 2 e)
   iso-read Case2E e =
@@ -149,6 +163,25 @@ module _ (p : List ℕ) where
 
 pub iso-said : (frame : List ℕ) (c : IsoCase) → 4 ≤ length frame → (r : ReadIn (drop 4 frame) c) (entry : Entry) → readBy entry frame ≡ Gives (saidBy frame (shapeFor c) (r .lc) (r .le))
 iso-said frame c long r entry = Cases.read-by entry frame long ∙ ap (sayOf frame) (sym (r .is entry)) ∙ Cases.say-found frame (shapeFor c) (r .lc) (r .le)
+
+-- ISO's Nc and Ne are what is said
+lc-before : (c : IsoCase) → lcField (shapeFor c) ≡ lcBefore c
+lc-before Case1 = refl
+lc-before Case2S = refl
+lc-before Case3S = refl
+lc-before Case4S = refl
+lc-before Case2E = refl
+lc-before Case3E = refl
+lc-before Case4E = refl
+
+pub says-iso : (c : IsoCase) (frame : List ℕ) → saysOf (apduOf (isoHeader frame) (shapeFor c) (ncOf c (drop 4 frame)) (neOf c (drop 4 frame))) ≡ isoSays c frame
+says-iso c frame = ap (λ (k : ℕ). saying (isoHeader frame) (shapeNo (shapeFor c)) (4 + k) (ncOf c (drop 4 frame)) (neOf c (drop 4 frame))) (lc-before c)
+
+pub iso-counts : (entry : Entry) (frame : List ℕ) (c : IsoCase) → IsIso c frame → readBy entry frame ≡ Gives (isoSays c frame)
+iso-counts entry frame c i =
+    let r = iso-read (drop 4 frame) c (i .1) in
+    iso-said frame c (i .0) r entry
+    ∙ λ d. Gives (saying (isoHeader frame) (shapeNo (shapeFor c)) (4 + lc-before c d) (r .nc d) (r .ne d))
 
 -- every shape but 6 is a case's
 pub case-for : (s : Case) (lc : ℕ) → isTolerated (shapeNo s) lc ≡ false → (c : IsoCase) × (shapeFor c ≡ s)

@@ -18,7 +18,10 @@ use Rattle.apdu_stated.specs.Reading.{Entry, Ordinary, Strict, lengthsOf
 use Rattle.apdu_stated.specs.declared.Lengths.{Lengths}
 use Rattle.apdu_stated.specs.declared.Lengths.the-variants.{Found, Missing, Surplus}
 use Rattle.apdu_stated.specs.Writing.{Parts}
-use Rattle.apdu_stated.specs.Terms.{InTable, LcZero, apduOf, Carries}
+use Rattle.apdu_stated.specs.Terms.{InTable, LcZero, apduOf, Carries, IsIso}
+use Rattle.apdu_stated.specs.Iso.{IsoCase}
+use Rattle.apdu_stated.specs.declared.Reading.the-variants as Reading′
+use Rattle.apdu_stated.specs.declared.Written.the-variants as Written′
 use Rattle.apdu_stated.specs.Claims
 use Rattle.apdu_stated.proofs.Ways.{TableOf}
 use Rattle.apdu_stated.proofs.Readings.{payload-exactly}
@@ -150,3 +153,16 @@ StrictWriteOtherwise write f g p q w old = go (ℕ-discrete (shapeNo (w .shape))
     go (yes e) (yes z) = p .seven w old e z ∙ sym (q .seven w old e z)
     go (yes e) (no m) = p .other w old (λ x. omega arith) ∙ sym (q .other w old (λ x. omega arith))
     go (no d) z = p .other w old (λ x. absurd (d x)) ∙ sym (q .other w old (λ x. absurd (d x)))
+
+-- ---- views
+pub ReadingSaidExactly : Determines Claims.ReadingSaidExactly
+ReadingSaidExactly f g p q (Reading′.Frame a) = p .frame _ a .1 refl ∙ sym (q .frame _ a .1 refl)
+ReadingSaidExactly f g p q (Reading′.Status s) = p .status _ s .1 refl ∙ sym (q .status _ s .1 refl)
+
+pub WrittenSaidExactly : Determines Claims.WrittenSaidExactly
+WrittenSaidExactly f g p q (Written′.Refused why) = p .refused _ why .1 refl ∙ sym (q .refused _ why .1 refl)
+WrittenSaidExactly f g p q (Written′.Frame n) = p .frame _ n .1 refl ∙ sym (q .frame _ n .1 refl)
+
+-- ---- ISO's cases: of two readings that have their counts, on every frame of a case
+pub IsoCounts : (f g : List ℕ → Outcome Says) → Claims.IsoCounts f → Claims.IsoCounts g → (frame : List ℕ) (c : IsoCase) → IsIso c frame → f frame ≡ g frame
+IsoCounts f g p q frame c i = p frame c i ∙ sym (q frame c i)

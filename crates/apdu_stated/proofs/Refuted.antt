@@ -17,6 +17,9 @@ use Rattle.apdu_stated.specs.Writing.{Parts, partsOf, frameOf, payloadOf
 use Rattle.apdu_stated.specs.Iso.{IsoCase, Case1, Case2S, Case3S, Case4S, Case2E, Case3E, Case4E, isCase}
 use Rattle.apdu_stated.specs.Terms.{full, plain, whole, pair, frameWith, saying, InTable, InStrictTable, LcZero, OldForm, LongestFront, EndsEarly, in-lc, in-short-data, in-extended-data, row1, row2, row4, row5, row8, IsFrameOf, Carries, shape2, shape3, CarriesStrictly, AreParts, apduOf}
 use Rattle.apdu_stated.specs.declared.Lengths.the-variants.{Found, Missing, Surplus}
+use Rattle.outcome.specs.declared.ApduStatusCode.the-variants as Status′
+use Rattle.apdu_stated.specs.declared.Reading.the-variants as Reading′
+use Rattle.apdu_stated.specs.declared.Written.the-variants as Written′
 use Rattle.apdu_stated.specs.Claims
 use Rattle.apdu_stated.specs.Wrong
 use Rattle.apdu_stated.proofs.Theorems
@@ -405,3 +408,35 @@ strictR2BeforeR5 exact = omega (arith, r-is _ _ (exact .r5 empty-7 [] .1 (no-emp
 pub strictWantsData : Claims.StrictWriteOtherwise writingOf Wrong.strictWantsData → ⊥
 unfolding writeBy carriedBy frameOf payloadOf lcFits leFits
 strictWantsData exact = r-gives _ _ (ap (λ (o : Outcome ℕ × List ℕ). o .0) (exact .other (partsOf h0 Instruction [] 0) nine (λ e. omega arith)))
+
+-- ---- ISO's Nc and Ne
+pub le7ForCase2S : Claims.IsoCounts Wrong.le7ForCase2S → ⊥
+unfolding readBy sayOf lengthsOf
+le7ForCase2S exact = omega (arith, le-is _ _ (exact (try (5 ∷ [])) Case2S (omega arith, refl)))
+
+pub le7ForCase2SStrict : Claims.StrictIsIso Wrong.le7ForCase2S → ⊥
+le7ForCase2SStrict exact = le7ForCase2S (exact .counts)
+
+pub ncForNe : Claims.IsoCounts Wrong.ncForNe → ⊥
+unfolding readBy sayOf lengthsOf shortOf
+ncForNe exact = omega (arith, le-is _ _ (exact (try (1 ∷ 0xAA ∷ 5 ∷ [])) Case4S (omega arith, refl)))
+
+pub strictWritesNoDataIso : Claims.WritesIso Wrong.strictWritesNoData → ⊥
+unfolding writeBy bufferBy frameOf payloadOf carriedBy lcFits leFits
+strictWritesNoDataIso exact =
+    let r = exact .of-case (partsOf h0 Lc3DataLe2 [] 5) (0 ∷ 0 ∷ 0 ∷ 0 ∷ 0 ∷ 0 ∷ 0 ∷ 0 ∷ 0 ∷ []) 9 refl in
+    true≢false (sym (r .1 .1) ∙ of-no-case (r .0))
+
+pub strictWantsDataIso : Claims.WritesIso Wrong.strictWantsData → ⊥
+unfolding small partOf
+strictWantsDataIso exact = r-gives 5 _ (ap (λ (o : Outcome ℕ × List ℕ). o .0) (exact .each-case (try []) (try []) Case1 (bytes-of (try []) refl) (omega arith, refl) (omega arith)))
+
+-- ---- views
+pub always6a80 : Claims.ReadingSaidExactly Wrong.always6a80 → ⊥
+always6a80 exact = omega (arith, ap (λ (w : StatusWord). w .number) (word-same _ _ (exact .status (Reading′.Status Status′.ClaInvalid) Status′.ClaInvalid .1 refl)))
+
+pub lcForLe : Claims.ReadingSaidExactly Wrong.lcForLe → ⊥
+lcForLe exact = omega (arith, le-is _ _ (exact .frame (Reading′.Frame (apduOf h0 Le1 0 5)) (apduOf h0 Le1 0 5) .1 refl))
+
+pub headerCountedTwice : Claims.WrittenSaidExactly Wrong.headerCountedTwice → ⊥
+headerCountedTwice exact = omega (arith, gives-same _ _ (exact .frame (Written′.Frame 4) 4 .1 refl))

@@ -5,25 +5,26 @@ use mathlib.Core.Bool.{Bool, true, false, true≢false}
 use mathlib.Core.List.{List, [], _∷_, _++_}
 use native.Mathlib.Omega.{arith}
 use native.Mathlib.Decide.{ℕ-discrete}
-use lib.ListN.{length, drop, length-append}
+use lib.ListN.{length, take, drop, length-append}
 use Rattle.outcome.specs.Notation.{AtMostOne}
 use Rattle.outcome.specs.Outcome.{Outcome, R, Gives, surplusAt}
 use Rattle.outcome.proofs.Laws.{gives-same, word-gives, both-are}
-use Rattle.octets.specs.Bytes.{pairAt}
+use Rattle.octets.specs.Bytes.{AreBytes, pairAt}
 use Rattle.octets.proofs.Laws.{part-length, part-byte, part-past}
 use Rattle.apdu_stated.specs.Words.{ApduHeader, shapeNo}
-use Rattle.apdu_stated.specs.Answers.{Written, Says, saysOf}
+use Rattle.apdu_stated.specs.Answers.{Apdu, Reading, Written, Says, saysOf, readingOf, writtenOf}
 use Rattle.apdu_stated.specs.Table.{rowOf, canCarry, inRow, carriedBy}
 use Rattle.apdu_stated.specs.Reading.{Entry, Ordinary, Strict, readBy, readOf, lengthsOf, shortOf, extendedOf, afterData, sayOf, strictOf, placeOf, dataOf}
-use Rattle.apdu_stated.specs.Iso.{IsoCase, isCase, isTolerated}
-use Rattle.apdu_stated.specs.Writing.{Parts, writingOf, strictWritingOf}
-use Rattle.apdu_stated.specs.Terms.{IsPair, row7, frameWith, InTable, LcZero, Differ, Carries, CarriesStrictly}
+use Rattle.apdu_stated.specs.Iso.{IsoCase, isCase, ncOf, neOf, shapeFor, isTolerated}
+use Rattle.apdu_stated.specs.Writing.{Parts, partsOf, writingOf, strictWritingOf}
+use Rattle.apdu_stated.specs.Terms.{IsPair, row7, frameWith, InTable, LcZero, Differ, Carries, CarriesStrictly, apduOf, IsIso, isoHeader, isoSays, isoData}
 use Rattle.apdu_stated.specs.Contracts.{WriteBy}
 use Rattle.apdu_stated.specs.Claims
 use Rattle.apdu_stated.proofs.Cases
 use Rattle.apdu_stated.proofs.LaidOut.{carried}
 use Rattle.apdu_stated.proofs.Fields.{write-alike, buffer-alike}
-use Rattle.apdu_stated.proofs.IsoCases.{iso-read, iso-said}
+use Rattle.apdu_stated.proofs.IsoCases.{iso-read, iso-said, iso-counts, says-iso}
+use Rattle.apdu_stated.proofs.Only.{DataExactly as only-data}
 use Rattle.apdu_stated.proofs.Frames.{said}
 use Rattle.apdu_stated.proofs.Entries.{can, carried-carries}
 use Rattle.apdu_stated.proofs.Numbers.{shape-same, says-same, reading-same, written-same, row-same}
@@ -195,10 +196,25 @@ ReadingOneToOne = reading-same
 pub WrittenOneToOne : Claims.WrittenOneToOne
 WrittenOneToOne = written-same
 
+-- ---- what the answers say
+pub ReadingSaidExactly : Claims.ReadingSaidExactly readingOf
+ReadingSaidExactly = record { frame = λ r a. (reading-same _ _, ap readingOf); status = λ r s. (reading-same _ _, ap readingOf) }
+
+pub WrittenSaidExactly : Claims.WrittenSaidExactly writtenOf
+WrittenSaidExactly = record { refused = λ r why. (written-same _ _, ap writtenOf); frame = λ r n. (written-same _ _, ap writtenOf) }
+
 -- ---- a function that gives what a definition gives, input by input, is that definition
 pub ContractsAsClaimed : Claims.ContractsAsClaimed
 ContractsAsClaimed =
     record {
+      row = λ f is. subst Claims.RowExactly (λ d s. row-same (rowOf s) (f s) (sym (is s .lc)) (sym (is s .least)) (sym (is s .le)) d) RowExactly;
+      payload = λ f is. (
+        subst (Claims.PayloadExactly InTable) (λ d p. sym (is Ordinary p .0) d) PayloadExactly,
+        subst Claims.StrictPayloadExactly (λ d p. sym (is Strict p .0) d) StrictPayloadExactly,
+      );
+      shape-number = λ f is. subst Claims.ShapeNumberExactly (λ d s. sym (is s) d) ShapeNumberExactly;
+      data-place = λ f is. subst Claims.PlaceExactly (λ d a. sym (is a .0) d) PlaceExactly;
+      cut-data = λ f is g c frame a. is frame a ∙ only-data dataOf g DataExactly c frame (saysOf a);
       fits = λ f is. subst (Claims.FitsExactly Carries) (λ d s n le. sym (is s n le) d) FitsExactly;
       strict-has = λ f is. subst Claims.StrictRowExactly (λ d s n. sym (is s n) d) StrictRowExactly;
       read = λ f is. subst (Claims.ReadingExactly InTable) (λ d frame. sym (is frame) d) ReadingExactly;
@@ -231,6 +247,9 @@ ResultsDetermined =
 pub IsoExactly : Claims.IsoExactly readOf
 IsoExactly = iso-exactly Ordinary
 
+pub IsoCounts : Claims.IsoCounts readOf
+IsoCounts = iso-counts Ordinary
+
 pub StrictIsIso : Claims.StrictIsIso strictOf
 StrictIsIso =
     record {
@@ -239,6 +258,7 @@ StrictIsIso =
         λ t. iso-exactly Strict frame c long .1 (t .0, t .1, t .2, strict-row frame (t .0) (t .1)),
       );
       no-other = λ frame says e. (given-long Strict frame says e, of-case Strict frame says e (strict-row frame says e));
+      counts = iso-counts Strict;
     }
 
 pub DifferExactly : Claims.DifferExactly readOf strictOf
@@ -291,3 +311,35 @@ ToleratedExactly = record { of-no-case = λ frame said e. (forth frame said e, b
 
     nine : (frame : List ℕ) → LcZero frame → length frame ≡ 9 → (says : Says) × (readOf frame ≡ Gives says) × (isTolerated (says .shape) (says .lc) ≡ true)
     nine frame l e = let r = read-nine-at frame (l .extended) (l .zero-lc) e in (_, r .1, rw (l .zero-lc))
+
+-- what is written is read back, and what is read strictly is of a case, with its Nc and Ne
+pub WritesIso : Claims.WritesIso strictWritingOf
+unfolding dataOf
+WritesIso = record { of-case = written; each-case = again }
+  where
+    written : (w : Parts) (old : List ℕ) (n : ℕ) → strictWritingOf w old .0 ≡ Gives n
+        → let frame = take n (strictWritingOf w old .1) in
+        (c : IsoCase) × IsIso c frame × (w .shape ≡ shapeFor c) × (w .header ≡ isoHeader frame) × (w .content ≡ isoData c frame) × (w .le ≡ neOf c (drop 4 frame))
+    written w old n e =
+        let frame = take n (strictWritingOf w old .1) in
+        let says = saysOf (apduOf (w .header) (w .shape) (length (w .content)) (w .le)) in
+        let back = written-then-read Strict w old n e in
+        let of = StrictIsIso .no-other frame says (back .0) in
+        let c = of .1 .0 in
+        let i : IsIso c frame = (of .0, of .1 .1) in
+        let same : says ≡ isoSays c frame = gives-same _ _ (sym (back .0) ∙ iso-counts Strict frame c i) in (
+          c,
+          i,
+          shape-same _ _ (of .1 .2),
+          ap (λ (s : Says). s .header) same,
+          sym (back .1) ∙ ap (dataOf frame) same,
+          ap (λ (s : Says). s .le) same,
+        )
+
+    again : (frame old : List ℕ) (c : IsoCase) → AreBytes frame → IsIso c frame → length frame ≤ length old
+        → strictWritingOf (partsOf (isoHeader frame) (shapeFor c) (isoData c frame) (neOf c (drop 4 frame))) old ≡ (Gives (length frame), frame ++ drop (length frame) old)
+    again frame old c bytes i room =
+        let a = apduOf (isoHeader frame) (shapeFor c) (ncOf c (drop 4 frame)) (neOf c (drop 4 frame)) in
+        let same : saysOf a ≡ isoSays c frame = says-iso c frame in
+        ap (λ (d : List ℕ). strictWritingOf (partsOf (isoHeader frame) (shapeFor c) d (neOf c (drop 4 frame))) old) (ap (dataOf frame) (sym same))
+        ∙ read-then-written Strict frame old a bytes (iso-counts Strict frame c i ∙ ap Gives (sym same)) room

@@ -5,20 +5,24 @@
 -- of `strictOf` and `strictWritingOf` with `InStrictTable`.
 use mathlib.Core.Logic.{_↔_}
 use Rattle.outcome.specs.Notation.{AtMostOne}
-use Rattle.outcome.specs.Outcome.{Outcome, R, SW, Gives, wrongLength}
+use Rattle.outcome.specs.Outcome.{Outcome, R, Word, SW, Gives, wrongLength, wordOf, refusalNo}
+use Rattle.outcome.specs.declared.Refusal.{Refusal}
+use Rattle.outcome.specs.declared.ApduStatusCode.{ApduStatusCode}
 use Rattle.outcome.specs.Terms.{PairsExactly, HasStatus}
 use Rattle.octets.specs.Bytes.{AreBytes, byte, pairAt}
 use Rattle.apdu_stated.specs.Words.{ℕ, _+_, _≤_, _<_, _≡_, Bool, true, false, List, [], _∷_, _++_, map, length, take, drop, ApduHeader, Case, Instruction, Le1, Lc1Data, Lc1DataLe1, Lc3Data, Lc3DataLe2, Le3, shapeNo}
 use Rattle.apdu_stated.specs.Answers.{Apdu, Place, Reading, Written, Says, saysOf, readingOf, writtenOf}
 use Rattle.apdu_stated.specs.Table.{TableRow, columns}
-use Rattle.apdu_stated.specs.Reading.{Entry}
+use Rattle.apdu_stated.specs.Reading.{Entry, Ordinary, Strict}
+use Rattle.apdu_stated.specs.declared.Reading.the-variants as Reading′
+use Rattle.apdu_stated.specs.declared.Written.the-variants as Written′
 use Rattle.apdu_stated.specs.Writing.{Parts, partsOf}
-use Rattle.apdu_stated.specs.Iso.{IsoCase, isCase, shapeFor, isTolerated}
+use Rattle.apdu_stated.specs.Iso.{IsoCase, isCase, shapeFor, neOf, isTolerated}
 use Rattle.apdu_stated.specs.Examples.{Example, examples}
 use Rattle.apdu_stated.specs.Contracts.{Row, Fits, StrictHas, Payload, ShapeNumber, Read, ReadStrict, DataPlace, Data, Write, WriteStrict}
 use Rattle.apdu_stated.specs.declared.Lengths.{Lengths}
 use Rattle.apdu_stated.specs.declared.Lengths.the-variants.{Found, Missing, Surplus}
-use Rattle.apdu_stated.specs.Terms.{IsPair, OneByteLe, TwoByteLe, frameWith, saying, InTable, IsoRow, InStrictTable, LcZero, OldForm, Differ, EndsEarly, LongestFront, IsFrameOf, Carries, CarriesStrictly, AreParts, apduOf, span}
+use Rattle.apdu_stated.specs.Terms.{IsPair, OneByteLe, TwoByteLe, frameWith, saying, InTable, IsoRow, InStrictTable, LcZero, OldForm, Differ, EndsEarly, LongestFront, IsFrameOf, Carries, CarriesStrictly, AreParts, apduOf, span, IsIso, isoHeader, isoSays, isoData}
 
 -- ---- reading is the table
 
@@ -181,6 +185,12 @@ IsoExactly read =
     → (isCase c (drop 4 frame) ≡ true)
     ↔ ((says : Says) × (read frame ≡ Gives says) × (says .shape ≡ shapeNo (shapeFor c)) × (isTolerated (says .shape) (says .lc) ≡ false))
 
+-- ISO's Nc and Ne: a frame of a case is read with the header that it has, in the case's shape, its Lc is Nc, its Le is Ne, and its data starts behind the Lc
+-- field. Of both readings. Rejects a reading that says Le 7 for every case 2S (`le7ForCase2S`), and one that says Nc for the Ne of a case 4S (`ncForNe`). Bites at
+-- 00 03 00 00 | 05, and at 00 03 00 00 | 01 AA 05.
+abbrev pub IsoCounts : (List ℕ → Outcome Says) → Type 0
+IsoCounts read = (frame : List ℕ) (c : IsoCase) → IsIso c frame → read frame ≡ Gives (isoSays c frame)
+
 -- What is read and is of no ISO case is the tolerated form, shape 7 with an Lc of 0, and it is of none; and every frame of that form is read.
 -- Rejects a table with a row that ISO lacks, one numbered 9 or the retired sixth, and a reading without the tolerated form. Bites at 00 03 00 00 | 00 01, at
 -- 00 03 00 00 | 00 00 00 05, and at 00 03 00 00 | 00 00 00 00 05.
@@ -201,6 +211,7 @@ pub record StrictIsIso (strict : List ℕ → Outcome Says) : Type 0 where
       → (isCase c (drop 4 frame) ≡ true) ↔ ((says : Says) × (strict frame ≡ Gives says) × (says .shape ≡ shapeNo (shapeFor c)))
   pub no-other : (frame : List ℕ) (says : Says) → strict frame ≡ Gives says
       → (4 ≤ length frame) × ((c : IsoCase) × (isCase c (drop 4 frame) ≡ true) × (says .shape ≡ shapeNo (shapeFor c)))
+  pub counts : IsoCounts strict
 
 -- 01: "It accepts the ISO cases, that is the shapes above without shape 6, and gives 6700 for shape 6"; 02, E4: "with Lc 0 it is 6700":
 -- every answer, each exactly when, by the strict table and the same law as the ordinary reading. Rejects a strict entry that takes shape 6,
@@ -260,6 +271,16 @@ pub record WriteExactly (Carry : Case → ℕ → ℕ → Type 0) (Table : List 
 abbrev pub StrictWriteExactly : (Parts → List ℕ → Outcome ℕ × List ℕ) → Type 0
 StrictWriteExactly write = WriteExactly CarriesStrictly InStrictTable write
 
+-- The strict writer against ISO's cases, with no table and no reading between: whatever it writes is of the case that its shape is, with that header, that data
+-- and that Ne; and every frame of a case, taken apart and written, is that frame again, the buffer's rest kept. Rejects a writer of shape 7 without data
+-- (`strictWritesNoData`), and one that wants data in every shape (`strictWantsData`). Bites at shape 7 without data, and at the header alone.
+pub record WritesIso (write : Parts → List ℕ → Outcome ℕ × List ℕ) : Type 0 where
+  pub of-case : (w : Parts) (old : List ℕ) (n : ℕ) → write w old .0 ≡ Gives n
+      → let frame = take n (write w old .1) in
+      (c : IsoCase) × IsIso c frame × (w .shape ≡ shapeFor c) × (w .header ≡ isoHeader frame) × (w .content ≡ isoData c frame) × (w .le ≡ neOf c (drop 4 frame))
+  pub each-case : (frame old : List ℕ) (c : IsoCase) → AreBytes frame → IsIso c frame → length frame ≤ length old
+      → write (partsOf (isoHeader frame) (shapeFor c) (isoData c frame) (neOf c (drop 4 frame))) old ≡ (Gives (length frame), frame ++ drop (length frame) old)
+
 -- The same sentence, beside any writer, with any parts and buffer. Rejects a strict writer that refuses every shape without data. Bites at shape 1.
 pub record StrictWriteOtherwise (write strict : Parts → List ℕ → Outcome ℕ × List ℕ) : Type 0 where
   pub seven : (w : Parts) (old : List ℕ) → shapeNo (w .shape) ≡ 7 → length (w .content) ≡ 0 → strict w old ≡ (R 5, old)
@@ -299,6 +320,19 @@ pub record StrictThereAndBack (strict : List ℕ → Outcome Says) (cut : List �
   pub written-then-read : WrittenThenRead strict cut write
   pub accepts : AcceptsWhatIsRead strict cut write
 
+-- ---- what the answers say
+
+-- Of a reading what its frame says, in the numbers of `SaysExactly`, or a status word with its pair; of a writing the frame's length, or a refusal: each case has its
+-- words, and no other has them. Rejects a view that gives 6a80 for every status word (`always6a80`), one that says Lc for Le (`lcForLe`), and one that counts the header twice
+-- (`headerCountedTwice`).
+pub record ReadingSaidExactly (said : Reading → Outcome Says) : Type 0 where
+  pub frame : (r : Reading) (a : Apdu) → (said r ≡ Gives (saysOf a)) ↔ (r ≡ Reading′.Frame a)
+  pub status : (r : Reading) (s : ApduStatusCode) → (said r ≡ Word (wordOf s)) ↔ (r ≡ Reading′.Status s)
+
+pub record WrittenSaidExactly (said : Written → Outcome ℕ) : Type 0 where
+  pub refused : (r : Written) (why : Refusal) → (said r ≡ R (refusalNo why)) ↔ (r ≡ Written′.Refused why)
+  pub frame : (r : Written) (n : ℕ) → (said r ≡ Gives n) ↔ (r ≡ Written′.Frame n)
+
 -- ---- the numbers tell the cases apart
 
 abbrev pub ShapeOneToOne : Type 0
@@ -316,8 +350,15 @@ WrittenOneToOne = (a b : Written) → writtenOf a ≡ writtenOf b → a ≡ b
 -- ---- the contracts and the claims
 
 -- Whatever meets a contract of reading or writing meets the claim on it: the contracts say what is claimed. A contract of the strict writer that names the
--- other table fails it, with code to match.
+-- other table fails it, with code to match. `data` takes what a frame says as the code holds it, and gives what whatever meets the claim gives of the numbers.
 pub record ContractsAsClaimed : Type 0 where
+  pub row : (f : Case → TableRow) → ((s : Case) → Row s (f s)) → RowExactly f
+  pub payload : (f : Entry → List ℕ → Lengths) → ((entry : Entry) (p : List ℕ) → Payload entry p (f entry p))
+      → PayloadExactly InTable (f Ordinary) × StrictPayloadExactly (f Strict)
+  pub shape-number : (f : Case → ℕ) → ((s : Case) → ShapeNumber s (f s)) → ShapeNumberExactly f
+  pub data-place : (f : Apdu → Place) → ((a : Apdu) → DataPlace a (f a)) → PlaceExactly f
+  pub cut-data : (f : List ℕ → Apdu → List ℕ) → ((frame : List ℕ) (a : Apdu) → Data frame a (f frame a))
+      → (g : List ℕ → Says → List ℕ) → DataExactly g → (frame : List ℕ) (a : Apdu) → f frame a ≡ g frame (saysOf a)
   pub fits : (f : Case → ℕ → ℕ → Bool) → ((s : Case) (count le : ℕ) → Fits s count le (f s count le)) → FitsExactly Carries f
   pub strict-has : (f : Case → ℕ → Bool) → ((s : Case) (count : ℕ) → StrictHas s count (f s count)) → StrictRowExactly f
   pub read : (f : List ℕ → Reading) → ((frame : List ℕ) → Read frame (f frame)) → ReadingExactly InTable (λ frame. readingOf (f frame))

@@ -1,10 +1,12 @@
--- ISO/IEC 7816-3:2006, section 12.1.3: the seven cases of a command, by its body b of L bytes B1 .. BL; and the one form
--- beyond them that is tolerated. Written from the public table, apart from document 01's.
-use Prim.Native.Nat.{ℕ, _+_}
+-- ISO/IEC 7816-3:2006, section 12.1.3: the seven cases of a command, by its body b of L bytes B1 .. BL; of each case Nc, the number of
+-- its data bytes, where they stand, and Ne, the most bytes that may come back; and the one form beyond the cases that is tolerated. Written from the public
+-- table, apart from document 01's.
+use Prim.Native.Nat.{ℕ, _+_, _-_}
 use mathlib.Core.Bool.{Bool, not, _&&_}
 use mathlib.Core.List.{List}
 use lib.ListN.{length}
 use lib.Dec.{leb, eqb}
+use Rattle.outcome.specs.Notation.{if_then_else_}
 use Rattle.octets.specs.Bytes.{byte, pairAt}
 use Rattle.apdu_stated.specs.Words.{Case, Instruction, Le1, Lc1Data, Lc1DataLe1, Lc3Data, Lc3DataLe2, Le3}
 
@@ -20,6 +22,43 @@ isCase Case4S b = leb 1 (length b) && not (eqb (byte b 0) 0) && eqb (length b) (
 isCase Case2E b = leb 1 (length b) && eqb (byte b 0) 0 && eqb (length b) 3  -- 2E | B1 = 00, L = 3
 isCase Case3E b = leb 3 (length b) && eqb (byte b 0) 0 && not (eqb (pairAt b 1) 0) && eqb (length b) (3 + pairAt b 1)  -- 3E | B1 = 00, B2B3 not 0, L = 3 + B2B3
 isCase Case4E b = leb 3 (length b) && eqb (byte b 0) 0 && not (eqb (pairAt b 1) 0) && eqb (length b) (5 + pairAt b 1)  -- 4E | B1 = 00, B2B3 not 0, L = 5 + B2B3
+
+-- Nc: what the Lc field says, B1 or B2B3; 0 without one
+abbrev pub ncOf : IsoCase → List ℕ → ℕ
+ncOf Case1 b = 0
+ncOf Case2S b = 0
+ncOf Case3S b = byte b 0
+ncOf Case4S b = byte b 0
+ncOf Case2E b = 0
+ncOf Case3E b = pairAt b 1
+ncOf Case4E b = pairAt b 1
+
+-- how many bytes of Lc field stand before the data
+abbrev pub lcBefore : IsoCase → ℕ
+lcBefore Case1 = 0
+lcBefore Case2S = 0
+lcBefore Case3S = 1
+lcBefore Case4S = 1
+lcBefore Case2E = 0
+lcBefore Case3E = 3
+lcBefore Case4E = 3
+
+-- a short Le field of 00 stands for 256, an extended one of 0000 for 65536
+abbrev pub shortNe : ℕ → ℕ
+shortNe le = if eqb le 0 then 256 else le
+
+abbrev pub extendedNe : ℕ → ℕ
+extendedNe le = if eqb le 0 then 65536 else le
+
+-- Ne: the Le field is the body's end, BL in a short case, the two bytes before and at BL in an extended one; 0 without one
+abbrev pub neOf : IsoCase → List ℕ → ℕ
+neOf Case1 b = 0
+neOf Case2S b = shortNe (byte b 0)
+neOf Case3S b = 0
+neOf Case4S b = shortNe (byte b (length b - 1))
+neOf Case2E b = extendedNe (pairAt b 1)
+neOf Case3E b = 0
+neOf Case4E b = extendedNe (pairAt b (length b - 2))
 
 -- which of document 01's shapes each case is
 abbrev pub shapeFor : IsoCase → Case

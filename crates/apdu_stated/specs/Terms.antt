@@ -2,10 +2,12 @@
 -- out, and the strict one; where the two readings differ; when a payload ends early, and how much of a frame's front is in a table;
 -- which data length and Le a shape can carry, once more, and what the strict writer takes of it.
 use Prim.Native.Nat.{ℕ, _+_, _*_, _≤_, _<_}
-use Rattle.octets.specs.Bytes.{AreBytes, byte, pairAt}
-use Rattle.apdu_stated.specs.Words.{_≡_, List, [], _∷_, _++_, length, take, ApduHeader, Case, Instruction, Le1, Lc1Data, Lc1DataLe1, Lc3Data, Lc3DataLe2, Le3, shapeNo}
+use mathlib.Core.Bool.{true}
+use Rattle.octets.specs.Bytes.{AreBytes, byte, pairAt, partOf}
+use Rattle.apdu_stated.specs.Words.{_≡_, List, [], _∷_, _++_, length, take, drop, ApduHeader, Case, Instruction, Le1, Lc1Data, Lc1DataLe1, Lc3Data, Lc3DataLe2, Le3, shapeNo}
 use Rattle.apdu_stated.specs.Answers.{Says, Apdu, Place}
 use Rattle.apdu_stated.specs.Writing.{Parts}
+use Rattle.apdu_stated.specs.Iso.{IsoCase, isCase, ncOf, neOf, lcBefore, shapeFor}
 
 -- "Numbers of two bytes are big-endian"
 pub record IsPair (hi lo n : ℕ) : Type 0 where
@@ -128,3 +130,18 @@ apduOf h shape lc le = record { header = h; shape = shape; lc = lc; le = le }
 -- from, and up to and without
 abbrev pub span : ℕ → ℕ → Place
 span start end = record { start = start; end = end }
+
+-- ---- ISO's cases
+-- `IsIso c frame`: four bytes of header, and behind them a body of the case
+abbrev pub IsIso : IsoCase → List ℕ → Type 0
+IsIso c frame = (4 ≤ length frame) × (isCase c (drop 4 frame) ≡ true)
+
+-- the header, what a frame of a case says, by ISO's Nc and Ne, and its data
+abbrev pub isoHeader : List ℕ → ApduHeader
+isoHeader frame = record { cla = byte frame 0; ins = byte frame 1; p1 = byte frame 2; p2 = byte frame 3 }
+
+abbrev pub isoSays : IsoCase → List ℕ → Says
+isoSays c frame = saying (isoHeader frame) (shapeNo (shapeFor c)) (4 + lcBefore c) (ncOf c (drop 4 frame)) (neOf c (drop 4 frame))
+
+abbrev pub isoData : IsoCase → List ℕ → List ℕ
+isoData c frame = partOf frame (4 + lcBefore c) (4 + lcBefore c + ncOf c (drop 4 frame))

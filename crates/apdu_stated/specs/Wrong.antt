@@ -2,16 +2,18 @@
 use Prim.Native.Nat.{ℕ, _+_, _-_, _%_}
 use lib.ListN.{replicate}
 use Rattle.outcome.specs.Notation.{if_then_else_}
-use Rattle.outcome.specs.Outcome.{StatusWord, Outcome, R, Word, SW, Gives, missingAt, surplusAt}
+use Rattle.outcome.specs.Outcome.{StatusWord, Outcome, R, Word, SW, Gives, missingAt, surplusAt, wordOf, refusalNo}
 use Rattle.octets.specs.Bytes.{byte, pairAt, partOf, laid}
 use Rattle.apdu_stated.specs.Words.{Bool, not, _&&_, List, [], _∷_, _++_, length, drop, leb, ltb, eqb, Case, Instruction, Le1, Lc1Data, Lc1DataLe1, Lc3Data, Lc3DataLe2, Le3, shapeNo}
-use Rattle.apdu_stated.specs.Answers.{Apdu, Place, Says, saysOf}
+use Rattle.apdu_stated.specs.Answers.{Apdu, Place, Reading, Written, Says, saysOf}
+use Rattle.apdu_stated.specs.declared.Reading.the-variants as Reading′
+use Rattle.apdu_stated.specs.declared.Written.the-variants as Written′
 use Rattle.apdu_stated.specs.Table.{TableRow, columns, rowOf, lcLeast, lcFits, leRead, canCarry, carriedBy}
 use Rattle.apdu_stated.specs.Reading.{Ordinary, Strict, lengthsOf, readOf, strictOf, headerOf, placeOf}
 use Rattle.apdu_stated.specs.Writing.{Parts, partsOf, frameOf, writeBy, bufferBy, writingOf, strictWritingOf}
 use Rattle.apdu_stated.specs.declared.Lengths.{Lengths}
 use Rattle.apdu_stated.specs.declared.Lengths.the-variants.{Found, Missing, Surplus}
-use Rattle.apdu_stated.specs.Terms.{saying}
+use Rattle.apdu_stated.specs.Terms.{saying, apduOf}
 
 -- ---- reading
 
@@ -259,3 +261,28 @@ strictR2BeforeR5 w old = if ltb (length old) (length (frameOf w)) then (R 2, old
 -- "and is otherwise the writer": here it wants data in every shape
 abbrev pub strictWantsData : Parts → List ℕ → Outcome ℕ × List ℕ
 strictWantsData w old = if eqb (length (w .content)) 0 then (R 5, old) else strictWritingOf w old
+
+-- ---- ISO's Ne: here 7 for every case 2S; and here Nc for every case 4S
+abbrev sayingLe : (Says → ℕ) → (shape : ℕ) → Outcome Says → Outcome Says
+sayingLe le shape (R n) = R n
+sayingLe le shape (Word w) = Word w
+sayingLe le shape (Gives s) = if eqb (s .shape) shape then Gives (saying (s .header) (s .shape) (s .dataAt) (s .lc) (le s)) else Gives s
+
+abbrev pub le7ForCase2S : List ℕ → Outcome Says
+le7ForCase2S frame = sayingLe (λ (s : Says). 7) 2 (strictOf frame)
+
+abbrev pub ncForNe : List ℕ → Outcome Says
+ncForNe frame = sayingLe (λ (s : Says). s .lc) 4 (strictOf frame)
+
+-- ---- views: one number for every status word; Lc in the place of Le; a header that is counted twice
+abbrev pub always6a80 : Reading → Outcome Says
+always6a80 (Reading′.Frame a) = Gives (saysOf a)
+always6a80 (Reading′.Status s) = SW 0x6a80
+
+abbrev pub lcForLe : Reading → Outcome Says
+lcForLe (Reading′.Frame a) = Gives (saysOf (apduOf (a .header) (a .shape) (a .lc) (a .lc)))
+lcForLe (Reading′.Status s) = Word (wordOf s)
+
+abbrev pub headerCountedTwice : Written → Outcome ℕ
+headerCountedTwice (Written′.Refused why) = R (refusalNo why)
+headerCountedTwice (Written′.Frame n) = Gives (4 + n)

@@ -14,6 +14,7 @@ use Rattle.apdu_stated.specs.declared.Entry.the-variants.{Ordinary}
 use Rattle.apdu_stated.specs.Reading.{readOf}
 use Rattle.apdu_stated.proofs.Laws.{FrameWay, under, found, ends, goes-on, frame-way}
 use Rattle.command_stated.specs.Command.{Ctap1Flags, CheckOnly, EnforceUpAndSign, DontEnforceUpAndSign, Command, byInstruction, commandOf}
+use Rattle.command_stated.specs.declared.U2fCommand.the-variants as U2fCommand′
 use Rattle.command_stated.specs.Claims
 use Rattle.command_stated.proofs.Ways.{Why, class, instruction, parameters, lengths, control, Way, register, authenticate, version, fetch, status, way, Read, read, unread, reading}
 
@@ -97,3 +98,10 @@ pub FlagsNumberExactly : Determines Claims.FlagsNumberExactly
 FlagsNumberExactly f g p q CheckOnly = p .check-only ∙ sym (q .check-only)
 FlagsNumberExactly f g p q EnforceUpAndSign = p .enforce ∙ sym (q .enforce)
 FlagsNumberExactly f g p q DontEnforceUpAndSign = p .do-not-enforce ∙ sym (q .do-not-enforce)
+
+pub SaidExactly : Determines Claims.SaidExactly
+SaidExactly f g p q (U2fCommand′.Register a) = p .register _ a .1 refl ∙ sym (q .register _ a .1 refl)
+SaidExactly f g p q (U2fCommand′.Authenticate flags a) = p .authenticate _ flags a .1 refl ∙ sym (q .authenticate _ flags a .1 refl)
+SaidExactly f g p q U2fCommand′.Version = p .version _ .1 refl ∙ sym (q .version _ .1 refl)
+SaidExactly f g p q U2fCommand′.GetResponse = p .get-response _ .1 refl ∙ sym (q .get-response _ .1 refl)
+SaidExactly f g p q (U2fCommand′.Status s) = p .status _ s .1 refl ∙ sym (q .status _ s .1 refl)

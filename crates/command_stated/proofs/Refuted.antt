@@ -11,12 +11,17 @@ use Rattle.outcome.specs.Terms.{HasStatus}
 use Rattle.outcome.proofs.Laws.{gives-same, word-same, word-gives}
 use Rattle.octets.specs.Bytes.{byte, partOf}
 use Rattle.apdu_stated.specs.Answers.{Says}
+use Rattle.apdu_stated.specs.declared.Apdu.{Apdu}
 use Rattle.apdu_stated.specs.Reading.{readBy, readOf, sayOf, lengthsOf, shortOf, extendedOf, afterData, dataOf}
-use Rattle.apdu_stated.specs.Terms.{saying, frameWith}
+use Rattle.apdu_stated.specs.Terms.{saying, frameWith, apduOf}
+use Rattle.apdu_stated.specs.declared.Case.the-variants.{Lc1Data}
 use Rattle.apdu_stated.specs.declared.ApduHeader.{ApduHeader}
 use Rattle.apdu_stated.specs.declared.Place.{Place}
-use Rattle.command_stated.specs.Command.{Command, Register, Authenticate, Version, registerOf, authenticateOf, versionOf, byInstruction, onReading, commandOf, challengePlaceOf, applicationPlaceOf, challengeOf, applicationOf, handleOf}
+use Rattle.command_stated.specs.Command.{Command, Register, Authenticate, Version, GetResponse, registerOf, authenticateOf, versionOf, byInstruction, onReading, commandOf, challengePlaceOf, applicationPlaceOf, challengeOf, applicationOf, handleOf}
 use Rattle.command_stated.specs.Terms.{WrongLc, of-register, too-short, other-handle, of-p2, UnknownInstruction}
+use Rattle.outcome.specs.declared.ApduStatusCode.the-variants as Status′
+use Rattle.outcome.specs.declared.LengthFault.the-variants as Fault′
+use Rattle.command_stated.specs.declared.U2fCommand.the-variants as U2fCommand′
 use Rattle.command_stated.specs.Claims
 use Rattle.command_stated.specs.Wrong
 
@@ -285,3 +290,26 @@ enforceNumbered07 exact = omega (arith, exact .enforce)
 
 pub numberedByPlace : Claims.FlagsNumberExactly Wrong.numberedByPlace → ⊥
 numberedByPlace exact = omega (arith, exact .check-only)
+
+-- ---- views
+named : Outcome Command → ℕ
+named (Gives (Register s)) = 1
+named (Gives (Authenticate p s)) = 2
+named (Gives Version) = 3
+named (Gives GetResponse) = 4
+named (Word w) = w .kind
+named (R n) = 0
+
+pub versionForFetch : Claims.SaidExactly Wrong.versionForFetch → ⊥
+unfolding named
+versionForFetch exact = omega (arith, ap named (exact .version U2fCommand′.Version .1 refl))
+
+pub registerForLogin : Claims.SaidExactly Wrong.registerForLogin → ⊥
+unfolding named
+registerForLogin exact =
+    let a : Apdu = apduOf (head 0x00 0x01 0x00) Lc1Data 64 0 in
+    omega (arith, ap named (exact .register (U2fCommand′.Register a) a .1 refl))
+
+pub pairUnsaid : Claims.SaidExactly Wrong.pairUnsaid → ⊥
+unfolding named
+pairUnsaid exact = omega (arith, ap named (exact .status (U2fCommand′.Status (Status′.WrongLength Fault′.Surplus 9)) (Status′.WrongLength Fault′.Surplus 9) .1 refl))

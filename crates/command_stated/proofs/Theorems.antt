@@ -12,13 +12,14 @@ use Rattle.outcome.specs.Terms.{PairsExactly, HasStatus}
 use Rattle.outcome.proofs.Laws.{gives-same, word-same, word-gives, both-are}
 use Rattle.octets.specs.Bytes.{byte, partOf}
 use Rattle.octets.proofs.Laws.{part-split, part-length, part-byte, part-one}
-use Rattle.apdu_stated.specs.Answers.{Says}
+use Rattle.apdu_stated.specs.Answers.{Says, saysOf, readingOf}
 use Rattle.apdu_stated.specs.Reading.{readOf, dataOf}
 use Rattle.apdu_stated.proofs.Laws.{data-within, data-long, data-from, read-status, read-short, read-pairs, never-third}
-use Rattle.command_stated.specs.Command.{Command, Register, Authenticate, Version, GetResponse, flagsNo, isControl, getResponseOf, byInstruction, onReading, commandOf, challengePlaceOf, applicationPlaceOf, handlePlaceOf, challengeOf, applicationOf, handleOf}
+use Rattle.command_stated.specs.Command.{Command, Register, Authenticate, Version, GetResponse, flagsNo, commandSaid, isControl, getResponseOf, byInstruction, onReading, commandOf, challengePlaceOf, applicationPlaceOf, handlePlaceOf, challengeOf, applicationOf, handleOf}
 use Rattle.command_stated.specs.Terms.{WrongLc, of-register, too-short, other-handle, of-version, of-get-response, WrongParameters, of-p1, of-p2, WrongControl, UnknownInstruction}
 use Rattle.command_stated.specs.Claims
 use Rattle.command_stated.proofs.Cases
+use Rattle.command_stated.proofs.Only
 use Rattle.command_stated.proofs.Numbers.{flags-same, command-same}
 use Rattle.command_stated.proofs.Ways.{Why, class, instruction, parameters, lengths, control, Way, register, authenticate, version, fetch, status, way, Read, read, unread, reading}
 
@@ -489,6 +490,33 @@ FlagsOneToOne = flags-same
 
 pub CommandOneToOne : Claims.CommandOneToOne
 CommandOneToOne = command-same
+
+-- ---- what an answer says
+pub SaidExactly : Claims.SaidExactly commandSaid
+SaidExactly =
+    record {
+      register = λ c a. (command-same _ _, ap commandSaid);
+      authenticate = λ c flags a. (command-same _ _, ap commandSaid);
+      version = λ c. (command-same _ _, ap commandSaid);
+      get-response = λ c. (command-same _ _, ap commandSaid);
+      status = λ c s. (command-same _ _, ap commandSaid);
+    }
+
+-- ---- the contracts: a function that gives what a definition gives, input by input, is that definition
+pub ContractsAsClaimed : Claims.ContractsAsClaimed
+ContractsAsClaimed =
+    record {
+      flags-number = λ f is. subst Claims.FlagsNumberExactly (λ d flags. sym (is flags) d) FlagsNumberExactly;
+      instructed = λ f is g c frame a. is frame a ∙ Only.InstructedExactly byInstruction g InstructedExactly c frame (saysOf a);
+      on-reading = λ f is g c frame r. is frame r ∙ Only.OnReadingExactly onReading g OnReadingExactly c frame (readingOf r);
+      read-command = λ f is. subst Claims.CommandExactly (λ d frame. sym (is frame) d) CommandExactly;
+      challenge-place = λ f is g c a. is a ∙ sym (c (saysOf a));
+      application-place = λ f is g c a. is a ∙ sym (c (saysOf a));
+      handle-place = λ f is g c a. is a ∙ sym (c (saysOf a));
+      challenge = λ f is g c frame a. is frame a ∙ ChallengeExactly frame (saysOf a) ∙ sym (c frame (saysOf a));
+      application = λ f is g c frame a. is frame a ∙ ApplicationExactly frame (saysOf a) ∙ sym (c frame (saysOf a));
+      key-handle = λ f is g c frame a. is frame a ∙ HandleExactly frame (saysOf a) ∙ sym (c frame (saysOf a));
+    }
 
 -- ---- two results are equal
 pub ResultsDetermined : Claims.ResultsDetermined

@@ -2,13 +2,14 @@
 -- proofs/Theorems.antt, nothing else does by proofs/Only.antt, and the programs of Wrong.antt do not by proofs/Refuted.antt.
 -- What a frame says (`readOf`, `dataOf`) is apdu_stated's, and determined there.
 use mathlib.Core.Logic.{_↔_, _⊎_}
-use Rattle.command_stated.specs.Words.{ℕ, _+_, _≤_, _<_, _≡_, true, _||_, eqb, List, _∷_, _++_, length, AtMostOne, StatusWord, Outcome, R, Word, SW, Gives, HasStatus, wrongLength, byte, partOf, Apdu, Place}
+use Rattle.command_stated.specs.Words.{ℕ, _+_, _≤_, _<_, _≡_, true, _||_, eqb, List, _∷_, _++_, length, AtMostOne, StatusWord, Outcome, R, Word, SW, Gives, ApduStatusCode, wordOf, HasStatus, wrongLength, byte, partOf, Apdu, Place}
 use Rattle.outcome.specs.Terms.{PairsExactly}
-use Rattle.apdu_stated.specs.Answers.{Says}
+use Rattle.apdu_stated.specs.Answers.{Says, saysOf, readingOf}
 use Rattle.apdu_stated.specs.declared.Reading.{Reading}
 use Rattle.apdu_stated.specs.Reading.{readOf, dataOf}
 use Rattle.apdu_stated.specs.Terms.{span}
 use Rattle.command_stated.specs.Command.{Ctap1Flags, CheckOnly, EnforceUpAndSign, DontEnforceUpAndSign, U2fCommand, Command, Register, Authenticate, Version, GetResponse, flagsNo, commandSaid, commandOf}
+use Rattle.command_stated.specs.declared.U2fCommand.the-variants as U2fCommand′
 use Rattle.command_stated.specs.Contracts.{FlagsNumber, Instructed, OnReading, ReadCommand, ChallengePlace, ApplicationPlace, HandlePlace, Challenge, Application, KeyHandle}
 use Rattle.command_stated.specs.Terms.{WrongLc, WrongParameters, WrongControl, UnknownInstruction}
 
@@ -200,6 +201,37 @@ FlagsOneToOne = (a b : Ctap1Flags) → flagsNo a ≡ flagsNo b → a ≡ b
 
 abbrev pub CommandOneToOne : Type 0
 CommandOneToOne = (a b : U2fCommand) → commandSaid a ≡ commandSaid b → a ≡ b
+
+-- ---- what an answer says, and the contracts
+
+-- Each command with what its frame says, an Authenticate with its P1, a status word with its number and pair: each case has its words, and no other has
+-- them. Rejects a view with Version and GetResponse in each other's place (`versionForFetch`), one that takes a Register for an Authenticate (`registerForLogin`), and
+-- one that drops a status word's pair (`pairUnsaid`).
+pub record SaidExactly (said : U2fCommand → Outcome Command) : Type 0 where
+  pub register : (c : U2fCommand) (a : Apdu) → (said c ≡ Gives (Register (saysOf a))) ↔ (c ≡ U2fCommand′.Register a)
+  pub authenticate : (c : U2fCommand) (flags : Ctap1Flags) (a : Apdu) → (said c ≡ Gives (Authenticate (flagsNo flags) (saysOf a))) ↔ (c ≡ U2fCommand′.Authenticate flags a)
+  pub version : (c : U2fCommand) → (said c ≡ Gives Version) ↔ (c ≡ U2fCommand′.Version)
+  pub get-response : (c : U2fCommand) → (said c ≡ Gives GetResponse) ↔ (c ≡ U2fCommand′.GetResponse)
+  pub status : (c : U2fCommand) (s : ApduStatusCode) → (said c ≡ Word (wordOf s)) ↔ (c ≡ U2fCommand′.Status s)
+
+-- Whatever meets a function's contract meets the claim on it, the functions that no call from C comes to as well. One that takes what a frame says as the code
+-- holds it gives what whatever meets the claim gives of the numbers. A contract of `key_handle` that names the application fails it, with code to match.
+pub record ContractsAsClaimed : Type 0 where
+  pub flags-number : (f : Ctap1Flags → ℕ) → ((flags : Ctap1Flags) → FlagsNumber flags (f flags)) → FlagsNumberExactly f
+  pub instructed : (f : List ℕ → Apdu → U2fCommand) → ((frame : List ℕ) (a : Apdu) → Instructed frame a (f frame a))
+      → (g : List ℕ → Says → Outcome Command) → InstructedExactly g → (frame : List ℕ) (a : Apdu) → commandSaid (f frame a) ≡ g frame (saysOf a)
+  pub on-reading : (f : List ℕ → Reading → U2fCommand) → ((frame : List ℕ) (r : Reading) → OnReading frame r (f frame r))
+      → (g : List ℕ → Outcome Says → Outcome Command) → OnReadingExactly g → (frame : List ℕ) (r : Reading) → commandSaid (f frame r) ≡ g frame (readingOf r)
+  pub read-command : (f : List ℕ → U2fCommand) → ((frame : List ℕ) → ReadCommand frame (f frame)) → CommandExactly (λ frame. commandSaid (f frame))
+  pub challenge-place : (f : Apdu → Place) → ((a : Apdu) → ChallengePlace a (f a)) → (g : Says → Place) → ChallengePlaceExactly g → (a : Apdu) → f a ≡ g (saysOf a)
+  pub application-place : (f : Apdu → Place) → ((a : Apdu) → ApplicationPlace a (f a)) → (g : Says → Place) → ApplicationPlaceExactly g → (a : Apdu) → f a ≡ g (saysOf a)
+  pub handle-place : (f : Apdu → Place) → ((a : Apdu) → HandlePlace a (f a)) → (g : Says → Place) → HandlePlaceExactly g → (a : Apdu) → f a ≡ g (saysOf a)
+  pub challenge : (f : List ℕ → Apdu → List ℕ) → ((frame : List ℕ) (a : Apdu) → Challenge frame a (f frame a))
+      → (g : List ℕ → Says → List ℕ) → ChallengeExactly g → (frame : List ℕ) (a : Apdu) → f frame a ≡ g frame (saysOf a)
+  pub application : (f : List ℕ → Apdu → List ℕ) → ((frame : List ℕ) (a : Apdu) → Application frame a (f frame a))
+      → (g : List ℕ → Says → List ℕ) → ApplicationExactly g → (frame : List ℕ) (a : Apdu) → f frame a ≡ g frame (saysOf a)
+  pub key-handle : (f : List ℕ → Apdu → List ℕ) → ((frame : List ℕ) (a : Apdu) → KeyHandle frame a (f frame a))
+      → (g : List ℕ → Says → List ℕ) → HandleExactly g → (frame : List ℕ) (a : Apdu) → f frame a ≡ g frame (saysOf a)
 
 -- ---- two results that satisfy a contract are equal, for each public function
 pub record ResultsDetermined : Type 0 where

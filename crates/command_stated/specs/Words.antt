@@ -6,6 +6,7 @@ pub use mathlib.Core.List.{List, [], _∷_, _++_}
 pub use lib.Dec.{ltb, eqb}
 pub use lib.ListN.{length}
 pub use Rattle.outcome.specs.Notation.{if_then_else_, AtMostOne}
+pub use Rattle.outcome.specs.declared.ApduStatusCode.{ApduStatusCode}
 pub use Rattle.outcome.specs.Outcome.{StatusWord, Outcome, R, Word, SW, Gives, wrongLength, againstIns, wordOf}
 pub use Rattle.outcome.specs.Terms.{HasStatus}
 pub use Rattle.octets.specs.Bytes.{byte, partOf}

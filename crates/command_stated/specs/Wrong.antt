@@ -1,9 +1,10 @@
 -- Wrong programs, one fault each. proofs/Refuted.antt shows the claim that is false of each.
-use Rattle.command_stated.specs.Words.{ℕ, _+_, Bool, not, _||_, List, [], length, ltb, eqb, if_then_else_, StatusWord, Outcome, R, Word, SW, Gives, wrongLength, againstIns, byte, partOf, Place}
-use Rattle.apdu_stated.specs.Answers.{Says}
+use Rattle.command_stated.specs.Words.{ℕ, _+_, Bool, not, _||_, List, [], length, ltb, eqb, if_then_else_, StatusWord, Outcome, R, Word, SW, Gives, wrongLength, againstIns, wordOf, byte, partOf, Place}
+use Rattle.command_stated.specs.declared.U2fCommand.the-variants as U2fCommand′
+use Rattle.apdu_stated.specs.Answers.{Says, saysOf}
 use Rattle.apdu_stated.specs.Reading.{readOf, dataOf}
 use Rattle.apdu_stated.specs.Terms.{span}
-use Rattle.command_stated.specs.Command.{Ctap1Flags, CheckOnly, EnforceUpAndSign, DontEnforceUpAndSign, Command, Register, Authenticate, Version, GetResponse, isControl, registerOf, authenticateOf, versionOf, getResponseOf, byInstruction, commandOf, challengeOf, handlePlaceOf}
+use Rattle.command_stated.specs.Command.{Ctap1Flags, CheckOnly, EnforceUpAndSign, DontEnforceUpAndSign, U2fCommand, flagsNo, Command, Register, Authenticate, Version, GetResponse, isControl, registerOf, authenticateOf, versionOf, getResponseOf, byInstruction, commandOf, challengeOf, handlePlaceOf}
 
 -- a frame that is read, and then something else than the definition's tests
 abbrev onRead : (Says → Outcome Command) → Outcome Says → Outcome Command
@@ -216,3 +217,25 @@ abbrev pub numberedByPlace : Ctap1Flags → ℕ
 numberedByPlace CheckOnly = 1
 numberedByPlace EnforceUpAndSign = 2
 numberedByPlace DontEnforceUpAndSign = 3
+
+-- ---- views: Version and GetResponse in each other's place; a Register said as an Authenticate; a status word without its pair
+abbrev pub versionForFetch : U2fCommand → Outcome Command
+versionForFetch (U2fCommand′.Register a) = Gives (Register (saysOf a))
+versionForFetch (U2fCommand′.Authenticate flags a) = Gives (Authenticate (flagsNo flags) (saysOf a))
+versionForFetch U2fCommand′.Version = Gives GetResponse
+versionForFetch U2fCommand′.GetResponse = Gives Version
+versionForFetch (U2fCommand′.Status s) = Word (wordOf s)
+
+abbrev pub registerForLogin : U2fCommand → Outcome Command
+registerForLogin (U2fCommand′.Register a) = Gives (Authenticate 0x03 (saysOf a))
+registerForLogin (U2fCommand′.Authenticate flags a) = Gives (Register (saysOf a))
+registerForLogin U2fCommand′.Version = Gives Version
+registerForLogin U2fCommand′.GetResponse = Gives GetResponse
+registerForLogin (U2fCommand′.Status s) = Word (wordOf s)
+
+abbrev pub pairUnsaid : U2fCommand → Outcome Command
+pairUnsaid (U2fCommand′.Register a) = Gives (Register (saysOf a))
+pairUnsaid (U2fCommand′.Authenticate flags a) = Gives (Authenticate (flagsNo flags) (saysOf a))
+pairUnsaid U2fCommand′.Version = Gives Version
+pairUnsaid U2fCommand′.GetResponse = Gives GetResponse
+pairUnsaid (U2fCommand′.Status s) = SW (wordOf s .number)

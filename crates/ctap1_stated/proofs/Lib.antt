@@ -6,6 +6,7 @@ pub mod Ways
 pub mod RoleKept
 pub mod OneSide
 pub mod Ruled
+pub mod ByLengths
 pub mod Numbers
 pub mod Only
 pub mod Theorems

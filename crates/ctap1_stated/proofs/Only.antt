@@ -20,6 +20,7 @@ use Rattle.ctap1_stated.specs.OneSide.{sidelessResult}
 use Rattle.ctap1_stated.specs.Terms.{Decider, onSide}
 use Rattle.u2f_up_stated.specs.OneSide.{OnlySide}
 use Rattle.u2f_up_stated.specs.Runs.{after}
+use Rattle.ctap1_stated.specs.declared.DecisionAnswer.the-variants as DecisionAnswer′
 use Rattle.ctap1_stated.specs.Claims
 use Rattle.ctap1_stated.proofs.Ways.{sound}
 use Rattle.ctap1_stated.proofs.Theorems.{part-body, part-order, only-remainder}
@@ -124,3 +125,10 @@ HardwareNumbers f g p q n =
     by-counted : Dec (n .counted ≡ 1) → f n .counter ≡ g n .counter
     by-counted (yes e) = p .offered n e ∙ sym (q .offered n e)
     by-counted (no e) = p .failed n e ∙ sym (q .failed n e)
+
+-- what the answer says
+pub SaidExactly : Determines Claims.SaidExactly
+SaidExactly f g F G (DecisionAnswer′.Refused why) = F .refused _ why .1 refl ∙ sym (G .refused _ why .1 refl)
+SaidExactly f g F G (DecisionAnswer′.Status s) = F .status _ s .1 refl ∙ sym (G .status _ s .1 refl)
+SaidExactly f g F G (DecisionAnswer′.Body n) = F .body _ n .1 refl ∙ sym (G .body _ n .1 refl)
+SaidExactly f g F G DecisionAnswer′.Order = F .ordered _ .1 refl ∙ sym (G .ordered _ .1 refl)

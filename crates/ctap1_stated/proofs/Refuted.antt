@@ -20,7 +20,7 @@ use Rattle.u2f_up_stated.specs.Runs.{after, history, doneBy}
 use Rattle.u2f_up_stated.specs.Terms.{NotRefused, HasTouch}
 use Rattle.u2f_up_stated.specs.declared.Presence.{Presence}
 use Rattle.u2f_up_stated.specs.declared.Window.the-variants.{Closed, Opened}
-use Rattle.ctap1_stated.specs.Words.{Order, Inputs, DecisionGives, Ordered, Part, DecisionResult, Hardware, Remainder, rest}
+use Rattle.ctap1_stated.specs.Words.{Order, Inputs, DecisionGives, Body, Ordered, Part, DecisionResult, DecisionHanded, Hardware, Remainder, rest, enrolmentOf}
 use Rattle.ctap1_stated.specs.Path.{registerOrdered, enrolmentOrder, authenticateOrdered, registerEnding, countedEnding, loginPath, registerPath, versionPath, frameLimit, fetchPath, commandPath, allowedPath, pathOf}
 use Rattle.signing_stated.specs.Orders.{kindNo, certificateLength, isOfLayout, blankOrder, registerOrderOf, authenticateOrderOf, block}
 use Rattle.signing_stated.specs.Finishing.{finishOf, roomNeeded}
@@ -30,6 +30,9 @@ use Rattle.ctap1_stated.specs.Session.{remainderLeft}
 use Rattle.ctap1_stated.specs.OneSide.{baseDecisionOf}
 use Rattle.ctap1_stated.specs.Terms.{Decider, onSide, SaysPresent}
 use Rattle.u2f_up_stated.specs.OneSide.{baseBy, baseSettleOf, baseCheckedOf}
+use Rattle.outcome.specs.declared.ApduStatusCode.the-variants as Status′
+use Rattle.outcome.specs.declared.LengthFault.the-variants as Fault′
+use Rattle.ctap1_stated.specs.declared.DecisionAnswer.the-variants as DecisionAnswer′
 use Rattle.ctap1_stated.specs.Claims
 use Rattle.ctap1_stated.specs.Wrong
 use Rattle.ctap1_stated.specs.declared.Allowed.the-variants as Allowed′
@@ -599,3 +602,53 @@ unknownIsCounted p =
     let e : Counter′.Offered 0 ≡ Counter′.Failed = p .failed (record { allowed = 1; attestation = 1; stored = 1; good = 1; counted = 2; counter = 0 }) (λ e. omega arith) in
     let z : _≡_ {A = ℕ} 0 1 = cc in
     omega arith
+
+-- ---- contents looked at, where CTAP1 is not allowed: 6986, and here 6f00
+abbrev forbidden : List ℕ → List ℕ → Inputs
+forbidden handle certificate =
+    record {
+      side = 0;
+      frame = [];
+      hardware = record { allowed = Allowed′.No; stored = true; attestation = Attestation′.Present; good = true; counter = Counter′.Failed };
+      newHandle = handle;
+      certificate = certificate;
+      x = [];
+      y = [];
+      room = 0;
+      remainder = rest 0 0;
+      partRoom = 0;
+    }
+
+pub looksAtHandle : Claims.ByLengthsAlone Wrong.looksAtHandle → ⊥
+unfolding decisionOf pathOf allowedPath settleOf
+looksAtHandle c =
+    omega (
+      arith,
+      sw-same _ _ (ap (λ (r : DecisionHanded). r .answer)
+          (c (fresh 1000) 0 (forbidden (0x00 ∷ []) []) (enrolmentOf (0x01 ∷ []) [] [] []) (record { newHandle = refl; certificate = refl; x = refl; y = refl }))),
+    )
+
+pub looksAtCertificate : Claims.ByLengthsAlone Wrong.looksAtCertificate → ⊥
+unfolding decisionOf pathOf allowedPath settleOf
+looksAtCertificate c =
+    omega (
+      arith,
+      sw-same _ _ (ap (λ (r : DecisionHanded). r .answer)
+          (c (fresh 1000) 0 (forbidden [] (0x30 ∷ [])) (enrolmentOf [] (0x31 ∷ []) [] []) (record { newHandle = refl; certificate = refl; x = refl; y = refl }))),
+    )
+
+-- ---- views
+lengthSaid : Outcome DecisionGives → ℕ
+lengthSaid (R n) = 0
+lengthSaid (Word w) = w .kind
+lengthSaid (Gives (Body n)) = 1 + n
+lengthSaid (Gives Ordered) = 0
+lengthSaid (Gives (Part n r)) = 0
+
+pub bodyForOrder : Claims.SaidExactly Wrong.bodyForOrder → ⊥
+unfolding lengthSaid
+bodyForOrder c = omega (arith, ap lengthSaid (c .body (DecisionAnswer′.Body 6) 6 .1 refl))
+
+pub pairUnsaid : Claims.SaidExactly Wrong.pairUnsaid → ⊥
+unfolding lengthSaid
+pairUnsaid c = omega (arith, ap lengthSaid (c .status (DecisionAnswer′.Status (Status′.WrongLength Fault′.Surplus 9)) (Status′.WrongLength Fault′.Surplus 9) .1 refl))

@@ -29,7 +29,7 @@ use Rattle.u2f_up_stated.specs.declared.Presence.{Presence}
 use Rattle.u2f_up_stated.proofs.Laws.{demand-3, r-apart, servers-next, named-later, named-counts, count, length-those}
 use Rattle.signing_stated.specs.Orders.{kindNo, certificateLength, blankOrder, isOfLayout}
 use Rattle.signing_stated.specs.Finishing.{roomNeeded}
-use Rattle.ctap1_stated.specs.Words.{Remainder, rest, Inputs, DecisionGives, Body, Ordered, Part, DecisionResult, Allowed, DecisionLeft}
+use Rattle.ctap1_stated.specs.Words.{Remainder, rest, Inputs, DecisionGives, Body, Ordered, Part, DecisionResult, Allowed, DecisionLeft, decisionAnswerOf}
 use Rattle.ctap1_stated.specs.Numbers.{allowedOf, attestationOf, isYes, hardwareOf}
 use Rattle.ctap1_stated.specs.Path.{limitOn, frameLimit, roleOf}
 use Rattle.ctap1_stated.specs.Decision.{statusResult, versionBytes, decisionOf, replyLeft}
@@ -46,6 +46,7 @@ use Rattle.ctap1_stated.specs.OneSide.{baseDecisionOf}
 use Rattle.ctap1_stated.proofs.RoleKept.{panel-keeps}
 use Rattle.ctap1_stated.proofs.OneSide.{base-decides, one-side-is-base}
 use Rattle.ctap1_stated.proofs.Numbers.{decided-apart, decision-apart}
+use Rattle.ctap1_stated.proofs.ByLengths.{by-lengths}
 
 -- a body and an order are apart
 body-order : (n : ℕ) → _≡_ {A = Outcome DecisionGives} (Gives (Body n)) (Gives Ordered) → ⊥
@@ -519,6 +520,19 @@ OrdersHaveTheirTouch = record { own = own; apart = apart }
           named-counts n k (servers w (history panelCalls w mid)) refl,
           named-later panelCalls w n later (DecideAt t a ∷ earlier),
         )
+
+-- ---- the contents of the new handle and the certificate
+pub ByLengthsAlone : Claims.ByLengthsAlone decisionOf
+ByLengthsAlone = by-lengths
+
+-- ---- what the answer says
+pub SaidExactly : Claims.SaidExactly decisionAnswerOf
+SaidExactly = record {
+  refused = λ d why. (decided-apart _ _, ap decisionAnswerOf);
+  status = λ d s. (decided-apart _ _, ap decisionAnswerOf);
+  body = λ d n. (decided-apart _ _, ap decisionAnswerOf);
+  ordered = λ d. (decided-apart _ _, ap decisionAnswerOf);
+}
 
 -- ---- two results are equal
 pub DecidedOneToOne : Claims.DecidedOneToOne

@@ -3,16 +3,17 @@
 -- of a record, a moment and all that is lent.
 use mathlib.Core.Logic.{_↔_, _⊎_}
 use mathlib.Core.Option.{some}
-use Rattle.ctap1_stated.specs.Words.{AtMostOne, StatusWord, R, Word, SW, Gives, wrongLength, [], _∷_, _++_, drop, ℕ, _+_, _*_, _<_, _≤_, _≡_, Bool, true, false, List, length, Presence, DecisionAndLimit, DecisionAnswer, Remainder, rest, Inputs, Allowed, Attestation, Hardware, HardwareSaid, Body, Ordered, Part, DecisionResult, decisionAnswerOf}
+use Rattle.ctap1_stated.specs.Words.{AtMostOne, StatusWord, R, Word, SW, Gives, wrongLength, [], _∷_, _++_, drop, ℕ, _+_, _*_, _<_, _≤_, _≡_, Bool, true, false, List, length, Presence, DecisionAndLimit, DecisionAnswer, Remainder, rest, Inputs, Enrolment, Allowed, Attestation, Hardware, HardwareSaid, DecisionGives, Body, Ordered, Part, DecisionResult, handedOf, decisionAnswerOf, Outcome, Refusal, ApduStatusCode, wordOf, refusalNo}
 use Rattle.ctap1_stated.specs.Numbers.{allowedOf, attestationOf}
 use Rattle.ctap1_stated.specs.Calls.{PanelCall, DecideAt, callsWith}
 use Rattle.ctap1_stated.specs.OneSide.{baseWith, sidelessResult}
 use Rattle.ctap1_stated.specs.Contracts.{Buffers, Decide}
-use Rattle.ctap1_stated.specs.Terms.{Decider, AreBlocks, HasInsC0, result, movedAt, spentAt, onSide, Comes, OrdersPresent, checkOnlyAnswer}
+use Rattle.ctap1_stated.specs.Terms.{Decider, AreBlocks, withContents, AsLong, HasInsC0, result, movedAt, spentAt, onSide, Comes, OrdersPresent, checkOnlyAnswer}
 use Rattle.ctap1_stated.specs.Table.{Answers}
 use Rattle.ctap1_stated.specs.declared.Allowed.the-variants as Allowed′
 use Rattle.ctap1_stated.specs.declared.Attestation.the-variants as Attestation′
 use Rattle.ctap1_stated.specs.declared.Counter.the-variants as Counter′
+use Rattle.ctap1_stated.specs.declared.DecisionAnswer.the-variants as DecisionAnswer′
 use Rattle.outcome.specs.Terms.{PairsExactly}
 use Rattle.octets.specs.Bytes.{byte, pairAt, laid}
 use Rattle.apdu_stated.specs.Answers.{Says}
@@ -128,6 +129,13 @@ CertificateOfOrder decide =
     (p : Presence) (t : ℕ) (a : Inputs) → AreBlocks a → decide p t a .answer ≡ Gives Ordered
     → ((kindNo (decide p t a .order .kind) ≡ 0x01) × (certificateLength (decide p t a .order) ≡ length (a .certificate)))
     ⊎ ((kindNo (decide p t a .order .kind) ≡ 0x02) × (certificateLength (decide p t a .order) ≡ 0))
+
+-- Ours: whether there is an order depends on the new handle and the certificate by their lengths alone, and so does all that is handed back with it: the answer, the
+-- record, the order's head, whether the counter was taken; x and y are not looked at either. So a decision can be tried before there is a new key, with any bytes
+-- of these lengths. A decision that looks at the handle's first byte (`looksAtHandle`) fails it, and one that wants a certificate that begins with 30
+-- (`looksAtCertificate`).
+abbrev pub ByLengthsAlone : Decider → Type 0
+ByLengthsAlone decide = (p : Presence) (t : ℕ) (a : Inputs) (e : Enrolment) → AsLong e a → handedOf (decide p t (withContents e a)) ≡ handedOf (decide p t a)
 
 -- ---- where a length went wrong: 02, E1
 
@@ -261,6 +269,16 @@ pub record HardwareNumbers (lend : HardwareSaid → Hardware) : Type 0 where
   pub not-good : (n : HardwareSaid) → (n .good ≡ 1 → ⊥) → lend n .good ≡ false
   pub offered : (n : HardwareSaid) → n .counted ≡ 1 → lend n .counter ≡ Counter′.Offered (n .counter)
   pub failed : (n : HardwareSaid) → (n .counted ≡ 1 → ⊥) → lend n .counter ≡ Counter′.Failed
+
+-- ---- what the answer says
+
+-- A refusal's number, a status word with its pair, a body's length, or an order: each case has its value, and no other has it. A view that says 'order' for
+-- every body (`bodyForOrder`) fails it, and one that drops a status word's pair (`pairUnsaid`). A part is no answer of the function's: its caller finds it.
+pub record SaidExactly (said : DecisionAnswer → Outcome DecisionGives) : Type 0 where
+  pub refused : (d : DecisionAnswer) (why : Refusal) → (said d ≡ R (refusalNo why)) ↔ (d ≡ DecisionAnswer′.Refused why)
+  pub status : (d : DecisionAnswer) (s : ApduStatusCode) → (said d ≡ Word (wordOf s)) ↔ (d ≡ DecisionAnswer′.Status s)
+  pub body : (d : DecisionAnswer) (n : ℕ) → (said d ≡ Gives (Body n)) ↔ (d ≡ DecisionAnswer′.Body n)
+  pub ordered : (d : DecisionAnswer) → (said d ≡ Gives Ordered) ↔ (d ≡ DecisionAnswer′.Order)
 
 -- ---- two results that satisfy the contract are equal
 abbrev pub DecidedOneToOne : Type 0

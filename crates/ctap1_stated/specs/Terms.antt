@@ -1,6 +1,6 @@
 -- Words that only the claims use: conditions, and records and orders spelled out.
 use mathlib.Core.Logic.{_⊎_}
-use Rattle.ctap1_stated.specs.Words.{if_then_else_, Outcome, Gives, ℕ, _+_, _<_, _≤_, _≡_, Bool, true, length, Presence, Order, Inputs, DecisionGives, Ordered, DecisionResult, Allowed}
+use Rattle.ctap1_stated.specs.Words.{if_then_else_, Outcome, Gives, ℕ, _+_, _<_, _≤_, _≡_, Bool, true, length, Presence, Order, Inputs, Enrolment, DecisionGives, Ordered, DecisionResult, Allowed}
 use Rattle.ctap1_stated.specs.declared.Allowed.the-variants as Allowed′
 use Rattle.octets.specs.Bytes.{byte, bytes4}
 use Rattle.apdu_stated.specs.Answers.{Says}
@@ -61,6 +61,18 @@ orderOfAuthenticate a said presence counter =
 abbrev pub onSide : (side : ℕ) → Inputs → Inputs
 onSide s a =
     record { side = s; frame = a .frame; hardware = a .hardware; newHandle = a .newHandle; certificate = a .certificate; x = a .x; y = a .y; room = a .room; remainder = a .remainder; partRoom = a .partRoom }
+
+-- what is lent, with other contents of the new handle, the certificate, x and y
+abbrev pub withContents : Enrolment → Inputs → Inputs
+withContents e a =
+    record { side = a .side; frame = a .frame; hardware = a .hardware; newHandle = e .newHandle; certificate = e .certificate; x = e .x; y = e .y; room = a .room; remainder = a .remainder; partRoom = a .partRoom }
+
+-- these contents are as long as what is lent
+pub record AsLong (e : Enrolment) (a : Inputs) : Type 0 where
+  pub newHandle : length (e .newHandle) ≡ length (a .newHandle)
+  pub certificate : length (e .certificate) ≡ length (a .certificate)
+  pub x : length (e .x) ≡ length (a .x)
+  pub y : length (e .y) ≡ length (a .y)
 
 -- ---- conditions
 -- CTAP1 is allowed, and the frame is read as a command

@@ -6,6 +6,8 @@ pub use mathlib.Core.List.{List, [], _∷_, _++_}
 pub use lib.Dec.{ltb, eqb}
 pub use lib.ListN.{length, drop}
 pub use Rattle.outcome.specs.Notation.{if_then_else_, AtMostOne}
+pub use Rattle.outcome.specs.declared.Refusal.{Refusal}
+pub use Rattle.outcome.specs.declared.ApduStatusCode.{ApduStatusCode}
 pub use Rattle.outcome.specs.Outcome.{StatusWord, Outcome, R, Word, SW, Gives, plainWord, wrongLength, wordOf, refusalNo}
 pub use Rattle.u2f_up_stated.specs.declared.Presence.{Presence}
 pub use Rattle.signing_stated.specs.declared.Head.{Head}

@@ -4,8 +4,9 @@ use mathlib.Core.Bool.{_&&_}
 use lib.Dec.{leb}
 use mathlib.Core.List.{_++_}
 use lib.ListN.{take, drop}
-use Rattle.ctap1_stated.specs.Words.{ℕ, _+_, Bool, true, false, not, List, [], _∷_, ltb, eqb, length, if_then_else_, StatusWord, Outcome, R, Word, SW, Gives, plainWord}
-use Rattle.ctap1_stated.specs.Words.{Presence, Order, Inputs, Hardware, HardwareSaid, Allowed, Attestation, Counter, Remainder, rest, DecisionGives, Body, Ordered, Part, DecisionResult, isPresent}
+use Rattle.ctap1_stated.specs.Words.{ℕ, _+_, Bool, true, false, not, List, [], _∷_, ltb, eqb, length, if_then_else_, StatusWord, Outcome, R, Word, SW, Gives, plainWord, wordOf, refusalNo}
+use Rattle.ctap1_stated.specs.Words.{Presence, Order, Inputs, Hardware, HardwareSaid, Allowed, Attestation, Counter, Remainder, rest, DecisionGives, Body, Ordered, Part, DecisionResult, DecisionAnswer, isPresent}
+use Rattle.ctap1_stated.specs.declared.DecisionAnswer.the-variants as DecisionAnswer′
 use Rattle.ctap1_stated.specs.Numbers.{allowedOf, attestationOf, hardwareOf}
 use Rattle.ctap1_stated.specs.Path.{PathEnd, Internal, WrongData, Orders, DecisionPath, NoRoom, Ends, Status, SixBytes, Fetches, Signs, Touch, registerOrdered, registerEnding, countedEnding, registerPath, authenticatePath, frameLimit, commandPath, pathOf, roleOfPath}
 use Rattle.ctap1_stated.specs.Decision.{refusalResult, wordResult, statusResult, ended, alongBy, along, onSettledBy, onMoment, decisionOf}
@@ -568,3 +569,23 @@ unknownIsCounted n =
       good = h .good;
       counter = if eqb (n .counted) 0 then Counter′.Failed else Counter′.Offered (n .counter);
     }
+
+-- ---- contents looked at: the handle's first byte; and the certificate's
+abbrev pub looksAtHandle : Decider
+looksAtHandle p t a = if eqb (byte (a .newHandle) 0) 0x00 then decisionOf p t a else statusResult 0x6f00 p
+
+abbrev pub looksAtCertificate : Decider
+looksAtCertificate p t a = if eqb (byte (a .certificate) 0) 0x30 then decisionOf p t a else statusResult 0x6f00 p
+
+-- ---- views: a body said as an order; a status word without its pair
+abbrev pub bodyForOrder : DecisionAnswer → Outcome DecisionGives
+bodyForOrder (DecisionAnswer′.Refused why) = R (refusalNo why)
+bodyForOrder (DecisionAnswer′.Status s) = Word (wordOf s)
+bodyForOrder (DecisionAnswer′.Body n) = Gives Ordered
+bodyForOrder DecisionAnswer′.Order = Gives (Body 0)
+
+abbrev pub pairUnsaid : DecisionAnswer → Outcome DecisionGives
+pairUnsaid (DecisionAnswer′.Refused why) = R (refusalNo why)
+pairUnsaid (DecisionAnswer′.Status s) = SW (wordOf s .number)
+pairUnsaid (DecisionAnswer′.Body n) = Gives (Body n)
+pairUnsaid DecisionAnswer′.Order = Gives Ordered

@@ -5,3 +5,4 @@ pub use Rattle.octets.proofs.Between.{part-within, part-length, part-pa
 pub use Rattle.octets.proofs.Parts.{length-part, parts-join, field-at, length-take-most, laid-zeros, all-zero-replicate, replicate-all-zero}
 pub use Rattle.octets.proofs.Tests.{both, leb-same, bytes-of}
 unfoldable pub use Rattle.octets.proofs.Tests.{small}
+pub use Rattle.octets.proofs.Theorems.{LaidExactly as laid-exactly}

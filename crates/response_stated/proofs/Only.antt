@@ -15,6 +15,9 @@ use Rattle.response_stated.specs.Words.{Remainder, rest, Response}
 use Rattle.response_stated.specs.Responses.{responseBodyOf}
 use Rattle.response_stated.specs.Parts.{partLength, leftStatus}
 use Rattle.response_stated.specs.Terms.{Writer, Sender, reading, sending, spelled, sendingOf, Goes}
+use Rattle.response_stated.specs.declared.ReadResponse.the-variants as ReadResponse′
+use Rattle.response_stated.specs.declared.WroteResponse.the-variants as WroteResponse′
+use Rattle.response_stated.specs.declared.NextPart.the-variants as NextPart′
 use Rattle.response_stated.specs.Claims
 use Rattle.response_stated.proofs.Theorems.{goes, tells}
 use Rattle.response_stated.proofs.OnBytes.{pair-is, split}
@@ -113,3 +116,16 @@ NextExactly f g p q body r limit old = go (decLt (length body) (r .place + r .co
         let is-body = pieces body (r .place) n (r .count - n) in
         sends-at f p body before part left behind r limit old is-body is-r is-n (omega arith)
         ∙ sym (sends-at g q body before part left behind r limit old is-body is-r is-n (omega arith))
+
+-- ---- views
+pub ReadSaidExactly : Determines Claims.ReadSaidExactly
+ReadSaidExactly f g p q (ReadResponse′.Refused why) = p .refused _ why .1 refl ∙ sym (q .refused _ why .1 refl)
+ReadSaidExactly f g p q (ReadResponse′.Response n status) = p .response _ n status .1 refl ∙ sym (q .response _ n status .1 refl)
+
+pub WrittenSaidExactly : Determines Claims.WrittenSaidExactly
+WrittenSaidExactly f g p q (WroteResponse′.Refused why) = p .refused _ why .1 refl ∙ sym (q .refused _ why .1 refl)
+WrittenSaidExactly f g p q (WroteResponse′.Response n) = p .response _ n .1 refl ∙ sym (q .response _ n .1 refl)
+
+pub PartSaidExactly : Determines Claims.PartSaidExactly
+PartSaidExactly f g p q (NextPart′.Refused why) = p .refused _ why .1 refl ∙ sym (q .refused _ why .1 refl)
+PartSaidExactly f g p q (NextPart′.Part n left) = p .part _ n left .1 refl ∙ sym (q .part _ n left .1 refl)

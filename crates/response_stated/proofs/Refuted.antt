@@ -16,6 +16,9 @@ use Rattle.response_stated.specs.Responses.{writeResponseOf, readRespons
 use Rattle.response_stated.specs.Parts.{limitOf, partLength, leftStatus, nextPartOf}
 use Rattle.response_stated.specs.Terms.{sending, sendingOf, writingOf, cut, last, nothing-left, some-left, more-left}
 use Rattle.response_stated.specs.Fetching.{Fetch, also, none, up}
+use Rattle.response_stated.specs.declared.ReadResponse.the-variants as ReadResponse′
+use Rattle.response_stated.specs.declared.WroteResponse.the-variants as WroteResponse′
+use Rattle.response_stated.specs.declared.NextPart.the-variants as NextPart′
 use Rattle.response_stated.specs.Claims
 use Rattle.response_stated.specs.Wrong
 
@@ -235,3 +238,13 @@ pub oneAtATime : Claims.NumberOfParts Wrong.oneAtATime → ⊥
 unfolding nextPartOf partLength leftStatus readResponseOf
 oneAtATime p =
     omega (arith, p .exactly (1 ∷ 2 ∷ []) 2 2 1 (ask 2 ∷ ask 2 ∷ []) (omega arith) (omega arith) (up 0 (omega arith) (omega arith)) (also (refl, omega arith) (also (refl, omega arith) none)) (omega arith))
+
+-- ---- views
+pub lengthForStatus : Claims.ReadSaidExactly Wrong.lengthForStatus → ⊥
+lengthForStatus p = omega (arith, ap (λ (r : Response). r .length) (gives-same _ _ (p .response (ReadResponse′.Response 1 2) 1 2 .1 refl)))
+
+pub withoutStatusBytes : Claims.WrittenSaidExactly Wrong.withoutStatusBytes → ⊥
+withoutStatusBytes p = omega (arith, gives-same _ _ (p .response (WroteResponse′.Response 2) 2 .1 refl))
+
+pub lengthForLeft : Claims.PartSaidExactly Wrong.lengthForLeft → ⊥
+lengthForLeft p = omega (arith, ap (λ (s : Sent). s .remainder .count) (gives-same _ _ (p .part (NextPart′.Part 3 (rest 1 2)) 3 (rest 1 2) .1 refl)))

@@ -1,6 +1,6 @@
 -- The definitions meet the claims of specs/Claims.antt, each under its claim's name.
 use Prim.Native.Nat.{ℕ, _+_, _-_, _*_, _/_, _%_, _<_, _≤_}
-use mathlib.Core.Path.{_≡_, refl, ap, ap₂, sym, _∙_}
+use mathlib.Core.Path.{_≡_, refl, ap, ap₂, sym, subst, _∙_}
 use mathlib.Core.List.{List, [], _∷_, _++_}
 use mathlib.Core.Logic.{_↔_, _⊎_, inl, inr}
 use native.Mathlib.Omega.{arith}
@@ -14,7 +14,7 @@ use Rattle.octets.proofs.Laws.{field-at}
 use Rattle.apdu_stated.specs.Terms.{InTable, OneByteLe, full, plain, row1, row2, row3, row4, row5, row7, row8}
 use Rattle.apdu_stated.specs.Reading.{readOf, readBy, sayOf, lengthsOf}
 use Rattle.apdu_stated.proofs.Laws.{read-exactly}
-use Rattle.response_stated.specs.Words.{Says, Remainder, rest, Response, Sent}
+use Rattle.response_stated.specs.Words.{Says, saysOf, Remainder, rest, Response, Sent, responseRead, responseWritten, partSent}
 use Rattle.response_stated.specs.Responses.{responseOf, writeResponseOf, responseLaid, readResponseOf, responseBodyOf}
 use Rattle.response_stated.specs.Parts.{limitOf, partLength, leftStatus, restAfter, nextPartOf, partBytes, partResponse, partLaid}
 use Rattle.response_stated.specs.Terms.{writingOf, sendingOf, reading, sending, spelled, IsResponse, Goes, Tells, nothing-left, some-left, more-left, Sends}
@@ -356,6 +356,32 @@ NumberOfParts =
 -- ---- the contracts
 pub AnswersOneToOne : Claims.AnswersOneToOne
 AnswersOneToOne = record { read = read-same; wrote = wrote-same; next = next-same }
+
+pub ReadSaidExactly : Claims.ReadSaidExactly responseRead
+ReadSaidExactly = record { refused = λ a why. (read-same _ _, ap responseRead); response = λ a n status. (read-same _ _, ap responseRead) }
+
+pub WrittenSaidExactly : Claims.WrittenSaidExactly responseWritten
+WrittenSaidExactly = record { refused = λ a why. (wrote-same _ _, ap responseWritten); response = λ a n. (wrote-same _ _, ap responseWritten) }
+
+pub PartSaidExactly : Claims.PartSaidExactly partSent
+PartSaidExactly = record { refused = λ a why. (next-same _ _, ap partSent); part = λ a n left. (next-same _ _, ap partSent) }
+
+-- a function that gives what a definition gives, input by input, is that definition
+pub ContractsAsClaimed : Claims.ContractsAsClaimed
+ContractsAsClaimed =
+    record {
+      limit = λ f is g c a. is a ∙ limit-alike g c (saysOf a) (decLt (saysOf a .shape) 5) (ℕ-discrete (saysOf a .le) 0);
+      nothing = λ r is. (ap (λ (k : Remainder). k .place) is, ap (λ (k : Remainder). k .count) is);
+      write-response = λ f is. subst Claims.WritesExactly (λ d body status old. (sym (is body status old .0) d, sym (is body status old .1) d)) WritesExactly;
+      read-response = λ f is. subst Claims.ReadsExactly (λ d bytes. sym (is bytes) d) ReadsExactly;
+      response-body = λ f is. subst Claims.BodyExactly (λ d bytes. sym (is bytes) d) BodyExactly;
+      next-part = λ f is. subst Claims.NextExactly (λ d body r limit old. (sym (is body r limit old .0) d, sym (is body r limit old .1) d)) NextExactly;
+    }
+  where
+    limit-alike : (g : Says → ℕ) → Claims.LimitExactly g → (says : Says) → Dec (says .shape < 5) → Dec (says .le ≡ 0) → limitOf says ≡ g says
+    limit-alike g c says (no m) z = LimitExactly .extended says (omega arith) ∙ sym (c .extended says (omega arith))
+    limit-alike g c says (yes h) (yes e) = LimitExactly .absent says (omega arith) e ∙ sym (c .absent says (omega arith) e)
+    limit-alike g c says (yes h) (no m) = LimitExactly .said says (omega arith) (omega arith) ∙ sym (c .said says (omega arith) (omega arith))
 
 pub ResultsDetermined : Claims.ResultsDetermined
 ResultsDetermined =

@@ -4,7 +4,10 @@
 -- of whatever meets `NextExactly`. The words `Writer`, `Sender`, `IsResponse`, `Goes`, `Tells`, `Sends`: Terms.antt. Of a sequence of calls: Fetching.antt.
 use mathlib.Core.Logic.{_↔_, _⊎_}
 use lib.ListN.{replicate}
-use Rattle.response_stated.specs.Words.{ℕ, _+_, _<_, _≤_, _≡_, List, [], _∷_, _++_, length, take, drop, AtMostOne, Outcome, R, Gives, AreBytes, Apdu, Says, Remainder, rest, ReadResponse, WroteResponse, NextPart, Response, responseRead, responseWritten, partSent}
+use Rattle.response_stated.specs.Words.{ℕ, _+_, _<_, _≤_, _≡_, List, [], _∷_, _++_, length, take, drop, AtMostOne, Outcome, R, Gives, Refusal, refusalNo, AreBytes, Apdu, Says, saysOf, Remainder, rest, ReadResponse, WroteResponse, NextPart, Response, Sent, responseRead, responseWritten, partSent}
+use Rattle.response_stated.specs.declared.ReadResponse.the-variants as ReadResponse′
+use Rattle.response_stated.specs.declared.WroteResponse.the-variants as WroteResponse′
+use Rattle.response_stated.specs.declared.NextPart.the-variants as NextPart′
 use Rattle.response_stated.specs.Contracts.{Limit, Nothing, WriteResponse, ReadsResponse, ResponseBody, PartNext}
 use Rattle.response_stated.specs.Terms.{Writer, Sender, reading, sending, spelled, IsResponse, Goes, Tells, Sends}
 use Rattle.response_stated.specs.Fetching.{Fetch, called, remaining, joined, after, callsUntilDone, Each, HasRoom, Takes, RoundsUp}
@@ -142,6 +145,34 @@ pub record NumberOfParts (next : Sender) : Type 0 where
       → callsUntilDone next body (rest 0 n) fetches ≡ k
 
 -- ---- the contracts
+
+-- What each answer says, in the documents' numbers: each case has its values, and no other has them. Rejects a view that gives the length of the body for the
+-- status (`lengthForStatus`), one that counts no status bytes (`withoutStatusBytes`), and one that says the part's length for what is left (`lengthForLeft`).
+pub record ReadSaidExactly (said : ReadResponse → Outcome Response) : Type 0 where
+  pub refused : (a : ReadResponse) (why : Refusal) → (said a ≡ R (refusalNo why)) ↔ (a ≡ ReadResponse′.Refused why)
+  pub response : (a : ReadResponse) (n status : ℕ) → (said a ≡ Gives (reading n status)) ↔ (a ≡ ReadResponse′.Response n status)
+
+pub record WrittenSaidExactly (said : WroteResponse → Outcome ℕ) : Type 0 where
+  pub refused : (a : WroteResponse) (why : Refusal) → (said a ≡ R (refusalNo why)) ↔ (a ≡ WroteResponse′.Refused why)
+  pub response : (a : WroteResponse) (n : ℕ) → (said a ≡ Gives n) ↔ (a ≡ WroteResponse′.Response n)
+
+pub record PartSaidExactly (said : NextPart → Outcome Sent) : Type 0 where
+  pub refused : (a : NextPart) (why : Refusal) → (said a ≡ R (refusalNo why)) ↔ (a ≡ NextPart′.Refused why)
+  pub part : (a : NextPart) (n : ℕ) (left : Remainder) → (said a ≡ Gives (sending n left)) ↔ (a ≡ NextPart′.Part n left)
+
+-- Whatever meets a function's contract meets the claim on it, the functions that no call from C comes to as well; `limit` takes a frame's answer and no
+-- numbers, and gives what whatever meets the claim gives of the numbers. A contract of `response_body` that keeps SW1 fails it, with code to match.
+pub record ContractsAsClaimed : Type 0 where
+  pub limit : (f : Apdu → ℕ) → ((a : Apdu) → Limit a (f a)) → (g : Says → ℕ) → LimitExactly g → (a : Apdu) → f a ≡ g (saysOf a)
+  pub nothing : (r : Remainder) → Nothing r → NothingExactly r
+  pub write-response : (f : (body : List ℕ) (status : ℕ) (old : List ℕ) → WroteResponse × List ℕ)
+      → ((body : List ℕ) (status : ℕ) (old : List ℕ) → WriteResponse body status old (f body status old .0) (f body status old .1))
+      → WritesExactly (λ body status old. (responseWritten (f body status old .0), f body status old .1))
+  pub read-response : (f : List ℕ → ReadResponse) → ((bytes : List ℕ) → ReadsResponse bytes (f bytes)) → ReadsExactly (λ bytes. responseRead (f bytes))
+  pub response-body : (f : List ℕ → List ℕ) → ((bytes : List ℕ) → ResponseBody bytes (f bytes)) → BodyExactly f
+  pub next-part : (f : (body : List ℕ) → Remainder → (limit : ℕ) (old : List ℕ) → NextPart × List ℕ)
+      → ((body : List ℕ) (r : Remainder) (limit : ℕ) (old : List ℕ) → PartNext body r limit old (f body r limit old .0) (f body r limit old .1))
+      → NextExactly (λ body r limit old. (partSent (f body r limit old .0), f body r limit old .1))
 
 -- the answers' words tell the cases apart
 pub record AnswersOneToOne : Type 0 where

@@ -5,6 +5,7 @@ pub use mathlib.Core.List.{List, [], _∷_, _++_}
 pub use lib.Dec.{ltb, leb, eqb}
 pub use lib.ListN.{length, take, drop}
 pub use Rattle.outcome.specs.Notation.{if_then_else_, AtMostOne}
+pub use Rattle.outcome.specs.declared.Refusal.{Refusal}
 pub use Rattle.outcome.specs.Outcome.{Outcome, R, Word, Gives, refusalNo}
 pub use Rattle.octets.specs.Bytes.{byte, bytes2, pairAt, laid, partOf, AreBytes}
 pub use Rattle.apdu_stated.specs.declared.Apdu.{Apdu}

@@ -1,7 +1,10 @@
 -- Wrong programs, one fault each. proofs/Refuted.antt shows the claim that is false of each.
 use mathlib.Core.Bool.{_&&_}
 use lib.ListN.{replicate}
-use Rattle.response_stated.specs.Words.{ℕ, _+_, _-_, _*_, _/_, _%_, List, [], _∷_, _++_, ltb, leb, eqb, if_then_else_, length, take, drop, Outcome, R, Gives, byte, bytes2, pairAt, laid, Says, Remainder, rest, Response, Sent}
+use Rattle.response_stated.specs.Words.{ℕ, _+_, _-_, _*_, _/_, _%_, List, [], _∷_, _++_, ltb, leb, eqb, if_then_else_, length, take, drop, Outcome, R, Gives, byte, bytes2, pairAt, laid, refusalNo, Says, Remainder, rest, ReadResponse, WroteResponse, NextPart, Response, Sent}
+use Rattle.response_stated.specs.declared.ReadResponse.the-variants as ReadResponse′
+use Rattle.response_stated.specs.declared.WroteResponse.the-variants as WroteResponse′
+use Rattle.response_stated.specs.declared.NextPart.the-variants as NextPart′
 use Rattle.response_stated.specs.Responses.{responseOf}
 use Rattle.response_stated.specs.Parts.{limitOf, partLength, leftStatus, restAfter, partBytes, partResponse}
 use Rattle.response_stated.specs.Terms.{Writer, Sender, reading, sending, sendingOf}
@@ -156,3 +159,16 @@ sendsStatusFirst body r limit old =
     checked body r old
     (if ltb (length old) (partLength limit (r .count) + 2) then (R 2, old)
     else (Gives (sending (partLength limit (r .count) + 2) (restAfter r limit)), laid (bytes2 (leftStatus (restAfter r limit .count)) ++ partBytes body r limit) old))
+
+-- ---- views: the length of the body for the status; a response counted without its status; the part's length for what is left
+abbrev pub lengthForStatus : ReadResponse → Outcome Response
+lengthForStatus (ReadResponse′.Refused why) = R (refusalNo why)
+lengthForStatus (ReadResponse′.Response n status) = Gives (reading status n)
+
+abbrev pub withoutStatusBytes : WroteResponse → Outcome ℕ
+withoutStatusBytes (WroteResponse′.Refused why) = R (refusalNo why)
+withoutStatusBytes (WroteResponse′.Response n) = Gives (n - 2)
+
+abbrev pub lengthForLeft : NextPart → Outcome Sent
+lengthForLeft (NextPart′.Refused why) = R (refusalNo why)
+lengthForLeft (NextPart′.Part n left) = Gives (sending n (rest (left .place) n))

@@ -112,3 +112,12 @@ takes256InSession c =
     c .exactly body 3 1 3 oneByte (replicate 4 0) (sending 3 (rest 1 2)) (visit ∷ visit ∷ []) (omega arith) (omega arith) (up 2 (omega arith) (omega arith)) refl refl
     (also (ok, (refl, refl), refl, omega arith) (also (ok, (refl, refl), refl, omega arith) none)) (omega arith) in
     omega arith
+
+-- three parts, and here the first alone
+pub refusesC0 : Claims.SessionParts Wrong.refusesC0 frameLimit remainderLeft partLeft sendingOf → ⊥
+unfolding nextPartOf frameLimit limitOf partLength leftStatus commandOf onReading byInstruction getResponseOf readBy sayOf lengthsOf shortOf extendedOf afterData
+refusesC0 c =
+    let z : _≡_ {A = ℕ} 1 3 =
+    c .exactly body 3 1 3 oneByte (replicate 4 0) (sending 3 (rest 1 2)) (visit ∷ visit ∷ []) (omega arith) (omega arith) (up 2 (omega arith) (omega arith)) refl refl
+    (also (ok, (refl, refl), refl, omega arith) (also (ok, (refl, refl), refl, omega arith) none)) (omega arith) in
+    omega arith

@@ -5,7 +5,8 @@ use mathlib.Core.Bool.{Bool, true, false}
 use mathlib.Core.List.{List, [], _∷_, _++_, append-assoc, append-nil}
 use native.Mathlib.Omega.{arith}
 use lib.ListN.{length, take, drop}
-use Rattle.outcome.specs.Outcome.{Outcome, R, Word, Gives}
+use Rattle.outcome.specs.Notation.{if_then_else_}
+use Rattle.outcome.specs.Outcome.{Outcome, R, Word, SW, Gives}
 use Rattle.apdu_stated.specs.Reading.{readOf}
 use Rattle.response_stated.specs.declared.Remainder.{Remainder}
 use Rattle.response_stated.specs.Words.{rest, Sent}
@@ -14,11 +15,12 @@ use Rattle.response_stated.specs.Parts.{partLength, restAfter, partResponse, pa
 use Rattle.response_stated.specs.Terms.{sendingOf}
 use Rattle.response_stated.specs.Fetching.{Fetch, got, left, remaining, called}
 use Rattle.response_stated.proofs.Laws.{next-given, step-within, step-joins, part-some, part-most}
-use Rattle.ctap1_stated.specs.Words.{Inputs, DecisionResult}
+use Rattle.u2f_up_stated.specs.declared.Presence.{Presence}
+use Rattle.ctap1_stated.specs.Words.{Inputs, DecisionGives, DecisionResult}
 use Rattle.ctap1_stated.specs.Path.{frameLimit}
 use Rattle.ctap1_stated.specs.Decision.{decisionOf}
-use Rattle.ctap1_stated.specs.Session.{isGetResponse, remainderLeft, partLeft}
-use Rattle.ctap1_stated.specs.Terms.{HasInsC0}
+use Rattle.ctap1_stated.specs.Session.{isGetResponse, remainderAfter, remainderLeft, partLeft}
+use Rattle.ctap1_stated.specs.Terms.{Decider, HasInsC0}
 use Rattle.ctap1_stated.proofs.Laws.{Asked, is-refused, is-word, is-part, asked}
 use Rattle.session_stated.specs.Sessions.{Visit, lentIn, sentWith, partCount, decidedIn, sentIn, leftIn, joinedOver, leftOver, partsOver, Each, none, also, IsFetch}
 
@@ -84,3 +86,24 @@ module _ (body : List ℕ) where
   parts-over r [] e = omega arith
   parts-over r (v ∷ visits) (also x e) =
       omega (arith, step-takes r v (step r v x), parts-over (leftIn decisionOf remainderLeft partLeft body r v) visits e)
+
+-- ---- with a decision that refuses every C0, nothing goes out and all remains
+module _ (decide : Decider) (refuses : (p : Presence) (t : ℕ) (a : Inputs) → HasInsC0 a → decide p t a .answer ≡ SW 0x6985) (body : List ℕ) where
+  module _ (r : Remainder) (v : Visit) (asks : IsFetch v) where
+    answer : decidedIn decide remainderLeft partLeft body r v .answer ≡ SW 0x6985
+    answer = refuses (v .presence) (v .moment) (lentIn body r v) asks
+
+    none-sent : sentIn decide remainderLeft partLeft body r v ≡ []
+    none-sent = ap (λ (o : Outcome DecisionGives). sentWith o (partLeft (lentIn body r v) (decidedIn decide remainderLeft partLeft body r v) body (v .buffer))) answer
+
+    all-left : leftIn decide remainderLeft partLeft body r v ≡ r
+    all-left = ap (λ (o : Outcome DecisionGives). remainderAfter o (isGetResponse (readOf (v .lent .frame))) r) answer ∙ ap (λ (c : Bool). if c then r else rest 0 0) (asks-so (v .lent) asks)
+
+  pub refused-over : (r : Remainder) (visits : List Visit) → Each IsFetch visits
+      → (joinedOver decide remainderLeft partLeft body r visits ≡ []) × (leftOver decide remainderLeft partLeft body r visits ≡ r)
+  refused-over r [] e = (refl, refl)
+  refused-over r (v ∷ visits) (also x e) =
+      let after = refused-over (leftIn decide remainderLeft partLeft body r v) visits e in (
+        ap (λ (s : List ℕ). responseBodyOf s ++ joinedOver decide remainderLeft partLeft body (leftIn decide remainderLeft partLeft body r v) visits) (none-sent r v x) ∙ after .0,
+        after .1 ∙ all-left r v x,
+      )

@@ -30,7 +30,7 @@ use Rattle.ctap1_stated.specs.declared.Counter.the-variants as Counter′
 use Rattle.ctap1_stated.proofs.Laws.{takes, IsPart, is-a-part, limits-exactly}
 use Rattle.session_stated.specs.Sessions.{Visit, sentIn, leftIn, joinedOver, leftOver, partsOver, Each, IsFetch, Serves}
 use Rattle.session_stated.specs.Claims
-use Rattle.session_stated.proofs.Steps.{fetch, Step, keeps, sends, step, within-over, joins-over, parts-over}
+use Rattle.session_stated.proofs.Steps.{fetch, Step, keeps, sends, step, within-over, joins-over, parts-over, refused-over}
 use Rattle.session_stated.proofs.Counts.{Need, exact, need-first}
 
 pub FetchesNext : Claims.FetchesNext decisionOf frameLimit partLeft sendingOf
@@ -158,6 +158,15 @@ SessionTells p t a body old n after part status lb lo e is =
     ap₂ (λ (k : ℕ) (l : List ℕ). take k l) (f .long ∙ ap (λ (k : ℕ). k + 2) (sym long)) there ∙ front-of (partBytes body (a .remainder) limit) told _ in
     let x = read-so _ (partBytes body (a .remainder) limit) part told status out is in
     rw (x .1, f .left) (tells (restAfter (a .remainder) limit .count))
+
+-- ---- what the joining does not say
+pub SoFarOfRefusers : Claims.SoFarOfRefusers frameLimit remainderLeft partLeft sendingOf
+SoFarOfRefusers decide refuses body n frame buffer visits h e =
+    let a : Fetch = record { limit = frameLimit frame; buffer = buffer } in
+    let k : Remainder = left (rest 0 n) (called sendingOf body (rest 0 n) a .0) in
+    let x = refused-over decide refuses body k visits e in
+    ap₂ (λ (s : List ℕ) (r : Remainder). responseBodyOf (got (called sendingOf body (rest 0 n) a)) ++ (s ++ remaining body r)) (x .0) (x .1)
+    ∙ step-joins body (rest 0 n) a (omega arith)
 
 -- ---- how many
 pub SessionParts : Claims.SessionParts decisionOf frameLimit remainderLeft partLeft sendingOf

@@ -5,7 +5,7 @@ use Prim.Native.Nat.{ℕ, _+_, _≤_, _<_}
 use mathlib.Core.Path.{_≡_}
 use mathlib.Core.List.{List, [], _∷_, _++_}
 use lib.ListN.{length, take, replicate}
-use Rattle.outcome.specs.Outcome.{Gives}
+use Rattle.outcome.specs.Outcome.{SW, Gives}
 use Rattle.octets.specs.Bytes.{AreBytes}
 use Rattle.apdu_stated.specs.Answers.{Says}
 use Rattle.apdu_stated.specs.Reading.{readOf}
@@ -16,7 +16,7 @@ use Rattle.response_stated.specs.Terms.{Sender, sending, IsResponse, Tells}
 use Rattle.response_stated.specs.Fetching.{got, left, remaining, RoundsUp}
 use Rattle.u2f_up_stated.specs.declared.Presence.{Presence}
 use Rattle.ctap1_stated.specs.Words.{Inputs, Part}
-use Rattle.ctap1_stated.specs.Terms.{Decider}
+use Rattle.ctap1_stated.specs.Terms.{Decider, HasInsC0}
 use Rattle.session_stated.specs.Sessions.{Visit, Leaver, PartWriter, sentIn, leftIn, joinedOver, leftOver, partsOver, Each, IsFetch, Serves}
 
 -- 02, E2: "INS C0 .. fetches the next part under the same rule": the part that a decision sends is the one that `next` sends of the body in the reply
@@ -27,16 +27,27 @@ FetchesNext decide limit write next =
     (p : Presence) (t : ℕ) (a : Inputs) (body old : List ℕ) (n : ℕ) (after : Remainder) → length body ≡ a .room → length old ≡ a .partRoom
     → decide p t a .answer ≡ Gives (Part n after) → next body (a .remainder) (limit (a .frame)) old ≡ (Gives (sending n after), write a (decide p t a) body old)
 
+-- The parts sent so far, joined, and then what remains, are the uncut body: for every body, every first frame and every sequence of C0 frames.
+abbrev pub SoFarJoins : Decider → (limit : List ℕ → ℕ) → Leaver → PartWriter → Sender → Type 0
+SoFarJoins decide limit leaves write next =
+    (body : List ℕ) (n : ℕ) (frame buffer : List ℕ) (visits : List Visit) → n ≤ length body → Each IsFetch visits
+    → responseBodyOf (got (next body (rest 0 n) (limit frame) buffer))
+    ++ (joinedOver decide leaves write body (left (rest 0 n) (next body (rest 0 n) (limit frame) buffer .0)) visits
+    ++ remaining body (leftOver decide leaves write body (left (rest 0 n) (next body (rest 0 n) (limit frame) buffer .0)) visits))
+    ≡ take n body
+
+-- What that does not say: that anything is fetched. Whatever refuses every C0 meets it, too. That something is: `done` below, and of a C0 that nothing stands
+-- against `SessionParts`, which such a decision (`refusesC0`) fails.
+abbrev pub SoFarOfRefusers : (limit : List ℕ → ℕ) → Leaver → PartWriter → Sender → Type 0
+SoFarOfRefusers limit leaves write next =
+    (decide : Decider) → ((p : Presence) (t : ℕ) (a : Inputs) → HasInsC0 a → decide p t a .answer ≡ SW 0x6985) → SoFarJoins decide limit leaves write next
+
 -- For every body, every first frame and every sequence of C0 frames: the parts sent so far, joined, followed by what remains, are the
 -- uncut body; with the part that carries 9000 nothing remains. So (02, E2) "Joining the parts, at any Le values, gives the uncut body". The first part is
 -- sent by `next` of (0, n) under the first frame's limit; every C0 that follows may be refused or not. `skips` and `again` fail it, at three
 -- bytes.
 pub record SessionJoins (decide : Decider) (limit : List ℕ → ℕ) (leaves : Leaver) (write : PartWriter) (next : Sender) : Type 0 where
-  pub so-far : (body : List ℕ) (n : ℕ) (frame buffer : List ℕ) (visits : List Visit) → n ≤ length body → Each IsFetch visits
-      → responseBodyOf (got (next body (rest 0 n) (limit frame) buffer))
-      ++ (joinedOver decide leaves write body (left (rest 0 n) (next body (rest 0 n) (limit frame) buffer .0)) visits
-      ++ remaining body (leftOver decide leaves write body (left (rest 0 n) (next body (rest 0 n) (limit frame) buffer .0)) visits))
-      ≡ take n body
+  pub so-far : SoFarJoins decide limit leaves write next
   pub done : (body : List ℕ) (r : Remainder) (visits : List Visit) (v : Visit) (part : List ℕ) → r .place + r .count ≤ length body → Each IsFetch visits → IsFetch v
       → IsResponse (sentIn decide leaves write body (leftOver decide leaves write body r visits) v) part 0x9000
       → (leftIn decide leaves write body (leftOver decide leaves write body r visits) v .count ≡ 0)

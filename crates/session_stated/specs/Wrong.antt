@@ -8,7 +8,7 @@ use Rattle.response_stated.specs.Words.{rest}
 use Rattle.response_stated.specs.Parts.{partLength, restAfter, partResponse}
 use Rattle.ctap1_stated.specs.Words.{Inputs, DecisionGives, Body, Ordered, Part, DecisionResult}
 use Rattle.ctap1_stated.specs.Path.{frameLimit}
-use Rattle.ctap1_stated.specs.Decision.{decisionOf}
+use Rattle.ctap1_stated.specs.Decision.{decisionOf, statusResult}
 use Rattle.ctap1_stated.specs.Terms.{Decider}
 use Rattle.session_stated.specs.Sessions.{PartWriter}
 
@@ -47,3 +47,7 @@ partBy part (Gives (Part n after)) old = part old
 
 abbrev pub again : PartWriter
 again a r body old = partBy (laid (partResponse body (rest 0 (a .remainder .count)) (frameLimit (a .frame)))) (r .answer) old
+
+-- no C0 gets its part
+abbrev pub refusesC0 : Decider
+refusesC0 p t a = statusResult 0x6985 p

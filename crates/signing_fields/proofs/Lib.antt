@@ -1,3 +1,4 @@
+pub mod Standing
 pub mod Theorems
 pub mod Only
 pub mod Refuted

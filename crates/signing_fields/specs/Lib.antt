@@ -1,3 +1,4 @@
 pub mod Contracts
+pub mod Terms
 pub mod Claims
 pub mod Wrong

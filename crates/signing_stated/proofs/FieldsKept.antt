@@ -27,7 +27,7 @@ block-rest : (s : List ℕ) (n : ℕ) → length s ≡ n → n ≤ 385 → allZe
 block-rest s n e h = rw (block-is s (omega arith), drop-at s (replicate (385 - length s) 0) n e) (all-zero-replicate (385 - length s))
 
 -- a block of 385 bytes whose tail is zero is its front, laid
-block-of : (b : List ℕ) (n : ℕ) → length b ≡ 385 → n ≤ 385 → allZero (drop n b) ≡ true → b ≡ block (take n b)
+pub block-of : (b : List ℕ) (n : ℕ) → length b ≡ 385 → n ≤ 385 → allZero (drop n b) ≡ true → b ≡ block (take n b)
 block-of b n whole h rest =
     let count : length (drop n b) ≡ 385 - length (take n b) = omega (arith, length-drop n b, length-take-le n b (omega arith)) in
     sym (take-append-drop n b)

@@ -1,12 +1,15 @@
 -- What other crates cite: lengths that fit, the orders that they make, and what finishing gives for them.
 use Prim.Native.Nat.{ℕ, _+_, _-_, _≤_}
-use mathlib.Core.Bool.{true, false}
-use mathlib.Core.Path.{_≡_, refl, ap, _∙_}
+use mathlib.Core.Bool.{Bool, true, false, not, _&&_}
+use mathlib.Core.Path.{_≡_, refl, sym, ap, _∙_}
+use mathlib.Core.List.{List}
+use lib.Dec.{eqb, leb}
+use Rattle.outcome.specs.Notation.{if_then_else_}
 use native.Mathlib.Omega.{arith}
 use lib.ListN.{length}
 use Rattle.outcome.specs.Outcome.{R}
-use Rattle.signing_stated.specs.Layouts.{RegisterFields, AuthenticateFields, isRegisterFit, isAuthenticateFit}
-use Rattle.signing_stated.specs.Orders.{Order, toSign, certificateLength, blankOrder, registerOrderOf, authenticateOrderOf, isRegisterLayout, isOfLayout, registerFieldsOf, authenticateFieldsOf}
+use Rattle.signing_stated.specs.Layouts.{RegisterFields, AuthenticateFields, registerToSign, isRegisterFit, isAuthenticateFit}
+use Rattle.signing_stated.specs.Orders.{Register, Head, Order, headOf, toSign, certificateLength, block, blankOrder, registerOrderOf, authenticateOrderOf, isRegisterLayout, isOfLayout, registerFieldsOf, authenticateFieldsOf}
 use Rattle.signing_stated.specs.Finishing.{Finishing, finishOf, registerRoom, authenticateRoom, roomNeeded}
 use Rattle.signing_stated.proofs.FieldsKept.{register-kept, authenticate-kept, register-made-shape, authenticate-made-shape}
 use Rattle.signing_stated.proofs.Shapes.{shape-register, shape-authenticate}
@@ -65,3 +68,21 @@ room-kept i ok its room = (
   λ e. let z = told-r3 4 (way i) e ok its room in omega arith,
   λ e. let z = told-r3 2 (way i) e ok its room in omega arith,
 )
+
+-- the head of a Register order is known from the lengths of its fields
+pub head-by-lengths : (f g : RegisterFields) (c k : ℕ) → length (f .application) ≡ length (g .application) → length (f .challenge) ≡ length (g .challenge)
+    → length (f .handle) ≡ length (g .handle) → length (f .x) ≡ length (g .x) → length (f .y) ≡ length (g .y) → c ≡ k
+    → headOf (registerOrderOf f c) ≡ headOf (registerOrderOf g k)
+unfolding registerOrderOf
+head-by-lengths f g c k a d h x y e =
+    head-is (isRegisterFit f) (130 + length (f .handle)) c (block (registerToSign f))
+    ∙ (λ i. headFor (eqb (a i) 32 && eqb (d i) 32 && leb (h i) 255 && eqb (x i) 32 && eqb (y i) 32) (130 + h i) (e i))
+    ∙ sym (head-is (isRegisterFit g) (130 + length (g .handle)) k (block (registerToSign g)))
+  where
+    headFor : Bool → ℕ → ℕ → Head
+    headFor fit n c = if not fit then headOf blankOrder else record { kind = Register; «to_sign» = n; «certificate_length» = c }
+
+    head-is : (fit : Bool) (n c : ℕ) (bytes : List ℕ)
+        → headOf (if not fit then blankOrder else record { kind = Register; «to_sign» = n; «certificate_length» = c; bytes = bytes }) ≡ headFor fit n c
+    head-is true n c bytes = refl
+    head-is false n c bytes = refl

@@ -3,6 +3,7 @@ pub mod Shapes
 pub mod Ways
 pub mod Cases
 pub mod FieldsKept
+pub mod Messages
 pub mod Numbers
 pub mod Spelled
 pub mod Laws

@@ -13,7 +13,7 @@ use Rattle.octets.specs.Bytes.{byte, bytes4}
 use Rattle.signing_stated.specs.Claims
 use Rattle.signing_stated.specs.Layouts.{RegisterFields, AuthenticateFields, presenceByte, isRegisterFit}
 use Rattle.signing_stated.specs.Orders.{Order, Register, Authenticate, AuthenticateParts, certificateLength, registerOrderOf, authenticateOrderOf, authenticateOrderFor, registerFieldsOf, authenticateFieldsOf}
-use Rattle.signing_stated.specs.Finishing.{Finishing, Ended, finishOf, roomNeeded}
+use Rattle.signing_stated.specs.Finishing.{Finishing, Refused, Status, Body, Ended, finishOf, roomNeeded}
 use Rattle.signing_stated.specs.Terms.{bytesAt, RegisterLengths, PartsLengths, IsWhole, IsBlank, NeedsRoom, register, authenticate, OfLayout}
 use Rattle.signing_stated.proofs.Fit.{register-fit, register-lengths}
 use Rattle.signing_stated.proofs.Shapes.{RegisterShape, AuthenticateShape, from-zeros, needs-room, of-no-layout}
@@ -155,3 +155,9 @@ FinishesExactly f g p q i whole = by-way (finishOf i) (way i)
     by-way _ (long-signature ok its room done long) =
         let a = needs-room (i .order) ok in p .r3 i _ a its room done long ∙ sym (q .r3 i _ a its room done long)
     by-way _ (passed k) = by-room (roomNeeded (i .order)) (needs-room (i .order) (k .layout)) (k .room) k
+
+-- ---- what finishing answers
+pub FinishedExactly : Determines Claims.FinishedExactly
+FinishedExactly f g p q (Refused why) = p .refused _ why .1 refl ∙ sym (q .refused _ why .1 refl)
+FinishedExactly f g p q (Status s) = p .status _ s .1 refl ∙ sym (q .status _ s .1 refl)
+FinishedExactly f g p q (Body n) = p .body _ n .1 refl ∙ sym (q .body _ n .1 refl)

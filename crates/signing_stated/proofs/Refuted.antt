@@ -1,21 +1,24 @@
 -- The claims are false of the wrong programs of specs/Wrong.antt, each at an input where it bites.
 use Prim.Native.Nat.{ℕ, _+_, _≤_}
 use mathlib.Core.Bool.{Bool, true, false}
-use mathlib.Core.Path.{_≡_, refl, ap}
+use mathlib.Core.Path.{_≡_, refl, ap, _∙_}
 use mathlib.Core.Logic.{_⊎_, inl}
 use mathlib.Core.List.{List, [], _∷_, _++_}
 use native.Mathlib.Omega.{arith}
 use lib.ListN.{length, replicate}
 use Rattle.outcome.specs.Outcome.{Outcome, R, Word, Gives}
 use Rattle.outcome.specs.declared.Refusal.the-variants.{R2, R4}
+use Rattle.outcome.specs.declared.ApduStatusCode.the-variants.{ClaInvalid}
 use Rattle.octets.specs.Bytes.{byte}
 use Rattle.signing_stated.specs.Claims
 use Rattle.signing_stated.specs.Wrong
-use Rattle.signing_stated.specs.Layouts.{RegisterFields, AuthenticateFields}
-use Rattle.signing_stated.specs.Orders.{Order, Register, Authenticate, AuthenticateParts, block, blankOrder, registerOrderOf, authenticateOrderOf, isRegisterLayout, isAuthenticateLayout, authenticateFieldsOf}
-use Rattle.signing_stated.specs.Finishing.{Finishing, Refused, Ended, finishOf, endOf, roomNeeded}
-use Rattle.signing_stated.specs.Terms.{IsRegisterOrder, IsAuthenticateOrder, RegisterLengths, PartsLengths, RegisterShaped, AuthenticateShaped, NeedsRoom, register, authenticate, OfLayout}
+use Rattle.signing_stated.specs.Fido.{registrationSigned, authenticationSigned}
+use Rattle.signing_stated.specs.Layouts.{RegisterFields, AuthenticateFields, publicKey}
+use Rattle.signing_stated.specs.Orders.{Order, Register, Authenticate, AuthenticateParts, block, blankOrder, registerOrderOf, authenticateOrderOf, authenticateOrderFor, isRegisterLayout, isAuthenticateLayout, authenticateFieldsOf}
+use Rattle.signing_stated.specs.Finishing.{Finishing, Refused, Status, Ended, finishOf, endOf, roomNeeded}
+use Rattle.signing_stated.specs.Terms.{IsRegisterOrder, IsAuthenticateOrder, HoldsMessage, RegisterLengths, PartsLengths, RegisterShaped, AuthenticateShaped, NeedsRoom, register, authenticate, OfLayout}
 use Rattle.signing_stated.proofs.Shapes.{zeros-from, needs-room}
+use Rattle.signing_stated.proofs.Messages.{key-is, registration-signed, authentication-signed}
 use Rattle.signing_stated.proofs.Theorems.{LayoutExactly, BlankRefused}
 
 -- the number of an answer, to tell two apart
@@ -36,6 +39,12 @@ kindsAlike p = let e : _≡_ {A = ℕ} 1 2 = p .authenticate in omega arith
 
 pub kindsTurned : Claims.KindNumbers Wrong.kindsTurned → ⊥
 kindsTurned p = let e : _≡_ {A = ℕ} 2 1 = p .register in omega arith
+
+pub always6f00 : Claims.FinishedExactly Wrong.always6f00 → ⊥
+always6f00 p = omega (arith, ap (λ (x : Outcome ℕ). said x) (p .status (Status ClaInvalid) ClaInvalid .1 refl))
+
+pub r4Unsaid : Claims.FinishedExactly Wrong.r4SaidAsR2 → ⊥
+r4Unsaid p = let e : _≡_ {A = ℕ} 2 4 = ap (λ (x : Outcome ℕ). said x) (p .refused (Refused R4) R4 .1 refl) in omega arith
 
 pub r4SaidAsR2 : Claims.FinishedOneToOne Wrong.r4SaidAsR2 → ⊥
 r4SaidAsR2 p = let e : Refused R2 ≡ Refused R4 = p (Refused R2) (Refused R4) refl in let z : _≡_ {A = ℕ} 0 1 = cc in omega arith
@@ -299,19 +308,56 @@ bytesIn (R n) = []
 bytesIn (Word s) = []
 bytesIn (Gives body) = body
 
+-- the same as FIDO has them
+enrolled-held : HoldsMessage Register 0 (registrationSigned (replicate 32 1) (replicate 32 2) [] (publicKey (replicate 32 0) (replicate 32 3))) (registerOrderOf enrolled 0)
+unfolding registerOrderOf block
+enrolled-held =
+    record {
+      of-kind = refl;
+      its = refl;
+      whole = refl;
+      within = omega arith;
+      message = registration-signed enrolled fits;
+      rest = zeros-from (registerOrderOf enrolled 0 .bytes) 130 refl;
+    }
+
+logged-held : HoldsMessage Authenticate 0 (authenticationSigned (replicate 32 1) 0 (replicate 4 0) (replicate 32 2)) (authenticateOrderOf logged)
+unfolding authenticateOrderOf block
+logged-held =
+    record {
+      of-kind = refl;
+      its = refl;
+      whole = refl;
+      within = omega arith;
+      message = authentication-signed logged (record { application = refl; presence = omega arith; counter = refl; challenge = refl });
+      rest = zeros-from (authenticateOrderOf logged .bytes) 69 refl;
+    }
+
 pub sendsChallenge : Claims.RegisterRoundTrip Wrong.sendsChallenge → ⊥
 unfolding registerOrderOf block isRegisterLayout bytesIn
 sendsChallenge p =
-    let e : _≡_ {A = ℕ} 32 0 =
-    ap (λ (x : Outcome (List ℕ)). byte (bytesIn x) 66) (p (lent (registerOrderOf enrolled 0) 0 true 0 139) enrolled refl refl (omega arith) refl (omega arith)) in
+    let r =
+    p (lent (registerOrderOf enrolled 0) 0 true 0 139) (replicate 32 1) (replicate 32 2) [] (replicate 32 0) (replicate 32 3) (publicKey (replicate 32 0) (replicate 32 3))
+    (key-is (replicate 32 0) (replicate 32 3) refl refl) enrolled-held (omega arith) refl (omega arith) in
+    let e : _≡_ {A = ℕ} 32 0 = ap (λ (x : Outcome (List ℕ)). byte (bytesIn x) 66) (r .1) ∙ ap (λ (s : List ℕ). byte s 66) (r .2 .are) in
     omega arith
 
 pub leavesCounterOut : Claims.AuthenticateRoundTrip Wrong.leavesCounterOut → ⊥
 unfolding authenticateOrderOf block isAuthenticateLayout bytesIn
 leavesCounterOut p =
-    let e : _≡_ {A = ℕ} 1 5 =
-    ap (λ (x : Outcome (List ℕ)). length (bytesIn x)) (p (lent (authenticateOrderOf logged) 0 true 0 77) logged refl refl refl (omega arith) refl (omega arith)) in
+    let r = p (lent (authenticateOrderOf logged) 0 true 0 77) (replicate 32 1) false (replicate 4 0) (replicate 32 2) logged-held refl (omega arith) refl (omega arith) in
+    let e : _≡_ {A = ℕ} 1 5 = ap (λ (x : Outcome (List ℕ)). length (bytesIn x)) (r .1) ∙ ap length (r .2 .are) in
     omega arith
+
+pub challengeSignedFirst : Claims.SignsFido Wrong.registerChallengeFirst authenticateOrderFor → ⊥
+unfolding registerOrderOf block
+challengeSignedFirst p =
+    let e : _≡_ {A = ℕ} 2 1 = ap (λ (s : List ℕ). byte s 1) (p .registration enrolled 0 fits .2 .are) in omega arith
+
+pub presenceSigned01 : Claims.SignsFido registerOrderOf Wrong.presenceAlways01 → ⊥
+unfolding authenticateOrderOf block
+presenceSigned01 p =
+    let e : _≡_ {A = ℕ} 1 0 = ap (λ (s : List ℕ). byte s 32) (p .authentication parts parts-fit (omega arith) .2 .are) in omega arith
 
 pub asksAgain : Claims.MadeOrderKept Wrong.asksAgain → ⊥
 unfolding authenticateOrderOf block isAuthenticateLayout

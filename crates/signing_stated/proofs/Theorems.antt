@@ -1,7 +1,7 @@
 -- The definitions meet the claims of specs/Claims.antt, each under the claim's own name.
-use Prim.Native.Nat.{ℕ, _+_, _-_, _≤_}
+use Prim.Native.Nat.{ℕ, _+_, _-_, _<_, _≤_}
 use mathlib.Core.Bool.{Bool, true, false}
-use mathlib.Core.Path.{_≡_, refl, sym, ap, _∙_}
+use mathlib.Core.Path.{_≡_, refl, sym, ap, subst, _∙_}
 use mathlib.Core.Logic.{_⊎_, inl, inr}
 use mathlib.Core.List.{List, [], _∷_, _++_}
 use native.Mathlib.Omega.{arith}
@@ -14,14 +14,16 @@ use Rattle.octets.specs.Bytes.{byte, bytes4, laid}
 use Rattle.octets.proofs.Laws.{laid-fits, length-laid}
 use Rattle.octets.proofs.Laws.{length-part}
 use Rattle.signing_stated.specs.Claims
-use Rattle.signing_stated.specs.Layouts.{RegisterFields, AuthenticateFields, registerToSign, authenticateToSign, registerBody, authenticateBody, presenceByte, isRegisterFit, isAuthenticateFit}
+use Rattle.signing_stated.specs.Layouts.{RegisterFields, AuthenticateFields, registerToSign, authenticateToSign, registerBody, authenticateBody, publicKey, presenceByte, isRegisterFit, isAuthenticateFit}
+use Rattle.signing_stated.specs.Fido.{IsMessage, IsKey, IsCounter, presenceBit, registrationSigned, registrationResponse, authenticationSigned, authenticationResponse}
 use Rattle.signing_stated.specs.Orders.{Head, Order, headOf, orderWith, Kind, Register, Authenticate, AuthenticateParts, kindNo, toSign, certificateLength, blankOrder, registerOrderOf, authenticateOrderOf, authenticateOrderFor, block, isOfLayout, registerFieldsOf, authenticateFieldsOf}
 use Rattle.signing_stated.specs.Finishing.{registerRoom, authenticateRoom, Finishing, Ended, finishOf, finishedOf, endOf, lengthOf, replyOf, roomNeeded, bodyOf}
-use Rattle.signing_stated.specs.Terms.{bytesAt, RegisterLengths, AuthenticateLengths, PartsLengths, IsWhole, IsRegisterOrder, IsAuthenticateOrder, HoldsJust, RegisterShaped, AuthenticateShaped, register, authenticate}
+use Rattle.signing_stated.specs.Terms.{bytesAt, RegisterLengths, AuthenticateLengths, PartsLengths, IsWhole, IsRegisterOrder, IsAuthenticateOrder, HoldsJust, signedBytes, HoldsMessage, RegisterShaped, AuthenticateShaped, register, authenticate}
 use Rattle.signing_stated.proofs.Fit.{register-fit, authenticate-fit, register-lengths, authenticate-lengths, register-order-fit, authenticate-order-fit}
 use Rattle.signing_stated.proofs.Shapes.{register-shaped, authenticate-shaped, zeros-from, needed, not-of-layout, of-no-layout}
 use Rattle.signing_stated.proofs.FieldsKept.{block-front, register-to-sign-length, authenticate-to-sign-length, register-made-shape, authenticate-made-shape, register-fields-lengths, authenticate-fields-lengths, register-order-of, authenticate-order-of, found, found-in, one-byte}
 use Rattle.signing_stated.proofs.Ways.{comes-to-r7, comes-to-r4, comes-to-r2, comes-to-6f00, comes-to-r3, comes-to-body, way, told-r3, told-body, body-within}
+use Rattle.signing_stated.proofs.Messages.{key-is, is-key, counter-is, presence-same, bit-small, registration-signed, registered-order, registration-response, authentication-signed, signed-order, authentication-response}
 use Rattle.signing_stated.proofs.Numbers.{kind-one-to-one, finished-one-to-one}
 use Rattle.signing_stated.proofs.Spelled.{four-at, register-spelled, authenticate-spelled}
 use Rattle.signing_stated.proofs.Laws
@@ -36,6 +38,14 @@ KindOneToOne = kind-one-to-one
 
 pub FinishedOneToOne : Claims.FinishedOneToOne finishedOf
 FinishedOneToOne = finished-one-to-one
+
+pub FinishedExactly : Claims.FinishedExactly finishedOf
+FinishedExactly =
+    record {
+      refused = λ a why. (finished-one-to-one _ _, ap finishedOf);
+      status = λ a s. (finished-one-to-one _ _, ap finishedOf);
+      body = λ a n. (finished-one-to-one _ _, ap finishedOf);
+    }
 
 pub ResultsDetermined : Claims.ResultsDetermined
 ResultsDetermined =
@@ -348,8 +358,11 @@ MadeOrderKept = (
   λ i f fit e none room n refused. let r = authenticate-ready i f fit e none room in told-r3 n (way i) refused (r .0) (r .1) (r .2),
 )
 
-pub RegisterRoundTrip : Claims.RegisterRoundTrip finishOf
-RegisterRoundTrip i f fit e room done short =
+-- finished, an order gives the body of the fields that it was made of
+register-back : (i : Finishing) (f : RegisterFields) → isRegisterFit f ≡ true → i .order ≡ registerOrderOf f (length (i .certificate))
+    → 139 + length (f .handle) + length (i .certificate) ≤ length (i .reply) → i .signed ≡ true → length (i .signature) ≤ 72
+    → finishOf i ≡ Gives (registerBody f (i .certificate) (i .signature))
+register-back i f fit e room done short =
     let l = register-lengths f fit in
     let r = register-ready i f fit e room in
     comes-to-body i (r .0) (r .1) (r .2) done short
@@ -361,8 +374,9 @@ RegisterRoundTrip i f fit e room done short =
     kept-of f l =
         ap (λ (o : Order). registerFieldsOf (toSign o) (o .bytes)) (sym (register-order-fit f 0 l)) ∙ Laws.fields-kept .0 f 0 (register-fit f l)
 
-pub AuthenticateRoundTrip : Claims.AuthenticateRoundTrip finishOf
-AuthenticateRoundTrip i f fit e none room done short =
+authenticate-back : (i : Finishing) (f : AuthenticateFields) → isAuthenticateFit f ≡ true → i .order ≡ authenticateOrderOf f → length (i .certificate) ≡ 0
+    → 77 ≤ length (i .reply) → i .signed ≡ true → length (i .signature) ≤ 72 → finishOf i ≡ Gives (authenticateBody f (i .signature))
+authenticate-back i f fit e none room done short =
     let l = authenticate-lengths f fit in
     let r = authenticate-ready i f fit e none room in
     comes-to-body i (r .0) (r .1) (r .2) done short
@@ -372,3 +386,84 @@ AuthenticateRoundTrip i f fit e none room done short =
     kept-of : (f : AuthenticateFields) → AuthenticateLengths f → authenticateFieldsOf (block (authenticateToSign f)) ≡ f
     kept-of f l =
         ap (λ (o : Order). authenticateFieldsOf (o .bytes)) (sym (authenticate-order-fit f l)) ∙ Laws.fields-kept .1 f (authenticate-fit f l)
+
+-- ---- FIDO's messages
+pub SignsFido : Claims.SignsFido registerOrderOf authenticateOrderFor
+SignsFido = record { registration = registration; authentication = authentication }
+  where
+    registration : (f : RegisterFields) (c : ℕ) → RegisterLengths f
+        → (key : List ℕ) × IsKey (f .x) (f .y) key × IsMessage (registrationSigned (f .application) (f .challenge) (f .handle) key) (signedBytes (registerOrderOf f c))
+    registration f c l = (
+      publicKey (f .x) (f .y),
+      key-is (f .x) (f .y) (l .x) (l .y),
+      subst (IsMessage _)
+          (sym (ap signedBytes (register-order-fit f c l) ∙ block-front (registerToSign f) _ (register-to-sign-length f l) (omega (arith, l .handle)))) (registration-signed f l),
+    )
+
+    authentication : (p : AuthenticateParts) → PartsLengths p → p .counter < 0x100000000
+        → (counter : List ℕ) × IsCounter (p .counter) counter
+        × IsMessage (authenticationSigned (p .application) (presenceBit (p .present)) counter (p .challenge)) (signedBytes (authenticateOrderFor p))
+    authentication p l small =
+        let f = fieldsOf p in
+        let ok = lengths-of p l in
+        let m : IsMessage (authenticationSigned (p .application) (presenceByte (p .present)) (bytes4 (p .counter)) (p .challenge)) (signedBytes (authenticateOrderOf f)) =
+        subst (IsMessage _) (sym (ap signedBytes (authenticate-order-fit f ok) ∙ block-front (authenticateToSign f) _ (authenticate-to-sign-length f ok) (omega arith))) (authentication-signed f ok) in (
+          bytes4 (p .counter),
+          counter-is (p .counter) small,
+          subst (λ (n : ℕ). IsMessage (authenticationSigned (p .application) n (bytes4 (p .counter)) (p .challenge)) (signedBytes (authenticateOrderOf f))) (presence-same (p .present)) m,
+        )
+
+pub RegisterRoundTrip : Claims.RegisterRoundTrip finishOf
+RegisterRoundTrip i application challenge handle x y key k m room done short =
+    let f : RegisterFields = record { application = application; challenge = challenge; handle = handle; x = x; y = y } in
+    let same : key ≡ publicKey x y = is-key x y key k in
+    let w = m .message .within in
+    let v = k .message .within in
+    let l : RegisterLengths f =
+    record {
+      application = omega (arith, w .2 .0, w .2 .1);
+      challenge = omega (arith, w .2 .2 .0, w .2 .2 .1);
+      handle = w .2 .2 .2 .1;
+      x = omega (arith, v .2 .0, v .2 .1);
+      y = omega (arith, v .2 .2 .0, v .2 .2 .1);
+    } in
+    let held = subst (λ (s : List ℕ). HoldsMessage Register (length (i .certificate)) (registrationSigned application challenge handle s) (i .order)) same m in (
+      registerBody f (i .certificate) (i .signature),
+      register-back i f (register-fit f l) (registered-order f (i .order) (length (i .certificate)) l held) room done short,
+      subst (λ (s : List ℕ). IsMessage (registrationResponse s handle (i .certificate) (i .signature)) (registerBody f (i .certificate) (i .signature))) (sym same)
+          (registration-response f (i .certificate) (i .signature) l short),
+    )
+
+pub AuthenticateRoundTrip : Claims.AuthenticateRoundTrip finishOf
+AuthenticateRoundTrip i application present counter challenge m none room done short =
+    let f : AuthenticateFields = record { application = application; presence = presenceBit present; counter = counter; challenge = challenge } in
+    let w = m .message .within in
+    let l : AuthenticateLengths f =
+    record {
+      application = omega (arith, w .0, w .1);
+      presence = bit-small present;
+      counter = omega (arith, w .2 .2 .0, w .2 .2 .1);
+      challenge = omega (arith, w .2 .2 .2 .0, w .2 .2 .2 .1);
+    } in (
+      authenticateBody f (i .signature),
+      authenticate-back i f (authenticate-fit f l) (signed-order f (i .order) l m) none room done short,
+      authentication-response f (i .signature) l short,
+    )
+
+-- ---- the contracts: a function that gives what a definition gives, input by input, is that definition
+blank-zeros : Claims.BlankExactly (orderWith (headOf blankOrder) (replicate 385 0x00))
+unfolding blankOrder
+blank-zeros = record { kind = refl; counts = refl; certificate = refl; zeros = refl }
+
+pub ContractsAsClaimed : Claims.ContractsAsClaimed
+ContractsAsClaimed =
+    record {
+      kind-number = λ g is. subst Claims.KindNumbers (λ d k. sym (is k) d) KindNumbers;
+      blank = λ r is. subst (λ (h : Head). Claims.BlankExactly (orderWith h (replicate 385 0x00))) (sym is) blank-zeros;
+      register-order = λ g is. subst Claims.MakesRegister (λ d f c. sym (is f c) d) MakesRegister;
+      authenticate-order = λ g is. subst Claims.MakesAuthenticate (λ d p. sym (is p) d) MakesAuthenticate;
+      has-layout = λ g is. subst Claims.LayoutExactly (λ d o. sym (is o) d) LayoutExactly;
+      has-register-room = λ g is. subst Claims.RegisterRoomExactly (λ d room h c. sym (is room h c) d) RegisterRoomExactly;
+      has-authenticate-room = λ g is. subst Claims.AuthenticateRoomExactly (λ d room. sym (is room) d) AuthenticateRoomExactly;
+      finish = λ g is. subst Claims.FinishesExactly (λ d i. record { answer = sym (is i .says) d; reply = sym (is i .leaves) d }) FinishesExactly;
+    }

@@ -6,15 +6,18 @@ use mathlib.Core.Bool.{Bool, true, false}
 use mathlib.Core.Path.{_≡_}
 use mathlib.Core.Logic.{_↔_, _⊎_}
 use mathlib.Core.List.{List, [], _∷_, _++_}
-use lib.ListN.{length, drop}
+use lib.ListN.{length, drop, replicate}
 use Rattle.outcome.specs.Notation.{AtMostOne}
-use Rattle.outcome.specs.Outcome.{Outcome, R, SW, Gives}
+use Rattle.outcome.specs.Outcome.{Outcome, R, Word, SW, Gives, wordOf, refusalNo}
+use Rattle.outcome.specs.declared.Refusal.{Refusal}
+use Rattle.outcome.specs.declared.ApduStatusCode.{ApduStatusCode}
 use Rattle.octets.specs.Bytes.{byte}
-use Rattle.signing_stated.specs.Layouts.{RegisterFields, AuthenticateFields, registerToSign, authenticateToSign, registerBody, authenticateBody, isRegisterFit, isAuthenticateFit}
-use Rattle.signing_stated.specs.Orders.{Kind, Register, Authenticate, Head, Order, AuthenticateParts, toSign, certificateLength, registerOrderOf, authenticateOrderOf}
-use Rattle.signing_stated.specs.Finishing.{Finishing, Finished, Ended}
+use Rattle.signing_stated.specs.Layouts.{RegisterFields, AuthenticateFields, registerToSign, authenticateToSign, isRegisterFit, isAuthenticateFit}
+use Rattle.signing_stated.specs.Fido.{IsMessage, IsKey, IsCounter, presenceBit, registrationSigned, registrationResponse, authenticationSigned, authenticationResponse}
+use Rattle.signing_stated.specs.Orders.{Kind, Register, Authenticate, Head, Order, orderWith, AuthenticateParts, toSign, certificateLength, registerOrderOf, authenticateOrderOf}
+use Rattle.signing_stated.specs.Finishing.{Finishing, Finished, Refused, Status, Body, finishedOf, Ended}
 use Rattle.signing_stated.specs.Contracts.{KindNumber, Blank, RegisterOrder, AuthenticateOrder, HasLayout, HasRegisterRoom, HasAuthenticateRoom, Finish}
-use Rattle.signing_stated.specs.Terms.{bytesAt, RegisterLengths, PartsLengths, IsWhole, IsBlank, IsRegisterOrder, IsAuthenticateOrder, HoldsJust, RegisterShaped, AuthenticateShaped, NeedsRoom, OfLayout, keeping}
+use Rattle.signing_stated.specs.Terms.{bytesAt, RegisterLengths, PartsLengths, IsWhole, IsBlank, IsRegisterOrder, IsAuthenticateOrder, HoldsJust, signedBytes, HoldsMessage, RegisterShaped, AuthenticateShaped, NeedsRoom, OfLayout, keeping}
 
 -- ---- numbers and results
 
@@ -31,6 +34,13 @@ KindOneToOne number = (a b : Kind) → number a ≡ number b → a ≡ b
 
 abbrev pub FinishedOneToOne : (Finished → Outcome ℕ) → Type 0
 FinishedOneToOne view = (a b : Finished) → view a ≡ view b → a ≡ b
+
+-- What finishing answers, in the documents' numbers: each case has its value, and no other has it. `r4SaidAsR2` fails it, and a view that says 6f00 for every
+-- status word (`always6f00`).
+pub record FinishedExactly (said : Finished → Outcome ℕ) : Type 0 where
+  pub refused : (a : Finished) (why : Refusal) → (said a ≡ R (refusalNo why)) ↔ (a ≡ Refused why)
+  pub status : (a : Finished) (s : ApduStatusCode) → (said a ≡ Word (wordOf s)) ↔ (a ≡ Status s)
+  pub body : (a : Finished) (n : ℕ) → (said a ≡ Gives n) ↔ (a ≡ Body n)
 
 -- Two results that meet a contract are equal. 01: "Show that two results satisfying it are equal". For an order the result is its
 -- head and the lent block together, for `finish` the answer and the reply buffer: a contract silent on the buffer fails it.
@@ -193,17 +203,44 @@ MadeOrderKept finish =
     × ((i : Finishing) (f : AuthenticateFields) → isAuthenticateFit f ≡ true → i .order ≡ authenticateOrderOf f
     → length (i .certificate) ≡ 0 → 77 ≤ length (i .reply) → (n : ℕ) → finish i ≡ R n → n ≡ 3)
 
--- A finished reply's fields are those that went into the order, beside the certificate and the signature that were lent.
--- 01: "Bodies, status 9000: ..". A finisher that sends the challenge for the handle (`sendsChallenge`) fails the first, one that
--- leaves the counter out (`leavesCounterOut`) the second.
+-- ---- FIDO's messages (Fido.antt), with no word of document 01's layouts
+
+-- What is signed is FIDO's message, field by field: of the lengths that it has, and nothing else. An order with the challenge first (`registerChallengeFirst`)
+-- fails it, and one whose presence byte is always 01 (`presenceAlways01`).
+pub record SignsFido (register : RegisterFields → ℕ → Order) (authenticate : AuthenticateParts → Order) : Type 0 where
+  pub registration : (f : RegisterFields) (c : ℕ) → RegisterLengths f
+      → (key : List ℕ) × IsKey (f .x) (f .y) key × IsMessage (registrationSigned (f .application) (f .challenge) (f .handle) key) (signedBytes (register f c))
+  pub authentication : (p : AuthenticateParts) → PartsLengths p → p .counter < 0x100000000
+      → (counter : List ℕ) × IsCounter (p .counter) counter
+      × IsMessage (authenticationSigned (p .application) (presenceBit (p .present)) counter (p .challenge)) (signedBytes (authenticate p))
+
+-- An order that holds FIDO's bytes to sign comes back as FIDO's response message: with the key and the handle that were signed, or the presence byte and the
+-- counter, and with the certificate and the signature that were lent. 01: "Bodies, status 9000: ..". A finisher that sends the challenge for the handle
+-- (`sendsChallenge`) fails the first, one that leaves the counter out (`leavesCounterOut`) the second.
 abbrev pub RegisterRoundTrip : (Finishing → Outcome (List ℕ)) → Type 0
-RegisterRoundTrip finish = (i : Finishing) (f : RegisterFields) → isRegisterFit f ≡ true
-    → i .order ≡ registerOrderOf f (length (i .certificate)) → 139 + length (f .handle) + length (i .certificate) ≤ length (i .reply)
-    → i .signed ≡ true → length (i .signature) ≤ 72
-    → finish i ≡ Gives (registerBody f (i .certificate) (i .signature))
+RegisterRoundTrip finish = (i : Finishing) (application challenge handle x y key : List ℕ) → IsKey x y key
+    → HoldsMessage Register (length (i .certificate)) (registrationSigned application challenge handle key) (i .order)
+    → 139 + length handle + length (i .certificate) ≤ length (i .reply) → i .signed ≡ true → length (i .signature) ≤ 72
+    → (message : List ℕ) × (finish i ≡ Gives message) × IsMessage (registrationResponse key handle (i .certificate) (i .signature)) message
 
 abbrev pub AuthenticateRoundTrip : (Finishing → Outcome (List ℕ)) → Type 0
-AuthenticateRoundTrip finish = (i : Finishing) (f : AuthenticateFields) → isAuthenticateFit f ≡ true
-    → i .order ≡ authenticateOrderOf f → length (i .certificate) ≡ 0 → 77 ≤ length (i .reply)
-    → i .signed ≡ true → length (i .signature) ≤ 72
-    → finish i ≡ Gives (authenticateBody f (i .signature))
+AuthenticateRoundTrip finish = (i : Finishing) (application : List ℕ) (present : Bool) (counter challenge : List ℕ)
+    → HoldsMessage Authenticate 0 (authenticationSigned application (presenceBit present) counter challenge) (i .order)
+    → length (i .certificate) ≡ 0 → 77 ≤ length (i .reply) → i .signed ≡ true → length (i .signature) ≤ 72
+    → (message : List ℕ) × (finish i ≡ Gives message) × IsMessage (authenticationResponse (presenceBit present) counter (i .signature)) message
+
+-- ---- the contracts and the claims
+
+-- Whatever meets a function's contract meets the claim on it. A contract of `finish` that says the room for the answer fails it, with code to match.
+pub record ContractsAsClaimed : Type 0 where
+  pub kind-number : (g : Kind → ℕ) → ((k : Kind) → KindNumber k (g k)) → KindNumbers g
+  pub blank : (r : Head) → Blank r → BlankExactly (orderWith r (replicate 385 0x00))
+  pub register-order : (g : RegisterFields → ℕ → Head × List ℕ) → ((f : RegisterFields) (c : ℕ) → RegisterOrder f c (g f c .0) (g f c .1))
+      → MakesRegister (λ f c. orderWith (g f c .0) (g f c .1))
+  pub authenticate-order : (g : AuthenticateParts → Head × List ℕ) → ((p : AuthenticateParts) → AuthenticateOrder p (g p .0) (g p .1))
+      → MakesAuthenticate (λ p. orderWith (g p .0) (g p .1))
+  pub has-layout : (g : Order → Bool) → ((o : Order) → HasLayout o (g o)) → LayoutExactly g
+  pub has-register-room : (g : (room h c : ℕ) → Bool) → ((room h c : ℕ) → HasRegisterRoom room h c (g room h c)) → RegisterRoomExactly g
+  pub has-authenticate-room : (g : (room : ℕ) → Bool) → ((room : ℕ) → HasAuthenticateRoom room (g room)) → AuthenticateRoomExactly g
+  pub finish : (g : Finishing → Finished × List ℕ) → ((i : Finishing) → Finish i (g i .0) (g i .1))
+      → FinishesExactly (λ i. record { answer = finishedOf (g i .0); reply = g i .1 })

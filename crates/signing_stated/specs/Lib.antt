@@ -1,5 +1,6 @@
 pub mod Words
 pub mod Layouts
+pub mod Fido
 pub mod Orders
 pub mod Finishing
 pub mod Contracts

@@ -8,8 +8,9 @@ use mathlib.Core.List.{List}
 use lib.ListN.{length, take, drop, replicate}
 use Rattle.outcome.specs.Outcome.{Outcome}
 use Rattle.octets.specs.Bytes.{byte, allZero}
+use Rattle.signing_stated.specs.Fido.{Field, IsMessage}
 use Rattle.signing_stated.specs.Layouts.{RegisterFields, AuthenticateFields, isRegisterFit, isAuthenticateFit}
-use Rattle.signing_stated.specs.Orders.{Register, Authenticate, Order, AuthenticateParts, toSign, certificateLength, registerOrderOf, authenticateOrderOf}
+use Rattle.signing_stated.specs.Orders.{Kind, Register, Authenticate, Order, AuthenticateParts, toSign, certificateLength, registerOrderOf, authenticateOrderOf}
 use Rattle.signing_stated.specs.Finishing.{Finishing, Ended}
 
 -- `bytesAt from count s`: count bytes of s, the first at place from
@@ -56,6 +57,20 @@ IsAuthenticateOrder o = (f : AuthenticateFields) × (isAuthenticateFit f ≡ tru
 -- `HoldsJust s n o`: the order o has n bytes to sign, they are s, and zeros follow
 abbrev pub HoldsJust : List ℕ → ℕ → Order → Type 0
 HoldsJust s n o = (toSign o ≡ n) × (take n (o .bytes) ≡ s) × (allZero (drop n (o .bytes)) ≡ true)
+
+-- the bytes to sign of an order
+abbrev pub signedBytes : Order → List ℕ
+signedBytes o = take (toSign o) (o .bytes)
+
+-- `HoldsMessage kind certificate fields o`: an order of this kind and certificate length, whose bytes to sign are a message of these fields, with zeros behind
+-- them up to the block's end
+pub record HoldsMessage (kind : Kind) (certificate : ℕ) (fields : List Field) (o : Order) : Type 0 where
+  pub of-kind : o .kind ≡ kind
+  pub its : certificateLength o ≡ certificate
+  pub whole : IsWhole o
+  pub within : toSign o ≤ 385
+  pub message : IsMessage fields (signedBytes o)
+  pub rest : (i : ℕ) → toSign o ≤ i → byte (o .bytes) i ≡ 0x00
 
 -- 01, R7: "order not of either layout: length, first byte, 04 marker, presence byte, zero tail, or an Authenticate order with
 -- certificate length not 0". Of a Register order with a handle of h bytes:

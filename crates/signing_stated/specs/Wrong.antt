@@ -6,7 +6,7 @@ use mathlib.Core.List.{List, [], _∷_, _++_}
 use lib.Dec.{eqb, leb, ltb}
 use lib.ListN.{length, take, replicate}
 use Rattle.outcome.specs.Notation.{if_then_else_}
-use Rattle.outcome.specs.Outcome.{Outcome, R, Word, SW, Gives, wordOf}
+use Rattle.outcome.specs.Outcome.{Outcome, R, Word, SW, Gives, wordOf, refusalNo}
 use Rattle.outcome.specs.declared.Refusal.the-variants.{R1, R2, R3, R4, R5, R6, R7, R8}
 use Rattle.octets.specs.Bytes.{byte, laid}
 use Rattle.signing_stated.specs.Layouts.{RegisterFields, registerToSign, registerBody, presenceByte}
@@ -36,6 +36,12 @@ r4SaidAsR2 (Refused R7) = R 7
 r4SaidAsR2 (Refused R8) = R 8
 r4SaidAsR2 (Status s) = Word (wordOf s)
 r4SaidAsR2 (Body n) = Gives n
+
+-- one number for every status word
+abbrev pub always6f00 : Finished → Outcome ℕ
+always6f00 (Refused why) = R (refusalNo why)
+always6f00 (Status s) = SW 0x6f00
+always6f00 (Body n) = Gives n
 
 -- ---- orders
 -- DECISIONS, blank order: a certificate length where there is no order

@@ -7,6 +7,9 @@ use Rattle.outcome.specs.Notation.{Determines, Determines2, Determines3}
 use native.Mathlib.Decide.{ℕ-discrete}
 use Rattle.u2f_up_stated.specs.Words.{Outcome, R, Presence, Finding}
 use Rattle.u2f_up_stated.specs.Moments.{Told}
+use Rattle.u2f_up_stated.specs.Answers.{Answer, Step}
+use Rattle.u2f_up_stated.specs.declared.Ready.the-variants as Ready′
+use Rattle.u2f_up_stated.specs.declared.Answer.the-variants as Answer′
 use Rattle.u2f_up_stated.specs.History.{Call, Came, Event, foretold}
 use Rattle.u2f_up_stated.specs.Runs.{Caller, after, next, history}
 use Rattle.u2f_up_stated.specs.OneSide.{sideless, NamesOnly, OnlySide}
@@ -109,3 +112,18 @@ Demand3 𝒜 ℬ a b alike w least most (d ∷ ds) =
     let so-far = Demand3 𝒜 ℬ a b alike w least most ds in
     let next-same = a w least most ds .foretells d ∙ ap₂ (foretold w) so-far (alike d) ∙ sym (b w least most ds .foretells d) in
     ap₂ (λ (e : Event) (h : List Event). e ∷ h) (ap₂ (λ (c : Call) (o : Came). record { call = c; came = o }) (alike d) next-same) so-far
+
+-- ---- views
+pub AnswerExactly : Determines Claims.AnswerExactly
+AnswerExactly f g F G (Answer′.Refused why) = F .refused _ why .1 refl ∙ sym (G .refused _ why .1 refl)
+AnswerExactly f g F G Answer′.Yes = F .yes _ .1 refl ∙ sym (G .yes _ .1 refl)
+AnswerExactly f g F G Answer′.No = F .no _ .1 refl ∙ sym (G .no _ .1 refl)
+
+pub ReadyExactly : Determines Claims.ReadyExactly
+ReadyExactly f g F G (Ready′.Refused why) = F .refused _ why .1 refl ∙ sym (G .refused _ why .1 refl)
+ReadyExactly f g F G (Ready′.Record p) = F .made _ p .1 refl ∙ sym (G .made _ p .1 refl)
+
+pub StepExactly : Determines Claims.StepExactly
+StepExactly f g F G s =
+    ap₂ (λ (o : Outcome Bool) (r : Presence). record { outcome = o; presence = r })
+    (AnswerExactly _ _ (F .answer (s .presence)) (G .answer (s .presence)) (s .answer)) (F .after s ∙ sym (G .after s))

@@ -5,13 +5,16 @@ use mathlib.Core.Bool.{Bool, true, false, true≢false, false≢true}
 use mathlib.Core.List.{[], _∷_}
 use mathlib.Core.Logic.{_⊎_, inl, inr, ⊎-elim}
 use native.Mathlib.Omega.{arith}
-use Rattle.outcome.proofs.Laws.{r-gives}
+use Rattle.outcome.proofs.Laws.{r-gives, gives-same}
+use Rattle.outcome.specs.declared.Refusal.the-variants as Refusal′
 use Rattle.u2f_up_stated.specs.Words.{Outcome, R, Gives, Closed, Opened, Presence, Finding}
 use Rattle.u2f_up_stated.specs.Moments.{Told, fresh, settleOf, grantedOf, checkedOf, checkOf}
 use Rattle.u2f_up_stated.specs.History.{Touching, Checking, TooShort, RefusedBy, TouchAccepted, TouchIgnored, TouchFound, NoTouchFound, Call, lastMoment, latestPrompt, latestTouch, isPromptStanding, accepted, unspent, servers, foretold}
 use Rattle.u2f_up_stated.specs.Runs.{after, history, doneBy}
 use Rattle.u2f_up_stated.specs.OneSide.{base, baseBy, baseSettleOf, baseCheckedOf}
 use Rattle.u2f_up_stated.specs.Terms.{BadWindow, BadSide, BadMoment, NotRefused, HasTouch, HasPrompt, ServesOnce}
+use Rattle.u2f_up_stated.specs.declared.Ready.the-variants as Ready′
+use Rattle.u2f_up_stated.specs.declared.Answer.the-variants as Answer′
 use Rattle.u2f_up_stated.specs.Claims
 use Rattle.u2f_up_stated.specs.Wrong
 
@@ -317,3 +320,21 @@ shortMoves d = ⊎-elim (λ z. omega arith) (λ z. omega arith) (d 100 (omega ar
 pub servedTwice : ServesOnce 100 Wrong.servedTwice → ⊥
 unfolding servers latestPrompt latestTouch
 servedTwice once = let z : 2 ≤ 1 = once 1 in omega arith
+
+-- views
+pub yesForNo : Claims.AnswerExactly Wrong.yesForNo → ⊥
+yesForNo v = false≢true (yes-same (v .yes Answer′.Yes .1 refl))
+
+pub alwaysR1 : Claims.AnswerExactly Wrong.alwaysR1 → ⊥
+alwaysR1 v = let z : _≡_ {A = ℕ} 1 6 = r-same (v .refused (Answer′.Refused Refusal′.R6) Refusal′.R6 .1 refl) in omega arith
+
+pub recordAtZero : Claims.ReadyExactly Wrong.recordAtZero → ⊥
+recordAtZero v = let z : _≡_ {A = ℕ} 0 7 = ap (λ (p : Presence). p .last) (gives-same _ _ (v .made (Ready′.Record (record { w = 100; prompt = Closed; touch = Closed; last = 7; asker = 0 })) _ .1 refl)) in omega arith
+
+pub stepYesForNo : Claims.StepExactly Wrong.stepYesForNo → ⊥
+stepYesForNo v = false≢true (yes-same (v .answer (fresh 100) .yes Answer′.Yes .1 refl))
+
+pub stepForgets : Claims.StepExactly Wrong.stepForgets → ⊥
+stepForgets v =
+    let z : _≡_ {A = ℕ} 0 7 = ap (λ (p : Presence). p .last) (v .after (record { answer = Answer′.Yes; presence = record { w = 100; prompt = Closed; touch = Closed; last = 7; asker = 0 } })) in
+    omega arith

@@ -1,13 +1,13 @@
 -- The claims of specs/Claims.antt, each under its own name.
 use Prim.Native.Nat.{ℕ}
-use mathlib.Core.Path.{_≡_, refl, sym, ap, ap₂, _∙_}
+use mathlib.Core.Path.{_≡_, refl, sym, ap, ap₂, subst, _∙_}
 use native.Mathlib.Omega.{arith}
 use borrow.Author.Tests.{eq-eqb, ne-eqb}
 use Rattle.outcome.specs.Notation.{if_then_else_}
 use Rattle.outcome.proofs.Laws.{r-gives, both-are}
-use Rattle.u2f_up_stated.specs.Words.{Outcome, R, Gives, Presence}
-use Rattle.u2f_up_stated.specs.Answers.{Answer, Step}
-use Rattle.u2f_up_stated.specs.Moments.{isR6, fresh, isPrompting, newOf, settleOf, grantedOf, checkedOf, gave, touchOf, checkOf, askOf}
+use Rattle.u2f_up_stated.specs.Words.{Outcome, R, Word, Gives, Presence}
+use Rattle.u2f_up_stated.specs.Answers.{Answer, Step, readyOf, outcomeOf, toldOf}
+use Rattle.u2f_up_stated.specs.Moments.{isR6, fresh, isPrompting, newOf, settleOf, grantedOf, checkedOf, gave, onSettled, touchOf, checkOf, askOf}
 use Rattle.u2f_up_stated.specs.History.{Checking}
 use Rattle.u2f_up_stated.specs.Runs.{own}
 use Rattle.u2f_up_stated.specs.OneSide.{base, baseBy, baseSettleOf, baseCheckedOf}
@@ -111,6 +111,46 @@ OneSideIsBase = one-side own base (λ p c. refl) (λ p c. refl) (λ c. refl)
 pub LentRecordDiffers : Claims.LentRecordDiffers checkOf (baseBy (Checking 1))
 unfolding checkOf settleOf checkedOf baseBy baseSettleOf baseCheckedOf
 LentRecordDiffers = record { sided = refl; base = refl }
+
+-- ---- what the answers say
+pub AnswerExactly : Claims.AnswerExactly outcomeOf
+AnswerExactly = record {
+  refused = λ a why. (answer-apart _ _, ap outcomeOf);
+  yes = λ a. (answer-apart _ _, ap outcomeOf);
+  no = λ a. (answer-apart _ _, ap outcomeOf);
+}
+
+pub ReadyExactly : Claims.ReadyExactly readyOf
+ReadyExactly = record {
+  refused = λ r why. (ready-apart _ _, ap readyOf);
+  made = λ r p. (ready-apart _ _, ap readyOf);
+}
+
+pub StepExactly : Claims.StepExactly toldOf
+StepExactly = record { answer = λ p. AnswerExactly; after = λ s. refl }
+
+-- ---- the contracts: a function that gives what a definition gives, input by input, is that definition
+ask-keeps : (p : Presence) (t : ℕ) → askOf p t .presence ≡ p
+unfolding askOf
+ask-keeps p t = go (settleOf p (p .asker) t)
+  where
+    go : (o : Outcome Presence) → onSettled p o (λ q. record { outcome = Gives (isPrompting p t); presence = p }) .presence ≡ p
+    go (R n) = refl
+    go (Word s) = refl
+    go (Gives q) = refl
+
+pub ContractsAsClaimed : Claims.ContractsAsClaimed
+ContractsAsClaimed = record {
+  new = λ f is. subst Claims.MakesExactly (λ d w. sym (is w) d) MakesExactly;
+  settle = λ f is. subst Claims.SettlesExactly (λ d p s t. sym (is p s t) d) SettlesExactly;
+  touch-check = λ f is. subst Claims.FindsExactly (λ d p s t. sym (is p s t) d) FindsExactly;
+  grant-up = λ f is. subst Claims.TouchesExactly (λ d p t. sym (is p t) d) TouchesExactly;
+  consume-up = λ f is. subst Claims.ChecksExactly (λ d p s t. sym (is p s t) d) ChecksExactly;
+  is-up-needed = λ f is. subst Claims.AsksExactly (λ d p t. record { outcome = sym (is p t) d; presence = ask-keeps p t d }) AsksExactly;
+  grant-up-lent = λ f is. subst Claims.TouchesExactly (λ d p t. sym (is p t) d) TouchesExactly;
+  consume-up-lent = λ f is. subst Claims.ChecksExactly (λ d p s t. sym (is p s t) d) ChecksExactly;
+  is-up-needed-lent = λ f is. subst Claims.AsksExactly (λ d p t. record { outcome = sym (is p t .0) d; presence = (ask-keeps p t ∙ sym (is p t .1)) d }) AsksExactly;
+}
 
 -- ---- two results are equal
 pub ReadyOneToOne : Claims.ReadyOneToOne

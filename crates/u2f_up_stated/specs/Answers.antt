@@ -22,3 +22,7 @@ outcomeOf Answer′.No = Gives false
 -- An answer with the record after it.
 abbrev pub toldOf : Step → Told
 toldOf s = record { outcome = outcomeOf (s .answer); presence = s .presence }
+
+-- An answer beside a lent record: that record at exit is the one after it.
+abbrev pub lentStep : Answer × Presence → Step
+lentStep o = record { answer = o .0; presence = o .1 }

@@ -2,9 +2,11 @@
 -- same names; proofs/Only.antt shows that no other function meets them, proofs/Refuted.antt that wrong ones do not.
 use mathlib.Core.List.{List}
 use mathlib.Core.Logic.{_↔_}
-use Rattle.u2f_up_stated.specs.Words.{ℕ, _<_, _≤_, _≡_, true, false, R, Gives, AtMostOne, Closed, Opened, Outcome, Presence, Finding}
+use Rattle.u2f_up_stated.specs.Words.{ℕ, _<_, _≤_, _≡_, Bool, true, false, R, Gives, AtMostOne, Closed, Opened, Outcome, Refusal, refusalNo, Presence, Finding}
 use Rattle.u2f_up_stated.specs.Moments.{Told}
-use Rattle.u2f_up_stated.specs.Answers.{Ready, Answer, Step, readyOf, outcomeOf, toldOf}
+use Rattle.u2f_up_stated.specs.Answers.{Ready, Answer, Step, readyOf, outcomeOf, toldOf, lentStep}
+use Rattle.u2f_up_stated.specs.declared.Ready.the-variants as Ready′
+use Rattle.u2f_up_stated.specs.declared.Answer.the-variants as Answer′
 use Rattle.u2f_up_stated.specs.Contracts.{New, Settle, TouchCheck, GrantUp, ConsumeUp, IsUpNeeded, GrantUpLent, ConsumeUpLent, IsUpNeededLent}
 use Rattle.u2f_up_stated.specs.Runs.{Caller, after, next}
 use Rattle.u2f_up_stated.specs.OneSide.{sideless, NamesOnly, OnlySide}
@@ -111,6 +113,43 @@ OneSideIsBase {D} 𝒞 ℬ =
 pub record LentRecordDiffers (check : Presence → (side t : ℕ) → Told) (baseCheck : Presence → ℕ → Told) : Type 0 where
   pub sided : check (record { w = 100; prompt = Closed; touch = Opened 0; last = 0; asker = 0 }) 1 7 .outcome ≡ Gives false
   pub base : baseCheck (record { w = 100; prompt = Closed; touch = Opened 0; last = 0; asker = 0 }) 7 .outcome ≡ Gives true
+
+-- ---- what the answers say
+
+-- 01, Forms to follow: "a definition gives this paper's number and values for each of its cases". Each case has its value, and no other has it. A view with
+-- Yes and No in each other's place (`yesForNo`) fails it, and one that says R1 for every refusal (`alwaysR1`).
+pub record AnswerExactly (said : Answer → Outcome Bool) : Type 0 where
+  pub refused : (a : Answer) (why : Refusal) → (said a ≡ R (refusalNo why)) ↔ (a ≡ Answer′.Refused why)
+  pub yes : (a : Answer) → (said a ≡ Gives true) ↔ (a ≡ Answer′.Yes)
+  pub no : (a : Answer) → (said a ≡ Gives false) ↔ (a ≡ Answer′.No)
+
+-- A record, as it is, or why there is none. A view that hands out its last moment as 0 (`recordAtZero`) fails it.
+pub record ReadyExactly (said : Ready → Outcome Presence) : Type 0 where
+  pub refused : (r : Ready) (why : Refusal) → (said r ≡ R (refusalNo why)) ↔ (r ≡ Ready′.Refused why)
+  pub made : (r : Ready) (p : Presence) → (said r ≡ Gives p) ↔ (r ≡ Ready′.Record p)
+
+-- An answer, and the record after it as it is. `stepYesForNo` fails it, and a view with a fresh record in place of the one after the call (`stepForgets`).
+pub record StepExactly (said : Step → Told) : Type 0 where
+  pub answer : (p : Presence) → AnswerExactly (λ (a : Answer). said (record { answer = a; presence = p }) .outcome)
+  pub after : (s : Step) → said s .presence ≡ s .presence
+
+-- ---- the contracts and the claims
+
+-- Whatever meets a function's contract meets the claim on it: the contracts say what is claimed, of the same record, side and moment. It holds of the functions
+-- that no call from C comes to as well. A contract of `consume_up_lent` that checks for the record's own side, whichever is named, fails it, with code to match.
+pub record ContractsAsClaimed : Type 0 where
+  pub new : (f : ℕ → Ready) → ((w : ℕ) → New w (f w)) → MakesExactly (λ w. readyOf (f w))
+  pub settle : (f : Presence → (side t : ℕ) → Ready) → ((p : Presence) (s t : ℕ) → Settle p s t (f p s t)) → SettlesExactly (λ p s t. readyOf (f p s t))
+  pub touch-check : (f : Presence → (side t : ℕ) → Finding) → ((p : Presence) (s t : ℕ) → TouchCheck p s t (f p s t)) → FindsExactly f
+  pub grant-up : (f : Presence → ℕ → Step) → ((p : Presence) (t : ℕ) → GrantUp p t (f p t)) → TouchesExactly (λ p t. toldOf (f p t))
+  pub consume-up : (f : Presence → (side t : ℕ) → Step) → ((p : Presence) (s t : ℕ) → ConsumeUp p s t (f p s t)) → ChecksExactly (λ p s t. toldOf (f p s t))
+  pub is-up-needed : (f : Presence → ℕ → Answer) → ((p : Presence) (t : ℕ) → IsUpNeeded p t (f p t)) → AsksExactly (λ p t. toldOf (lentStep (f p t, p)))
+  pub grant-up-lent : (f : Presence → ℕ → Answer × Presence) → ((p : Presence) (t : ℕ) → GrantUpLent p t (f p t .0) (f p t .1))
+      → TouchesExactly (λ p t. toldOf (lentStep (f p t)))
+  pub consume-up-lent : (f : Presence → (side t : ℕ) → Answer × Presence) → ((p : Presence) (s t : ℕ) → ConsumeUpLent p s t (f p s t .0) (f p s t .1))
+      → ChecksExactly (λ p s t. toldOf (lentStep (f p s t)))
+  pub is-up-needed-lent : (f : Presence → ℕ → Answer × Presence) → ((p : Presence) (t : ℕ) → IsUpNeededLent p t (f p t .0) (f p t .1))
+      → AsksExactly (λ p t. toldOf (lentStep (f p t)))
 
 -- ---- two results that satisfy a contract are equal
 

@@ -1,7 +1,10 @@
 -- Wrong programs, each with one fault. proofs/Refuted.antt shows of each that a claim is false of it.
 use mathlib.Core.List.{List, [], _∷_}
-use Rattle.u2f_up_stated.specs.Words.{ℕ, _+_, _^_, Bool, true, false, not, _&&_, _||_, eqb, ltb, leb, if_then_else_, Outcome, R, Gives, Window, Closed, Opened, Presence, Finding}
+use Rattle.u2f_up_stated.specs.Words.{ℕ, _+_, _^_, Bool, true, false, not, _&&_, _||_, eqb, ltb, leb, if_then_else_, Outcome, R, Gives, refusalNo, Window, Closed, Opened, Presence, Finding}
 use Rattle.u2f_up_stated.specs.Moments.{fresh, Told, isLive, isPrompting, isR6, isBadSide, isR8, isR1, movedTo, settleOf, gave, refused, touchOpened, touchClosed, promptOpened, onSettled, grantedOf, checkedOf}
+use Rattle.u2f_up_stated.specs.Answers.{Ready, Answer, Step, outcomeOf}
+use Rattle.u2f_up_stated.specs.declared.Ready.the-variants as Ready′
+use Rattle.u2f_up_stated.specs.declared.Answer.the-variants as Answer′
 use Rattle.u2f_up_stated.specs.History.{Role, Touching, Checking, Asking, Settling, TooShort, Call, Event, TouchAccepted, TouchFound, NoTouchFound}
 use Rattle.u2f_up_stated.specs.Runs.{Caller, doneBy}
 use Rattle.u2f_up_stated.specs.OneSide.{baseSettleOf, baseCheckedOf}
@@ -304,3 +307,24 @@ servedTwice =
     ∷ record { call = record { role = Touching; moment = 1 }; came = TouchAccepted }
     ∷ record { call = record { role = Checking 0; moment = 0 }; came = NoTouchFound }
     ∷ []
+
+-- ---- views: Yes and No in each other's place; one number for every refusal; a record without its last moment; a fresh record after every call
+abbrev pub yesForNo : Answer → Outcome Bool
+yesForNo (Answer′.Refused why) = R (refusalNo why)
+yesForNo Answer′.Yes = Gives false
+yesForNo Answer′.No = Gives true
+
+abbrev pub alwaysR1 : Answer → Outcome Bool
+alwaysR1 (Answer′.Refused why) = R 1
+alwaysR1 Answer′.Yes = Gives true
+alwaysR1 Answer′.No = Gives false
+
+abbrev pub recordAtZero : Ready → Outcome Presence
+recordAtZero (Ready′.Refused why) = R (refusalNo why)
+recordAtZero (Ready′.Record p) = Gives (movedTo p 0)
+
+abbrev pub stepYesForNo : Step → Told
+stepYesForNo s = record { outcome = yesForNo (s .answer); presence = s .presence }
+
+abbrev pub stepForgets : Step → Told
+stepForgets s = record { outcome = outcomeOf (s .answer); presence = fresh (s .presence .w) }
