@@ -3,7 +3,7 @@
 -- of a record, a moment and all that is lent.
 use mathlib.Core.Logic.{_↔_, _⊎_}
 use mathlib.Core.Option.{some}
-use Rattle.ctap1_stated.specs.Words.{AtMostOne, StatusWord, R, Word, SW, Gives, wrongLength, [], _∷_, _++_, drop, ℕ, _+_, _*_, _<_, _≤_, _≡_, Bool, true, false, List, length, Presence, DecisionAndLimit, DecisionAnswer, Remainder, rest, Inputs, Allowed, Attestation, Hardware, HardwareSaid, Body, Ordered, Part, DecisionResult, decisionAnswerOf}
+use Rattle.ctap1_stated.specs.Words.{AtMostOne, Enrolment, StatusWord, R, Word, SW, Gives, wrongLength, [], _∷_, _++_, drop, ℕ, _+_, _*_, _<_, _≤_, _≡_, Bool, true, false, List, length, Presence, DecisionAndLimit, DecisionAnswer, Remainder, rest, Inputs, Allowed, Attestation, Hardware, HardwareSaid, Body, Ordered, Part, DecisionResult, decisionAnswerOf}
 use Rattle.ctap1_stated.specs.Numbers.{allowedOf, attestationOf}
 use Rattle.ctap1_stated.specs.Calls.{PanelCall, DecideAt, callsWith}
 use Rattle.ctap1_stated.specs.OneSide.{baseWith, sidelessResult}
@@ -268,4 +268,5 @@ DecidedOneToOne = (a b : DecisionAnswer) → decisionAnswerOf a ≡ decisionAnsw
 
 -- the decision with what its frame says to the session, and what the two buffers hold afterwards
 pub record ResultsDetermined : Type 0 where
-  pub decide : (p : Presence) (t : ℕ) (a : Inputs) (old : Buffers) → AtMostOne (λ (o : DecisionAndLimit × Buffers). Decide p t a old (o .0) (o .1))
+  pub decide : (frame : List ℕ) (side t : ℕ) (p : Presence) (n : HardwareSaid) (e : Enrolment) (old : Buffers)
+      → AtMostOne (λ (o : DecisionAndLimit × Buffers). Decide frame side t p n e old (o .0) (o .1))
