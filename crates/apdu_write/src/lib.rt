@@ -64,7 +64,7 @@ fn put_frame(out: &mut [u8], header: ApduHeader, shape: Case, content: &[u8], le
 // Writes a frame at the front of out and says its length: R5 where the shape cannot carry the data or Le, then R2 where
 // out is shorter than the frame. A refusal leaves out as it was.
 pub fn write(header: ApduHeader, shape: Case, content: &[u8], le: u32, out: &mut [u8]) -> Written
-    ensures { λ r. ⌜ Write (partsOf header shape (now (content .entry)) le) (now (out .entry)) r (now (out .exit)) ⌝ }
+    ensures { λ r. ⌜ Write (record { header = header; shape = shape; content = now (content .entry); le = le }) (now (out .entry)) r (now (out .exit)) ⌝ }
 {
     if !apdu_shapes::fits(shape, content.len(), le) {
         return Written::Refused(Refusal::R5);
@@ -86,7 +86,7 @@ pub fn write_strict(
     le: u32,
     out: &mut [u8],
 ) -> Written
-    ensures { λ r. ⌜ WriteStrict (partsOf header shape (now (content .entry)) le) (now (out .entry)) r (now (out .exit)) ⌝ }
+    ensures { λ r. ⌜ WriteStrict (record { header = header; shape = shape; content = now (content .entry); le = le }) (now (out .entry)) r (now (out .exit)) ⌝ }
 {
     if !apdu_shapes::strict_has(shape, content.len()) {
         return Written::Refused(Refusal::R5);

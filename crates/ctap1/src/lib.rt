@@ -351,8 +351,8 @@ pub fn decide(
     reply: &mut [u8],
     block: &mut [u8; 385],
 ) -> DecisionAndLimit
-    ensures { λ r. ⌜ Decide presence t (unfetched side (now (frame .entry)) (hardwareOf hardware)
-        (enrolmentOf (now (handle .entry)) (now (certificate .entry)) (now (x .entry)) (now (y .entry))) (length (now (reply .entry))))
+    ensures { λ r. ⌜ Decide (now (frame .entry)) side t presence hardware
+        (record { newHandle = now (handle .entry); certificate = now (certificate .entry); x = now (x .entry); y = now (y .entry) })
         (record { reply = now (reply .entry); block = now (block .entry) }) r (record { reply = now (reply .exit); block = now (block .exit) }) ⌝ }
 {
     let ready = u2f_up::settle(presence, side, t);

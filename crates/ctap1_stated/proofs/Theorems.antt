@@ -541,7 +541,7 @@ DecidedOneToOne = decided-apart
 pub ResultsDetermined : Claims.ResultsDetermined
 ResultsDetermined = record {
   decide =
-      λ p t a old x y hx hy.
+      λ frame side t p n e old x y hx hy.
       let same = both-are _ _ (hx .0) (hy .0) in
       let decisions : x .0 .decision ≡ y .0 .decision = decision-apart (x .0 .decision) (y .0 .decision) (ap (λ (w : DecisionLeft). w .said) same) in
       let replies : x .1 .reply ≡ y .1 .reply = both-are _ _ (hx .1) (hy .1) in

@@ -286,4 +286,5 @@ DecidedOneToOne = (a b : DecisionAnswer) → decisionAnswerOf a ≡ decisionAnsw
 
 -- the decision with what its frame says to the session, and what the two buffers hold afterwards
 pub record ResultsDetermined : Type 0 where
-  pub decide : (p : Presence) (t : ℕ) (a : Inputs) (old : Buffers) → AtMostOne (λ (o : DecisionAndLimit × Buffers). Decide p t a old (o .0) (o .1))
+  pub decide : (frame : List ℕ) (side t : ℕ) (p : Presence) (n : HardwareSaid) (e : Enrolment) (old : Buffers)
+      → AtMostOne (λ (o : DecisionAndLimit × Buffers). Decide frame side t p n e old (o .0) (o .1))

@@ -1,7 +1,8 @@
--- What the public function promises: of the record, the moment, what is lent in and the two buffers at entry, of its result and of
--- the two buffers at exit. It is lent no remainder: `a` is what a frame is decided on where nothing is left to fetch. What a frame that
--- asks for the next part is answered otherwise, its caller finds (panel_stated, `BrinecandleDecide`).
-use Rattle.ctap1_stated.specs.Words.{ℕ, _≡_, List, Presence, Inputs, DecisionAndLimit, leftFrom}
+-- What the public function promises: of what is lent in and the two buffers at entry, of its result and of the two buffers at exit.
+-- It is lent no remainder: `a` is what a frame is decided on where nothing is left to fetch. What a frame that asks for the next part is
+-- answered otherwise, its caller finds (panel_stated, `BrinecandleDecide`).
+use Rattle.ctap1_stated.specs.Words.{ℕ, _≡_, List, length, Presence, HardwareSaid, Enrolment, unfetched, DecisionAndLimit, leftFrom}
+use Rattle.ctap1_stated.specs.Numbers.{hardwareOf}
 use Rattle.ctap1_stated.specs.Path.{frameLimit}
 use Rattle.ctap1_stated.specs.Decision.{decisionOf, replyLeft, leftOf}
 use Rattle.ctap1_stated.specs.Session.{isGetResponse}
@@ -12,8 +13,9 @@ pub record Buffers : Type 0 where
   pub reply : List ℕ
   pub block : List ℕ
 
-abbrev pub Decide : Presence → ℕ → Inputs → (entry : Buffers) → DecisionAndLimit → (exit : Buffers) → Type 0
-Decide p t a entry r exit =
+abbrev pub Decide : (frame : List ℕ) (side t : ℕ) → Presence → HardwareSaid → Enrolment → (entry : Buffers) → DecisionAndLimit → (exit : Buffers) → Type 0
+Decide frame side t p hardware enrolment entry r exit =
+    let a = unfetched side frame (hardwareOf hardware) enrolment (length (entry .reply)) in
     (leftFrom (r .decision) (exit .block) ≡ leftOf (decisionOf p t a) (entry .block))
     × (exit .reply ≡ replyLeft (decisionOf p t a) (entry .reply))
     × (r .limit ≡ frameLimit (a .frame))

@@ -16,9 +16,8 @@ ghost use mathlib.Core.Path.{_≡_};
 ghost use Rattle.outcome.specs.Outcome.{Gives};
 ghost use Rattle.apdu_stated.specs.Answers.{saysOf, writtenOf};
 ghost use Rattle.command_stated.specs.Command.{flagsNo, Register, Authenticate};
-ghost use Rattle.apdu_stated.specs.declared.Reading.the-variants.{Frame, Status};
 ghost use Rattle.panel_stated.specs.Exports.{bareCommand, commandNumbers, lengthNumbers};
-ghost use Rattle.panel_stated.specs.Contracts.{ShapeNumbered, FramePlain, StrictPlain, WritePlain, CommandPlain, BrinecandleReadCommand};
+ghost use Rattle.panel_stated.specs.Contracts.{ShapeNumbered, FramePlain, FrameStatusPlain, StrictPlain, WritePlain, CommandPlain, BrinecandleReadCommand};
 
 pub fn shape_numbered(number: u32) -> Shaped
     ensures { λ r. ⌜ ShapeNumbered number r ⌝ }
@@ -37,7 +36,7 @@ pub fn shape_numbered(number: u32) -> Shaped
 
 // A reading in numbers, by its two cases: one that is answered case by case is written where its caller wants it, at once.
 pub fn frame_numbers(says: Apdu) -> FrameSaid
-    ensures { λ r. ⌜ FramePlain (Frame says) r ⌝ }
+    ensures { λ r. ⌜ FramePlain says r ⌝ }
 {
     let header = says.header;
     let shape = says.shape;
@@ -59,7 +58,7 @@ pub fn frame_numbers(says: Apdu) -> FrameSaid
 }
 
 pub fn frame_status(status: ApduStatusCode) -> FrameSaid
-    ensures { λ r. ⌜ FramePlain (Status status) r ⌝ }
+    ensures { λ r. ⌜ FrameStatusPlain status r ⌝ }
 {
     let fault = outcome::fault(status);
     FrameSaid {

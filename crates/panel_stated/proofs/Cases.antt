@@ -76,7 +76,7 @@ use Rattle.ctap1_stated.specs.declared.Decision.{Decision}
 use Rattle.ctap1_stated.specs.declared.Hardware.{Hardware}
 use Rattle.panel_stated.specs.declared.Kinded.the-variants as Kinded′
 use Rattle.ctap1_stated.specs.Words.{Inputs}
-use Rattle.signing_stated.specs.Contracts.{Finish}
+use Rattle.signing_stated.specs.Contracts.{Finishes}
 use Rattle.panel_stated.specs.Contracts.{StatedPlain}
 use native.Mathlib.Decide.{ℕ-discrete}
 
@@ -658,7 +658,7 @@ finishing kind n block certificate signed signature reply =
     record { order = orderFrom kind n block; certificate = certificate; signed = signed; signature = signature; reply = reply }
 
 module _ (n : OrderNumbers) (block certificate : List ℕ) (signed : ℕ) (signature reply : List ℕ) (kinded : Kinded) (is-kinded : kinded ≡ kindOf (n .kind)) where
-  module _ (kind : Kind) (finished : Finished) (new : List ℕ) (z : kinded ≡ Kinded′.As kind) (does : Finish (finishing kind n block certificate (isYes signed) signature reply) finished new) where
+  module _ (kind : Kind) (finished : Finished) (new : List ℕ) (z : kinded ≡ Kinded′.As kind) (does : Finishes (finishing kind n block certificate (isYes signed) signature reply) finished new) where
     pub finish-as : (r : Wrote) → r ≡ lengthNumbers (finishedOf finished) → r ≡ lengthNumbers (lengthOf (finishNumbered (toFinish n block certificate signed signature reply)))
     finish-as r is = is ∙ ap lengthNumbers (does .says) ∙ rw (← is-kinded, z)
 

@@ -11,11 +11,11 @@ use Rattle.outcome.proofs.Laws.{word-same, word-gives, r-gives, r-word, both-ar
 use Rattle.apdu_stated.specs.Writing.{partsOf}
 use Rattle.u2f_up_stated.specs.declared.Window.{Window}
 use Rattle.u2f_up_stated.specs.declared.Window.the-variants.{Closed, Opened}
-use Rattle.signing_stated.specs.Orders.{kindNo, blankOrder}
+use Rattle.signing_stated.specs.Orders.{kindNo, blankOrder, headOf}
 use Rattle.ctap1_stated.specs.Words.{DecisionGives, Body, Ordered, Part}
 use Rattle.panel_stated.specs.Numbers.{answerNo, decidedNo, faultNo, placeNo, greatestNo, windowOf, windowNo, presenceOf, presenceNumbers, shapeOf, kindOf}
 use Rattle.ctap1_stated.specs.Decision.{blockAfter}
-use Rattle.panel_stated.specs.Exports.{ToWrite, ToDecide, ToFinish, inputsOf, writeAs, finishAs, writeNumbered, readsOf, writesOf, finishNumbered, orderAfter, frameNumbers, commandNumbers, lengthNumbers, askedNumbers, stepNumbers, madeNumbers, decisionNumbers, decidedBy, saidBy, responseNumbers, partNumbers, statedOf, respondsOf, nextsOf, decidesOf, bodyLength}
+use Rattle.panel_stated.specs.Exports.{ToWrite, ToDecide, ToFinish, inputsOf, writeAs, finishAs, writeNumbered, readsOf, writesOf, finishNumbered, headAfter, frameNumbers, commandNumbers, lengthNumbers, askedNumbers, stepNumbers, madeNumbers, decisionNumbers, decidedBy, saidBy, responseNumbers, partNumbers, statedOf, respondsOf, nextsOf, decidesOf, bodyLength}
 use Rattle.panel_stated.specs.Claims
 use Rattle.panel_stated.specs.Terms.{NoShape, nought, retired, above, IsNumbered, IsOfMoment, AfterWriting, AfterDeciding, AfterPart, AfterFetching, HasData, register, authenticate}
 use Rattle.panel_stated.specs.declared.Shaped.{Shaped}
@@ -230,7 +230,7 @@ OthersRefused =
       kind = λ i out. ap (λ (k : Kinded). finishAs k i) (sym (no-kind-at (i .order .kind) out));
     }
 
-pub OrderBack : Claims.OrderBack orderAfter
+pub OrderBack : Claims.OrderBack (λ o order. headAfter o (headOf order))
 OrderBack order certificate signed signature reply = rw (sym (Cases.kinded (order .kind) (kindNo (order .kind)) refl)) refl
 
 -- ---- what is not said is 0
@@ -266,7 +266,7 @@ StepNumbers = record { refused = λ n p. refl; status = λ n p. refl; given = λ
 pub MadeNumbers : Claims.MadeNumbers madeNumbers
 MadeNumbers = record { refused = λ n. refl; status = λ n. refl; given = λ p. refl }
 
-pub OrderNumbersExactly : Claims.OrderNumbersExactly orderAfter
+pub OrderNumbersExactly : Claims.OrderNumbersExactly (λ o order. headAfter o (headOf order))
 OrderNumbersExactly =
     record {
       refused = λ n o. refl;

@@ -10,7 +10,7 @@ use Rattle.panel_stated.specs.Words.{PresenceRecord, OrderNumbers, Shape
 use Rattle.panel_stated.specs.Words.{FrameSaid, CommandSaid, Wrote, Made, Stepped, Asked, DecisionSaid, ResponseSaid, PartSaid}
 use Rattle.panel_stated.specs.Words.{Says, Entry, Case, Parts, partsOf, shapeNo, Command, Register, Authenticate, Version, GetResponse, Told, length, Remainder, Response, Sent, along, fetchPath, true, writeResponseOf, readResponseOf, nextPartOf, _+_, false, readOf, strictOf, commandOf, newOf, touchOf, checkOf, askOf, finishOf, DecisionGives, Body, Ordered, Part, DecisionResult}
 use Rattle.panel_stated.specs.Exports.{orderAfter, ToWrite, ToDecide, ToFinish, decidedBy, writeNumbered, finishNumbered}
-use Rattle.panel_stated.specs.Contracts.{ShapeNumbered, FramePlain, StrictPlain, WritePlain, CommandPlain, RecordLent, RecordPlain, MadePlain, AskedPlain, StepPlain, KindNumbered, RefusedPlain, StatusPlain, BodyPlain, PartPlain, OrderPlain, FinishedPlain, ResponsePlain, WroteResponsePlain, NextPlain, StatedPlain}
+use Rattle.panel_stated.specs.Contracts.{ShapeNumbered, FramePlain, FrameStatusPlain, StrictPlain, WritePlain, CommandPlain, RecordLent, RecordPlain, MadePlain, AskedPlain, StepPlain, KindNumbered, RefusedPlain, StatusPlain, BodyPlain, PartPlain, OrderPlain, FinishedPlain, ResponsePlain, WroteResponsePlain, NextPlain, StatedPlain}
 use Rattle.panel_stated.specs.Contracts.{BrinecandleRead, BrinecandleReadStrict, BrinecandleReadByTable, BrinecandleReadStrictByTable, BrinecandleWrite, BrinecandleWriteStrict, BrinecandleReadCommand, BrinecandleNew, BrinecandleGrantUp, BrinecandleConsumeUp, BrinecandleIsUpNeeded, BrinecandleDecide, BrinecandleFinish, BrinecandleWriteResponse, BrinecandleReadResponse, BrinecandleNextPart}
 use Rattle.octets.specs.Bytes.{AreBytes, partOf}
 use Rattle.apdu_stated.specs.Reading.{dataOf}
@@ -29,7 +29,6 @@ use Rattle.panel_stated.specs.Terms.{numbersAfter, NoShape, IsNumbered, 
 use Rattle.outcome.specs.declared.ApduStatusCode.{ApduStatusCode}
 use Rattle.outcome.specs.declared.Refusal.{Refusal}
 use Rattle.apdu_stated.specs.declared.Apdu.{Apdu}
-use Rattle.apdu_stated.specs.declared.Reading.the-variants as Reading′
 use Rattle.command_stated.specs.declared.U2fCommand.{U2fCommand}
 use Rattle.u2f_up_stated.specs.declared.Ready.{Ready}
 use Rattle.u2f_up_stated.specs.declared.Answer.{Answer}
@@ -441,8 +440,8 @@ pub record ContractsAsClaimed : Type 0 where
 -- ---- two results that satisfy a contract are equal, and so are the contents of what was lent
 pub record ResultsDetermined : Type 0 where
   pub shape-numbered : (n : ℕ) → AtMostOne (ShapeNumbered n)
-  pub frame-numbers : (says : Apdu) → AtMostOne (FramePlain (Reading′.Frame says))
-  pub frame-status : (s : ApduStatusCode) → AtMostOne (FramePlain (Reading′.Status s))
+  pub frame-numbers : (says : Apdu) → AtMostOne (FramePlain says)
+  pub frame-status : (s : ApduStatusCode) → AtMostOne (FrameStatusPlain s)
   pub strict-plain : (n count : ℕ) → AtMostOne (StrictPlain n count)
   pub write-plain : (w : ToWrite) → AtMostOne (λ (r : AfterWriting). WritePlain w (r .said) (r .buffer))
   pub command-plain : (read : U2fCommand) → AtMostOne (CommandPlain read)

@@ -4,8 +4,8 @@ use Rattle.panel_stated.specs.Words.{ℕ, _≡_, Bool, true, List, lengt
 use Rattle.panel_stated.specs.Words.{PresenceRecord, FrameSaid, CommandSaid, Wrote, Made, Stepped, Asked, DecisionSaid, ResponseSaid, PartSaid, Shaped, Kinded}
 use Rattle.panel_stated.specs.Numbers.{presenceOf, presenceNumbers, shapeOf, kindOf, noOrder}
 use Rattle.panel_stated.specs.Exports.{frameNumbers, lengthNumbers, ToWrite, strictAs, readsOf, writesOf, commandNumbers, madeNumbers, askedNumbers, stepNumbers, headAfter, decidedNumbers, decisionNumbers, ToDecide, decidesOf, respondsOf, nextsOf, responseNumbers, partNumbers, statedOf, ToFinish, finishNumbered}
-use Rattle.apdu_stated.specs.Answers.{readingOf}
-use Rattle.apdu_stated.specs.declared.Reading.{Reading}
+use Rattle.apdu_stated.specs.Answers.{saysOf}
+use Rattle.apdu_stated.specs.declared.Apdu.{Apdu}
 use Rattle.command_stated.specs.Command.{commandSaid}
 use Rattle.command_stated.specs.declared.U2fCommand.{U2fCommand}
 use Rattle.u2f_up_stated.specs.Answers.{readyOf, outcomeOf, toldOf}
@@ -25,8 +25,12 @@ use Rattle.response_stated.specs.declared.NextPart.{NextPart}
 abbrev pub ShapeNumbered : ℕ → Shaped → Type 0
 ShapeNumbered number r = r ≡ shapeOf number
 
-abbrev pub FramePlain : Reading → FrameSaid → Type 0
-FramePlain reading r = r ≡ frameNumbers (readingOf reading)
+-- a reading by its two cases
+abbrev pub FramePlain : Apdu → FrameSaid → Type 0
+FramePlain says r = r ≡ frameNumbers (Gives (saysOf says))
+
+abbrev pub FrameStatusPlain : ApduStatusCode → FrameSaid → Type 0
+FrameStatusPlain status r = r ≡ frameNumbers (Word (wordOf status))
 
 abbrev pub StrictPlain : ℕ → ℕ → Bool → Type 0
 StrictPlain number count r = r ≡ strictAs (shapeOf number) count

@@ -226,13 +226,7 @@ pub fn finish(
     signature: &[u8],
     reply: &mut [u8],
 ) -> Finished
-    ensures { λ r. ⌜ Finish (record {
-      order = orderWith order (now (block .entry));
-      certificate = now (certificate .entry);
-      signed = signed;
-      signature = now (signature .entry);
-      reply = now (reply .entry);
-    }) r (now (reply .exit)) ⌝ }
+    ensures { λ r. ⌜ Finish order (now (block .entry)) (now (certificate .entry)) signed (now (signature .entry)) (now (reply .entry)) r (now (reply .exit)) ⌝ }
 {
     if !signing_layouts::has_layout(order, block) {
         return Finished::Refused(Refusal::R7);

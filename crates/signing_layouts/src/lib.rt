@@ -2,7 +2,7 @@
 use signing_stated::Head;
 use signing_stated::Kind;
 ghost use mathlib.Core.Path.{_≡_};
-ghost use Rattle.signing_stated.specs.Orders.{orderWith, isRegisterLayout, isAuthenticateLayout};
+ghost use Rattle.signing_stated.specs.Orders.{isRegisterLayout, isAuthenticateLayout};
 ghost use Rattle.signing_stated.specs.Contracts.{HasLayout};
 
 fn is_register(to_sign: usize, block: &[u8; 385]) -> bool
@@ -42,7 +42,7 @@ fn is_authenticate(to_sign: usize, certificate_length: usize, block: &[u8; 385])
 
 // An order is whatever the caller hands in, so its layout is looked at before a byte of it is used.
 pub fn has_layout(order: Head, block: &[u8; 385]) -> bool
-    ensures { λ r. ⌜ HasLayout (orderWith order (now (block .entry))) r ⌝ }
+    ensures { λ r. ⌜ HasLayout order (now (block .entry)) r ⌝ }
 {
     let kind = order.kind;
     match kind {

@@ -15,7 +15,7 @@ use Rattle.octets.proofs.Laws.{laid-fits, laid-whole}
 use Rattle.signing_stated.specs.Layouts.{RegisterFields, AuthenticateFields, registerToSign, authenticateToSign, presenceByte, publicKey, registerBody, authenticateBody}
 use Rattle.signing_stated.proofs.Fit.{register-order-fit, authenticate-order-fit}
 use Rattle.signing_stated.proofs.Shapes.{register-shaped}
-use Rattle.signing_stated.specs.Contracts.{Finish}
+use Rattle.signing_stated.specs.Contracts.{Finishes}
 use Rattle.signing_stated.specs.Terms.{bytesAt, RegisterLengths, AuthenticateLengths}
 use Rattle.signing_stated.proofs.Ways.{comes-to-r7, comes-to-r4, comes-to-r2, comes-to-6f00, comes-to-r3, comes-to-body}
 use Rattle.signing_stated.specs.Finishing.{registerRoom, authenticateRoom, roomOf, roomNeeded, CountsHandle, bodyOf, Finishing, Finished, Refused, Status, Body, finishOf, finishedOf, lengthOf, replyOf}
@@ -295,7 +295,7 @@ module _ (h : Head) (b certificate signature : List ℕ) where
 
 -- ---- finishing
 finishes : (i : Finishing) (x : Outcome (List ℕ)) (answer : Finished) (after : List ℕ) → finishOf i ≡ x
-    → finishedOf answer ≡ lengthOf x → after ≡ replyOf x (i .reply) → Finish i answer after
+    → finishedOf answer ≡ lengthOf x → after ≡ replyOf x (i .reply) → Finishes i answer after
 finishes i x answer after e s l =
     record {
       says = s ∙ ap lengthOf (sym e);
@@ -314,28 +314,28 @@ lent o certificate signed signature reply =
     record { order = o; certificate = certificate; signed = signed; signature = signature; reply = reply }
 
 module _ (o : Order) (certificate : List ℕ) (signed : Bool) (signature reply : List ℕ) (ok : Bool) (is-ok : ok ≡ isOfLayout o) where
-  pub answers-r7 : not ok ≡ true → Finish (lent o certificate signed signature reply) (Refused R7) reply
+  pub answers-r7 : not ok ≡ true → Finishes (lent o certificate signed signature reply) (Refused R7) reply
   answers-r7 told = finishes (lent o certificate signed signature reply) (R 7) _ _ (comes-to-r7 _ (sym is-ok ∙ not-true ok told)) refl refl
 
   module _ (pass : not ok ≡ false) where
-    pub answers-r4 : (length certificate ≡ certificateLength o → ⊥) → Finish (lent o certificate signed signature reply) (Refused R4) reply
+    pub answers-r4 : (length certificate ≡ certificateLength o → ⊥) → Finishes (lent o certificate signed signature reply) (Refused R4) reply
     answers-r4 other =
         finishes (lent o certificate signed signature reply) (R 4) _ _ (comes-to-r4 _ (of-layout o ok is-ok pass) other) refl refl
 
     module _ (its : length certificate ≡ certificateLength o) (has : Bool) (is-has : has ≡ leb (roomNeeded o) (length reply)) where
-      pub answers-r2 : not has ≡ true → Finish (lent o certificate signed signature reply) (Refused R2) reply
+      pub answers-r2 : not has ≡ true → Finishes (lent o certificate signed signature reply) (Refused R2) reply
       answers-r2 told =
           finishes (lent o certificate signed signature reply) (R 2) _ _
           (comes-to-r2 _ (of-layout o ok is-ok pass) its (leb-false (roomNeeded o) (length reply) (sym is-has ∙ not-true has told))) refl refl
 
       module _ (room : not has ≡ false) where
-        pub answers-6f00 : not signed ≡ true → Finish (lent o certificate signed signature reply) (Status InternalException) reply
+        pub answers-6f00 : not signed ≡ true → Finishes (lent o certificate signed signature reply) (Status InternalException) reply
         answers-6f00 told =
             finishes (lent o certificate signed signature reply) (SW 0x6f00) _ _
             (comes-to-6f00 _ (of-layout o ok is-ok pass) its (enough _ _ has is-has room) (not-true signed told)) refl refl
 
         module _ (done : not signed ≡ false) where
-          pub answers-r3 : 72 < length signature → Finish (lent o certificate signed signature reply) (Refused R3) reply
+          pub answers-r3 : 72 < length signature → Finishes (lent o certificate signed signature reply) (Refused R3) reply
           answers-r3 long =
               finishes (lent o certificate signed signature reply) (R 3) _ _
               (comes-to-r3 _ (of-layout o ok is-ok pass) its (enough _ _ has is-has room) (not-false signed done) long) refl refl
@@ -343,7 +343,7 @@ module _ (o : Order) (certificate : List ℕ) (signed : Bool) (signature reply :
           pub answers-body : (n : ℕ) (out : List ℕ) → length signature ≤ 72
               → n ≡ length (bodyOf (o .kind) o certificate signature)
               → out ≡ laid (bodyOf (o .kind) o certificate signature) reply
-              → Finish (lent o certificate signed signature reply) (Body n) out
+              → Finishes (lent o certificate signed signature reply) (Body n) out
           answers-body n out short is-n is-out =
               finishes (lent o certificate signed signature reply) (Gives (bodyOf (o .kind) o certificate signature)) _ _
               (comes-to-body _ (of-layout o ok is-ok pass) its (enough _ _ has is-has room) (not-false signed done) short) (ap Gives is-n) is-out

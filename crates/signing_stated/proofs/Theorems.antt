@@ -54,11 +54,11 @@ ResultsDetermined =
       blank = λ a b. both-are a b;
       register-order = λ f c a b p q. apart a b (both-are _ _ p q);
       authenticate-order = λ k a b p q. apart a b (both-are _ _ p q);
-      has-layout = λ o a b. both-are a b;
+      has-layout = λ head block a b. both-are a b;
       has-register-room = λ room h c a b. both-are a b;
       has-authenticate-room = λ room a b. both-are a b;
       finish =
-          λ i a b p q.
+          λ head block certificate signed signature reply a b p q.
           let answers : a .0 ≡ b .0 = finished-one-to-one (a .0) (b .0) (p .says ∙ sym (q .says)) in
           let buffers : a .1 ≡ b .1 = p .leaves ∙ sym (q .leaves) in
           λ d. (answers d, buffers d);

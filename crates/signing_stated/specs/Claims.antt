@@ -49,10 +49,11 @@ pub record ResultsDetermined : Type 0 where
   pub blank : AtMostOne Blank
   pub register-order : (f : RegisterFields) (c : ℕ) → AtMostOne (λ (r : Head × List ℕ). RegisterOrder f c (r .0) (r .1))
   pub authenticate-order : (p : AuthenticateParts) → AtMostOne (λ (r : Head × List ℕ). AuthenticateOrder p (r .0) (r .1))
-  pub has-layout : (o : Order) → AtMostOne (HasLayout o)
+  pub has-layout : (head : Head) (block : List ℕ) → AtMostOne (HasLayout head block)
   pub has-register-room : (room h c : ℕ) → AtMostOne (HasRegisterRoom room h c)
   pub has-authenticate-room : (room : ℕ) → AtMostOne (HasAuthenticateRoom room)
-  pub finish : (i : Finishing) → AtMostOne (λ (r : Finished × List ℕ). Finish i (r .0) (r .1))
+  pub finish : (head : Head) (block certificate : List ℕ) (signed : Bool) (signature reply : List ℕ)
+      → AtMostOne (λ (r : Finished × List ℕ). Finish head block certificate signed signature reply (r .0) (r .1))
 
 -- ---- orders
 

@@ -22,8 +22,8 @@ abbrev pub AuthenticateOrder : AuthenticateParts → Head → (block : List ℕ)
 AuthenticateOrder parts r block = orderWith r block ≡ authenticateOrderFor parts
 
 -- of crate layouts
-abbrev pub HasLayout : Order → Bool → Type 0
-HasLayout o r = r ≡ isOfLayout o
+abbrev pub HasLayout : Head → (block : List ℕ) → Bool → Type 0
+HasLayout head block r = r ≡ isOfLayout (orderWith head block)
 
 abbrev pub HasRegisterRoom : (room h c : ℕ) → Bool → Type 0
 HasRegisterRoom room h c r = r ≡ leb (registerRoom h c) room
@@ -32,6 +32,10 @@ abbrev pub HasAuthenticateRoom : (room : ℕ) → Bool → Type 0
 HasAuthenticateRoom room r = r ≡ leb authenticateRoom room
 
 -- the answer, and the reply buffer after the call
-pub record Finish (i : Finishing) (answer : Finished) (after : List ℕ) : Type 0 where
+pub record Finishes (i : Finishing) (answer : Finished) (after : List ℕ) : Type 0 where
   pub says : finishedOf answer ≡ lengthOf (finishOf i)
   pub leaves : after ≡ replyOf (finishOf i) (i .reply)
+
+abbrev pub Finish : Head → (block certificate : List ℕ) (signed : Bool) (signature reply : List ℕ) → Finished → (after : List ℕ) → Type 0
+Finish head block certificate signed signature reply answer after =
+    Finishes (record { order = orderWith head block; certificate = certificate; signed = signed; signature = signature; reply = reply }) answer after
