@@ -248,16 +248,16 @@ pub stallsForGood : Demands Wrong.stalls → ⊥
 unfolding lent decisionOf pathOf allowedPath commandPath fetchPath settleOf nextPartOf frameLimit limitOf partLength commandOf onReading byInstruction getResponseOf readBy sayOf lengthsOf shortOf extendedOf afterData allowedOf attestationOf leftAfter
 stallsForGood d =
     let e =
-        d .bodies .enough (7 ∷ 8 ∷ []) (record { place = 1; count = 1 }) (on unused (lent (0x00 ∷ 0xC0 ∷ 0x00 ∷ 0x00 ∷ []) 0) ∷ []) (omega arith)
-        (also
-        (record {
-          get-response = (refl, refl, refl);
-          window = (omega arith, omega arith);
-          sides = (omega arith, omega arith);
-          moments = (omega arith, omega arith);
-          room = inl (omega arith);
-        })
-        no-more) (omega arith) .0 in
+    d .bodies .enough (7 ∷ 8 ∷ []) (record { place = 1; count = 1 }) (on unused (lent (0x00 ∷ 0xC0 ∷ 0x00 ∷ 0x00 ∷ []) 0) ∷ []) (omega arith)
+    (also
+    (record {
+      get-response = (refl, refl, refl);
+      window = (omega arith, omega arith);
+      sides = (omega arith, omega arith);
+      moments = (omega arith, omega arith);
+      room = inl (omega arith);
+    })
+    no-more) (omega arith) .0 in
     omega (arith, e)
 
 -- of three bytes, one at a time, the last never goes out
