@@ -1,12 +1,10 @@
 -- ISO/IEC 7816-3:2006, section 12.1.3: the seven cases of a command, by its body b of L bytes B1 .. BL; and the one form
--- beyond them that is tolerated. Written from the public table, apart from document 01's.
-use Prim.Native.Nat.{ℕ, _+_}
-use mathlib.Core.Bool.{Bool, not, _&&_}
-use mathlib.Core.List.{List}
-use lib.ListN.{length}
-use lib.Dec.{leb, eqb}
+-- beyond them that is tolerated. Written from the public table, apart from document 01's. The claim, `StrictIsIso`, last.
+use mathlib.Core.Logic.{_↔_}
+use Rattle.outcome.specs.Outcome.{Outcome, Gives}
 use Rattle.octets.specs.Bytes.{byte, pairAt}
-use Rattle.apdu_stated.specs.Words.{Case, Instruction, Le1, Lc1Data, Lc1DataLe1, Lc3Data, Lc3DataLe2, Le3}
+use Rattle.apdu_stated.specs.Words.{ℕ, _+_, _≤_, _≡_, Bool, true, not, _&&_, leb, eqb, List, length, drop, Case, Instruction, Le1, Lc1Data, Lc1DataLe1, Lc3Data, Lc3DataLe2, Le3, shapeNo}
+use Rattle.apdu_stated.specs.InTable.{Says}
 
 pub data IsoCase : Type 0 where
   Case1 Case2S Case3S Case4S Case2E Case3E Case4E : IsoCase
@@ -21,7 +19,7 @@ isCase Case2E b = leb 1 (length b) && eqb (byte b 0) 0 && eqb (length b) 3  -- 2
 isCase Case3E b = leb 3 (length b) && eqb (byte b 0) 0 && not (eqb (pairAt b 1) 0) && eqb (length b) (3 + pairAt b 1)  -- 3E | B1 = 00, B2B3 not 0, L = 3 + B2B3
 isCase Case4E b = leb 3 (length b) && eqb (byte b 0) 0 && not (eqb (pairAt b 1) 0) && eqb (length b) (5 + pairAt b 1)  -- 4E | B1 = 00, B2B3 not 0, L = 5 + B2B3
 
--- which of document 01's shapes each case is
+-- which of document 01's shapes each case is, by the names of its table; `shapeNo` is the table's number of a name
 abbrev pub shapeFor : IsoCase → Case
 shapeFor Case1 = Instruction
 shapeFor Case2S = Le1
@@ -35,3 +33,14 @@ shapeFor Case4E = Lc3DataLe2
 -- form, an extended Lc with a one-byte Le, is retired (02, E13)
 abbrev pub isTolerated : ℕ → ℕ → Bool
 isTolerated shape lc = eqb shape 7 && eqb lc 0
+
+-- ---- the strict table of InTable.antt is ISO's seven cases; `drop 4 frame` is the body. That the other is these and the tolerated form:
+-- `IsoExactly` and `ToleratedExactly`, Claims.antt
+
+-- 02, E4: "The strict frames are then ISO's seven cases": a body is of an ISO case exactly when its frame is read strictly in that case's
+-- shape; and what is read strictly is of a case.
+pub record StrictIsIso (strict : List ℕ → Outcome Says) : Type 0 where
+  pub each-case : (frame : List ℕ) (c : IsoCase) → 4 ≤ length frame
+      → (isCase c (drop 4 frame) ≡ true) ↔ ((says : Says) × (strict frame ≡ Gives says) × (says .shape ≡ shapeNo (shapeFor c)))
+  pub no-other : (frame : List ℕ) (says : Says) → strict frame ≡ Gives says
+      → (4 ≤ length frame) × ((c : IsoCase) × (isCase c (drop 4 frame) ≡ true) × (says .shape ≡ shapeNo (shapeFor c)))

@@ -1,18 +1,87 @@
--- Document 01, 'The decision', with document 02, E2's C0 and E7's sides, as one table, without `DecisionPath`: each row with its conditions, in the document's
--- order, and the whole result: answer, record, order, whether the counter was taken.
+-- Document 01, 'The decision', with document 02, E2's C0 and E7's sides, as one table: each row with its conditions, in the document's order,
+-- and the whole result: answer, record, order, whether the counter was taken. Terms first; the claim, `DecidesExactly`, last. What a
+-- record says to a moment and a side (`NotRefused`, `HasTouch`, ..): u2f_up_stated's Conditions.antt.
 use Prim.Native.Nat.{_-_}
-use Rattle.ctap1_stated.specs.Words.{ℕ, _+_, _<_, _≤_, _≡_, true, false, StatusWord, R, Word, SW, Gives, Body, Ordered, Part, rest, length, Presence, Inputs, DecisionResult}
+use Rattle.octets.specs.Bytes.{bytes4}
+use Rattle.apdu_stated.specs.InTable.{Says}
+use Rattle.command_stated.specs.Command.{Command, Register, Authenticate, Version, GetResponse, commandOf, challengeOf, applicationOf}
+use Rattle.u2f_up_stated.specs.Conditions.{BadWindow, BadSide, BadMoment, NotRefused, HasTouch}
+use Rattle.u2f_up_stated.specs.declared.Window.the-variants.{Closed, Opened}
+use Rattle.signing_stated.specs.Orders.{blankOrder, registerOrderOf, authenticateOrderOf}
+use Rattle.response_stated.specs.Parts.{partLength}
+use Rattle.ctap1_stated.specs.Words.{ℕ, _+_, _<_, _≤_, _≡_, Bool, true, false, length, StatusWord, Outcome, R, Word, SW, Gives, Presence, Order, rest, Inputs, DecisionGives, Body, Ordered, Part, DecisionResult, Decider}
 use Rattle.ctap1_stated.specs.Path.{frameLimit}
-use Rattle.ctap1_stated.specs.Terms.{result, movedAt, spentAt, promptedAt, orderOfRegister, orderOfAuthenticate, Comes, Fetching, OwnTouch, OthersTouch, roomOfRegister, Registering, Signing}
 use Rattle.ctap1_stated.specs.declared.Allowed.the-variants as Allowed′
 use Rattle.ctap1_stated.specs.declared.Attestation.the-variants as Attestation′
 use Rattle.ctap1_stated.specs.declared.Counter.the-variants as Counter′
-use Rattle.apdu_stated.specs.Answers.{Says}
-use Rattle.command_stated.specs.Command.{Register, Authenticate, Version, GetResponse, commandOf}
-use Rattle.u2f_up_stated.specs.Terms.{BadWindow, BadSide, BadMoment, NotRefused, HasTouch}
-use Rattle.signing_stated.specs.Orders.{blankOrder}
-use Rattle.response_stated.specs.Parts.{partLength}
 
+-- ---- results: an answer, the record after it, the order (`blankOrder`, of no layout, where there is none), whether the counter was taken
+abbrev pub result : Outcome DecisionGives → Presence → Order → Bool → DecisionResult
+result answer after order taken = record { answer = answer; presence = after; order = order; taken = taken }
+
+-- the three records after a call without an R refusal: only the last moment moved; the touch spent too; a prompt opened too, for the side
+-- that asks now
+abbrev pub movedAt : Presence → ℕ → Presence
+movedAt p t = record { w = p .w; prompt = p .prompt; touch = p .touch; last = t; asker = p .asker }
+
+abbrev pub spentAt : Presence → ℕ → Presence
+spentAt p t = record { w = p .w; prompt = p .prompt; touch = Closed; last = t; asker = p .asker }
+
+abbrev pub promptedAt : Presence → (side t : ℕ) → Presence
+promptedAt p s t = record { w = p .w; prompt = Opened t; touch = p .touch; last = t; asker = s }
+
+-- "Register, 130 + h: 00, application, challenge, handle, public key (04, x, y)", with the certificate's length
+abbrev pub orderOfRegister : Inputs → Says → Order
+orderOfRegister a said =
+    registerOrderOf
+    (record {
+      application = applicationOf (a .frame) said;
+      challenge = challengeOf (a .frame) said;
+      handle = a .newHandle;
+      x = a .x;
+      y = a .y;
+    })
+    (length (a .certificate))
+
+-- "Authenticate, 69: application, presence byte .., counter (4, big-endian), challenge"
+abbrev pub orderOfAuthenticate : Inputs → Says → (presence counter : ℕ) → Order
+orderOfAuthenticate a said presence counter =
+    authenticateOrderOf
+    (record {
+      application = applicationOf (a .frame) said;
+      presence = presence;
+      counter = bytes4 counter;
+      challenge = challengeOf (a .frame) said;
+    })
+
+-- ---- conditions
+-- CTAP1 is allowed, and the frame is read as a command
+abbrev pub Comes : Inputs → Command → Type 0
+Comes a c = (a .hardware .allowed ≡ Allowed′.Yes) × (commandOf (a .frame) ≡ Gives c)
+
+-- a C0 that passed its checks of P1, P2 and Lc, where something remains
+abbrev pub Fetching : Presence → ℕ → Inputs → Type 0
+Fetching p t a = NotRefused p (a .side) t × Comes a GetResponse × (0 < a .remainder .count)
+
+-- "139 + h + c"
+abbrev pub roomOfRegister : Inputs → ℕ
+roomOfRegister a = 139 + length (a .newHandle) + length (a .certificate)
+
+-- a Register, allowed, with room; and an Authenticate, allowed, with a good handle and room
+abbrev pub Registering : Presence → ℕ → Inputs → Says → Type 0
+Registering p t a said = NotRefused p (a .side) t × Comes a (Register said) × (roomOfRegister a ≤ a .room)
+
+abbrev pub Signing : Presence → ℕ → Inputs → ℕ → Says → Type 0
+Signing p t a p1 said = NotRefused p (a .side) t × Comes a (Authenticate p1 said) × (a .hardware .good ≡ true) × (77 ≤ a .room)
+
+-- a live touch that is the decision's own side's, and one that is the other's
+abbrev pub OwnTouch : Presence → ℕ → Inputs → Type 0
+OwnTouch p t a = HasTouch p t × (p .asker ≡ a .side)
+
+abbrev pub OthersTouch : Presence → ℕ → Inputs → Type 0
+OthersTouch p t a = HasTouch p t × (p .asker ≡ a .side → ⊥)
+
+-- ---- `Answers p t a r`: on the record p, at moment t, with a lent, the table has the result r
 pub data Answers (p : Presence) (t : ℕ) (a : Inputs) : DecisionResult → Type 0 where
   -- 1. "R6, R1."; 02, E7: R8 "after R6 and before R1", "named or in the record"
   r6 : BadWindow (p .w) → Answers p t a (result (R 6) p blankOrder false)
@@ -65,3 +134,8 @@ pub data Answers (p : Presence) (t : ℕ) (a : Inputs) : DecisionResult → Type
       → Answers p t a (result (R 2) p blankOrder false)
   fetch : (n : ℕ) → n ≡ partLength (frameLimit (a .frame)) (a .remainder .count) → Fetching p t a → a .remainder .place + a .remainder .count ≤ a .room → n + 2 ≤ a .partRoom
       → Answers p t a (result (Gives (Part (n + 2) (rest (a .remainder .place + n) (a .remainder .count - n)))) (movedAt p t) blankOrder false)
+
+-- Whatever is lent, the result is one that the table has for it. The rows exclude each other, so each answer comes exactly under its row's
+-- conditions, and no other decision meets this (proofs/Only.antt).
+abbrev pub DecidesExactly : Decider → Type 0
+DecidesExactly decide = (p : Presence) (t : ℕ) (a : Inputs) → Answers p t a (decide p t a)

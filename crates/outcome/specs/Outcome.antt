@@ -2,6 +2,7 @@
 -- a 6700 says beside its number. Covered: each refusal's number, each status word's number and pair. What a call gives is said in
 -- these words everywhere.
 use Prim.Native.Nat.{ℕ}
+use mathlib.Core.Path.{_≡_}
 use Rattle.outcome.specs.declared.ApduStatusCode.{ApduStatusCode}
 use Rattle.outcome.specs.declared.ApduStatusCode.the-variants.{Success, WrongData, WrongLength, CondUseNotSatisfied, CommandNotAllowed, IncorrectP1P2, InsInvalid, ClaInvalid, InternalException}
 use Rattle.outcome.specs.declared.LengthFault.{LengthFault}
@@ -44,6 +45,12 @@ surplusAt place = wrongLength 2 place
 
 abbrev pub againstIns : {A : Type 0} → Outcome A
 againstIns = wrongLength 3 4
+
+-- a status word of this number, whatever its pair: "demand 2 compares the status alone"
+pub record HasStatus {A : Type 0} (n : ℕ) (o : Outcome A) : Type 0 where
+  pub word : StatusWord
+  pub is : o ≡ Word word
+  pub numbered : word .number ≡ n
 
 -- ISO 7816-4; 01, 'Eight frame shapes', 'From frame to command', 'The decision'
 abbrev pub statusNo : ApduStatusCode → ℕ

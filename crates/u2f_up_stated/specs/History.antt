@@ -2,9 +2,10 @@
 -- its calls and their outcomes alone. No definition here looks at a presence record.
 -- Histories are lists, NEWEST FIRST: what stands behind an event in the list is its past.
 use mathlib.Core.List.{List, [], _∷_, _++_}
+use mathlib.Core.Logic.{_⊎_}
 use mathlib.Core.Option.{Option, none, some}
 use lib.ListN.{length}
-use Rattle.u2f_up_stated.specs.Words.{ℕ, _+_, Bool, true, false, not, _&&_, ltb, eqb, if_then_else_}
+use Rattle.u2f_up_stated.specs.Words.{ℕ, _+_, _^_, _<_, _≤_, Bool, true, false, not, _&&_, ltb, eqb, if_then_else_}
 use Rattle.u2f_up_stated.specs.Moments.{isR1, isBadSide}
 
 -- What a call is to the record, with the side that it names: "every decision and direct check names its side", touch and ask none. It
@@ -248,3 +249,17 @@ foretold w past c =
     if isBadSide (sideOf (c .role)) then RefusedBy 8
     else if isR1 (lastMoment past) (c .moment) then RefusedBy 1
     else unrefused w past (c .role) (c .moment)
+
+-- ---- what the demand says of a history, as claims
+
+-- R1, by the last moment of a history
+abbrev pub RefusedAt : List Event → ℕ → Type 0
+RefusedAt past t = (2 ^ 48 ≤ t) ⊎ (t < lastMoment past)
+
+-- R8 in a run, where no record has another side than 0 or 1: by the side that the call names
+abbrev pub NamesBadSide : Role → Type 0
+NamesBadSide role = 1 < sideOf role
+
+-- no touch is named twice as the one that served a call
+abbrev pub ServesOnce : ℕ → List Event → Type 0
+ServesOnce w past = (n : ℕ) → length (those (isNamed n) (servers w past)) ≤ 1

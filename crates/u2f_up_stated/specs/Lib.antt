@@ -2,6 +2,7 @@ pub mod Words
 pub mod Moments
 pub mod Answers
 pub mod Contracts
+pub mod Conditions
 pub mod History
 pub mod Runs
 pub mod OneSide
