@@ -1,7 +1,7 @@
 -- What a frame is and what reading one says: document 01, 'Eight frame shapes'; document 02, E13: "Shape 6 is retired", and E4's strict
 -- reading. Terms first, row by row with every number spelled out; the claims last.
-mod Imports
-use Imports.*
+mod Words
+use Words.*
 
 -- what a frame says: its header (cla, ins, p1, p2); its shape's number; where its data starts, counted from 0 (after the header and the Lc
 -- field) and how many bytes it counts, Lc; how many bytes it expects back, Le

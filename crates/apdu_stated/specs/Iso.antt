@@ -1,10 +1,7 @@
 -- ISO/IEC 7816-3:2006, section 12.1.3: the seven cases of a command, by its body b of L bytes B1 .. BL; and the one form
 -- beyond them that is tolerated. Written from the public table, apart from document 01's. The claim, `StrictIsIso`, last.
-use mathlib.Core.Logic.{_↔_}
-use Rattle.outcome.specs.Outcome.{Outcome, Gives}
-use Rattle.octets.specs.Bytes.{byte, pairAt}
-use Rattle.apdu_stated.specs.Words.{ℕ, _+_, _≤_, _≡_, Bool, true, not, _&&_, leb, eqb, List, length, drop, Case, Instruction, Le1, Lc1Data, Lc1DataLe1, Lc3Data, Lc3DataLe2, Le3, shapeNo}
-use Rattle.apdu_stated.specs.InTable.{Says}
+mod Words
+use Words.*
 
 pub data IsoCase : Type 0 where
   Case1 Case2S Case3S Case4S Case2E Case3E Case4E : IsoCase

@@ -1,13 +1,11 @@
 -- Document 01, 'From frame to command': "In this order: shape (6a80, 6700); CLA not 0 gives 6e00; then by INS". Document 02, E1: "The
 -- 6700s for Lc against INS are a third kind, with place 4 in every shape"; a frame's own pair is carried upward.
 -- Covered: every status of command reading, in its order, with its pair; the parts of the data.
-use Rattle.command_stated.specs.Words.{ℕ, _+_, Bool, not, _||_, List, ltb, eqb, if_then_else_, Outcome, R, Word, SW, Gives, againstIns, wordOf, byte, partOf, Place}
-use Rattle.apdu_stated.specs.Answers.{Says, saysOf}
-use Rattle.apdu_stated.specs.Reading.{readOf, dataOf}
+mod Words
+use Words.*
 pub use Rattle.command_stated.specs.declared.Ctap1Flags.{Ctap1Flags}
 pub use Rattle.command_stated.specs.declared.Ctap1Flags.the-variants.{CheckOnly, EnforceUpAndSign, DontEnforceUpAndSign}
 pub use Rattle.command_stated.specs.declared.U2fCommand.{U2fCommand}
-use Rattle.command_stated.specs.declared.U2fCommand.the-variants as U2fCommand′
 
 -- a command, with what its frame says; an Authenticate with its P1
 pub data Command : Type 0 where

@@ -1,12 +1,6 @@
 -- What a decision is lent, and what it comes to. Document 01, 'The decision'; document 02, E2 and E7.
-use Prim.Native.Nat.{ℕ}
-use mathlib.Core.Bool.{Bool}
-use mathlib.Core.List.{List}
-use Rattle.outcome.specs.Outcome.{Outcome}
-use Rattle.u2f_up_stated.specs.declared.Presence.{Presence}
-use Rattle.signing_stated.specs.Words.{Order}
-use Rattle.response_stated.specs.declared.Remainder.{Remainder}
-use Rattle.ctap1_stated.specs.declared.Hardware.{Hardware}
+mod Words
+use Words.*
 
 -- "Lent in: frame, moment, whether CTAP1 is allowed .., reply buffer, and the hardware's answers": all of it but the moment, which stands
 -- apart with the record; and "every decision .. names its side"

@@ -1,19 +1,8 @@
 -- Document 01, 'The decision', with document 02, E2's C0 and E7's sides, as one table: each row with its conditions, in the document's order,
 -- and the whole result: answer, record, order, whether the counter was taken. Terms first; the claim, `DecidesExactly`, last. What a
 -- record says to a moment and a side (`NotRefused`, `HasTouch`, ..): u2f_up_stated's Conditions.antt.
-use Prim.Native.Nat.{_-_}
-use Rattle.octets.specs.Bytes.{bytes4}
-use Rattle.apdu_stated.specs.InTable.{Says}
-use Rattle.command_stated.specs.Command.{Command, Register, Authenticate, Version, GetResponse, commandOf, challengeOf, applicationOf}
-use Rattle.u2f_up_stated.specs.Conditions.{BadWindow, BadSide, BadMoment, NotRefused, HasTouch}
-use Rattle.u2f_up_stated.specs.declared.Window.the-variants.{Closed, Opened}
-use Rattle.signing_stated.specs.Orders.{blankOrder, registerOrderOf, authenticateOrderOf}
-use Rattle.response_stated.specs.Parts.{partLength}
-use Rattle.ctap1_stated.specs.Words.{ℕ, _+_, _<_, _≤_, _≡_, Bool, true, false, length, StatusWord, Outcome, R, Word, SW, Gives, Presence, Order, rest, Inputs, DecisionGives, Body, Ordered, Part, DecisionResult, Decider}
-use Rattle.ctap1_stated.specs.Path.{frameLimit}
-use Rattle.ctap1_stated.specs.declared.Allowed.the-variants as Allowed′
-use Rattle.ctap1_stated.specs.declared.Attestation.the-variants as Attestation′
-use Rattle.ctap1_stated.specs.declared.Counter.the-variants as Counter′
+mod Words
+use Words.*
 
 -- ---- results: an answer, the record after it, the order (`blankOrder`, of no layout, where there is none), whether the counter was taken
 abbrev pub result : Outcome DecisionGives → Presence → Order → Bool → DecisionResult

@@ -1,15 +1,9 @@
 -- Document 01, 'Refusal numbers', and the status words that its sections name; ISO 7816-4 has their meanings. Document 02, E1: what
 -- a 6700 says beside its number. Covered: each refusal's number, each status word's number and pair. What a call gives is said in
 -- these words everywhere.
-use Prim.Native.Nat.{ℕ}
-use mathlib.Core.Path.{_≡_}
-use Rattle.outcome.specs.declared.ApduStatusCode.{ApduStatusCode}
-use Rattle.outcome.specs.declared.ApduStatusCode.the-variants.{Success, WrongData, WrongLength, CondUseNotSatisfied, CommandNotAllowed, IncorrectP1P2, InsInvalid, ClaInvalid, InternalException}
-use Rattle.outcome.specs.declared.LengthFault.{LengthFault}
-use Rattle.outcome.specs.declared.LengthFault.the-variants.{Missing, Surplus, LcAgainstIns}
+mod Words
+use Words.*
 pub use Rattle.outcome.specs.declared.FaultNumbers.{FaultNumbers}
-use Rattle.outcome.specs.declared.Refusal.{Refusal}
-use Rattle.outcome.specs.declared.Refusal.the-variants.{R1, R2, R3, R4, R5, R6, R7, R8}
 
 -- A status word: its number, and the pair of a kind and a place that tells where a length went wrong. 02, E1: "A 6700 should say
 -- whether bytes are missing or surplus, and a place". Where there is no pair, both are 0.

@@ -1,15 +1,7 @@
 -- A signing order, and what finishing makes of it: the reply, byte by byte. Document 01, 'The decision', from "A signing order holds its
 -- kind" on. Terms first; the claim, `FinishesExactly`, last.
-use Prim.Native.Nat.{ℕ, _+_, _≤_, _<_}
-use mathlib.Core.Bool.{Bool, true, false}
-use mathlib.Core.Path.{_≡_}
-use mathlib.Core.Logic.{_⊎_}
-use mathlib.Core.List.{List, [], _∷_, _++_}
-use lib.ListN.{length, take, drop}
-use Rattle.outcome.specs.Outcome.{Outcome, R, SW, Gives}
-use Rattle.octets.specs.Bytes.{byte}
-use Rattle.signing_stated.specs.declared.Kind.{Kind}
-use Rattle.signing_stated.specs.declared.Kind.the-variants.{Register, Authenticate}
+mod Words
+use Words.*
 
 -- "the number of bytes to sign, the certificate length .., and the bytes to sign in a block of 385 bytes"
 pub record Order : Type 0 where

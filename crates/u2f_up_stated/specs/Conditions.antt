@@ -1,8 +1,8 @@
 -- A presence record p has a touch window length W (`p .w`), two windows, prompt and touch, each `Closed` or `Opened m`, a last moment
 -- (`p .last`) and the number of the side that asked last (`p .asker`). What it says at a moment t to a call that names a side: document
 -- 01, 'Moments and touches' and 'Refusal numbers', document 02, E7, with their numbers.
-use mathlib.Core.Logic.{_⊎_}
-use Rattle.u2f_up_stated.specs.Words.{ℕ, _+_, _^_, _<_, _≤_, _≡_, Opened, Presence}
+mod Words
+use Words.*
 
 -- R6: "W is 0 or above 60,000, when made or in a record"
 abbrev pub BadWindow : ℕ → Type 0
