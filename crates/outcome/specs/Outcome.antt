@@ -1,6 +1,6 @@
--- Document 01, 'Refusal numbers', and the status words that its sections name; ISO 7816-4 has their meanings. Document 02, E1: what
--- a 6700 says beside its number. Covered: each refusal's number, each status word's number and pair. What a call gives is said in
--- these words everywhere.
+-- What a call comes to, in the documents' numbers: document 01, 'Refusal numbers', and the status words that its sections name (ISO 7816-4);
+-- document 02, E1: what a 6700 says beside its number. A refusal tells
+-- the firmware that a call was wrong, and is for no host; a status word goes out.
 mod Words
 use Words.*
 pub use Rattle.outcome.specs.declared.FaultNumbers.{FaultNumbers}

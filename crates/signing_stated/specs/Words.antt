@@ -1,4 +1,5 @@
 -- The types that src/lib.rt declares, and their cases, under one name; and an order as its head and its block.
+use Prim.Native.Nat.{ℕ}
 use mathlib.Core.List.{List}
 pub use Rattle.signing_stated.specs.declared.Kind.{Kind}
 pub use Rattle.signing_stated.specs.declared.Kind.the-variants.{Register, Authenticate}

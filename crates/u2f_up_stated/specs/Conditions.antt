@@ -20,10 +20,6 @@ BadMoment last t = (2 ^ 48 ≤ t) ⊎ (t < last)
 abbrev pub NotRefused : Presence → (side t : ℕ) → Type 0
 NotRefused p s t = (BadWindow (p .w) → ⊥) × (BadSide s (p .asker) → ⊥) × (BadMoment (p .last) t → ⊥)
 
--- "A window opened at m with length d is live at t when t < m + d", "The prompt window is 10,000."
-abbrev pub HasPrompt : Presence → ℕ → Type 0
-HasPrompt p t = (m : ℕ) × (p .prompt ≡ Opened m) × (t < m + 10000)
-
--- and the touch window is W
+-- a live touch: "A window opened at m with length d is live at t when t < m + d", and the touch window's length is W
 abbrev pub HasTouch : Presence → ℕ → Type 0
 HasTouch p t = (m : ℕ) × (p .touch ≡ Opened m) × (t < m + p .w)

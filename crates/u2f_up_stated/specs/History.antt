@@ -1,21 +1,21 @@
 -- Document 01, 'Moments and touches', from "In history terms" on, with document 02, E7: what a history says of its touches, read off
 -- its calls and their outcomes alone. No definition here looks at a presence record.
--- Histories are lists, NEWEST FIRST: what stands behind an event in the list is its past.
+-- Histories are lists, NEWEST FIRST: what stands behind an event in the list is its past. Throughout, w is the touch window's length W,
+-- past the events so far, t a moment, s a side.
 mod Words
-pub mod Events
-pub mod Tests
 use Words.*
-pub use Events.*
-pub use Tests.*
+pub use Rattle.u2f_up_stated.specs.Events.{Role, Touching, Checking, Asking, Settling, TooShort, Call, sideOf, Came, RefusedBy, TouchAccepted, TouchIgnored, TouchFound, NoTouchFound, PromptStands, NoPromptStands, AnsweredBefore, Event}
+pub use Rattle.u2f_up_stated.specs.Tests.{isTouchAccepted, isTouchFound, isNoTouchFound, isTimed}
 
--- 01, Moments and touches: "A touch at t is accepted"
+-- `isTouchAccepted` and the like test which case came (Tests.antt). "A touch at t is accepted"
 abbrev pub isAccepted : Event → Bool
 isAccepted e = isTouchAccepted (e .came)
 
--- 01, Moments and touches: "A call spends a touch if the check succeeds"
+-- "A call spends a touch if the check succeeds"
 abbrev pub isSpending : Event → Bool
 isSpending e = isTouchFound (e .came)
 
+-- what sets the last moment: all but refusals and asks
 abbrev pub isMoving : Event → Bool
 isMoving e = isTimed (e .came)
 
@@ -34,7 +34,7 @@ pub record Mark : Type 0 where
 abbrev pub marked : (side : ℕ) → Event → List Event → Mark
 marked s e past = record { number = length past; moment = e .call .moment; side = s }
 
--- Those of a list that the test picks.
+-- those of a list that the test picks
 abbrev pub those : {A : Type 0} → (A → Bool) → List A → List A
 those picks [] = []
 those picks (a ∷ rest) = if picks a then a ∷ those picks rest else those picks rest
@@ -43,7 +43,7 @@ abbrev pub isAny : List Mark → Bool
 isAny [] = false
 isAny (k ∷ ks) = true
 
--- 01, Moments and touches: "A touch has lapsed when it is unspent and W has passed"; it is young while W has not
+-- "A touch has lapsed when it is unspent and W has passed"; it is young while W has not
 abbrev pub isYoung : ℕ → ℕ → Mark → Bool
 isYoung w t k = ltb t (k .moment + w)
 
@@ -62,7 +62,7 @@ isFound w s t k = isYoung w t k && isOf s k
 abbrev pub isPromptingBy : Event → (held : List Mark) → Bool
 isPromptingBy e held = isNoTouchFound (e .came) && not (isAny held)
 
--- 02, E7: "An accepted touch belongs to the asker", the side of the latest prompting refusal. Where there was none (no touch is accepted then), to 0.
+-- "An accepted touch belongs to the asker", the side of the latest prompting refusal. Where there was none (no touch is accepted then), to 0.
 abbrev pub sideAsked : Option Mark → ℕ
 sideAsked none = 0
 sideAsked (some s) = s .side
@@ -85,11 +85,11 @@ unfoldable mutual
       else if isSpending e then those (λ k. not (isFound w (sideOf (e .call .role)) (e .call .moment) k)) (unspent w past)
       else unspent w past
 
--- 02, E7: the asking side: "A prompting refusal makes its side the asker, in place of any earlier."
+-- the asking side: "A prompting refusal makes its side the asker, in place of any earlier."
 abbrev pub askerOf : ℕ → List Event → ℕ
 askerOf w past = sideAsked (latestPrompt w past)
 
--- 02, E7: "An accepted touch belongs to the asker."
+-- "An accepted touch belongs to the asker."
 abbrev pub touchMark : ℕ → Event → List Event → Mark
 touchMark w e past = marked (askerOf w past) e past
 
@@ -116,7 +116,7 @@ abbrev pub isAfter : Mark → Option Mark → Bool
 isAfter s none = true
 isAfter s (some a) = ltb (a .number) (s .number)
 
--- 01, Moments and touches: "the latest prompting refusal, at s, comes after the latest accepted touch, and t - s < 10,000". (Of a
+-- "the latest prompting refusal, at s, comes after the latest accepted touch, and t - s < 10,000". (Of a
 -- record, a prompt window is live; of a history, a prompt stands.)
 abbrev pub isStandingBy : Option Mark → Option Mark → ℕ → Bool
 isStandingBy none a t = false
@@ -125,7 +125,7 @@ isStandingBy (some s) a t = isAfter s a && ltb t (s .moment + 10000)
 unfoldable pub isPromptStanding : ℕ → List Event → ℕ → Bool
 isPromptStanding w past t = isStandingBy (latestPrompt w past) (latestTouch w past) t
 
--- 01, Moments and touches: "A touch has lapsed when it is unspent and W has passed at the last moment."
+-- "A touch has lapsed when it is unspent and W has passed at the last moment."
 abbrev pub lapsed : ℕ → List Event → List Mark
 lapsed w past = those (isPastW w (lastMoment past)) (unspent w past)
 
@@ -157,7 +157,7 @@ isSpendingFor s e = isSpending e && eqb (sideOf (e .call .role)) s
 abbrev pub spendersOf : (side : ℕ) → List Event → ℕ
 spendersOf s past = length (those (isSpendingFor s) past)
 
--- What a history says of its next call, once the call's side and moment have passed.
+-- What a history says of its next call, once its side and moment have passed.
 abbrev pub unrefused : ℕ → List Event → Role → ℕ → Came
 unrefused w past Touching t = if isPromptStanding w past t then TouchAccepted else TouchIgnored
 unrefused w past (Checking s) t = if isAny (heldFor w past s t) then TouchFound else NoTouchFound
@@ -165,7 +165,7 @@ unrefused w past Asking t = if isPromptStanding w past t then PromptStands else 
 unrefused w past (Settling s) t = AnsweredBefore
 unrefused w past (TooShort s) t = RefusedBy 2
 
--- 02, E7: R8 "for a side other than 0 or 1"; then 01, Refusal numbers, R1: "moment 2^48 or more, or before the record's last moment"
+-- And before that R8, "for a side other than 0 or 1", then R1, "moment 2^48 or more, or before the record's last moment"
 unfoldable pub foretold : ℕ → List Event → Call → Came
 foretold w past c =
     if isBadSide (sideOf (c .role)) then RefusedBy 8

@@ -1,9 +1,13 @@
--- Words that only the claims use: those of Conditions.antt and of History.antt's end, and what comes before all else.
+-- Words that only the claims use: those of Conditions.antt and of History.antt's end, a live prompt, and what comes before all else.
 use mathlib.Core.Logic.{_↔_}
-use Rattle.u2f_up_stated.specs.Words.{ℕ, _≡_, R, Presence}
+use Rattle.u2f_up_stated.specs.Words.{ℕ, _+_, _<_, _≡_, R, Opened, Presence}
 use Rattle.u2f_up_stated.specs.Moments.{Told}
-pub use Rattle.u2f_up_stated.specs.Conditions.{BadWindow, BadSide, BadMoment, NotRefused, HasPrompt, HasTouch}
+pub use Rattle.u2f_up_stated.specs.Conditions.{BadWindow, BadSide, BadMoment, NotRefused, HasTouch}
 pub use Rattle.u2f_up_stated.specs.History.{RefusedAt, NamesBadSide, ServesOnce}
+
+-- a live prompt, as `HasTouch` is a live touch: 01, Moments and touches: "The prompt window is 10,000."
+abbrev pub HasPrompt : Presence → ℕ → Type 0
+HasPrompt p t = (m : ℕ) × (p .prompt ≡ Opened m) × (t < m + 10000)
 
 -- 01, Moments and touches: "Touch, check and ask give R6, then R1, before all else."; 02, E7: R8 "after R6 and before R1". Refusal
 -- numbers: "An R refusal changes no buffer and no record." Of any call, which names a side, or the record's own.
