@@ -12,13 +12,13 @@ pub record Says : Type 0 where
   pub lc : ℕ
   pub le : ℕ
 
--- "Numbers of two bytes are big-endian"
+-- `IsPair hi lo n`: these two bytes are n. "Numbers of two bytes are big-endian"
 pub record IsPair (hi lo n : ℕ) : Type 0 where
   pub high : hi ≤ 255
   pub low : lo ≤ 255
   pub is : n ≡ hi * 256 + lo
 
--- "A written Le of 0 means 256 in one byte and 65536 in two": the byte, or the two, that stand for an Le
+-- "A written Le of 0 means 256 in one byte and 65536 in two": `OneByteLe b le`, the byte b stands for le; `TwoByteLe hi lo le`, the two do
 pub data OneByteLe : ℕ → ℕ → Type 0 where
   full : OneByteLe 0x00 256
   plain : {b : ℕ} → 1 ≤ b → b ≤ 255 → OneByteLe b b
@@ -66,7 +66,8 @@ pub record InStrictTable (frame : List ℕ) (says : Says) (content : List ℕ) :
   pub table : InTable frame says content
   pub row : IsoRow (says .shape) (says .lc)
 
--- ---- reading is the table. Each claim is made of two programs: of the reading with `InTable`, of the strict one with `InStrictTable`
+-- ---- reading is the table. Each claim is made of both readings: `Table` is `InTable` for the definition `readOf`, and `InStrictTable` for
+-- the strict one, `strictOf`
 
 -- A frame is read exactly when it is in the table, and then as its row says.
 abbrev pub ReadExactly : (List ℕ → Says → List ℕ → Type 0) → (List ℕ → Outcome Says) → Type 0

@@ -6,7 +6,7 @@ use Words.*
 pub data IsoCase : Type 0 where
   Case1 Case2S Case3S Case4S Case2E Case3E Case4E : IsoCase
 
--- the column "the body". A length test stands before each byte that is looked at
+-- the column "the body": B1 is `byte b 0`, B2B3 `pairAt b 1`. A length test stands before each byte that is looked at
 abbrev pub isCase : IsoCase → List ℕ → Bool
 isCase Case1 b = eqb (length b) 0  -- 1 | L = 0
 isCase Case2S b = eqb (length b) 1  -- 2S | L = 1
@@ -16,7 +16,7 @@ isCase Case2E b = leb 1 (length b) && eqb (byte b 0) 0 && eqb (length b) 3  -- 2
 isCase Case3E b = leb 3 (length b) && eqb (byte b 0) 0 && not (eqb (pairAt b 1) 0) && eqb (length b) (3 + pairAt b 1)  -- 3E | B1 = 00, B2B3 not 0, L = 3 + B2B3
 isCase Case4E b = leb 3 (length b) && eqb (byte b 0) 0 && not (eqb (pairAt b 1) 0) && eqb (length b) (5 + pairAt b 1)  -- 4E | B1 = 00, B2B3 not 0, L = 5 + B2B3
 
--- which of document 01's shapes each case is, by the names of its table; `shapeNo` is the table's number of a name
+-- which of document 01's shapes (`Case`) each case is, by the names of its table; `shapeNo` is the table's number of a name
 abbrev pub shapeFor : IsoCase → Case
 shapeFor Case1 = Instruction
 shapeFor Case2S = Le1

@@ -1,11 +1,11 @@
 -- Document 01, 'The decision', with document 02, E2's C0 and E7's sides, as one table: each row with its conditions, in the document's order,
--- and the whole result: answer, record, order, whether the counter was taken. Terms first; the claim, `DecidesExactly`, last. What a
--- record says to a moment and a side (`NotRefused`, `HasTouch`, ..): u2f_up_stated's Conditions.antt.
+-- and the whole result. Throughout, p is the record, t the moment, a what is lent, said what the frame says. Terms first; the claim,
+-- `DecidesExactly`, last.
 mod Words
 use Words.*
 
--- ---- results: an answer, the record after it, the order, whether the counter was taken; and one without an order, whose place a blank one
--- takes that is of no layout
+-- ---- results: an answer, the record after it, the order, whether the counter was taken; and one without an order, in whose place stands a
+-- blank one
 abbrev pub result : Outcome DecisionGives → Presence → Order → Bool → DecisionResult
 result answer after order taken = record { answer = answer; presence = after; order = order; taken = taken }
 
@@ -23,7 +23,8 @@ spentAt p t = record { w = p .w; prompt = p .prompt; touch = Closed; last = t; a
 abbrev pub promptedAt : Presence → (side t : ℕ) → Presence
 promptedAt p s t = record { w = p .w; prompt = Opened t; touch = p .touch; last = t; asker = s }
 
--- "Register, 130 + h: 00, application, challenge, handle, public key (04, x, y)", with the certificate's length
+-- "Register, 130 + h: 00, application, challenge, handle, public key (04, x, y)", with the certificate's length. (`registerOrderOf` and
+-- `authenticateOrderOf` lay the fields out so: signing_stated's Orders.antt.)
 abbrev pub orderOfRegister : Inputs → Says → Order
 orderOfRegister a said =
     registerOrderOf
@@ -56,7 +57,7 @@ Comes a c = (a .hardware .allowed ≡ Allowed′.Yes) × (commandOf (a .frame) �
 abbrev pub Fetching : Presence → ℕ → Inputs → Type 0
 Fetching p t a = NotRefused p (a .side) t × Comes a GetResponse × (0 < a .remainder .count)
 
--- "139 + h + c"
+-- "139 + h + c", h and c the lengths of handle and certificate
 abbrev pub roomOfRegister : Inputs → ℕ
 roomOfRegister a = 139 + length (a .newHandle) + length (a .certificate)
 
@@ -120,7 +121,8 @@ pub data Answers (p : Presence) (t : ℕ) (a : Inputs) : DecisionResult → Type
       → Answers p t a (result (Gives Ordered) (movedAt p t) (orderOfAuthenticate a said 0x00 n) true)
   -- 02, E2: "C0 after the CLA check gives 6a86 .., then 6700 .." (the frame's status, as above), "then 6985 when nothing remains; then .. R2
   -- when the lent body is too short for its remainder or the buffer for part and status"; else the next part, and what remains after it.
-  -- `frameLimit` and `partLength` say how many bytes go out
+  -- `frameLimit frame` is the most that it takes: Le, 256 where absent, and 0, no limit, in an extended shape; `partLength limit count` is count,
+  -- or the limit if that is less
   fetch-nothing : NotRefused p (a .side) t → Comes a GetResponse → a .remainder .count ≡ 0 → Answers p t a (unordered (SW 0x6985) (movedAt p t))
   fetch-short-body : Fetching p t a → a .room < a .remainder .place + a .remainder .count → Answers p t a (unordered (R 2) p)
   fetch-short-part : Fetching p t a → a .remainder .place + a .remainder .count ≤ a .room → a .partRoom < partLength (frameLimit (a .frame)) (a .remainder .count) + 2

@@ -1,6 +1,6 @@
 -- A presence record p has a touch window length W (`p .w`), two windows, prompt and touch, each `Closed` or `Opened m`, a last moment
--- (`p .last`) and the number of the side that asked last (`p .asker`). What it says at a moment t to a call that names a side: document
--- 01, 'Moments and touches' and 'Refusal numbers', document 02, E7, with their numbers.
+-- (`p .last`) and the number of the side that asked last (`p .asker`): 0 is USB, 1 wireless. What it says at a moment t to a call that
+-- names a side: document 01, 'Moments and touches' and 'Refusal numbers', document 02, E7.
 mod Words
 use Words.*
 
