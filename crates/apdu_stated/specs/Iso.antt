@@ -26,16 +26,12 @@ shapeFor Case2E = Le3
 shapeFor Case3E = Lc3Data
 shapeFor Case4E = Lc3DataLe2
 
--- ours: what the ordinary reading, as the Rust does, takes beyond ISO's table: an extended Lc of 0 before an Le (shape 7). The Rust's other
--- form, an extended Lc with a one-byte Le, is retired (02, E13)
+-- ours: what the ordinary reading, as the Rust does, takes beyond ISO's table: an extended Lc of 0 before an Le
 abbrev pub isTolerated : ℕ → ℕ → Bool
 isTolerated shape lc = eqb shape 7 && eqb lc 0
 
--- ---- the strict table of InTable.antt is ISO's seven cases; `drop 4 frame` is the body. That the other is these and the tolerated form:
--- `IsoExactly` and `ToleratedExactly`, Claims.antt
-
 -- 02, E4: "The strict frames are then ISO's seven cases": a body is of an ISO case exactly when its frame is read strictly in that case's
--- shape; and what is read strictly is of a case.
+-- shape; and what is read strictly is of a case. (That the ordinary reading is these and the tolerated form: Claims.antt.)
 pub record StrictIsIso (strict : List ℕ → Outcome Says) : Type 0 where
   pub each-case : (frame : List ℕ) (c : IsoCase) → 4 ≤ length frame
       → (isCase c (drop 4 frame) ≡ true) ↔ ((says : Says) × (strict frame ≡ Gives says) × (says .shape ≡ shapeNo (shapeFor c)))

@@ -1,7 +1,7 @@
 -- Document 01, 'From frame to command': "In this order: shape (6a80, 6700); CLA not 0 gives 6e00; then by INS". Document 02, E1: "The
 -- 6700s for Lc against INS are a third kind, with place 4 in every shape"; a frame's own pair is carried upward.
--- What a frame says, or its status, is `readOf frame`, by the claims of apdu_stated's InTable.antt; the bytes of its data, `dataOf frame
--- said`. First a command or a status, then the parts of the data, last the source's types.
+-- What a frame says, or its status, is `readOf frame`, by the claims of InTable.antt; the bytes of its data, `dataOf frame said`. First a
+-- command or a status, then the parts of the data, last the source's types.
 mod Words
 use Words.*
 pub use Rattle.command_stated.specs.declared.Ctap1Flags.{Ctap1Flags}

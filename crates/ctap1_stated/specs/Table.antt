@@ -130,7 +130,6 @@ pub data Answers (p : Presence) (t : ℕ) (a : Inputs) : DecisionResult → Type
   fetch : (n : ℕ) → n ≡ partLength (frameLimit (a .frame)) (a .remainder .count) → Fetching p t a → a .remainder .place + a .remainder .count ≤ a .room → n + 2 ≤ a .partRoom
       → Answers p t a (unordered (Gives (Part (n + 2) (rest (a .remainder .place + n) (a .remainder .count - n)))) (movedAt p t))
 
--- Whatever is lent, the result is one that the table has for it. The rows exclude each other, so each answer comes exactly under its row's
--- conditions, and no other decision meets this (proofs/Only.antt).
+-- Whatever is lent, the result is the one that the table has for it: there is one alone (proofs/Only.antt).
 abbrev pub DecidesExactly : Decider → Type 0
 DecidesExactly decide = (p : Presence) (t : ℕ) (a : Inputs) → Answers p t a (decide p t a)

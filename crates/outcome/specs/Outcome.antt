@@ -1,6 +1,6 @@
--- What a call comes to, in the documents' numbers: document 01, 'Refusal numbers', and the status words that its sections name (ISO 7816-4);
--- document 02, E1: what a 6700 says beside its number. A refusal tells the firmware that a call was wrong, and is for no host; a status word
--- goes out. First these words, then what the source's types (src/lib.rt) are in them.
+-- What a call comes to, in the documents' numbers: document 01, 'Refusal numbers', and status words (ISO 7816-4); document 02, E1. A refusal
+-- tells the firmware that a call was wrong, and is for no host; a status word goes out. First these words, then what the source's types are
+-- in them.
 mod Words
 use Words.*
 pub use Rattle.outcome.specs.declared.FaultNumbers.{FaultNumbers}
@@ -59,8 +59,7 @@ refusalNo R6 = 6  -- W is 0 or above 60,000, when made or in a record
 refusalNo R7 = 7  -- order not of either layout
 refusalNo R8 = 8  -- 02, E7: a side other than 0 or 1
 
--- 01, 'Refusal numbers': R1 to R7, and 02, E7: R8. The last one is named here alone: the range that the panel's answers leave to refusals ends
--- with it, in the statements and, held to this line by .ci/header, in C.
+-- The last one is named here alone: with it ends the range that the panel's answers leave to refusals, in C too.
 abbrev pub lastRefusal : ℕ
 lastRefusal = 8
 

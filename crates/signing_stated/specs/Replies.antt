@@ -68,10 +68,9 @@ pub data NeedsRoom (o : Order) : ℕ → Type 0 where
 abbrev pub OfLayout : Order → Type 0
 OfLayout o = (room : ℕ) × NeedsRoom o room
 
--- What finishing answers, and the reply buffer after it, on any order: each check once those before it have passed. "Checks: R7, R4, R2
--- (139 + h + c, or 77), signer failed 6f00, R3"; "Bodies, status 9000: Register 05, public key, h in one byte, handle, certificate,
--- signature; Authenticate presence byte, counter, signature"; a body "fills the front of the buffer; the rest stays", and every other
--- answer leaves the buffer.
+-- On any order, each check once those before it have passed: "Checks: R7, R4, R2 (139 + h + c, or 77), signer failed 6f00, R3"; then "Bodies,
+-- status 9000: Register 05, public key, h in one byte, handle, certificate, signature; Authenticate presence byte, counter, signature". A
+-- body "fills the front of the buffer; the rest stays", and every other answer leaves the buffer.
 pub record FinishesExactly (finish : Finishing → Ended) : Type 0 where
   pub r7 : (i : Finishing) → (OfLayout (i .order) → ⊥) → finish i ≡ keeping (R 7) i
   pub r4 : (i : Finishing) → OfLayout (i .order)

@@ -67,10 +67,9 @@ abbrev pub sideAsked : Option Mark → ℕ
 sideAsked none = 0
 sideAsked (some s) = s .side
 
--- The latest prompting refusal, and the accepted touches that no call has spent. The two are told together, each from the past of the
--- other: whether a check was a prompting refusal says what its past held, and whose a touch is says the latest prompting refusal before
--- it. A touch goes when a call of its side spends while it is young; one that has grown old by then was not there to be spent, and
--- stays in the list for good.
+-- The latest prompting refusal, and the accepted touches that no call has spent. The two are told together: whether a check was a prompting
+-- refusal says what its past held, and whose a touch is says the latest prompting refusal before it. A touch goes when a call of its side
+-- spends while it is young; one that is old by then stays in the list for good.
 unfoldable mutual
   pub latestPrompt : ℕ → List Event → Option Mark
   latestPrompt w [] = none
@@ -134,7 +133,7 @@ unfoldable pub served : ℕ → List Event → List Mark
 served w [] = []
 served w (e ∷ past) = if isSpending e then heldFor w past (sideOf (e .call .role)) (e .call .moment) ++ served w past else served w past
 
--- Which touch served a call that spent one, by its number said without a word of what is spent: the latest accepted one before it.
+-- Which touch served a call that spent one, said without a word of what is spent: the latest accepted one before it.
 abbrev pub serverOf : ℕ → List Event → Option Mark
 serverOf w past = latestTouch w past
 
