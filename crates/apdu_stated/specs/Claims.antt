@@ -20,7 +20,7 @@ use Rattle.apdu_stated.specs.Examples.{Example, examples}
 use Rattle.apdu_stated.specs.Contracts.{Row, Fits, StrictHas, Payload, ShapeNumber, Read, ReadStrict, DataPlace, Data, Write, WriteStrict}
 use Rattle.apdu_stated.specs.declared.Lengths.{Lengths}
 use Rattle.apdu_stated.specs.declared.Lengths.the-variants.{Found, Missing, Surplus}
-use Rattle.apdu_stated.specs.Terms.{IsPair, OneByteLe, TwoByteLe, frameWith, saying, InTable, IsoRow, InStrictTable, LcZero, OldForm, Differ, EndsEarly, LongestFront, IsFrameOf, Carries, CarriesStrictly, AreParts, apduOf, span}
+use Rattle.apdu_stated.specs.Terms.{TwoByteLe, frameWith, saying, InTable, IsoRow, InStrictTable, LcZero, OldForm, Differ, EndsEarly, LongestFront, IsFrameOf, Carries, CarriesStrictly, AreParts, apduOf, span}
 
 -- ---- where the length went wrong: 02, E1
 

@@ -1,6 +1,6 @@
--- What is promised of the decision beyond its contract: open this file first. Proved in proofs/Theorems.antt under the same names;
--- proofs/Only.antt shows that no other decision meets them, proofs/Refuted.antt that wrong ones do not. `decide` is any function
--- of a record, a moment and all that is lent.
+-- What is promised of the decision, beyond Table.antt's `DecidesExactly`, which is read first. Proved in proofs/Theorems.antt under the same
+-- names; proofs/Only.antt shows that no other decision meets them, proofs/Refuted.antt that wrong ones do not. `decide` is any function of a
+-- record, a moment and all that is lent.
 use mathlib.Core.Logic.{_↔_, _⊎_}
 use mathlib.Core.Option.{some}
 use Rattle.ctap1_stated.specs.Words.{AtMostOne, StatusWord, R, Word, SW, Gives, wrongLength, [], _∷_, _++_, drop, ℕ, _+_, _*_, _<_, _≤_, _≡_, Bool, true, false, List, length, Presence, DecisionAndLimit, DecisionAnswer, Remainder, rest, Inputs, Allowed, Attestation, Hardware, HardwareSaid, Body, Ordered, Part, DecisionResult, decisionAnswerOf}

@@ -1,5 +1,5 @@
 -- Words that the claims of the crates above are written with.
-use Prim.Native.Nat.{ℕ, _≤_}
+use Prim.Native.Nat.{_≤_}
 use mathlib.Core.Path.{_≡_}
 use Rattle.outcome.specs.Outcome.{StatusWord, Outcome, Word}
 pub use Rattle.outcome.specs.Outcome.{HasStatus}
