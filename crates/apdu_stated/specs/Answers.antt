@@ -1,23 +1,15 @@
 -- What each answer says, in the documents' numbers: a reading's, and a writing's.
 use Prim.Native.Nat.{ℕ, _+_}
 use Rattle.outcome.specs.Outcome.{Outcome, R, Word, Gives, wordOf, refusalNo}
-use Rattle.apdu_stated.specs.Words.{ApduHeader, shapeNo}
+use Rattle.apdu_stated.specs.Words.{shapeNo}
 use Rattle.apdu_stated.specs.Table.{lcField}
+pub use Rattle.apdu_stated.specs.InTable.{Says}
 pub use Rattle.apdu_stated.specs.declared.Apdu.{Apdu}
 pub use Rattle.apdu_stated.specs.declared.Place.{Place}
 pub use Rattle.apdu_stated.specs.declared.Reading.{Reading}
 use Rattle.apdu_stated.specs.declared.Reading.the-variants as Reading′
 pub use Rattle.apdu_stated.specs.declared.Written.{Written}
 use Rattle.apdu_stated.specs.declared.Written.the-variants as Written′
-
--- what a frame says: its header; its shape's number; where its data starts, counted from 0 (after the header and the Lc
--- field) and how many bytes it counts, Lc; how many bytes it expects back, Le
-pub record Says : Type 0 where
-  pub header : ApduHeader
-  pub shape : ℕ
-  pub dataAt : ℕ
-  pub lc : ℕ
-  pub le : ℕ
 
 abbrev pub saysOf : Apdu → Says
 saysOf a = record { header = a .header; shape = shapeNo (a .shape); dataAt = 4 + lcField (a .shape); lc = a .lc; le = a .le }

@@ -1,7 +1,7 @@
--- What is promised of frames: open this file first. Each claim takes the program as its argument; the definitions (`readOf`,
--- `strictOf`, `dataOf` of Reading.antt, `writingOf`, `strictWritingOf` of Writing.antt) meet it by proofs/Theorems.antt, nothing else does by
--- proofs/Only.antt, and the programs of Wrong.antt do not by proofs/Refuted.antt. The words `InTable`, `InStrictTable`, `LongestFront`,
--- `Carries`, `CarriesStrictly`, `OldForm`, `Differ`: Terms.antt. A claim that takes a table is made of both: of `readOf` and `writingOf` with `InTable`,
+-- What is promised of frames, beyond the claims of InTable.antt and Iso.antt, which are read first. Each claim takes the program as its
+-- argument; the definitions (`readOf`, `strictOf`, `dataOf` of Reading.antt, `writingOf`, `strictWritingOf` of Writing.antt) meet it by
+-- proofs/Theorems.antt, nothing else does by proofs/Only.antt, and the programs of Wrong.antt do not by proofs/Refuted.antt. The words
+-- `LongestFront`, `Carries`, `CarriesStrictly`, `OldForm`, `Differ`: Terms.antt. A claim that takes a table is made of both: of `readOf` and `writingOf` with `InTable`,
 -- of `strictOf` and `strictWritingOf` with `InStrictTable`.
 use mathlib.Core.Logic.{_↔_}
 use Rattle.outcome.specs.Notation.{AtMostOne}
@@ -18,35 +18,13 @@ use Rattle.apdu_stated.specs.declared.Reading.the-variants as Reading′
 use Rattle.apdu_stated.specs.declared.Written.the-variants as Written′
 use Rattle.apdu_stated.specs.Writing.{Parts, partsOf}
 use Rattle.apdu_stated.specs.Iso.{IsoCase, isCase, shapeFor, neOf, isTolerated}
+pub use Rattle.apdu_stated.specs.InTable.{ReadExactly, ShortExactly, NoShapeExactly}
+pub use Rattle.apdu_stated.specs.Iso.{IsoCounts, StrictIsIso}
 use Rattle.apdu_stated.specs.Examples.{Example, examples}
 use Rattle.apdu_stated.specs.Contracts.{Row, Fits, StrictHas, Payload, ShapeNumber, Read, ReadStrict, DataPlace, Data, Write, WriteStrict}
 use Rattle.apdu_stated.specs.declared.Lengths.{Lengths}
 use Rattle.apdu_stated.specs.declared.Lengths.the-variants.{Found, Missing, Surplus}
 use Rattle.apdu_stated.specs.Terms.{IsPair, OneByteLe, TwoByteLe, frameWith, saying, InTable, IsoRow, InStrictTable, LcZero, OldForm, Differ, EndsEarly, LongestFront, IsFrameOf, Carries, CarriesStrictly, AreParts, apduOf, span, IsIso, isoHeader, isoSays, isoData}
-
--- ---- reading is the table
-
--- A frame is read exactly when it is in the table, and then as its row says.
--- 01: the table, "Data is exactly Lc bytes", the rule of Le. Rejects a reader that refuses everything, one that always says
--- Instruction, one that reads `00 00 00` as Lc 0, or Le 0 as 0, and one that still reads shape 6 (02, E13). Bites at 00 03 00 00 | 00 00 00, and
--- at 00 03 00 00 | 00 00 00 05.
--- Of the strict entry, 01: "It accepts the ISO cases"; 02, E4: "Strict shape 7 needs Lc 1..65535": rejects one that takes shape 6, and one that
--- takes an Lc of 0. Bites at 00 03 00 00 | 00 00 00 00 05.
-abbrev pub ReadExactly : (List ℕ → Says → List ℕ → Type 0) → (List ℕ → Outcome Says) → Type 0
-ReadExactly Table read =
-    (frame : List ℕ) → AreBytes frame → (says : Says)
-    → (read frame ≡ Gives says) ↔ ((content : List ℕ) × Table frame says content)
-
--- 01: "A frame under 4 bytes gives 6a80", and no other does. Rejects 6700 for a short frame. Bites at 00 03 00.
-abbrev pub ShortExactly : (List ℕ → Outcome Says) → Type 0
-ShortExactly read = (frame : List ℕ) → (read frame ≡ SW 0x6a80) ↔ (length frame < 4)
-
--- 01: "A frame of 4 or more in no shape gives 6700", and no other does, whatever its pair. Rejects a reader that takes `00 01` for a
--- short Lc of 0. Bites at 00 03 00 00 | 00 01.
-abbrev pub NoShapeExactly : (List ℕ → Says → List ℕ → Type 0) → (List ℕ → Outcome Says) → Type 0
-NoShapeExactly Table read =
-    (frame : List ℕ) → AreBytes frame
-    → HasStatus 0x6700 (read frame) ↔ ((4 ≤ length frame) × ((says : Says) (content : List ℕ) → Table frame says content → ⊥))
 
 -- ---- where the length went wrong: 02, E1
 
@@ -185,12 +163,6 @@ IsoExactly read =
     → (isCase c (drop 4 frame) ≡ true)
     ↔ ((says : Says) × (read frame ≡ Gives says) × (says .shape ≡ shapeNo (shapeFor c)) × (isTolerated (says .shape) (says .lc) ≡ false))
 
--- ISO's Nc and Ne: a frame of a case is read with the header that it has, in the case's shape, its Lc is Nc, its Le is Ne, and its data starts behind the Lc
--- field. Of both readings. Rejects a reading that says Le 7 for every case 2S (`le7ForCase2S`), and one that says Nc for the Ne of a case 4S (`ncForNe`). Bites at
--- 00 03 00 00 | 05, and at 00 03 00 00 | 01 AA 05.
-abbrev pub IsoCounts : (List ℕ → Outcome Says) → Type 0
-IsoCounts read = (frame : List ℕ) (c : IsoCase) → IsIso c frame → read frame ≡ Gives (isoSays c frame)
-
 -- What is read and is of no ISO case is the tolerated form, shape 7 with an Lc of 0, and it is of none; and every frame of that form is read.
 -- Rejects a table with a row that ISO lacks, one numbered 9 or the retired sixth, and a reading without the tolerated form. Bites at 00 03 00 00 | 00 01, at
 -- 00 03 00 00 | 00 00 00 05, and at 00 03 00 00 | 00 00 00 00 05.
@@ -201,17 +173,6 @@ pub record ToleratedExactly (read : List ℕ → Outcome Says) : Type 0 where
       → (says : Says) × (read frame ≡ Gives says) × (isTolerated (says .shape) (says .lc) ≡ true)
 
 -- ---- the strict entry
-
--- 02, E4: "The strict frames are then ISO's seven cases": a body is of an ISO case exactly when its frame is read strictly in that case's
--- shape; and what is read strictly is of a case. ISO 7816-3, 12.1.3, by Iso.antt's table, which is written apart.
--- Rejects a strict entry that takes an Lc of 0, or shape 6, and one that refuses an extended Le of 65536 with the Lc of 0. Bites at the certification
--- house's frame, 00 03 00 00 | 00 00 00 00 05.
-pub record StrictIsIso (strict : List ℕ → Outcome Says) : Type 0 where
-  pub each-case : (frame : List ℕ) (c : IsoCase) → 4 ≤ length frame
-      → (isCase c (drop 4 frame) ≡ true) ↔ ((says : Says) × (strict frame ≡ Gives says) × (says .shape ≡ shapeNo (shapeFor c)))
-  pub no-other : (frame : List ℕ) (says : Says) → strict frame ≡ Gives says
-      → (4 ≤ length frame) × ((c : IsoCase) × (isCase c (drop 4 frame) ≡ true) × (says .shape ≡ shapeNo (shapeFor c)))
-  pub counts : IsoCounts strict
 
 -- 01: "It accepts the ISO cases, that is the shapes above without shape 6, and gives 6700 for shape 6"; 02, E4: "with Lc 0 it is 6700":
 -- every answer, each exactly when, by the strict table and the same law as the ordinary reading. Rejects a strict entry that takes shape 6,

@@ -1,19 +1,13 @@
 -- ISO/IEC 7816-3:2006, section 12.1.3: the seven cases of a command, by its body b of L bytes B1 .. BL; of each case Nc, the number of
--- its data bytes, where they stand, and Ne, the most bytes that may come back; and the one form beyond the cases that is tolerated. Written from the public
--- table, apart from document 01's.
-use Prim.Native.Nat.{ℕ, _+_, _-_}
-use mathlib.Core.Bool.{Bool, not, _&&_}
-use mathlib.Core.List.{List}
-use lib.ListN.{length}
-use lib.Dec.{leb, eqb}
-use Rattle.outcome.specs.Notation.{if_then_else_}
-use Rattle.octets.specs.Bytes.{byte, pairAt}
-use Rattle.apdu_stated.specs.Words.{Case, Instruction, Le1, Lc1Data, Lc1DataLe1, Lc3Data, Lc3DataLe2, Le3}
+-- its data bytes, where they stand, and Ne, the most bytes that may come back; and the one form beyond the cases that is tolerated. Written from
+-- the public table, apart from document 01's. The claims, `IsoCounts` and `StrictIsIso`, last.
+mod Words
+use Words.*
 
 pub data IsoCase : Type 0 where
   Case1 Case2S Case3S Case4S Case2E Case3E Case4E : IsoCase
 
--- the column "the body". A length test stands before each byte that is looked at
+-- the column "the body": B1 is `byte b 0`, B2B3 `pairAt b 1`. A length test stands before each byte that is looked at
 abbrev pub isCase : IsoCase → List ℕ → Bool
 isCase Case1 b = eqb (length b) 0  -- 1 | L = 0
 isCase Case2S b = eqb (length b) 1  -- 2S | L = 1
@@ -60,7 +54,7 @@ neOf Case2E b = extendedNe (pairAt b 1)
 neOf Case3E b = 0
 neOf Case4E b = extendedNe (pairAt b (length b - 2))
 
--- which of document 01's shapes each case is
+-- which of document 01's shapes (`Case`) each case is, by the names of its table; `shapeNo` is the table's number of a name
 abbrev pub shapeFor : IsoCase → Case
 shapeFor Case1 = Instruction
 shapeFor Case2S = Le1
@@ -70,7 +64,32 @@ shapeFor Case2E = Le3
 shapeFor Case3E = Lc3Data
 shapeFor Case4E = Lc3DataLe2
 
--- ours: what the ordinary reading, as the Rust does, takes beyond ISO's table: an extended Lc of 0 before an Le (shape 7). The Rust's other
--- form, an extended Lc with a one-byte Le, is retired (02, E13)
+-- ours: what the ordinary reading, as the Rust does, takes beyond ISO's table: an extended Lc of 0 before an Le
 abbrev pub isTolerated : ℕ → ℕ → Bool
 isTolerated shape lc = eqb shape 7 && eqb lc 0
+
+-- `IsIso c frame`: four bytes of header, and behind them a body of the case
+abbrev pub IsIso : IsoCase → List ℕ → Type 0
+IsIso c frame = (4 ≤ length frame) × (isCase c (drop 4 frame) ≡ true)
+
+-- the header, and what a frame of a case says, by ISO's Nc and Ne
+abbrev pub isoHeader : List ℕ → ApduHeader
+isoHeader frame = record { cla = byte frame 0; ins = byte frame 1; p1 = byte frame 2; p2 = byte frame 3 }
+
+abbrev pub isoSays : IsoCase → List ℕ → Says
+isoSays c frame = saying (isoHeader frame) (shapeNo (shapeFor c)) (4 + lcBefore c) (ncOf c (drop 4 frame)) (neOf c (drop 4 frame))
+
+-- ISO's Nc and Ne: a frame of a case is read with the header that it has, in the case's shape, its Lc is Nc, its Le is Ne, and its data starts behind the Lc
+-- field. Of both readings. Rejects a reading that says Le 7 for every case 2S (`le7ForCase2S`), and one that says Nc for the Ne of a case 4S (`ncForNe`). Bites at
+-- 00 03 00 00 | 05, and at 00 03 00 00 | 01 AA 05.
+abbrev pub IsoCounts : (List ℕ → Outcome Says) → Type 0
+IsoCounts read = (frame : List ℕ) (c : IsoCase) → IsIso c frame → read frame ≡ Gives (isoSays c frame)
+
+-- 02, E4: "The strict frames are then ISO's seven cases": a body is of an ISO case exactly when its frame is read strictly in that case's
+-- shape; and what is read strictly is of a case. (That the ordinary reading is these and the tolerated form: Claims.antt.)
+pub record StrictIsIso (strict : List ℕ → Outcome Says) : Type 0 where
+  pub each-case : (frame : List ℕ) (c : IsoCase) → 4 ≤ length frame
+      → (isCase c (drop 4 frame) ≡ true) ↔ ((says : Says) × (strict frame ≡ Gives says) × (says .shape ≡ shapeNo (shapeFor c)))
+  pub no-other : (frame : List ℕ) (says : Says) → strict frame ≡ Gives says
+      → (4 ≤ length frame) × ((c : IsoCase) × (isCase c (drop 4 frame) ≡ true) × (says .shape ≡ shapeNo (shapeFor c)))
+  pub counts : IsoCounts strict

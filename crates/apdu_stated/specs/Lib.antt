@@ -1,4 +1,5 @@
 pub mod Words
+pub mod InTable
 pub mod Table
 pub mod Answers
 pub mod Reading

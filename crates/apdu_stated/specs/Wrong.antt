@@ -17,10 +17,11 @@ use Rattle.apdu_stated.specs.Terms.{saying, apduOf}
 
 -- ---- reading
 
--- 01: "Demand 2 shuts out a reader that refuses everything, one that always says Instruction"
+-- 01: "Demand 2 shuts out a reader that refuses everything, one that always says Instruction". Fails `ReadExactly`.
 abbrev pub refusesEverything : List ℕ → Outcome Says
 refusesEverything frame = SW 0x6700
 
+-- fails `ReadExactly`
 abbrev pub alwaysInstruction : List ℕ → Outcome Says
 alwaysInstruction frame = Gives (saying (headerOf frame) 1 4 0 0)
 
@@ -30,18 +31,19 @@ leZero (Gives s) = Gives (saying (s .header) (s .shape) (s .dataAt) (s .lc) (if 
 leZero (Word s) = Word s
 leZero (R n) = R n
 
+-- fails `ReadExactly`
 abbrev pub leZeroAsZero : List ℕ → Outcome Says
 leZeroAsZero frame = leZero (readOf frame)
 
--- "`00 00 00` read as Lc 0", a mistake that a quick port makes
+-- "`00 00 00` read as Lc 0", a mistake that a quick port makes. Fails `ReadExactly`, at 00 03 00 00 | 00 00 00.
 abbrev pub le3AsLcZero : List ℕ → Outcome Says
 le3AsLcZero frame = if eqb (length frame) 7 && eqb (byte frame 4) 0 && eqb (pairAt frame 5) 0 then Gives (saying (headerOf frame) 5 7 0 0) else readOf frame
 
--- "A frame under 4 bytes gives 6a80"
+-- "A frame under 4 bytes gives 6a80". Fails `ShortExactly`, at 00 03 00.
 abbrev pub shortGets6700 : List ℕ → Outcome Says
 shortGets6700 frame = if ltb (length frame) 4 then SW 0x6700 else readOf frame
 
--- "Lc 1..255": here `00 01` is a short Lc of 0 and an Le of 1
+-- "Lc 1..255": here `00 01` is a short Lc of 0 and an Le of 1. Fails `NoShapeExactly`, at 00 03 00 00 | 00 01.
 abbrev pub shortLcZero : List ℕ → Outcome Says
 shortLcZero frame = if eqb (length frame) 6 && eqb (byte frame 4) 0 then Gives (saying (headerOf frame) 4 5 0 (byte frame 5)) else readOf frame
 
@@ -107,9 +109,11 @@ isOld frame = eqb (byte frame 4) 0x00 && eqb (length frame) (8 + pairAt frame 5)
 abbrev oldSaid : List ℕ → Outcome Says
 oldSaid frame = Gives (saying (headerOf frame) 6 7 (pairAt frame 5) (leRead 1 (byte frame (7 + pairAt frame 5))))
 
+-- fails `ReadExactly`, at 00 03 00 00 | 00 00 00 05
 abbrev pub oldFormStillRead : List ℕ → Outcome Says
 oldFormStillRead frame = if isOld frame then oldSaid frame else readOf frame
 
+-- fails `StrictIsIso`, at 00 03 00 00 | 00 00 00 05
 abbrev pub strictStillReadsOldForm : List ℕ → Outcome Says
 strictStillReadsOldForm frame = if isOld frame then oldSaid frame else strictOf frame
 
@@ -138,7 +142,8 @@ pairDropped frame = withoutPair (readOf frame)
 abbrev pub strictRefusesEverything : List ℕ → Outcome Says
 strictRefusesEverything frame = SW 0x6700
 
--- "Strict shape 7 needs Lc 1..65535": here it takes Lc 0, as it did before
+-- "Strict shape 7 needs Lc 1..65535": here it takes Lc 0, as it did before.
+-- Fails `StrictIsIso`, at the certification house's frame, 00 03 00 00 | 00 00 00 00 05.
 abbrev pub strictTakesLcZero : List ℕ → Outcome Says
 strictTakesLcZero frame = if eqb (length frame) 9 && eqb (byte frame 4) 0x00 && eqb (pairAt frame 5) 0 then readOf frame else strictOf frame
 
@@ -146,7 +151,7 @@ strictTakesLcZero frame = if eqb (length frame) 9 && eqb (byte frame 4) 0x00 && 
 abbrev pub strictLcZeroAt9 : List ℕ → Outcome Says
 strictLcZeroAt9 frame = if ltb 9 (length frame) && eqb (byte frame 4) 0x00 && eqb (pairAt frame 5) 0 then surplusAt 9 else strictOf frame
 
--- "longer than 7 bytes": here an extended Le of 65536, in 7 bytes, is refused with the Lc of 0
+-- "longer than 7 bytes": here an extended Le of 65536, in 7 bytes, is refused with the Lc of 0. Fails `StrictIsIso`, at 00 03 00 00 | 00 00 00.
 abbrev pub strictRefusesLe3 : List ℕ → Outcome Says
 strictRefusesLe3 frame = if eqb (length frame) 7 && eqb (byte frame 4) 0x00 && eqb (pairAt frame 5) 0 then missingAt 7 else strictOf frame
 

@@ -1,13 +1,12 @@
 -- Document 01, 'From frame to command': "In this order: shape (6a80, 6700); CLA not 0 gives 6e00; then by INS". Document 02, E1: "The
 -- 6700s for Lc against INS are a third kind, with place 4 in every shape"; a frame's own pair is carried upward.
--- Covered: every status of command reading, in its order, with its pair; the parts of the data.
-use Rattle.command_stated.specs.Words.{ℕ, _+_, Bool, not, _||_, List, ltb, eqb, if_then_else_, Outcome, R, Word, SW, Gives, againstIns, wordOf, byte, partOf, Place}
-use Rattle.apdu_stated.specs.Answers.{Says, saysOf}
-use Rattle.apdu_stated.specs.Reading.{readOf, dataOf}
+-- What a frame says, or its status, is `readOf frame`, by the claims of InTable.antt; the bytes of its data, `dataOf frame said`. First a
+-- command or a status, then the parts of the data, last the source's types.
+mod Words
+use Words.*
 pub use Rattle.command_stated.specs.declared.Ctap1Flags.{Ctap1Flags}
 pub use Rattle.command_stated.specs.declared.Ctap1Flags.the-variants.{CheckOnly, EnforceUpAndSign, DontEnforceUpAndSign}
 pub use Rattle.command_stated.specs.declared.U2fCommand.{U2fCommand}
-use Rattle.command_stated.specs.declared.U2fCommand.the-variants as U2fCommand′
 
 -- a command, with what its frame says; an Authenticate with its P1
 pub data Command : Type 0 where
@@ -15,20 +14,6 @@ pub data Command : Type 0 where
   Authenticate : ℕ → Says → Command
   Version : Command
   GetResponse : Command
-
--- FIDO: control byte in P1: 07 check only, 03 enforce user presence and sign, 08 don't enforce user presence and sign
-abbrev pub flagsNo : Ctap1Flags → ℕ
-flagsNo CheckOnly = 0x07
-flagsNo EnforceUpAndSign = 0x03
-flagsNo DontEnforceUpAndSign = 0x08
-
--- what a command reading answers
-abbrev pub commandSaid : U2fCommand → Outcome Command
-commandSaid (U2fCommand′.Register says) = Gives (Register (saysOf says))
-commandSaid (U2fCommand′.Authenticate flags says) = Gives (Authenticate (flagsNo flags) (saysOf says))
-commandSaid U2fCommand′.Version = Gives Version
-commandSaid U2fCommand′.GetResponse = Gives GetResponse
-commandSaid (U2fCommand′.Status s) = Word (wordOf s)
 
 -- "01 Register: Lc not 64 gives 6700. P1 is not looked at."
 unfoldable pub registerOf : Says → Outcome Command
@@ -101,3 +86,18 @@ handlePlaceOf said = record { start = said .dataAt + 65; end = said .dataAt + sa
 
 unfoldable pub handleOf : List ℕ → Says → List ℕ
 handleOf frame said = partOf frame (handlePlaceOf said .start) (handlePlaceOf said .end)
+
+-- ---- the source's types
+
+-- FIDO: control byte in P1: 07 check only, 03 enforce user presence and sign, 08 don't enforce user presence and sign
+abbrev pub flagsNo : Ctap1Flags → ℕ
+flagsNo CheckOnly = 0x07
+flagsNo EnforceUpAndSign = 0x03
+flagsNo DontEnforceUpAndSign = 0x08
+
+abbrev pub commandSaid : U2fCommand → Outcome Command
+commandSaid (U2fCommand′.Register says) = Gives (Register (saysOf says))
+commandSaid (U2fCommand′.Authenticate flags says) = Gives (Authenticate (flagsNo flags) (saysOf says))
+commandSaid U2fCommand′.Version = Gives Version
+commandSaid U2fCommand′.GetResponse = Gives GetResponse
+commandSaid (U2fCommand′.Status s) = Word (wordOf s)

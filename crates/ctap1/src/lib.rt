@@ -70,6 +70,8 @@ fn ordered(order: Head, settled: Presence, taken: bool) -> Decision
     }
 }
 
+// `along .. kept settled side moment`: the record as it was lent, then as settling left it. Side and moment are looked at by the touch check
+// alone, which a Version never comes to: here they are lent as 0 and 0.
 fn version(kept: Presence, settled: Presence, reply: &mut [u8]) -> Decision
     ensures { λ r. ⌜ handedFrom r ≡ handedOf (along (versionPath (length (now (reply .entry)))) kept settled 0 0) ⌝ }
     ensures { λ _. ⌜ now (reply .exit) ≡ replyLeft (along (versionPath (length (now (reply .entry)))) kept settled 0 0) (now (reply .entry)) ⌝ }

@@ -1,6 +1,6 @@
--- What is promised of the decision beyond its contract: open this file first. Proved in proofs/Theorems.antt under the same names;
--- proofs/Only.antt shows that no other decision meets them, proofs/Refuted.antt that wrong ones do not. `decide` is any function
--- of a record, a moment and all that is lent.
+-- What is promised of the decision, beyond Table.antt's `DecidesExactly`, which is read first. Proved in proofs/Theorems.antt under the same
+-- names; proofs/Only.antt shows that no other decision meets them, proofs/Refuted.antt that wrong ones do not. `decide` is any function of a
+-- record, a moment and all that is lent.
 use mathlib.Core.Logic.{_↔_, _⊎_}
 use mathlib.Core.Option.{some}
 use Rattle.ctap1_stated.specs.Words.{AtMostOne, StatusWord, R, Word, SW, Gives, wrongLength, [], _∷_, _++_, drop, ℕ, _+_, _*_, _<_, _≤_, _≡_, Bool, true, false, List, length, Presence, DecisionAndLimit, DecisionAnswer, Remainder, rest, Inputs, Enrolment, Allowed, Attestation, Hardware, HardwareSaid, DecisionGives, Body, Ordered, Part, DecisionResult, handedOf, decisionAnswerOf, Outcome, Refusal, ApduStatusCode, wordOf, refusalNo}
@@ -10,6 +10,7 @@ use Rattle.ctap1_stated.specs.OneSide.{baseWith, sidelessResult}
 use Rattle.ctap1_stated.specs.Contracts.{Buffers, Decide}
 use Rattle.ctap1_stated.specs.Terms.{Decider, AreBlocks, withContents, AsLong, HasInsC0, result, movedAt, spentAt, onSide, Comes, OrdersPresent, checkOnlyAnswer}
 use Rattle.ctap1_stated.specs.Table.{Answers}
+pub use Rattle.ctap1_stated.specs.Table.{DecidesExactly}
 use Rattle.ctap1_stated.specs.declared.Allowed.the-variants as Allowed′
 use Rattle.ctap1_stated.specs.declared.Attestation.the-variants as Attestation′
 use Rattle.ctap1_stated.specs.declared.Counter.the-variants as Counter′
@@ -57,16 +58,6 @@ pub record OrdersHaveTheirTouch (decide : Decider) : Type 0 where
       → j .number ≡ k .number → ⊥
 
 -- ---- the whole decision
-
--- Whatever is lent, the result is the one that document 01's table, with E2's C0, has for it: specs/Table.antt, row by row, each answer with its record,
--- order and counter. So each answer comes exactly under its row's conditions. A decision that looks at the frame before 'allowed'
--- (`frameFirst`), at the touch before the room (`touchFirst`), at the store before the touch (`storeFirst`), at P1 07 before the
--- handle (`checkOnlyFirst`), or asks a check-only for room (`roomFirst`) fails it; and so does a C0 whose 6985 opens a prompt
--- (`fetchPrompts`), that finds R2 before 6985 (`roomBeforeNothing`), or whose part is moved one byte too far (`fetchSkips`); and so does a
--- decision whose 6985 to the other side opens a prompt (`otherSidePrompts`) or gives that side the touch (`otherSideTakes`), and one whose prompting
--- refusal keeps the earlier asker (`askerKept`).
-abbrev pub DecidesExactly : Decider → Type 0
-DecidesExactly decide = (p : Presence) (t : ℕ) (a : Inputs) → Answers p t a (decide p t a)
 
 -- 02, E7: "R8 for a side other than 0 or 1, named or in the record, after R6 and before R1"; ours: it is asked at every decision,
 -- at Version, check-only and C0 too. So it comes exactly then, whatever the frame, the moment and the rest that is lent. A decision that does

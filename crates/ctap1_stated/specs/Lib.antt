@@ -1,3 +1,4 @@
+pub mod Inputs
 pub mod Words
 pub mod Numbers
 pub mod Path

@@ -1,4 +1,4 @@
--- What the decision is lent and what it answers, in document 01's words; the names that the other files here are written with.
+-- What the decision is lent and what it answers (Inputs.antt) beside the source's types; the names that the other files here are written with.
 pub use Prim.Native.Nat.{ℕ, _+_, _*_, _<_, _≤_}
 pub use mathlib.Core.Path.{_≡_}
 pub use mathlib.Core.Bool.{Bool, true, false, not}
@@ -24,20 +24,7 @@ pub use Rattle.ctap1_stated.specs.declared.DecisionAnswer.{DecisionAnswe
 use Rattle.ctap1_stated.specs.declared.DecisionAnswer.the-variants as DecisionAnswer′
 pub use Rattle.ctap1_stated.specs.declared.Decision.{Decision}
 pub use Rattle.ctap1_stated.specs.declared.DecisionAndLimit.{DecisionAndLimit}
-
--- 01, The decision: "Lent in: frame, moment, whether CTAP1 is allowed .., reply buffer, and the hardware's answers": all of it but
--- the moment, which stands apart with the record; and 02, E7: "every decision .. names its side"
-pub record Inputs : Type 0 where
-  pub side : ℕ
-  pub frame : List ℕ
-  pub hardware : Hardware  -- allowed; new handle stored; attestation; given handle good; counter
-  pub newHandle : List ℕ
-  pub certificate : List ℕ
-  pub x : List ℕ
-  pub y : List ℕ
-  pub room : ℕ  -- the reply buffer's length
-  pub remainder : Remainder  -- 02, E2: what of the body in that buffer is still to be fetched
-  pub partRoom : ℕ  -- the length of the buffer for part and status, lent apart
+pub use Rattle.ctap1_stated.specs.Inputs.{Inputs, DecisionGives, Body, Ordered, Part, DecisionResult, Decider}
 
 -- what of this goes into the order of a Register
 pub record Enrolment : Type 0 where
@@ -71,26 +58,12 @@ isPresent Attestation′.Present = true
 isPresent Attestation′.Missing = false
 isPresent Attestation′.Failed = false
 
--- what a decision without a refusal or a status other than 9000 comes to: a body of n bytes, status 9000, an order, or (02, E2) the
--- next part of an earlier body, which is a response already: its length, and what remains after it
-pub data DecisionGives : Type 0 where
-  Body : ℕ → DecisionGives
-  Ordered : DecisionGives
-  Part : ℕ → Remainder → DecisionGives
-
 -- 01: the answer's numbers, one line a case
 abbrev pub decisionAnswerOf : DecisionAnswer → Outcome DecisionGives
 decisionAnswerOf (DecisionAnswer′.Refused why) = R (refusalNo why)
 decisionAnswerOf (DecisionAnswer′.Status s) = Word (wordOf s)
 decisionAnswerOf (DecisionAnswer′.Body n) = Gives (Body n)
 decisionAnswerOf DecisionAnswer′.Order = Gives Ordered
-
--- the answer, the record afterwards, the order, whether the counter was taken
-pub record DecisionResult : Type 0 where
-  pub answer : Outcome DecisionGives
-  pub presence : Presence
-  pub order : Order
-  pub taken : Bool
 
 -- a result as it is handed back: of the order its head, since the block is lent
 pub record DecisionHanded : Type 0 where

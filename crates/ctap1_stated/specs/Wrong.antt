@@ -38,6 +38,7 @@ onFrame a (R n) = pathOf a
 onFrame a (Word s) = Ends s
 onFrame a (Gives c) = pathOf a
 
+-- fails `DecidesExactly`
 abbrev pub frameFirst : Decider
 frameFirst = decideBy (λ a. onFrame a (commandOf (a .frame)))
 
@@ -47,6 +48,7 @@ onSwapped a Allowed′.Failed = Status 0x6986
 onSwapped a Allowed′.No = Status 0x6f00
 onSwapped a Allowed′.Yes = pathOf a
 
+-- fails `DecidesExactly`
 abbrev pub noAndFailed : Decider
 noAndFailed = decideBy (λ a. onSwapped a (a .hardware .allowed))
 
@@ -74,10 +76,11 @@ registerWithin least a said = if ltb (a .room) (least + length (a .newHandle) + 
 abbrev pub room138 : Decider
 room138 = registerAs (registerWithin 138)
 
+-- fails `DecidesExactly`
 abbrev pub room140 : Decider
 room140 = registerAs (registerWithin 140)
 
--- "touch check, 6985; then 6f00 if the store failed": the store first
+-- "touch check, 6985; then 6f00 if the store failed": the store first. Fails `DecidesExactly`.
 abbrev pub storeFirst : Decider
 storeFirst = registerAs (λ a said. if not (a .hardware .stored) then Status 0x6f00 else registerPath a said)
 
@@ -100,6 +103,7 @@ isNotFailed Attestation′.Present = true
 isNotFailed Attestation′.Missing = true
 isNotFailed Attestation′.Failed = false
 
+-- fails `DecidesExactly`
 abbrev pub missingTaken : Decider
 missingTaken = registerAs (registerEnds 255 isNotFailed registerOrdered)
 
@@ -125,11 +129,11 @@ authenticateOr path a (Gives (Authenticate p1 said)) = path a p1 said
 abbrev authenticateAs : (Inputs → ℕ → Says → DecisionPath) → Decider
 authenticateAs path = decideBy (λ a. ifAllowed (a .hardware .allowed) (authenticateOr path a (commandOf (a .frame))))
 
--- "handle not good gives 6a80; P1 07 gives 6985": P1 07 first
+-- "handle not good gives 6a80; P1 07 gives 6985": P1 07 first. Fails `DecidesExactly`.
 abbrev pub checkOnlyFirst : Decider
 checkOnlyFirst = authenticateAs (λ a p1 said. if eqb p1 0x07 then Status 0x6985 else authenticatePath a p1 said)
 
--- "P1 07 gives 6985; buffer under 77 gives R2": a check-only is asked for room
+-- "P1 07 gives 6985; buffer under 77 gives R2": a check-only is asked for room. Fails `DecidesExactly`.
 abbrev pub roomFirst : Decider
 roomFirst = authenticateAs (λ a p1 said. if ltb (a .room) 77 then NoRoom else authenticatePath a p1 said)
 
@@ -141,10 +145,11 @@ authenticateEnds least ends08 a p1 said =
     else if eqb p1 0x03 then Touch (countedEnding (a .frame) said true (a .hardware .counter))
     else Signs (ends08 a said)
 
--- "buffer under 77 gives R2": 76 is enough, 77 is not
+-- "buffer under 77 gives R2": 76 is enough, 77 is not. Fails `DecidesExactly`.
 abbrev pub room76 : Decider
 room76 = authenticateAs (authenticateEnds 76 (λ a said. countedEnding (a .frame) said false (a .hardware .counter)))
 
+-- fails `DecidesExactly`
 abbrev pub room78 : Decider
 room78 = authenticateAs (authenticateEnds 78 (λ a said. countedEnding (a .frame) said false (a .hardware .counter)))
 
@@ -157,10 +162,11 @@ abbrev turnedEnding : List ℕ → Says → Counter → PathEnd
 turnedEnding frame said Counter′.Failed = WrongData
 turnedEnding frame said (Counter′.Offered n) = Orders (authenticateOrderOf (record { application = challengeOf frame said; presence = 0x00; counter = bytes4 n; challenge = applicationOf frame said })) true
 
+-- fails `DecidesExactly`
 abbrev pub challengeFirst : Decider
 challengeFirst = authenticateAs (authenticateEnds 77 (λ a said. turnedEnding (a .frame) said (a .hardware .counter)))
 
--- "for P1 03 touch check": 08 asks for a touch and 03 does not
+-- "for P1 03 touch check": 08 asks for a touch and 03 does not. Fails `DecidesExactly`.
 abbrev pub touchOf08 : Decider
 touchOf08 = authenticateAs (λ a p1 said. if not (a .hardware .good) then Status 0x6a80 else if eqb p1 0x07 then Status 0x6985 else if ltb (a .room) 77 then NoRoom else if eqb p1 0x08 then Touch (countedEnding (a .frame) said true (a .hardware .counter)) else Signs (countedEnding (a .frame) said false (a .hardware .counter)))
 
@@ -213,7 +219,7 @@ shortAs short (Fetches sent) kept settled side t = along (Fetches sent) kept set
 shortAs short (Signs e) kept settled side t = along (Signs e) kept settled side t
 shortAs short (Touch e) kept settled side t = along (Touch e) kept settled side t
 
--- "R2 ..; touch check, 6985": the touch check first, and R2 after it
+-- "R2 ..; touch check, 6985": the touch check first, and R2 after it. Fails `DecidesExactly`.
 abbrev pub touchFirst : Decider
 touchFirst = decideAlong (shortAs (λ kept settled side t. if not (checkedOf settled side t .yes) then statusResult 0x6985 (checkedOf settled side t .presence) else refusalResult 2 kept))
 
@@ -278,7 +284,7 @@ orderAt6985 = decideAlong (touchAs (λ f settled e. if not (f .yes) then record 
 abbrev pub touchKept : Decider
 touchKept = decideAlong (touchAs (λ f settled e. if not (f .yes) then statusResult 0x6985 (f .presence) else ended e settled))
 
--- 6985 with a touch, and on without
+-- 6985 with a touch, and on without. Fails `DecidesExactly`.
 abbrev pub touchTurned : Decider
 touchTurned = decideAlong (touchAs (λ f settled e. if f .yes then statusResult 0x6985 (f .presence) else ended e (f .presence)))
 
@@ -296,12 +302,15 @@ besideOr other p s t =
 abbrev pub servesOther : Decider
 servesOther = decideAlong (checkAs (besideOr (λ p s t. record { yes = true; presence = touchClosed p })))
 
+-- fails `DecidesExactly`
 abbrev pub otherSidePrompts : Decider
 otherSidePrompts = decideAlong (checkAs (besideOr (λ p s t. record { yes = false; presence = promptOpened p (p .asker) t })))
 
+-- fails `DecidesExactly`
 abbrev pub otherSideTakes : Decider
 otherSideTakes = decideAlong (checkAs (besideOr (λ p s t. record { yes = false; presence = record { w = p .w; prompt = p .prompt; touch = p .touch; last = p .last; asker = s } })))
 
+-- fails `DecidesExactly`
 abbrev pub askerKept : Decider
 askerKept = decideAlong (checkAs (λ p s t. if not (isLive (p .touch) (p .w) t) then record { yes = false; presence = promptOpened p (p .asker) t } else checkedOf p s t))
 
@@ -379,11 +388,11 @@ fetchAs path a (Gives GetResponse) = path a
 fetchAs path a (Gives (Register said)) = commandPath a (Gives (Register said))
 fetchAs path a (Gives (Authenticate p1 said)) = commandPath a (Gives (Authenticate p1 said))
 
--- "6985 when nothing remains": it is a touch check, and opens a prompt
+-- "6985 when nothing remains": it is a touch check, and opens a prompt. Fails `DecidesExactly`.
 abbrev pub fetchPrompts : Decider
 fetchPrompts = decideBy (λ a. ifAllowed (a .hardware .allowed) (fetchAs (λ b. if eqb (b .remainder .count) 0 then Touch WrongData else commandPath b (Gives GetResponse)) a (commandOf (a .frame))))
 
--- "then 6985 when nothing remains; then .. R2": R2 first
+-- "then 6985 when nothing remains; then .. R2": R2 first. Fails `DecidesExactly`.
 abbrev pub roomBeforeNothing : Decider
 roomBeforeNothing = decideBy (λ a. ifAllowed (a .hardware .allowed) (fetchAs (λ b. if ltb (b .partRoom) 2 then NoRoom else commandPath b (Gives GetResponse)) a (commandOf (a .frame))))
 
@@ -396,6 +405,7 @@ skipping (Fetches sent) = Fetches (record { length = sent .length; remainder = r
 skipping (Signs e) = Signs e
 skipping (Touch e) = Touch e
 
+-- fails `DecidesExactly`
 abbrev pub fetchSkips : Decider
 fetchSkips = decideBy (λ a. skipping (pathOf a))
 

@@ -1,14 +1,9 @@
--- Document 01, 'Refusal numbers', and the status words that its sections name; ISO 7816-4 has their meanings. Document 02, E1: what
--- a 6700 says beside its number. Covered: each refusal's number, each status word's number and pair. What a call gives is said in
--- these words everywhere.
-use Prim.Native.Nat.{ℕ}
-use Rattle.outcome.specs.declared.ApduStatusCode.{ApduStatusCode}
-use Rattle.outcome.specs.declared.ApduStatusCode.the-variants.{Success, WrongData, WrongLength, CondUseNotSatisfied, CommandNotAllowed, IncorrectP1P2, InsInvalid, ClaInvalid, InternalException}
-use Rattle.outcome.specs.declared.LengthFault.{LengthFault}
-use Rattle.outcome.specs.declared.LengthFault.the-variants.{Missing, Surplus, LcAgainstIns}
+-- What a call comes to, in the documents' numbers: document 01, 'Refusal numbers', and status words (ISO 7816-4); document 02, E1. A refusal
+-- tells the firmware that a call was wrong, and is for no host; a status word goes out. First these words, then what the source's types are
+-- in them.
+mod Words
+use Words.*
 pub use Rattle.outcome.specs.declared.FaultNumbers.{FaultNumbers}
-use Rattle.outcome.specs.declared.Refusal.{Refusal}
-use Rattle.outcome.specs.declared.Refusal.the-variants.{R1, R2, R3, R4, R5, R6, R7, R8}
 
 -- A status word: its number, and the pair of a kind and a place that tells where a length went wrong. 02, E1: "A 6700 should say
 -- whether bytes are missing or surplus, and a place". Where there is no pair, both are 0.
@@ -17,7 +12,7 @@ pub record StatusWord : Type 0 where
   pub kind : ℕ
   pub place : ℕ
 
--- What a call comes to, in the documents' numbers: a refusal, a status word, or what was asked for.
+-- What a call comes to: refusal n, `R n`; a status word; or what was asked for.
 pub data Outcome (A : Type 0) : Type 0 where
   R : ℕ → Outcome A
   Word : StatusWord → Outcome A
@@ -45,6 +40,29 @@ surplusAt place = wrongLength 2 place
 abbrev pub againstIns : {A : Type 0} → Outcome A
 againstIns = wrongLength 3 4
 
+-- a status word of this number, whatever its pair: "demand 2 compares the status alone"
+pub record HasStatus {A : Type 0} (n : ℕ) (o : Outcome A) : Type 0 where
+  pub word : StatusWord
+  pub is : o ≡ Word word
+  pub numbered : word .number ≡ n
+
+-- ---- the source's types
+
+-- 01, 'Refusal numbers': its column 'exactly when'
+abbrev pub refusalNo : Refusal → ℕ
+refusalNo R1 = 1  -- moment 2^48 or more, or before the record's last moment
+refusalNo R2 = 2  -- buffer shorter than stated
+refusalNo R3 = 3  -- signature longer than 72
+refusalNo R4 = 4  -- certificate length is not the order's
+refusalNo R5 = 5  -- shape cannot carry this data length or Le
+refusalNo R6 = 6  -- W is 0 or above 60,000, when made or in a record
+refusalNo R7 = 7  -- order not of either layout
+refusalNo R8 = 8  -- 02, E7: a side other than 0 or 1
+
+-- The last one is named here alone: with it ends the range that the panel's answers leave to refusals, in C too.
+abbrev pub lastRefusal : ℕ
+lastRefusal = 8
+
 -- ISO 7816-4; 01, 'Eight frame shapes', 'From frame to command', 'The decision'
 abbrev pub statusNo : ApduStatusCode → ℕ
 statusNo Success = 0x9000  -- done
@@ -57,13 +75,12 @@ statusNo InsInvalid = 0x6d00  -- unknown INS
 statusNo ClaInvalid = 0x6e00  -- unknown CLA
 statusNo InternalException = 0x6f00  -- no precise diagnosis
 
--- 02, E1: the kinds, in numbers of ours
+-- the pair of each, 0 and 0 where there is none
 abbrev pub faultKind : LengthFault → ℕ
 faultKind Missing = 1
 faultKind Surplus = 2
 faultKind LcAgainstIns = 3
 
--- over plain numbers: ours, 0 and 0 where there is no pair
 abbrev pub faultPair : (kind place : ℕ) → FaultNumbers
 faultPair kind place = record { kind = kind; place = place }
 
@@ -84,19 +101,3 @@ faultOf InternalException = noFault
 -- a status word as it is said everywhere: its number and its pair
 abbrev pub wordOf : ApduStatusCode → StatusWord
 wordOf s = record { number = statusNo s; kind = faultOf s .kind; place = faultOf s .place }
-
--- 01, 'Refusal numbers'
-abbrev pub refusalNo : Refusal → ℕ
-refusalNo R1 = 1  -- moment 2^48 or more, or before the record's last moment
-refusalNo R2 = 2  -- buffer shorter than stated
-refusalNo R3 = 3  -- signature longer than 72
-refusalNo R4 = 4  -- certificate length is not the order's
-refusalNo R5 = 5  -- shape cannot carry this data length or Le
-refusalNo R6 = 6  -- W is 0 or above 60,000, when made or in a record
-refusalNo R7 = 7  -- order not of either layout
-refusalNo R8 = 8  -- 02, E7: a side other than 0 or 1
-
--- 01, 'Refusal numbers': R1 to R7, and 02, E7: R8. The last one is named here alone: the range that the panel's answers leave to refusals ends
--- with it, in the statements and, held to this line by .ci/header, in C.
-abbrev pub lastRefusal : ℕ
-lastRefusal = 8

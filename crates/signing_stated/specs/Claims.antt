@@ -1,7 +1,7 @@
 -- What is promised of orders and finishing, of any function: proofs/Theorems.antt has that the definitions meet it,
 -- proofs/Only.antt that no others meet the claims that end in 'Exactly' or begin with 'Makes', proofs/Refuted.antt that the
--- wrong programs of specs/Wrong.antt do not.
-use Prim.Native.Nat.{ℕ, _+_, _/_, _%_, _≤_, _<_}
+-- wrong programs of specs/Wrong.antt do not. `FinishesExactly` stands in Replies.antt with its terms.
+use Prim.Native.Nat.{ℕ, _+_, _/_, _%_, _≤_}
 use mathlib.Core.Bool.{Bool, true, false}
 use mathlib.Core.Path.{_≡_}
 use mathlib.Core.Logic.{_↔_, _⊎_}
@@ -18,6 +18,7 @@ use Rattle.signing_stated.specs.Orders.{Kind, Register, Authenticate, He
 use Rattle.signing_stated.specs.Finishing.{Finishing, Finished, Refused, Status, Body, finishedOf, Ended}
 use Rattle.signing_stated.specs.Contracts.{KindNumber, Blank, RegisterOrder, AuthenticateOrder, HasLayout, HasRegisterRoom, HasAuthenticateRoom, Finish}
 use Rattle.signing_stated.specs.Terms.{bytesAt, RegisterLengths, PartsLengths, IsWhole, IsBlank, IsRegisterOrder, IsAuthenticateOrder, HoldsJust, signedBytes, HoldsMessage, RegisterShaped, AuthenticateShaped, NeedsRoom, OfLayout, keeping}
+pub use Rattle.signing_stated.specs.Replies.{FinishesExactly}
 
 -- ---- numbers and results
 
@@ -143,50 +144,6 @@ abbrev pub BodyWithinRoom : (Finishing → Ended) → Type 0
 BodyWithinRoom finish = (i : Finishing) (room n : ℕ) → NeedsRoom (i .order) room → finish i .answer ≡ Gives n → n ≤ room
 
 -- ---- finishing
-
--- What finishing answers, and the reply buffer after it, on any order: each check once those before it have passed. 01: "Checks:
--- R7, R4, R2 (139 + h + c, or 77), signer failed 6f00, R3", "Bodies, status 9000: Register 05, public key, h in one byte, handle,
--- certificate, signature; Authenticate presence byte, counter, signature", "An R refusal changes no buffer", "a status word other
--- than 9000 change no reply buffer", "A 9000 body fills the front of the buffer; the rest stays". Each neighbouring pair of
--- checks swapped fails it (`certificateBeforeLayout`, `roomBeforeCertificate`, `signerBeforeRoom`, `signatureBeforeSigner`), and
--- so do `certificateNotCompared`, `tailNotLookedAt`, `markerOfAnotherByte`, `firstByteOfBoth`, `wantsRoom140`, `refuses72`,
--- `takes73`, `bodyOf04`, `writesNothing`, `lengthInvented` and `clearsReply`.
-pub record FinishesExactly (finish : Finishing → Ended) : Type 0 where
-  pub r7 : (i : Finishing) → (OfLayout (i .order) → ⊥) → finish i ≡ keeping (R 7) i
-  pub r4 : (i : Finishing) → OfLayout (i .order)
-      → (length (i .certificate) ≡ certificateLength (i .order) → ⊥) → finish i ≡ keeping (R 4) i
-  pub r2 : (i : Finishing) (room : ℕ) → NeedsRoom (i .order) room → length (i .certificate) ≡ certificateLength (i .order)
-      → length (i .reply) < room → finish i ≡ keeping (R 2) i
-  pub signer-failed : (i : Finishing) (room : ℕ) → NeedsRoom (i .order) room
-      → length (i .certificate) ≡ certificateLength (i .order) → room ≤ length (i .reply)
-      → i .signed ≡ false → finish i ≡ keeping (SW 0x6f00) i
-  pub r3 : (i : Finishing) (room : ℕ) → NeedsRoom (i .order) room → length (i .certificate) ≡ certificateLength (i .order)
-      → room ≤ length (i .reply) → i .signed ≡ true → 72 < length (i .signature) → finish i ≡ keeping (R 3) i
-  pub register-body : (i : Finishing) (h : ℕ) → IsWhole (i .order) → RegisterShaped h (i .order)
-      → length (i .certificate) ≡ certificateLength (i .order)
-      → 139 + h + length (i .certificate) ≤ length (i .reply) → i .signed ≡ true → length (i .signature) ≤ 72
-      → finish i
-      ≡ record {
-        answer = Gives (67 + h + length (i .certificate) + length (i .signature));
-        reply =
-            0x05 ∷ 0x04 ∷ []
-            ++ bytesAt (66 + h) 64 (i .order .bytes)  -- x and y
-            ++ h ∷ []
-            ++ bytesAt 65 h (i .order .bytes)  -- the handle
-            ++ i .certificate
-            ++ i .signature
-            ++ drop (67 + h + length (i .certificate) + length (i .signature)) (i .reply);
-      }
-  pub authenticate-body : (i : Finishing) → IsWhole (i .order) → AuthenticateShaped (i .order) → length (i .certificate) ≡ 0
-      → 77 ≤ length (i .reply) → i .signed ≡ true → length (i .signature) ≤ 72
-      → finish i
-      ≡ record {
-        answer = Gives (5 + length (i .signature));
-        reply =
-            bytesAt 32 5 (i .order .bytes)  -- presence byte and counter
-            ++ i .signature
-            ++ drop (5 + length (i .signature)) (i .reply);
-      }
 
 -- What stands in an answer without an order is of neither layout, and finishing it gives R7, whatever is lent beside it.
 -- Ours; DECISIONS, blank order; 01, R7: "order not of either layout". A blank order of kind Authenticate that

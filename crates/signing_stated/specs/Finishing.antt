@@ -1,7 +1,7 @@
 -- Document 01, 'The decision', from "Finishing takes order, certificate, signer's answer and reply buffer", and
 -- 'Refusal numbers': "A 9000 body fills the front of the buffer; the rest stays".
 use Prim.Native.Nat.{ℕ, _+_, _-_, _≤_}
-use mathlib.Core.Bool.{Bool, not}
+use mathlib.Core.Bool.{not}
 use mathlib.Core.Path.{_≡_}
 use mathlib.Core.List.{List}
 use lib.Dec.{eqb, ltb}
@@ -12,14 +12,7 @@ use Rattle.octets.specs.Bytes.{laid}
 use Rattle.signing_stated.specs.Orders.{Kind, Register, Authenticate, Head, Order, headOf, toSign, certificateLength, isOfLayout, registerFieldsOf, authenticateFieldsOf}
 use Rattle.signing_stated.specs.Layouts.{registerBody, authenticateBody}
 pub use Rattle.signing_stated.specs.Words.{Finished, Refused, Status, Body}
-
--- what finishing is lent
-pub record Finishing : Type 0 where
-  pub order : Order
-  pub certificate : List ℕ
-  pub signed : Bool  -- the signer did not fail
-  pub signature : List ℕ
-  pub reply : List ℕ  -- the reply buffer before the call
+pub use Rattle.signing_stated.specs.Replies.{Finishing, Ended}
 
 -- 01: "R2 (139 + h + c, or 77)"
 abbrev pub registerRoom : (h c : ℕ) → ℕ
@@ -73,11 +66,6 @@ abbrev pub replyOf : Outcome (List ℕ) → List ℕ → List ℕ
 replyOf (R n) old = old
 replyOf (Word s) old = old
 replyOf (Gives body) old = laid body old
-
--- what finishing comes to: its answer, and the reply buffer after the call
-pub record Ended : Type 0 where
-  pub answer : Outcome ℕ
-  pub reply : List ℕ
 
 abbrev pub endOf : Finishing → Ended
 endOf i = record { answer = lengthOf (finishOf i); reply = replyOf (finishOf i) (i .reply) }

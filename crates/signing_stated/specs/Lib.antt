@@ -1,3 +1,4 @@
+pub mod Replies
 pub mod Words
 pub mod Layouts
 pub mod Fido

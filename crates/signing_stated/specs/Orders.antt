@@ -9,19 +9,13 @@ use lib.ListN.{length, take, drop, replicate}
 use Rattle.outcome.specs.Notation.{if_then_else_}
 use Rattle.octets.specs.Bytes.{byte, laid, allZero, bytes4}
 pub use Rattle.signing_stated.specs.Words.{Kind, Register, Authenticate, Head, Order, headOf, orderWith}
+pub use Rattle.signing_stated.specs.Replies.{toSign, certificateLength}
 use Rattle.signing_stated.specs.Layouts.{RegisterFields, AuthenticateFields, registerToSign, authenticateToSign, presenceByte, isRegisterFit, isAuthenticateFit}
 
 -- ours: DECISIONS, kind numbers: the INS of the command that the order answers
 abbrev pub kindNo : Kind → ℕ
 kindNo Register = 0x01
 kindNo Authenticate = 0x02
-
--- 01: "the number of bytes to sign, the certificate length"
-abbrev pub toSign : Order → ℕ
-toSign o = o .«to_sign»
-
-abbrev pub certificateLength : Order → ℕ
-certificateLength o = o .«certificate_length»
 
 -- 01: "in a block of 385 bytes, zero after their end"
 unfoldable pub block : List ℕ → List ℕ

@@ -1,4 +1,4 @@
--- The types that src/lib.rt declares, and their cases, under one name; and an order with its block.
+-- The types that src/lib.rt declares, and their cases, under one name; and an order as its head and its block.
 use Prim.Native.Nat.{ℕ}
 use mathlib.Core.List.{List}
 pub use Rattle.signing_stated.specs.declared.Kind.{Kind}
@@ -6,14 +6,7 @@ pub use Rattle.signing_stated.specs.declared.Kind.the-variants.{Register
 pub use Rattle.signing_stated.specs.declared.Head.{Head}
 pub use Rattle.signing_stated.specs.declared.Finished.{Finished}
 pub use Rattle.signing_stated.specs.declared.Finished.the-variants.{Refused, Status, Body}
-
--- 01, The decision: "A signing order holds its kind, the number of bytes to sign, the certificate length .., and the bytes to
--- sign in a block of 385 bytes"
-pub record Order : Type 0 where
-  pub kind : Kind
-  pub «to_sign» : ℕ
-  pub «certificate_length» : ℕ
-  pub bytes : List ℕ
+pub use Rattle.signing_stated.specs.Replies.{Order}
 
 -- an order is its head and its block: the block is lent beside the head
 abbrev pub headOf : Order → Head

@@ -169,31 +169,31 @@ isReady i =
     && eqb (length (i .certificate)) (certificateLength (i .order))
     && leb (roomNeeded (i .order)) (length (i .reply))
 
--- "Checks: R7, R4, R2 (..), signer failed 6f00, R3": R4 before R7
+-- "Checks: R7, R4, R2 (..), signer failed 6f00, R3": R4 before R7. Fails `FinishesExactly`.
 abbrev pub certificateBeforeLayout : Finishing → Ended
 certificateBeforeLayout i = if not (eqb (length (i .certificate)) (certificateLength (i .order))) then keeping (R 4) i else endOf i
 
--- R2 before R4
+-- R2 before R4. Fails `FinishesExactly`.
 abbrev pub roomBeforeCertificate : Finishing → Ended
 roomBeforeCertificate i =
     if isOfLayout (i .order) && ltb (length (i .reply)) (roomNeeded (i .order)) then keeping (R 2) i else endOf i
 
--- 6f00 before R2
+-- 6f00 before R2. Fails `FinishesExactly`.
 abbrev pub signerBeforeRoom : Finishing → Ended
 signerBeforeRoom i =
     if isOfLayout (i .order) && eqb (length (i .certificate)) (certificateLength (i .order)) && not (i .signed) then keeping (SW 0x6f00) i
     else endOf i
 
--- R3 before 6f00
+-- R3 before 6f00. Fails `FinishesExactly`.
 abbrev pub signatureBeforeSigner : Finishing → Ended
 signatureBeforeSigner i = if isReady i && ltb 72 (length (i .signature)) then keeping (R 3) i else endOf i
 
--- R4, "certificate length is not the order's": asked of the signature's length
+-- R4, "certificate length is not the order's": asked of the signature's length. Fails `FinishesExactly`.
 abbrev pub certificateNotCompared : Finishing → Ended
 certificateNotCompared i =
     if isOfLayout (i .order) && not (eqb (length (i .signature)) (certificateLength (i .order))) then keeping (R 4) i else endOf i
 
--- R7, "zero tail": not looked at
+-- R7, "zero tail": not looked at. Fails `FinishesExactly`.
 abbrev pub tailNotLookedAt : Finishing → Ended
 tailNotLookedAt i =
     endOf
@@ -205,27 +205,27 @@ tailNotLookedAt i =
       reply = i .reply;
     })
 
--- R7, "04 marker": the byte after it looked at
+-- R7, "04 marker": the byte after it looked at. Fails `FinishesExactly`.
 abbrev pub markerOfAnotherByte : Finishing → Ended
 markerOfAnotherByte i =
     if eqb (kindNo (i .order .kind)) 0x01 && not (eqb (byte (i .order .bytes) (toSign (i .order) - 64)) 0x04) then keeping (R 7) i
     else endOf i
 
--- R7, "first byte": asked of an Authenticate order too
+-- R7, "first byte": asked of an Authenticate order too. Fails `FinishesExactly`.
 abbrev pub firstByteOfBoth : Finishing → Ended
 firstByteOfBoth i = if eqb (byte (i .order .bytes) 0) 0x00 then endOf i else keeping (R 7) i
 
--- "R2 (139 + h + c, or 77)": one byte more is wanted, of either kind
+-- "R2 (139 + h + c, or 77)": one byte more is wanted, of either kind. Fails `FinishesExactly`.
 abbrev pub wantsRoom140 : Finishing → Ended
 wantsRoom140 i =
     if isOfLayout (i .order) && eqb (length (i .certificate)) (certificateLength (i .order)) && leb (length (i .reply)) (roomNeeded (i .order)) then keeping (R 2) i
     else endOf i
 
--- R3, "signature longer than 72": at 72 already
+-- R3, "signature longer than 72": at 72 already. Fails `FinishesExactly`.
 abbrev pub refuses72 : Finishing → Ended
 refuses72 i = if isReady i && i .signed && eqb (length (i .signature)) 72 then keeping (R 3) i else endOf i
 
--- R3: not at 73
+-- R3: not at 73. Fails `FinishesExactly`.
 abbrev pub takes73 : Finishing → Ended
 takes73 i =
     let body = bodyOf (i .order .kind) (i .order) (i .certificate) (i .signature) in
@@ -242,11 +242,11 @@ onBody (R n) body other = other
 onBody (Word s) body other = other
 onBody (Gives n) body other = body
 
--- "Register 05, public key, ..": the public key's 04 first
+-- "Register 05, public key, ..": the public key's 04 first. Fails `FinishesExactly`.
 abbrev pub bodyOf04 : Finishing → Ended
 bodyOf04 i = record { answer = endOf i .answer; reply = onBody (endOf i .answer) (laid (0x04 ∷ []) (endOf i .reply)) (endOf i .reply) }
 
--- 'What each statement has to say': "a finisher that writes nothing"
+-- 'What each statement has to say': "a finisher that writes nothing". Fails `FinishesExactly`.
 abbrev pub writesNothing : Finishing → Ended
 writesNothing i = record { answer = endOf i .answer; reply = i .reply }
 
@@ -256,10 +256,11 @@ inventedFor (R n) m = R n
 inventedFor (Word s) m = Word s
 inventedFor (Gives n) m = Gives m
 
+-- fails `FinishesExactly`
 abbrev pub lengthInvented : Finishing → Ended
 lengthInvented i = record { answer = inventedFor (endOf i .answer) (roomNeeded (i .order)); reply = endOf i .reply }
 
--- "An R refusal changes no buffer": the buffer is cleared
+-- "An R refusal changes no buffer": the buffer is cleared. Fails `FinishesExactly`.
 abbrev pub clearsReply : Finishing → Ended
 clearsReply i = record { answer = endOf i .answer; reply = onBody (endOf i .answer) (endOf i .reply) (replicate (length (i .reply)) 0x00) }
 

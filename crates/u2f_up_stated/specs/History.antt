@@ -1,98 +1,21 @@
 -- Document 01, 'Moments and touches', from "In history terms" on, with document 02, E7: what a history says of its touches, read off
 -- its calls and their outcomes alone. No definition here looks at a presence record.
--- Histories are lists, NEWEST FIRST: what stands behind an event in the list is its past.
-use mathlib.Core.List.{List, [], _∷_, _++_}
-use mathlib.Core.Option.{Option, none, some}
-use lib.ListN.{length}
-use Rattle.u2f_up_stated.specs.Words.{ℕ, _+_, Bool, true, false, not, _&&_, ltb, eqb, if_then_else_}
-use Rattle.u2f_up_stated.specs.Moments.{isR1, isBadSide}
+-- Histories are lists, NEWEST FIRST: what stands behind an event in the list is its past. Throughout, w is the touch window's length W,
+-- past the events so far, t a moment, s a side.
+mod Words
+use Words.*
+pub use Rattle.u2f_up_stated.specs.Events.{Role, Touching, Checking, Asking, Settling, TooShort, Call, sideOf, Came, RefusedBy, TouchAccepted, TouchIgnored, TouchFound, NoTouchFound, PromptStands, NoPromptStands, AnsweredBefore, Event}
+pub use Rattle.u2f_up_stated.specs.Tests.{isTouchAccepted, isTouchFound, isNoTouchFound, isTimed}
 
--- What a call is to the record, with the side that it names: "every decision and direct check names its side", touch and ask none. It
--- follows from the call's own inputs, never from the record.
-pub data Role : Type 0 where
-  Touching : Role  -- a touch
-  Checking : (side : ℕ) → Role  -- a call that reaches the touch check: a direct check, or a decision that comes so far
-  Asking : Role  -- whether a prompt is live
-  Settling : (side : ℕ) → Role  -- a decision that is answered before the touch check
-  TooShort : (side : ℕ) → Role  -- a decision whose buffer is too short, or whose lent body is shorter than its remainder's end, R2
-
-pub record Call : Type 0 where
-  pub role : Role
-  pub moment : ℕ
-
--- The side of a call. What names none has 0 here, which is never R8, and no touch is spent or prompt opened by it.
-abbrev pub sideOf : Role → ℕ
-sideOf Touching = 0
-sideOf (Checking s) = s
-sideOf Asking = 0
-sideOf (Settling s) = s
-sideOf (TooShort s) = s
-
--- What came of a call, as its history tells it.
-pub data Came : Type 0 where
-  RefusedBy : ℕ → Came  -- an R refusal
-  TouchAccepted : Came  -- a touch
-  TouchIgnored : Came
-  TouchFound : Came  -- a call that reaches the touch check: a touch was found, and is spent
-  NoTouchFound : Came  -- none was
-  PromptStands : Came  -- an ask
-  NoPromptStands : Came
-  AnsweredBefore : Came  -- a decision that is answered before the touch check
-
--- A call and what came of it.
-pub record Event : Type 0 where
-  pub call : Call
-  pub came : Came
-
-abbrev pub isTouchAccepted : Came → Bool
-isTouchAccepted (RefusedBy n) = false
-isTouchAccepted TouchAccepted = true
-isTouchAccepted TouchIgnored = false
-isTouchAccepted TouchFound = false
-isTouchAccepted NoTouchFound = false
-isTouchAccepted PromptStands = false
-isTouchAccepted NoPromptStands = false
-isTouchAccepted AnsweredBefore = false
-
-abbrev pub isTouchFound : Came → Bool
-isTouchFound (RefusedBy n) = false
-isTouchFound TouchAccepted = false
-isTouchFound TouchIgnored = false
-isTouchFound TouchFound = true
-isTouchFound NoTouchFound = false
-isTouchFound PromptStands = false
-isTouchFound NoPromptStands = false
-isTouchFound AnsweredBefore = false
-
-abbrev pub isNoTouchFound : Came → Bool
-isNoTouchFound (RefusedBy n) = false
-isNoTouchFound TouchAccepted = false
-isNoTouchFound TouchIgnored = false
-isNoTouchFound TouchFound = false
-isNoTouchFound NoTouchFound = true
-isNoTouchFound PromptStands = false
-isNoTouchFound NoPromptStands = false
-isNoTouchFound AnsweredBefore = false
-
--- 01, Refusal numbers: "Without an R refusal, each touch, direct check and decision sets the last moment to t"; an ask does not
-abbrev pub isTimed : Came → Bool
-isTimed (RefusedBy n) = false
-isTimed TouchAccepted = true
-isTimed TouchIgnored = true
-isTimed TouchFound = true
-isTimed NoTouchFound = true
-isTimed PromptStands = false
-isTimed NoPromptStands = false
-isTimed AnsweredBefore = true
-
--- 01, Moments and touches: "A touch at t is accepted"
+-- `isTouchAccepted` and the like test which case came (Tests.antt). "A touch at t is accepted"
 abbrev pub isAccepted : Event → Bool
 isAccepted e = isTouchAccepted (e .came)
 
--- 01, Moments and touches: "A call spends a touch if the check succeeds"
+-- "A call spends a touch if the check succeeds"
 abbrev pub isSpending : Event → Bool
 isSpending e = isTouchFound (e .came)
 
+-- what sets the last moment: all but refusals and asks
 abbrev pub isMoving : Event → Bool
 isMoving e = isTimed (e .came)
 
@@ -111,7 +34,7 @@ pub record Mark : Type 0 where
 abbrev pub marked : (side : ℕ) → Event → List Event → Mark
 marked s e past = record { number = length past; moment = e .call .moment; side = s }
 
--- Those of a list that the test picks.
+-- those of a list that the test picks
 abbrev pub those : {A : Type 0} → (A → Bool) → List A → List A
 those picks [] = []
 those picks (a ∷ rest) = if picks a then a ∷ those picks rest else those picks rest
@@ -120,7 +43,7 @@ abbrev pub isAny : List Mark → Bool
 isAny [] = false
 isAny (k ∷ ks) = true
 
--- 01, Moments and touches: "A touch has lapsed when it is unspent and W has passed"; it is young while W has not
+-- "A touch has lapsed when it is unspent and W has passed"; it is young while W has not
 abbrev pub isYoung : ℕ → ℕ → Mark → Bool
 isYoung w t k = ltb t (k .moment + w)
 
@@ -139,15 +62,14 @@ isFound w s t k = isYoung w t k && isOf s k
 abbrev pub isPromptingBy : Event → (held : List Mark) → Bool
 isPromptingBy e held = isNoTouchFound (e .came) && not (isAny held)
 
--- 02, E7: "An accepted touch belongs to the asker", the side of the latest prompting refusal. Where there was none (no touch is accepted then), to 0.
+-- "An accepted touch belongs to the asker", the side of the latest prompting refusal. Where there was none (no touch is accepted then), to 0.
 abbrev pub sideAsked : Option Mark → ℕ
 sideAsked none = 0
 sideAsked (some s) = s .side
 
--- The latest prompting refusal, and the accepted touches that no call has spent. The two are told together, each from the past of the
--- other: whether a check was a prompting refusal says what its past held, and whose a touch is says the latest prompting refusal before
--- it. A touch goes when a call of its side spends while it is young; one that has grown old by then was not there to be spent, and
--- stays in the list for good.
+-- The latest prompting refusal, and the accepted touches that no call has spent. The two are told together: whether a check was a prompting
+-- refusal says what its past held, and whose a touch is says the latest prompting refusal before it. A touch goes when a call of its side
+-- spends while it is young; one that is old by then stays in the list for good.
 unfoldable mutual
   pub latestPrompt : ℕ → List Event → Option Mark
   latestPrompt w [] = none
@@ -162,11 +84,11 @@ unfoldable mutual
       else if isSpending e then those (λ k. not (isFound w (sideOf (e .call .role)) (e .call .moment) k)) (unspent w past)
       else unspent w past
 
--- 02, E7: the asking side: "A prompting refusal makes its side the asker, in place of any earlier."
+-- the asking side: "A prompting refusal makes its side the asker, in place of any earlier."
 abbrev pub askerOf : ℕ → List Event → ℕ
 askerOf w past = sideAsked (latestPrompt w past)
 
--- 02, E7: "An accepted touch belongs to the asker."
+-- "An accepted touch belongs to the asker."
 abbrev pub touchMark : ℕ → Event → List Event → Mark
 touchMark w e past = marked (askerOf w past) e past
 
@@ -193,7 +115,7 @@ abbrev pub isAfter : Mark → Option Mark → Bool
 isAfter s none = true
 isAfter s (some a) = ltb (a .number) (s .number)
 
--- 01, Moments and touches: "the latest prompting refusal, at s, comes after the latest accepted touch, and t - s < 10,000". (Of a
+-- "the latest prompting refusal, at s, comes after the latest accepted touch, and t - s < 10,000". (Of a
 -- record, a prompt window is live; of a history, a prompt stands.)
 abbrev pub isStandingBy : Option Mark → Option Mark → ℕ → Bool
 isStandingBy none a t = false
@@ -202,7 +124,7 @@ isStandingBy (some s) a t = isAfter s a && ltb t (s .moment + 10000)
 unfoldable pub isPromptStanding : ℕ → List Event → ℕ → Bool
 isPromptStanding w past t = isStandingBy (latestPrompt w past) (latestTouch w past) t
 
--- 01, Moments and touches: "A touch has lapsed when it is unspent and W has passed at the last moment."
+-- "A touch has lapsed when it is unspent and W has passed at the last moment."
 abbrev pub lapsed : ℕ → List Event → List Mark
 lapsed w past = those (isPastW w (lastMoment past)) (unspent w past)
 
@@ -211,7 +133,7 @@ unfoldable pub served : ℕ → List Event → List Mark
 served w [] = []
 served w (e ∷ past) = if isSpending e then heldFor w past (sideOf (e .call .role)) (e .call .moment) ++ served w past else served w past
 
--- Which touch served a call that spent one, by its number said without a word of what is spent: the latest accepted one before it.
+-- Which touch served a call that spent one, said without a word of what is spent: the latest accepted one before it.
 abbrev pub serverOf : ℕ → List Event → Option Mark
 serverOf w past = latestTouch w past
 
@@ -234,7 +156,7 @@ isSpendingFor s e = isSpending e && eqb (sideOf (e .call .role)) s
 abbrev pub spendersOf : (side : ℕ) → List Event → ℕ
 spendersOf s past = length (those (isSpendingFor s) past)
 
--- What a history says of its next call, once the call's side and moment have passed.
+-- What a history says of its next call, once its side and moment have passed.
 abbrev pub unrefused : ℕ → List Event → Role → ℕ → Came
 unrefused w past Touching t = if isPromptStanding w past t then TouchAccepted else TouchIgnored
 unrefused w past (Checking s) t = if isAny (heldFor w past s t) then TouchFound else NoTouchFound
@@ -242,9 +164,23 @@ unrefused w past Asking t = if isPromptStanding w past t then PromptStands else 
 unrefused w past (Settling s) t = AnsweredBefore
 unrefused w past (TooShort s) t = RefusedBy 2
 
--- 02, E7: R8 "for a side other than 0 or 1"; then 01, Refusal numbers, R1: "moment 2^48 or more, or before the record's last moment"
+-- And before that R8, "for a side other than 0 or 1", then R1, "moment 2^48 or more, or before the record's last moment"
 unfoldable pub foretold : ℕ → List Event → Call → Came
 foretold w past c =
     if isBadSide (sideOf (c .role)) then RefusedBy 8
     else if isR1 (lastMoment past) (c .moment) then RefusedBy 1
     else unrefused w past (c .role) (c .moment)
+
+-- ---- what the demand says of a history, as claims
+
+-- R1, by the last moment of a history
+abbrev pub RefusedAt : List Event → ℕ → Type 0
+RefusedAt past t = (2 ^ 48 ≤ t) ⊎ (t < lastMoment past)
+
+-- R8 in a run, where no record has another side than 0 or 1: by the side that the call names
+abbrev pub NamesBadSide : Role → Type 0
+NamesBadSide role = 1 < sideOf role
+
+-- no touch is named twice as the one that served a call
+abbrev pub ServesOnce : ℕ → List Event → Type 0
+ServesOnce w past = (n : ℕ) → length (those (isNamed n) (servers w past)) ≤ 1

@@ -2,6 +2,9 @@ pub mod Words
 pub mod Moments
 pub mod Answers
 pub mod Contracts
+pub mod Conditions
+pub mod Events
+pub mod Tests
 pub mod History
 pub mod Runs
 pub mod OneSide

@@ -214,24 +214,26 @@ doing grants checks (TooShort s) p t = doneBy (TooShort s) p t
 abbrev calling : (Presence → ℕ → Finding) → (Presence → (side t : ℕ) → Finding) → Caller Call
 calling grants checks = record { asCall = λ c. c; does = λ p c. doing grants checks (c .role) p (c .moment) }
 
--- a spent touch stays, and serves again
+-- a spent touch stays, and serves again. Of Demand.antt it fails `finds`, at the second check; `once`, one touch and two checks within W;
+-- and `side-totals`, where two calls spent the one touch that was accepted.
 abbrev pub keepsSpent : Caller Call
 keepsSpent = calling grantedOf staysSpent
 
--- honours no touch: an accepted one opens nothing
+-- honours no touch: an accepted one opens nothing. Fails `foretells` and `finds`, at the first check after an accepted touch, and
+-- `one-held`: after the next prompt another is accepted, and the history holds two.
 abbrev pub opensNothing : Caller Call
 opensNothing = calling (λ p t. if isPrompting p t then record { yes = true; presence = record { w = p .w; prompt = Closed; touch = Closed; last = p .last; asker = p .asker } } else record { yes = false; presence = p }) checkedOf
 
--- one prompt lets in touch after touch
+-- one prompt lets in touch after touch. Fails `accepts`, at the second touch after it.
 abbrev pub keepsPrompt : Caller Call
 keepsPrompt = calling (λ p t. if isPrompting p t then record { yes = true; presence = record { w = p .w; prompt = p .prompt; touch = Opened t; last = p .last; asker = p .asker } } else record { yes = false; presence = p }) checkedOf
 
--- an accepted touch opens its window at the prompt's moment
+-- an accepted touch opens its window at the prompt's moment. Fails `holds`, where the moments differ.
 abbrev pub opensAtPrompt : Caller Call
 opensAtPrompt = calling (λ p t. if isPrompting p t then record { yes = true; presence = record { w = p .w; prompt = Closed; touch = p .prompt; last = p .last; asker = p .asker } } else record { yes = false; presence = p }) checkedOf
 
 -- honours the first touch only. A window opened at 2^48, which no touch opens, says that one was spent: from then on every touch
--- is accepted as ever, and every check is an ordinary 6985.
+-- is accepted as ever, and every check is an ordinary 6985. Fails `foretells`, at the second accepted touch's check.
 abbrev isUsedUp : Window → Bool
 isUsedUp Closed = false
 isUsedUp (Opened m) = leb (2 ^ 48) m
@@ -241,20 +243,24 @@ firstOnly = calling
     (λ p t. if isPrompting p t then record { yes = true; presence = record { w = p .w; prompt = Closed; touch = if isUsedUp (p .touch) then p .touch else Opened t; last = p .last; asker = p .asker } } else record { yes = false; presence = p })
     (λ p s t. if isUsedUp (p .touch) then prompts p s t else by (λ p s t. record { yes = true; presence = record { w = p .w; prompt = p .prompt; touch = Opened (2 ^ 48); last = p .last; asker = p .asker } }) leaves prompts p s t)
 
--- 02, E7, over a run: the other side is served; its 6985 opens a prompt, or gives it the touch; the asker is not replaced
+-- 02, E7, over a run: the other side is served; its 6985 opens a prompt, or gives it the touch; the asker is not replaced. The first fails
+-- `finds` and `serves`, at that side's check, and `side-totals` of the side that was served
 abbrev pub otherServed : Caller Call
 otherServed = calling grantedOf servesOther
 
+-- fails `accepts`, at the next touch
 abbrev pub otherPrompts : Caller Call
 otherPrompts = calling grantedOf promptsBeside
 
 abbrev pub givenToChecker : Caller Call
 givenToChecker = calling grantedOf givesTouch
 
+-- fails `asker`, after the other side's prompting refusal
 abbrev pub askerKept : Caller Call
 askerKept = calling grantedOf keepsTheAsker
 
--- "a side other than 0 or 1": a check of side 2 is taken, and side 2 becomes the asker
+-- "a side other than 0 or 1": a check of side 2 is taken, and side 2 becomes the asker. A touch that it asked for is of neither side, and fails
+-- `two-sides`
 abbrev asks2Does : Role → Presence → ℕ → Told
 asks2Does Touching p t = onSettled p (movedBy p t) (λ q. gave (grantedOf q t))
 asks2Does (Checking s) p t = onSettled p (movedBy p t) (λ q. gave (checkedOf q s t))
@@ -265,7 +271,7 @@ asks2Does (TooShort s) p t = doneBy (TooShort s) p t
 abbrev pub asks2 : Caller Call
 asks2 = record { asCall = λ c. c; does = λ p c. asks2Does (c .role) p (c .moment) }
 
--- R8 "before R1": after it
+-- R8 "before R1": after it. Fails `refuses-side`, at a call where both are due
 abbrev r8LastDoes : Role → Presence → ℕ → Told
 r8LastDoes Touching p t = doneBy Touching p t
 r8LastDoes (Checking s) p t = onSettled p (r8AfterR1 p s t) (λ q. gave (checkedOf q s t))
@@ -276,7 +282,7 @@ r8LastDoes (TooShort s) p t = doneBy (TooShort s) p t
 abbrev pub r8Last : Caller Call
 r8Last = record { asCall = λ c. c; does = λ p c. r8LastDoes (c .role) p (c .moment) }
 
--- refuses every call
+-- refuses every call. Fails `refuses`, at the first one
 abbrev pub refusesAll : Caller Call
 refusesAll = record { asCall = λ c. c; does = λ p c. refused 1 p }
 
