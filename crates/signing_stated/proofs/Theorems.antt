@@ -462,7 +462,7 @@ ContractsAsClaimed =
       blank = λ r is. subst (λ (h : Head). Claims.BlankExactly (orderWith h (replicate 385 0x00))) (sym is) blank-zeros;
       register-order = λ g is. subst Claims.MakesRegister (λ d f c. sym (is f c) d) MakesRegister;
       authenticate-order = λ g is. subst Claims.MakesAuthenticate (λ d p. sym (is p) d) MakesAuthenticate;
-      has-layout = λ g is. subst Claims.LayoutExactly (λ d o. sym (is o) d) LayoutExactly;
+      has-layout = λ g is. subst Claims.LayoutExactly (λ d o. sym (is (headOf o) (o .bytes)) d) LayoutExactly;
       has-register-room = λ g is. subst Claims.RegisterRoomExactly (λ d room h c. sym (is room h c) d) RegisterRoomExactly;
       has-authenticate-room = λ g is. subst Claims.AuthenticateRoomExactly (λ d room. sym (is room) d) AuthenticateRoomExactly;
       finish = λ g is. subst Claims.FinishesExactly (λ d i. record { answer = sym (is i .says) d; reply = sym (is i .leaves) d }) FinishesExactly;

@@ -1,7 +1,7 @@
 -- What is promised of orders and finishing, of any function: proofs/Theorems.antt has that the definitions meet it,
 -- proofs/Only.antt that no others meet the claims that end in 'Exactly' or begin with 'Makes', proofs/Refuted.antt that the
 -- wrong programs of specs/Wrong.antt do not. `FinishesExactly` stands in Replies.antt with its terms.
-use Prim.Native.Nat.{ℕ, _+_, _/_, _%_, _≤_}
+use Prim.Native.Nat.{ℕ, _+_, _/_, _%_, _<_, _≤_}
 use mathlib.Core.Bool.{Bool, true, false}
 use mathlib.Core.Path.{_≡_}
 use mathlib.Core.Logic.{_↔_, _⊎_}
@@ -14,7 +14,7 @@ use Rattle.outcome.specs.declared.ApduStatusCode.{ApduStatusCode}
 use Rattle.octets.specs.Bytes.{byte}
 use Rattle.signing_stated.specs.Layouts.{RegisterFields, AuthenticateFields, registerToSign, authenticateToSign, isRegisterFit, isAuthenticateFit}
 use Rattle.signing_stated.specs.Fido.{IsMessage, IsKey, IsCounter, presenceBit, registrationSigned, registrationResponse, authenticationSigned, authenticationResponse}
-use Rattle.signing_stated.specs.Orders.{Kind, Register, Authenticate, Head, Order, orderWith, AuthenticateParts, toSign, certificateLength, registerOrderOf, authenticateOrderOf}
+use Rattle.signing_stated.specs.Orders.{Kind, Register, Authenticate, Head, Order, headOf, orderWith, AuthenticateParts, toSign, certificateLength, registerOrderOf, authenticateOrderOf}
 use Rattle.signing_stated.specs.Finishing.{Finishing, Finished, Refused, Status, Body, finishedOf, Ended}
 use Rattle.signing_stated.specs.Contracts.{KindNumber, Blank, RegisterOrder, AuthenticateOrder, HasLayout, HasRegisterRoom, HasAuthenticateRoom, Finish}
 use Rattle.signing_stated.specs.Terms.{bytesAt, RegisterLengths, PartsLengths, IsWhole, IsBlank, IsRegisterOrder, IsAuthenticateOrder, HoldsJust, signedBytes, HoldsMessage, RegisterShaped, AuthenticateShaped, NeedsRoom, OfLayout, keeping}
@@ -197,8 +197,8 @@ pub record ContractsAsClaimed : Type 0 where
       → MakesRegister (λ f c. orderWith (g f c .0) (g f c .1))
   pub authenticate-order : (g : AuthenticateParts → Head × List ℕ) → ((p : AuthenticateParts) → AuthenticateOrder p (g p .0) (g p .1))
       → MakesAuthenticate (λ p. orderWith (g p .0) (g p .1))
-  pub has-layout : (g : Order → Bool) → ((o : Order) → HasLayout o (g o)) → LayoutExactly g
+  pub has-layout : (g : Head → List ℕ → Bool) → ((h : Head) (block : List ℕ) → HasLayout h block (g h block)) → LayoutExactly (λ o. g (headOf o) (o .bytes))
   pub has-register-room : (g : (room h c : ℕ) → Bool) → ((room h c : ℕ) → HasRegisterRoom room h c (g room h c)) → RegisterRoomExactly g
   pub has-authenticate-room : (g : (room : ℕ) → Bool) → ((room : ℕ) → HasAuthenticateRoom room (g room)) → AuthenticateRoomExactly g
-  pub finish : (g : Finishing → Finished × List ℕ) → ((i : Finishing) → Finish i (g i .0) (g i .1))
+  pub finish : (g : Finishing → Finished × List ℕ) → ((i : Finishing) → Finish (headOf (i .order)) (i .order .bytes) (i .certificate) (i .signed) (i .signature) (i .reply) (g i .0) (g i .1))
       → FinishesExactly (λ i. record { answer = finishedOf (g i .0); reply = g i .1 })
