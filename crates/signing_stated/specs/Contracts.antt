@@ -1,12 +1,12 @@
--- What is promised of each public function of crates signing and layouts, over what it is lent, its result, and the final contents of what
--- it writes: an order is the head that is handed back and the lent block after the call.
+-- What is promised of each public function of crates signing and signing_layouts, over what it is lent, its result, and the final
+-- contents of what it writes: an order is the head that is handed back and the lent block after the call.
 use Prim.Native.Nat.{ℕ}
 use mathlib.Core.Bool.{Bool}
 use mathlib.Core.Path.{_≡_}
 use mathlib.Core.List.{List}
 use lib.Dec.{leb}
 use Rattle.signing_stated.specs.Layouts.{RegisterFields}
-use Rattle.signing_stated.specs.Orders.{Kind, Head, Order, headOf, orderWith, AuthenticateParts, kindNo, blankOrder, registerOrderOf, authenticateOrderFor, isOfLayout}
+use Rattle.signing_stated.specs.Orders.{Kind, Head, headOf, orderWith, AuthenticateParts, kindNo, blankOrder, registerOrderOf, authenticateOrderFor, isOfLayout}
 use Rattle.signing_stated.specs.Finishing.{Finishing, Finished, finishOf, finishedOf, lengthOf, replyOf, registerRoom, authenticateRoom}
 
 abbrev pub KindNumber : Kind → ℕ → Type 0
@@ -21,7 +21,7 @@ RegisterOrder fields certificate r block = orderWith r block ≡ registerOrderOf
 abbrev pub AuthenticateOrder : AuthenticateParts → Head → (block : List ℕ) → Type 0
 AuthenticateOrder parts r block = orderWith r block ≡ authenticateOrderFor parts
 
--- of crate layouts
+-- of crate signing_layouts
 abbrev pub HasLayout : Head → (block : List ℕ) → Bool → Type 0
 HasLayout head block r = r ≡ isOfLayout (orderWith head block)
 
