@@ -1,10 +1,9 @@
--- What a frame is and what reading one says: document 01, 'Eight frame shapes'; document 02, E13: "Shape 6 is retired", and E4's strict
--- reading. Terms first, row by row with every number spelled out; the claims last.
+-- What a frame is and what reading one says: document 01, 'Eight frame shapes'; document 02, E13 and E4. Terms first, the claims last.
 mod Words
 use Words.*
 
--- what a frame says: its header (cla, ins, p1, p2); its shape's number; where its data starts, counted from 0 (after the header and the Lc
--- field) and how many bytes it counts, Lc; how many bytes it expects back, Le
+-- what a frame says: its header (cla, ins, p1, p2); its shape's number; where its data starts, counted from 0, and how many bytes it has, Lc;
+-- how many bytes it expects back, Le
 pub record Says : Type 0 where
   pub header : ApduHeader
   pub shape : ℕ
@@ -66,8 +65,7 @@ pub record InStrictTable (frame : List ℕ) (says : Says) (content : List ℕ) :
   pub table : InTable frame says content
   pub row : IsoRow (says .shape) (says .lc)
 
--- ---- reading is the table. Each claim is made of both readings: `Table` is `InTable` for the definition `readOf`, and `InStrictTable` for
--- the strict one, `strictOf`
+-- ---- Reading is the table: `InTable` for the definition `readOf`, `InStrictTable` for the strict one, `strictOf`
 
 -- A frame is read exactly when it is in the table, and then as its row says.
 abbrev pub ReadExactly : (List ℕ → Says → List ℕ → Type 0) → (List ℕ → Outcome Says) → Type 0
@@ -79,8 +77,7 @@ ReadExactly Table read =
 abbrev pub ShortExactly : (List ℕ → Outcome Says) → Type 0
 ShortExactly read = (frame : List ℕ) → (read frame ≡ SW 0x6a80) ↔ (length frame < 4)
 
--- "A frame of 4 or more in no shape gives 6700", and no other does. Its pair, whether bytes are missing or surplus and from where on, is
--- claimed in Claims.antt.
+-- "A frame of 4 or more in no shape gives 6700", and no other does. (Its pair: Claims.antt.)
 abbrev pub NoShapeExactly : (List ℕ → Says → List ℕ → Type 0) → (List ℕ → Outcome Says) → Type 0
 NoShapeExactly Table read =
     (frame : List ℕ) → AreBytes frame

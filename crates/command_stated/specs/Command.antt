@@ -1,19 +1,10 @@
 -- Document 01, 'From frame to command': "In this order: shape (6a80, 6700); CLA not 0 gives 6e00; then by INS". Document 02, E1: "The
 -- 6700s for Lc against INS are a third kind, with place 4 in every shape"; a frame's own pair is carried upward.
--- What a frame says, or its status, is `readOf frame`, by the claims of InTable.antt; the bytes of its data, `dataOf frame said`. First a
--- command or a status, then the parts of the data, last the source's types.
+-- What a frame says, or its status, is `readOf frame`, by the claims of InTable.antt; the bytes of its data, `dataOf frame said`. A `Command`
+-- is `Register said`, `Authenticate p1 said`, `Version` or `GetResponse`.
 mod Words
 use Words.*
-pub use Rattle.command_stated.specs.declared.Ctap1Flags.{Ctap1Flags}
-pub use Rattle.command_stated.specs.declared.Ctap1Flags.the-variants.{CheckOnly, EnforceUpAndSign, DontEnforceUpAndSign}
-pub use Rattle.command_stated.specs.declared.U2fCommand.{U2fCommand}
-
--- a command, with what its frame says; an Authenticate with its P1
-pub data Command : Type 0 where
-  Register : Says → Command
-  Authenticate : ℕ → Says → Command
-  Version : Command
-  GetResponse : Command
+pub use Rattle.command_stated.specs.Answers.{Command, Register, Authenticate, Version, GetResponse, Ctap1Flags, CheckOnly, EnforceUpAndSign, DontEnforceUpAndSign, flagsNo, U2fCommand, commandSaid}
 
 -- "01 Register: Lc not 64 gives 6700. P1 is not looked at."
 unfoldable pub registerOf : Says → Outcome Command
@@ -86,18 +77,3 @@ handlePlaceOf said = record { start = said .dataAt + 65; end = said .dataAt + sa
 
 unfoldable pub handleOf : List ℕ → Says → List ℕ
 handleOf frame said = partOf frame (handlePlaceOf said .start) (handlePlaceOf said .end)
-
--- ---- the source's types
-
--- FIDO: control byte in P1: 07 check only, 03 enforce user presence and sign, 08 don't enforce user presence and sign
-abbrev pub flagsNo : Ctap1Flags → ℕ
-flagsNo CheckOnly = 0x07
-flagsNo EnforceUpAndSign = 0x03
-flagsNo DontEnforceUpAndSign = 0x08
-
-abbrev pub commandSaid : U2fCommand → Outcome Command
-commandSaid (U2fCommand′.Register says) = Gives (Register (saysOf says))
-commandSaid (U2fCommand′.Authenticate flags says) = Gives (Authenticate (flagsNo flags) (saysOf says))
-commandSaid U2fCommand′.Version = Gives Version
-commandSaid U2fCommand′.GetResponse = Gives GetResponse
-commandSaid (U2fCommand′.Status s) = Word (wordOf s)

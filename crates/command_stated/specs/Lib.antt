@@ -1,4 +1,5 @@
 pub mod Words
+pub mod Answers
 pub mod Command
 pub mod Contracts
 pub mod Terms

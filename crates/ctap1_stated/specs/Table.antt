@@ -4,16 +4,14 @@
 mod Words
 use Words.*
 
--- ---- results: an answer, the record after it, the order, whether the counter was taken; and one without an order, in whose place stands a
--- blank one
+-- ---- results; one without an order has a blank one in its place
 abbrev pub result : Outcome DecisionGives → Presence → Order → Bool → DecisionResult
 result answer after order taken = record { answer = answer; presence = after; order = order; taken = taken }
 
 abbrev pub unordered : Outcome DecisionGives → Presence → DecisionResult
 unordered answer after = result answer after blankOrder false
 
--- the three records after a call without an R refusal: only the last moment moved; the touch spent too; a prompt opened too, for the side
--- that asks now
+-- the three records after a call that is not refused: only the last moment moved; the touch spent too; a prompt opened too, for this side
 abbrev pub movedAt : Presence → ℕ → Presence
 movedAt p t = record { w = p .w; prompt = p .prompt; touch = p .touch; last = t; asker = p .asker }
 
@@ -53,7 +51,7 @@ orderOfAuthenticate a said presence counter =
 abbrev pub Comes : Inputs → Command → Type 0
 Comes a c = (a .hardware .allowed ≡ Allowed′.Yes) × (commandOf (a .frame) ≡ Gives c)
 
--- a C0 that passed its checks of P1, P2 and Lc, where something remains
+-- a C0, allowed, where something remains
 abbrev pub Fetching : Presence → ℕ → Inputs → Type 0
 Fetching p t a = NotRefused p (a .side) t × Comes a GetResponse × (0 < a .remainder .count)
 

@@ -1,5 +1,5 @@
--- A signing order, and what finishing makes of it: the reply, byte by byte. Document 01, 'The decision', from "A signing order holds its
--- kind" on. Terms first; the claim, `FinishesExactly`, last.
+-- A signing order, and what finishing makes of it, byte by byte. Document 01, 'The decision', from "A signing order holds its kind" on. Terms
+-- first; the claim, `FinishesExactly`, last.
 mod Words
 use Words.*
 

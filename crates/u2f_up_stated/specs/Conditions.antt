@@ -8,7 +8,7 @@ use Words.*
 abbrev pub BadWindow : ℕ → Type 0
 BadWindow w = (w ≡ 0) ⊎ (60000 < w)
 
--- "R8 for a side other than 0 or 1, named or in the record". A call that names none, touch or ask, counts as one that names the record's.
+-- "R8 for a side other than 0 or 1, named or in the record". (Touch and ask name none, and count as naming the record's.)
 abbrev pub BadSide : (named asker : ℕ) → Type 0
 BadSide named asker = (1 < named) ⊎ (1 < asker)
 

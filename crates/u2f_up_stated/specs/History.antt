@@ -24,8 +24,8 @@ unfoldable pub lastMoment : List Event → ℕ
 lastMoment [] = 0
 lastMoment (e ∷ past) = if isMoving e then e .call .moment else lastMoment past
 
--- A touch, or a prompting refusal, as the history knows it: which event it is, counted from 0 in the order of the calls, its moment,
--- and whose it is. Two touches may share a moment; they never share a number.
+-- A touch, or a prompting refusal: which event it is, counted from 0 in the order of the calls, its moment, and whose it is. Two touches may
+-- share a moment; they never share a number.
 pub record Mark : Type 0 where
   pub number : ℕ
   pub moment : ℕ
@@ -57,12 +57,11 @@ isOf s k = eqb (k .side) s
 abbrev pub isFound : (w side t : ℕ) → Mark → Bool
 isFound w s t k = isYoung w t k && isOf s k
 
--- A prompting refusal is a check that finds nothing while the history holds no touch of either side that is live at the check's moment. A 6985
--- beside the other side's live touch is none, so what the past held has to be looked at, too.
+-- A prompting refusal is a check that finds nothing while no touch of either side is held. (A 6985 beside the other side's is none.)
 abbrev pub isPromptingBy : Event → (held : List Mark) → Bool
 isPromptingBy e held = isNoTouchFound (e .came) && not (isAny held)
 
--- "An accepted touch belongs to the asker", the side of the latest prompting refusal. Where there was none (no touch is accepted then), to 0.
+-- "An accepted touch belongs to the asker", the side of the latest prompting refusal; 0 where there was none (no touch is accepted then)
 abbrev pub sideAsked : Option Mark → ℕ
 sideAsked none = 0
 sideAsked (some s) = s .side
