@@ -1,23 +1,7 @@
 -- Calls as C makes them: from brinecandle_new on, each lent the record, five plain numbers, that the last one gave back. What is seen of each is
 -- what C sees: the answer's number, `yes`, the record's numbers. Lists of calls and of events are NEWEST FIRST.
-use Prim.Native.Nat.{ℕ, _+_, _≤_}
-use mathlib.Core.Path.{_≡_}
-use mathlib.Core.Logic.{_⊎_}
-use lib.ListN.{length}
-use mathlib.Core.Bool.{Bool, not}
-use mathlib.Core.List.{List, [], _∷_}
-use lib.Dec.{eqb, leb}
-use Rattle.outcome.specs.Notation.{if_then_else_}
-use Rattle.outcome.specs.Outcome.{lastRefusal}
-use Rattle.u2f_up_stated.specs.History.{Role, Touching, Checking, Asking, Call, Came, RefusedBy, AnsweredBefore, Event}
-use Rattle.u2f_up_stated.specs.Runs.{cameOfGiven}
-use Rattle.ctap1_stated.specs.Path.{roleOf}
-use Rattle.panel_stated.specs.declared.PresenceRecord.{PresenceRecord}
-use Rattle.ctap1_stated.specs.Words.{Inputs}
-use Rattle.ctap1_stated.specs.declared.HardwareSaid.{HardwareSaid}
-use Rattle.response_stated.specs.declared.Remainder.{Remainder}
-use Rattle.panel_stated.specs.Exports.{ToDecide, inputsOf, noRecord}
-use Rattle.demands.specs.Panel.{Panel}
+mod Words
+use Words.*
 
 -- all that is lent to a decision but the record
 pub record Lent : Type 0 where

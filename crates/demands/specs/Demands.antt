@@ -10,25 +10,9 @@
 --   answers   each call by itself answers, and leaves, what the documents say.
 -- The words of a history (Mark, accepted, heldAt, serverOf, ..) are those of u2f_up_stated's specs/History.antt. Lists of calls are NEWEST FIRST, lists of
 -- GET RESPONSEs run from left to right. Proved in proofs/Theorems.antt; proofs/Refuted.antt has a panel that meets the contracts, and wrong ones that fail.
-use Prim.Native.Nat.{ℕ, _+_, _<_, _≤_}
-use mathlib.Core.Path.{_≡_}
-use mathlib.Core.List.{List, [], _∷_, _++_}
-use mathlib.Core.Logic.{_↔_, _⊎_}
-use mathlib.Core.Option.{some}
-use lib.ListN.{length, take}
-use Rattle.octets.specs.Bytes.{byte}
-use Rattle.outcome.specs.Outcome.{lastRefusal}
-use Rattle.response_stated.specs.declared.Remainder.{Remainder}
-use Rattle.response_stated.specs.Words.{rest}
-use Rattle.response_stated.specs.Fetching.{remaining}
-use Rattle.u2f_up_stated.specs.Demand.{RunMeets}
-use Rattle.u2f_up_stated.specs.History.{Checking, Mark, heldAt, serverOf}
-use Rattle.panel_stated.specs.Exports.{ToDecide, ToFinish, AfterDeciding}
+mod Words
+use Words.*
 use Rattle.panel_stated.specs.Claims as Exports
-use Rattle.demands.specs.Panel.{Panel, Meets}
-use Rattle.demands.specs.Answers.{CommandExported, ResponseReadExported, FinishExported, PresenceExported}
-use Rattle.demands.specs.Sessions.{IsC0, IsGetResponse, Unhindered, Each, bytesOf, firstBytes, fetch, fetched, leftAfter}
-use Rattle.demands.specs.Calls.{Lent, CCall, Decide, on, asCall, Reaches, recordAfter, cameNext, historyOf}
 
 -- ---- demand 3, after the calls `calls` (newest first) from `brinecandle_new w` on: u2f_up_stated's sentences (specs/Demand.antt), of what C sees. The touch window is
 -- the third number in C's hand, a moment and one more

@@ -1,17 +1,8 @@
 -- A body that goes out in parts, as C sends it: the first by brinecandle_next_part, each further one by brinecandle_decide on a GET RESPONSE. The body stands in
 -- the reply buffer all the while, and each call is lent what the last one left of it. Whatever else is lent may differ from call to call: record, moment, side,
 -- hardware, Le, the buffer for part and status. Lists of GET RESPONSEs run from left to right.
-use Prim.Native.Nat.{ℕ, _+_, _<_, _≤_, _^_}
-use mathlib.Core.Path.{_≡_}
-use mathlib.Core.List.{List, [], _∷_, _++_}
-use mathlib.Core.Logic.{_⊎_}
-use lib.Dec.{eqb}
-use lib.ListN.{length, take}
-use Rattle.outcome.specs.Notation.{if_then_else_}
-use Rattle.response_stated.specs.declared.Remainder.{Remainder}
-use Rattle.response_stated.specs.Responses.{responseBodyOf}
-use Rattle.panel_stated.specs.Exports.{ToDecide, AfterDeciding, AfterPart}
-use Rattle.demands.specs.Panel.{Panel}
+mod Words
+use Words.*
 
 -- all that is lent, with this body in the reply buffer and this remainder of it
 abbrev pub asking : (body : List ℕ) → Remainder → ToDecide → ToDecide
