@@ -1,5 +1,5 @@
--- Calls as C makes them: from brinecandle_new on, each lent the record, five plain numbers, that the last one gave back. What is seen of each is
--- what C sees: the answer's number, `yes`, the record's numbers. Lists of calls and of events are NEWEST FIRST.
+-- Calls as C makes them: from brinecandle_new on, each lent the record, five numbers, that the last one gave back; and what C sees of each: the answer's number, `yes`,
+-- the record. Lists are NEWEST FIRST.
 mod Words
 use Words.*
 

@@ -1,21 +1,13 @@
--- ONE THEOREM ON TOP. Of any panel P, that is of any sixteen functions that C could link (specs/Panel.antt):
+-- ONE THEOREM ON TOP, of any panel P, that is any sixteen functions that C could link (Panel.antt): if each meets the contract of its export at every input, then
+-- over any calls that C makes (Calls.antt, Sessions.antt) P meets the demands, last in this file. A history's words (Mark, heldAt, serverOf) are History.antt's.
+-- Lists of calls are NEWEST FIRST, lists of GET RESPONSEs run from left to right.
 --
 --     OnTop = (P : Panel) → Meets P → Demands P
---
--- If each meets the contract of its export at every input, then over any calls that C makes (specs/Calls.antt, specs/Sessions.antt)
---   touches   what C sees of a touch, a check, an ask or a decision is what the calls before it foretell, per side: demand 3;
---   orders    no order says that a person was there without a touch of its own, of its own side;
---   finished  an order that was given is finished, if the signer does not fail;
---   bodies    GET RESPONSEs at any mixture of Le fetch a body whole, and come to an end;
---   answers   each call by itself answers, and leaves, what the documents say.
--- The words of a history (Mark, accepted, heldAt, serverOf, ..) are those of u2f_up_stated's specs/History.antt. Lists of calls are NEWEST FIRST, lists of
--- GET RESPONSEs run from left to right. Proved in proofs/Theorems.antt; proofs/Refuted.antt has a panel that meets the contracts, and wrong ones that fail.
 mod Words
 use Words.*
 use Rattle.panel_stated.specs.Claims as Exports
 
--- ---- demand 3, after the calls `calls` (newest first) from `brinecandle_new w` on: u2f_up_stated's sentences (specs/Demand.antt), of what C sees. The touch window is
--- the third number in C's hand, a moment and one more
+-- ---- demand 3 (Demand.antt), after the calls from `brinecandle_new w` on, of what C sees. The touch window is a number in C's hand, its moment and one more
 abbrev pub Demand3 : (P : Panel) (w : ℕ) → List CCall → Type 0
 Demand3 P w calls =
     RunMeets w asCall calls (historyOf P w calls) (cameNext P w calls) (λ earlier m. recordAfter P w earlier .touch ≡ m + 1) (recordAfter P w calls .asker)
@@ -47,8 +39,7 @@ module _ (P : Panel) (w : ℕ) where
 
 -- ---- a body fetched by GET RESPONSEs, at any mixture of Le
 pub record BodiesAreFetched (P : Panel) : Type 0 where
-  -- a body of n bytes, a first part at any limit, and any GET RESPONSEs, refused or not: what went out so far, joined, is the body's front, and
-  -- followed by what is left it is the body
+  -- a body of n bytes, a first part at any limit, any GET RESPONSEs, refused or not: what went out, joined and followed by what is left, is the body
   pub so-far : (body buffer : List ℕ) (n limit : ℕ) (asks : List ToDecide) → n ≤ length body → Each (IsC0 P) asks
       → firstBytes (P .next-part body (rest 0 n) limit buffer)
       ++ (fetched P body (P .next-part body (rest 0 n) limit buffer .said .remainder) asks

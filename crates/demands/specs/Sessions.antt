@@ -1,6 +1,5 @@
--- A body that goes out in parts, as C sends it: the first by brinecandle_next_part, each further one by brinecandle_decide on a GET RESPONSE. The body stands in
--- the reply buffer all the while, and each call is lent what the last one left of it. Whatever else is lent may differ from call to call: record, moment, side,
--- hardware, Le, the buffer for part and status. Lists of GET RESPONSEs run from left to right.
+-- A body in parts, as C sends it: the first by brinecandle_next_part, each further one by brinecandle_decide on a GET RESPONSE, lent what the last one left. The body
+-- stands in the reply buffer; whatever else is lent may differ from call to call. Lists run from left to right.
 mod Words
 use Words.*
 
