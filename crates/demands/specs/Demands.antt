@@ -5,7 +5,6 @@
 --     OnTop = (P : Panel) → Meets P → Demands P
 mod Words
 use Words.*
-use Rattle.panel_stated.specs.Claims as Exports
 
 -- ---- demand 3 (Demand.antt), after the calls from `brinecandle_new w` on, of what C sees. The touch window is a number in C's hand, its moment and one more
 abbrev pub Demand3 : (P : Panel) (w : ℕ) → List CCall → Type 0
@@ -62,26 +61,6 @@ OrdersAreFinished P =
     → P .decide i .said .answer ≡ 0x0100 → f .order ≡ P .decide i .said .order → f .block ≡ P .decide i .block
     → length (f .certificate) ≡ f .order .«certificate_length» → length (i .reply) ≤ length (f .reply) → f .signed ≡ 1 → length (f .signature) ≤ 72
     → P .finish f .said .answer ≡ 0x9000
-
--- ---- each call by itself, in numbers: panel_stated's claims on its exports, and specs/Answers.antt
-pub record CallsAnswer (P : Panel) : Type 0 where
-  -- on any record that is lent: touch, check and ask; which of them are R8; a refusal hands back the record that was lent
-  pub presences : PresenceExported (P .grant-up) (P .consume-up) (P .is-up-needed)
-  pub sides : Exports.SideCrosses (P .grant-up) (P .is-up-needed) (P .consume-up) (P .decide)
-  pub hands-back : Exports.RefusalHandsBack (P .grant-up) (P .consume-up) (λ i. P .decide i .said)
-  -- on any frame, order, body and buffer
-  pub reads : Exports.ReadExported (P .read)
-  pub reads-strictly : Exports.ReadStrictExported (P .read-strict)
-  pub reads-by-table : Exports.ReadExported (P .read-by-table)
-  pub reads-strictly-by-table : Exports.ReadStrictExported (P .read-strict-by-table)
-  pub writes : Exports.WriteExported (P .write)
-  pub writes-strictly : Exports.WriteStrictExported (P .write-strict)
-  pub commands : CommandExported (P .read-command)
-  pub decides : Exports.DecideExported (P .decide)
-  pub finishes : FinishExported (P .finish)
-  pub responds : Exports.ResponseExported (P .write-response)
-  pub responses : ResponseReadExported (P .read-response)
-  pub parts : Exports.NextPartExported (P .next-part)
 
 -- ---- all demands on a panel
 pub record Demands (P : Panel) : Type 0 where

@@ -14,6 +14,6 @@ pub use Rattle.u2f_up_stated.specs.Demand.{RunMeets}
 pub use Rattle.u2f_up_stated.specs.History.{Checking, Mark, heldAt, serverOf}
 pub use Rattle.panel_stated.specs.Exports.{ToDecide, ToFinish, AfterDeciding}
 pub use Rattle.demands.specs.Panel.{Panel, Meets}
-pub use Rattle.demands.specs.Answers.{CommandExported, ResponseReadExported, FinishExported, PresenceExported}
+pub use Rattle.demands.specs.Answers.{CallsAnswer}
 pub use Rattle.demands.specs.Sessions.{IsC0, IsGetResponse, Unhindered, Each, bytesOf, firstBytes, fetch, fetched, leftAfter}
 pub use Rattle.demands.specs.Calls.{Lent, CCall, Decide, on, asCall, Reaches, recordAfter, cameNext, historyOf}
