@@ -46,13 +46,13 @@ use Rattle.panel_stated.specs.Terms.{IsNumbered}
 use Rattle.panel_stated.specs.Exports.{ToDecide, inputsOf, bodyLength, frameNumbers, commandNumbers, partNumbers}
 use Rattle.panel_stated.proofs.Outcomes as Outcomes
 use Rattle.demands.specs.Panel.{Panel, Meets}
-use Rattle.demands.specs.Sessions.{asking, IsC0, IsGetResponse, Unhindered, Each, none, also, bytesOf, firstBytes, fetch, fetched, leftAfter}
+use Rattle.demands.specs.Sessions.{fetching, IsC0, IsGetResponse, Unhindered, Each, none, also, bytesOf, firstBytes, fetch, fetched, leftAfter}
 
 -- ---- frames and commands by their numbers
-asks-on : (o : Outcome Says) → IsNumbered o → frameNumbers o .answer ≡ 0x9000 → frameNumbers o .ins ≡ 0xC0 → (said : Says) × (o ≡ Gives said) × (said .header .ins ≡ 0xC0)
-asks-on (R n) h e f = absurd (omega arith)
-asks-on (Word s) h e f = absurd (omega arith)
-asks-on (Gives said) h e f = (said, refl, f)
+has-c0 : (o : Outcome Says) → IsNumbered o → frameNumbers o .answer ≡ 0x9000 → frameNumbers o .ins ≡ 0xC0 → (said : Says) × (o ≡ Gives said) × (said .header .ins ≡ 0xC0)
+has-c0 (R n) h e f = absurd (omega arith)
+has-c0 (Word s) h e f = absurd (omega arith)
+has-c0 (Gives said) h e f = (said, refl, f)
 
 get-response : (o : Outcome Command) → IsNumbered o → commandNumbers o .answer ≡ 0x9000 → commandNumbers o .command ≡ 0xC0 → o ≡ Gives GetResponse
 get-response (R n) h e f = absurd (omega arith)
@@ -92,7 +92,7 @@ visits (i ∷ is) = visitOf i ∷ visits is
 module _ (P : Panel) (M : Meets P) where
   is-c0 : (i : ToDecide) → IsC0 P i → HasInsC0 (inputsOf i)
   is-c0 i (e, f) =
-      asks-on (readOf (i .frame)) (Outcomes.read-said (i .frame))
+      has-c0 (readOf (i .frame)) (Outcomes.read-said (i .frame))
       (ap (λ (s : FrameSaid). s .answer) (sym (M .read (i .frame))) ∙ e) (ap (λ (s : FrameSaid). s .ins) (sym (M .read (i .frame))) ∙ f)
 
   comes : (i : ToDecide) → IsGetResponse P i → Comes (inputsOf i) GetResponse
@@ -105,13 +105,13 @@ module _ (P : Panel) (M : Meets P) where
   module _ (body : List ℕ) where
     bytes-same : (r : Remainder) (i : ToDecide) → bytesOf (fetch P body r i) ≡ responseBodyOf (S.sentIn decisionOf remainderLeft partLeft body r (visitOf i))
     bytes-same r i =
-        let m = M .decide (asking body r i) in
+        let m = M .decide (fetching body r i) in
         ap₂ (λ (s : DecisionSaid) (after : List ℕ). if eqb (s .answer) 0x0200 then responseBodyOf (take (s .length) after) else []) (m .0) (m .3)
-        ∙ sent-same (decisionOf (presenceOf (i .presence)) (i .moment) (inputsOf (asking body r i)) .answer) _
-        (Outcomes.decision-said (presenceOf (i .presence)) (i .moment) (inputsOf (asking body r i)))
+        ∙ sent-same (decisionOf (presenceOf (i .presence)) (i .moment) (inputsOf (fetching body r i)) .answer) _
+        (Outcomes.decision-said (presenceOf (i .presence)) (i .moment) (inputsOf (fetching body r i)))
 
     left-same : (r : Remainder) (i : ToDecide) → fetch P body r i .said .remainder ≡ S.leftIn decisionOf remainderLeft partLeft body r (visitOf i)
-    left-same r i = ap (λ (s : DecisionSaid). s .remainder) (M .decide (asking body r i) .0)
+    left-same r i = ap (λ (s : DecisionSaid). s .remainder) (M .decide (fetching body r i) .0)
 
     pub fetched-same : (r : Remainder) (is : List ToDecide) → fetched P body r is ≡ S.joinedOver decisionOf remainderLeft partLeft body r (visits is)
     unfolding fetched
@@ -125,9 +125,9 @@ module _ (P : Panel) (M : Meets P) where
     after-same r [] = refl
     after-same r (i ∷ is) = ap (λ (k : Remainder). leftAfter P body k is) (left-same r i) ∙ after-same _ is
 
-    each-asks : {is : List ToDecide} → Each (IsC0 P) is → S.Each S.IsFetch (visits is)
-    each-asks none = S.none
-    each-asks (also {i} x e) = S.also (is-c0 i x) (each-asks e)
+    each-fetches : {is : List ToDecide} → Each (IsC0 P) is → S.Each S.IsFetch (visits is)
+    each-fetches none = S.none
+    each-fetches (also {i} x e) = S.also (is-c0 i x) (each-fetches e)
 
     -- what went out, and then what is left
     pub joins : (r : Remainder) (is : List ToDecide) → S.Each S.IsFetch (visits is) → fetched P body r is ++ remaining body (leftAfter P body r is) ≡ remaining body r
@@ -147,7 +147,7 @@ module _ (P : Panel) (M : Meets P) where
         ap₂ (λ (s : PartSaid) (after : List ℕ). if eqb (s .answer) 0x9000 then responseBodyOf (take (s .length) after) else []) (m .0) (m .1)
         ∙ first-same o _ (rest 0 n) (Outcomes.next-said (length body) (rest 0 n) limit (length buffer)) in
         let lefts : p .said .remainder ≡ left (rest 0 n) o = ap (λ (s : PartSaid). s .remainder) (m .0) ∙ first-left o (rest 0 n) in
-        ap₂ (λ (x y : List ℕ). x ++ y) bytes (joins (p .said .remainder) is (each-asks e) ∙ ap (remaining body) lefts)
+        ap₂ (λ (x y : List ℕ). x ++ y) bytes (joins (p .said .remainder) is (each-fetches e) ∙ ap (remaining body) lefts)
         ∙ step-joins body (rest 0 n) a (omega arith)
 
 -- ---- progress
@@ -193,14 +193,14 @@ part-fits n limit count long h room =
 
 module _ (P : Panel) (M : Meets P) (body : List ℕ) where
   -- the two sides' words for a C0
-  gets-asks : (i : ToDecide) → IsGetResponse P i → S.IsFetch (visitOf i)
-  gets-asks i g = let f = GetResponseExactly (i .frame) .0 (comes P M i g .1) in (f .0, f .1, f .3)
+  gets-fetches : (i : ToDecide) → IsGetResponse P i → S.IsFetch (visitOf i)
+  gets-fetches i g = let f = GetResponseExactly (i .frame) .0 (comes P M i g .1) in (f .0, f .1, f .3)
 
   one-joins : (r : Remainder) (i : ToDecide) → IsGetResponse P i → bytesOf (fetch P body r i) ++ remaining body (fetch P body r i .said .remainder) ≡ remaining body r
   unfolding fetched leftAfter
   one-joins r i g =
       ap (λ (l : List ℕ). l ++ remaining body (fetch P body r i .said .remainder)) (sym (append-nil (bytesOf (fetch P body r i))))
-      ∙ joins P M body r (i ∷ []) (S.also (gets-asks i g) S.none)
+      ∙ joins P M body r (i ∷ []) (S.also (gets-fetches i g) S.none)
 
   pub takes : (r : Remainder) (i : ToDecide) → IsGetResponse P i → 0 < r .count → lastRefusal < fetch P body r i .said .answer
       → (fetch P body r i .said .answer ≡ 0x0200)
@@ -208,8 +208,8 @@ module _ (P : Panel) (M : Meets P) (body : List ℕ) where
       × (length (bytesOf (fetch P body r i)) + fetch P body r i .said .remainder .count ≡ r .count)
   takes r i g some e =
       let p = presenceOf (i .presence) in
-      let a = inputsOf (asking body r i) in
-      let m = M .decide (asking body r i) .0 in
+      let a = inputsOf (fetching body r i) in
+      let m = M .decide (fetching body r i) .0 in
       let number : fetch P body r i .said .answer ≡ decidedNo (decisionOf p (i .moment) a .answer) = ap (λ (s : DecisionSaid). s .answer) m in
       let x = decided-part p (i .moment) a (comes P M i g) some (omega (arith, number, e)) in
       let f = is-a-part p (i .moment) a (x .0) (x .1) (x .2) in
@@ -234,8 +234,8 @@ module _ (P : Panel) (M : Meets P) (body : List ℕ) where
   kept : (n : ℕ) (r : Remainder) (i : ToDecide) → Unhindered P n i → r .count ≡ 0 → fetch P body r i .said .remainder ≡ r
   kept n r i u z =
       let c = comes P M i (u .get-response) in
-      ap (λ (s : DecisionSaid). s .remainder) (M .decide (asking body r i) .0)
-      ∙ ap (λ (x : DecisionResult). remainderLeft (inputsOf (asking body r i)) x) (nothing-left (presenceOf (i .presence)) (i .moment) (inputsOf (asking body r i)) (passes n i u) c z)
+      ap (λ (s : DecisionSaid). s .remainder) (M .decide (fetching body r i) .0)
+      ∙ ap (λ (x : DecisionResult). remainderLeft (inputsOf (fetching body r i)) x) (nothing-left (presenceOf (i .presence)) (i .moment) (inputsOf (fetching body r i)) (passes n i u) c z)
       ∙ rw (comes-c0 (inputsOf i) c)
 
   moved : (n : ℕ) (r : Remainder) (i : ToDecide) → Unhindered P n i → 0 < r .count → r .count ≤ n → r .place + r .count ≤ length body
@@ -244,8 +244,8 @@ module _ (P : Panel) (M : Meets P) (body : List ℕ) where
       let c = comes P M i (u .get-response) in
       let limit : P .decide i .said .limit ≡ frameLimit (i .frame) = ap (λ (s : DecisionSaid). s .limit) (M .decide i .0) in
       let fits = part-fits n (frameLimit (i .frame)) (r .count) (length (i .part)) most (rw limit at (u .room)) in
-      ap (λ (s : DecisionSaid). s .remainder) (M .decide (asking body r i) .0)
-      ∙ ap (λ (x : DecisionResult). remainderLeft (inputsOf (asking body r i)) x) (served (presenceOf (i .presence)) (i .moment) (inputsOf (asking body r i)) (passes n i u, c, some) within fits)
+      ap (λ (s : DecisionSaid). s .remainder) (M .decide (fetching body r i) .0)
+      ∙ ap (λ (x : DecisionResult). remainderLeft (inputsOf (fetching body r i)) x) (served (presenceOf (i .presence)) (i .moment) (inputsOf (fetching body r i)) (passes n i u, c, some) within fits)
 
   all-left : (n : ℕ) (r : Remainder) (is : List ToDecide) → r .place + r .count ≤ length body → r .count ≤ n → Each (Unhindered P n) is → r .count ≤ length is
       → leftAfter P body r is .count ≡ 0
@@ -265,7 +265,7 @@ module _ (P : Panel) (M : Meets P) (body : List ℕ) where
 
   each-gets : (n : ℕ) {is : List ToDecide} → Each (Unhindered P n) is → S.Each S.IsFetch (visits is)
   each-gets n none = S.none
-  each-gets n (also {i} u e) = S.also (gets-asks i (u .get-response)) (each-gets n e)
+  each-gets n (also {i} u e) = S.also (gets-fetches i (u .get-response)) (each-gets n e)
 
   pub enough : (r : Remainder) (is : List ToDecide) → r .place + r .count ≤ length body → Each (Unhindered P (r .count)) is → r .count ≤ length is
       → (leftAfter P body r is .count ≡ 0) × (fetched P body r is ≡ remaining body r)

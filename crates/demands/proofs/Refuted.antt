@@ -90,14 +90,14 @@ knowsNoCommand d =
     omega (arith, e)
 
 -- ---- demand 3
--- side 0 asks, the finger touches, and side 0 finds nothing
+-- side 0 fetches, the finger touches, and side 0 finds nothing
 pub touchAsks : Demands Wrong.touchAsks → ⊥
 unfolding cameNext historyOf recordAfter touchOf checkOf askOf settleOf grantedOf checkedOf foretold latestPrompt unspent latestTouch isPromptStanding lastMoment newOf
 touchAsks d =
     let e : NoTouchFound ≡ TouchFound = d .touches 1000 refl (Touch 1 ∷ Check 0 0 ∷ []) .foretells (Check 0 2) in
     let z : _≡_ {A = ℕ} 0 1 = cc in omega arith
 
--- side 0 asks, the finger touches, and side 1 finds the touch
+-- side 0 fetches, the finger touches, and side 1 finds the touch
 pub checkIs0 : Demands Wrong.checkIs0 → ⊥
 unfolding cameNext historyOf recordAfter touchOf checkOf askOf settleOf grantedOf checkedOf foretold latestPrompt unspent latestTouch isPromptStanding lastMoment newOf
 checkIs0 d =
@@ -161,7 +161,7 @@ touchLate d =
     let e = d .touches 1000 refl (Touch 1 ∷ Check 0 0 ∷ []) .holds (record { number = 1; moment = 1; side = 0 }) 1 (omega arith) refl [] (Touch 1 ∷ Check 0 0 ∷ []) refl (omega arith) in
     omega (arith, e)
 
--- side 1 asks, and the record says side 0
+-- side 1 fetches, and the record says side 0
 pub askerKept : Demands Wrong.askerKept → ⊥
 unfolding cameNext historyOf recordAfter touchOf checkOf askOf settleOf grantedOf checkedOf foretold latestPrompt unspent latestTouch isPromptStanding lastMoment newOf
 askerKept d = omega (arith, d .touches 1000 refl (Check 1 0 ∷ []) .asker)

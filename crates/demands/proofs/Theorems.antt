@@ -135,9 +135,9 @@ OnTop P M = record {
   touches = λ w made calls. let h = made-exactly w .0 (from w made) in demand3 P M w (h .0) (h .1) calls;
   orders = λ w made. let h = made-exactly w .0 (from w made) in orders P M w (h .0) (h .1);
   bodies = record {
-    so-far = λ body buffer n limit asks. so-far P M body buffer n limit asks;
+    so-far = λ body buffer n limit fetches. so-far P M body buffer n limit fetches;
     takes = λ body r i. takes P M body r i;
-    enough = λ body r asks. enough P M body r asks;
+    enough = λ body r fetches. enough P M body r fetches;
   };
   reaches = λ i. reached P M i;
   finished = finishes P M;

@@ -39,10 +39,10 @@ module _ (P : Panel) (w : ℕ) where
 -- ---- a body fetched by GET RESPONSEs, at any mixture of Le
 pub record BodiesAreFetched (P : Panel) : Type 0 where
   -- a body of n bytes, a first part at any limit, any GET RESPONSEs, refused or not: what went out, joined and followed by what is left, is the body
-  pub so-far : (body buffer : List ℕ) (n limit : ℕ) (asks : List ToDecide) → n ≤ length body → Each (IsC0 P) asks
+  pub so-far : (body buffer : List ℕ) (n limit : ℕ) (fetches : List ToDecide) → n ≤ length body → Each (IsC0 P) fetches
       → firstBytes (P .next-part body (rest 0 n) limit buffer)
-      ++ (fetched P body (P .next-part body (rest 0 n) limit buffer .said .remainder) asks
-      ++ remaining body (leftAfter P body (P .next-part body (rest 0 n) limit buffer .said .remainder) asks))
+      ++ (fetched P body (P .next-part body (rest 0 n) limit buffer .said .remainder) fetches
+      ++ remaining body (leftAfter P body (P .next-part body (rest 0 n) limit buffer .said .remainder) fetches))
       ≡ take n body
   -- one that is not refused and finds something left takes at least one byte of it, and leaves the rest
   pub takes : (body : List ℕ) (r : Remainder) (i : ToDecide) → IsGetResponse P i → 0 < r .count → lastRefusal < fetch P body r i .said .answer
@@ -50,9 +50,9 @@ pub record BodiesAreFetched (P : Panel) : Type 0 where
       × (1 ≤ length (bytesOf (fetch P body r i)))
       × (length (bytesOf (fetch P body r i)) + fetch P body r i .said .remainder .count ≡ r .count)
   -- after enough that nothing stands against nothing is left, and what went out is all that was
-  pub enough : (body : List ℕ) (r : Remainder) (asks : List ToDecide) → r .place + r .count ≤ length body
-      → Each (Unhindered P (r .count)) asks → r .count ≤ length asks
-      → (leftAfter P body r asks .count ≡ 0) × (fetched P body r asks ≡ remaining body r)
+  pub enough : (body : List ℕ) (r : Remainder) (fetches : List ToDecide) → r .place + r .count ≤ length body
+      → Each (Unhindered P (r .count)) fetches → r .count ≤ length fetches
+      → (leftAfter P body r fetches .count ≡ 0) × (fetched P body r fetches ≡ remaining body r)
 
 -- ---- an order is finished: nothing but a failed signer stands between a spent touch and its reply
 abbrev pub OrdersAreFinished : Panel → Type 0

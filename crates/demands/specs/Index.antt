@@ -20,7 +20,10 @@ use Rattle.apdu_table_stated.specs.Answers.{readByRows}
 use Rattle.convert_stated.specs.Claims as Converter
 use Rattle.convert_stated.specs.Converting.{isOld, convertOf}
 use Rattle.command_stated.specs.Claims as Commands
-use Rattle.command_stated.specs.Command.{commandOf, challengeOf, applicationOf, handleOf, challengePlaceOf, applicationPlaceOf, handlePlaceOf}
+use Rattle.apdu_stated.specs.Answers.{readingOf}
+use Rattle.u2f_up_stated.specs.Answers.{outcomeOf}
+use Rattle.ctap1_stated.specs.Words.{decisionAnswerOf}
+use Rattle.command_stated.specs.Command.{commandSaid, commandOf, challengeOf, applicationOf, handleOf, challengePlaceOf, applicationPlaceOf, handlePlaceOf}
 use Rattle.response_stated.specs.Claims as Responses
 use Rattle.response_stated.specs.Responses.{readResponseOf, responseBodyOf}
 use Rattle.response_stated.specs.Terms.{writingOf as respondingOf, sendingOf}
@@ -31,7 +34,7 @@ use Rattle.u2f_up_stated.specs.Runs.{own}
 use Rattle.u2f_up_stated.specs.OneSide.{base, baseBy, baseSettleOf, baseCheckedOf}
 use Rattle.signing_stated.specs.Claims as Signing
 use Rattle.signing_stated.specs.Orders.{registerOrderOf, authenticateOrderFor}
-use Rattle.signing_stated.specs.Finishing.{finishOf, endOf}
+use Rattle.signing_stated.specs.Finishing.{finishOf, finishedOf, endOf}
 use Rattle.ctap1_stated.specs.Claims as Decision
 use Rattle.ctap1_stated.specs.Path.{frameLimit}
 use Rattle.ctap1_stated.specs.Decision.{decisionOf, replyLeft, blockAfter}
@@ -63,7 +66,7 @@ pub record EveryInputIsAnswered : Type 0 where
   pub moments : Presence.SettlesExactly settleOf
   pub touches : Presence.TouchesExactly touchOf
   pub checks : Presence.ChecksExactly checkOf
-  pub asks : Presence.AsksExactly askOf
+  pub fetches : Presence.AsksExactly askOf
   -- R5 and R2 of the writer, and of the strict one (02, E4); what meets a contract of reading or writing meets these claims
   pub writing : Frames.WriteExactly Carries InTable writingOf
   pub strict-writing : Frames.StrictWriteExactly strictWritingOf
@@ -72,6 +75,17 @@ pub record EveryInputIsAnswered : Type 0 where
   -- the converter's status and R2, and what it leaves of the buffer: 02, E13
   pub converting : Converter.ConvertExactly convertOf
   pub converter-as-claimed : Converter.ContractsAsClaimed
+  -- what meets a contract meets the claim on it, of functions that no call of C's reaches too: lent records, bodies of responses, field writers
+  pub commands-as-claimed : Commands.ContractsAsClaimed
+  pub responses-as-claimed : Responses.ContractsAsClaimed
+  pub signing-as-claimed : Signing.ContractsAsClaimed
+  pub presence-as-claimed : Presence.ContractsAsClaimed
+  -- every answer of the source's types has its value
+  pub readings-said : Frames.ReadingSaidExactly readingOf
+  pub commands-said : Commands.SaidExactly commandSaid
+  pub answers-said : Presence.AnswerExactly outcomeOf
+  pub decisions-said : Decision.SaidExactly decisionAnswerOf
+  pub finishing-said : Signing.FinishedExactly finishedOf
   -- every status of command reading
   pub commands : Commands.CommandExactly commandOf
   -- R2 of responses, written and read, and of the next part of a body: 02, E2
@@ -131,6 +145,8 @@ pub record AsTheDocumentsSay : Type 0 where
   pub tolerated : Frames.ToleratedExactly readOf
   -- 02, E4: "The strict frames are then ISO's seven cases"; where the two readings agree, and what each says where they do not
   pub strict-iso : Frames.StrictIsIso strictOf
+  pub iso-counts : Frames.IsoCounts readOf
+  pub iso-written : Frames.WritesIso strictWritingOf
   pub differences : Frames.DifferExactly readOf strictOf
   pub frames-to-try : Frames.ExamplesRead readOf
   -- 02, E13: the converter knows the old form by its own condition; what it makes of a frame is read with the same header, data and Le; only the old form changes,
@@ -167,6 +183,8 @@ pub record AsTheDocumentsSay : Type 0 where
   -- replies are those of FIDO U2F Raw Message Formats 1.2: the bytes to sign, byte by byte, and the replies made of them
   pub register-orders : Signing.MakesRegister registerOrderOf
   pub authenticate-orders : Signing.MakesAuthenticate authenticateOrderFor
+  pub signed-bytes : Signing.SignsFido registerOrderOf authenticateOrderFor
+  pub reply-bytes : Signing.FinishesExactly endOf
   pub register-replies : Signing.RegisterRoundTrip finishOf
   pub authenticate-replies : Signing.AuthenticateRoundTrip finishOf
   -- a frame that is read and, given room, written again is the same frame; fields that the writer takes are read back as themselves
@@ -180,6 +198,8 @@ pub record AsTheDocumentsSay : Type 0 where
 pub record TouchesAreAsTheHistorySays : Type 1 where
   -- a decision does nothing to a record but what its role says, whatever record is lent (decisions on C0 among them: 02, E2, "demand 3 is unchanged")
   pub decisions-keep : Decision.KeepsToItsRole decisionOf
+  -- whether there is an order depends on handle and certificate by their lengths alone, which a dry run rests on
+  pub by-lengths-alone : Decision.ByLengthsAlone decisionOf
   -- and on no record does an order say that a person was there without a live touch of its own side
   pub orders-need-a-touch : Decision.OrdersNeedATouch decisionOf
 

@@ -4,8 +4,8 @@ mod Words
 use Words.*
 
 -- all that is lent, with this body in the reply buffer and this remainder of it
-abbrev pub asking : (body : List ℕ) → Remainder → ToDecide → ToDecide
-asking body r i =
+abbrev pub fetching : (body : List ℕ) → Remainder → ToDecide → ToDecide
+fetching body r i =
     record {
       frame = i .frame;
       side = i .side;
@@ -54,7 +54,7 @@ firstBytes p = if eqb (p .said .answer) 0x9000 then responseBodyOf (take (p .sai
 module _ (P : Panel) (body : List ℕ) where
   -- one GET RESPONSE
   abbrev pub fetch : Remainder → ToDecide → AfterDeciding
-  fetch r i = P .decide (asking body r i)
+  fetch r i = P .decide (fetching body r i)
 
   -- one after the other: what went out, joined; what is left
   unfoldable pub fetched : Remainder → List ToDecide → List ℕ
