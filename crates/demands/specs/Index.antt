@@ -20,8 +20,8 @@ use Rattle.apdu_table_stated.specs.Answers.{readByRows}
 use Rattle.convert_stated.specs.Claims as Converter
 use Rattle.convert_stated.specs.Converting.{isOld, convertOf}
 use Rattle.command_stated.specs.Claims as Commands
-use Rattle.apdu_stated.specs.Answers.{readingOf}
-use Rattle.u2f_up_stated.specs.Answers.{outcomeOf}
+use Rattle.apdu_stated.specs.Answers.{readingOf, writtenOf}
+use Rattle.u2f_up_stated.specs.Answers.{outcomeOf, readyOf, toldOf}
 use Rattle.ctap1_stated.specs.Words.{decisionAnswerOf}
 use Rattle.command_stated.specs.Command.{commandSaid, commandOf, challengeOf, applicationOf, handleOf, challengePlaceOf, applicationPlaceOf, handlePlaceOf}
 use Rattle.response_stated.specs.Claims as Responses
@@ -79,11 +79,15 @@ pub record EveryInputIsAnswered : Type 0 where
   pub commands-as-claimed : Commands.ContractsAsClaimed
   pub responses-as-claimed : Responses.ContractsAsClaimed
   pub signing-as-claimed : Signing.ContractsAsClaimed
+  pub fields-as-claimed : Fields.ContractsAsClaimed
   pub presence-as-claimed : Presence.ContractsAsClaimed
   -- every answer of the source's types has its value
   pub readings-said : Frames.ReadingSaidExactly readingOf
   pub commands-said : Commands.SaidExactly commandSaid
+  pub writings-said : Frames.WrittenSaidExactly writtenOf
   pub answers-said : Presence.AnswerExactly outcomeOf
+  pub records-said : Presence.ReadyExactly readyOf
+  pub steps-said : Presence.StepExactly toldOf
   pub decisions-said : Decision.SaidExactly decisionAnswerOf
   pub finishing-said : Signing.FinishedExactly finishedOf
   -- every status of command reading
