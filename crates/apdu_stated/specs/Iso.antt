@@ -1,6 +1,5 @@
--- ISO/IEC 7816-3:2006, section 12.1.3: the seven cases of a command, by its body b of L bytes B1 .. BL; of each case Nc, the number of
--- its data bytes, where they stand, and Ne, the most bytes that may come back; and the one form beyond the cases that is tolerated. Written from
--- the public table, apart from document 01's. The claims, `IsoCounts` and `StrictIsIso`, last.
+-- ISO/IEC 7816-3:2006, section 12.1.3: the seven cases of a command, by its body b of L bytes B1 .. BL; of each Nc, the number of its data bytes, and Ne,
+-- the most bytes that may come back; and the one form beyond them that is tolerated. Written from the public table, apart from document 01's. The claims last.
 mod Words
 use Words.*
 
@@ -79,9 +78,8 @@ isoHeader frame = record { cla = byte frame 0; ins = byte frame 1; p1 = byte fra
 abbrev pub isoSays : IsoCase → List ℕ → Says
 isoSays c frame = saying (isoHeader frame) (shapeNo (shapeFor c)) (4 + lcBefore c) (ncOf c (drop 4 frame)) (neOf c (drop 4 frame))
 
--- ISO's Nc and Ne: a frame of a case is read with the header that it has, in the case's shape, its Lc is Nc, its Le is Ne, and its data starts behind the Lc
--- field. Of both readings. Rejects a reading that says Le 7 for every case 2S (`le7ForCase2S`), and one that says Nc for the Ne of a case 4S (`ncForNe`). Bites at
--- 00 03 00 00 | 05, and at 00 03 00 00 | 01 AA 05.
+-- ISO's Nc and Ne: a frame of a case is read with its header, in the case's shape, its Lc is Nc, its Le is Ne, and its data starts behind the Lc field. Of
+-- both readings
 abbrev pub IsoCounts : (List ℕ → Outcome Says) → Type 0
 IsoCounts read = (frame : List ℕ) (c : IsoCase) → IsIso c frame → read frame ≡ Gives (isoSays c frame)
 

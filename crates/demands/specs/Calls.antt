@@ -1,5 +1,5 @@
--- Calls as C makes them: from brinecandle_new on, each lent the record, five numbers, that the last one gave back; and what C sees of each: the answer's number, `yes`,
--- the record. Lists are NEWEST FIRST.
+-- Calls as C makes them: from brinecandle_new on, each lent the record, five numbers, that the last one gave back; and what C sees of each: the answer's
+-- number, `yes`, the record. Lists are NEWEST FIRST.
 mod Words
 use Words.*
 
@@ -37,7 +37,7 @@ on n i =
       part = i .part;
     }
 
--- what its numbers stand for, which no record changes (panel_stated's specs/Exports.antt, `inputsOf`)
+-- what its numbers stand for (panel_stated's Exports.antt), which no record changes
 abbrev pub lentOf : Lent → Inputs
 lentOf i = inputsOf (on noRecord i)
 
@@ -48,7 +48,7 @@ pub data CCall : Type 0 where
   Ask : (t : ℕ) → CCall  -- brinecandle_is_up_needed (record, t)
   Decide : Lent → CCall  -- brinecandle_decide
 
--- what a call is in a history: touch, check of a side, ask; a decision reaches the touch check or is answered before it, by what is lent alone
+-- what a call is in a history: touch, check of a side, ask; a decision reaches the touch check or is answered without it, by what is lent alone
 -- (ctap1_stated's specs/Path.antt, `roleOf`: no line of it looks at the record)
 abbrev pub asCall : CCall → Call
 asCall (Touch t) = record { role = Touching; moment = t }
@@ -56,7 +56,8 @@ asCall (Check s t) = record { role = Checking s; moment = t }
 asCall (Ask t) = record { role = Asking; moment = t }
 asCall (Decide i) = record { role = roleOf (lentOf i); moment = i .moment }
 
--- what C sees of touch, check and ask: a number up to 8 is a refusal, 9000 is done, and `yes` says the rest
+-- what C sees of touch, check and ask: a number up to 8 is a refusal, 9000 is done, and `yes` says the rest (`cameOfGiven`, Runs.antt: the role's case for yes
+-- or no)
 abbrev pub cameOfYes : Role → (answer : ℕ) (yes : Bool) → Came
 cameOfYes role answer said =
     if leb answer lastRefusal then RefusedBy answer
@@ -69,7 +70,8 @@ cameOfAnswer role answer =
     if leb answer lastRefusal then RefusedBy answer
     else cameOfGiven role (not (eqb answer 0x6985))
 
--- a decision reaches the touch check: CTAP1 is allowed, and the frame is a Register with room for its reply, or an Authenticate with P1 03, a good handle and room
+-- a decision reaches the touch check, R6, R8 and R1 apart: CTAP1 is allowed, and the frame is a Register with room for its reply, or an Authenticate with P1
+-- 03, a good handle and room
 abbrev pub Reaches : Panel → Lent → Type 0
 Reaches P i =
     (i .hardware .allowed ≡ 1) × (P .read-command (i .frame) .answer ≡ 0x9000)

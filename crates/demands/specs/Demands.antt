@@ -6,14 +6,14 @@
 mod Words
 use Words.*
 
--- ---- demand 3 (Demand.antt), after the calls from `brinecandle_new w` on, of what C sees. The touch window is a number in C's hand, its moment and one more
+-- ---- demand 3 (Demand.antt), after the calls from `brinecandle_new w` on, of what C sees. In C's record a touch window is a number: 0 closed, m + 1 opened at m
 abbrev pub Demand3 : (P : Panel) (w : ℕ) → List CCall → Type 0
 Demand3 P w calls =
     RunMeets w asCall calls (historyOf P w calls) (cameNext P w calls) (λ earlier m. recordAfter P w earlier .touch ≡ m + 1) (recordAfter P w calls .asker)
 
--- ---- the sentence on the box: no order without a touch of its own, of its own side
+-- ---- the sentence on the box: no order that says a person was there without a touch of its own, of its own side
 
--- an order to sign that says a person was there: answer 0100, and a Register, or an Authenticate whose presence byte (block[32]) is 01
+-- such an order: answer 0100, and a Register, or an Authenticate whose presence byte (block[32]) is 01
 abbrev pub OrdersPresent : AfterDeciding → Type 0
 OrdersPresent r = (r .said .answer ≡ 0x0100) × ((r .said .order .kind ≡ 1) ⊎ ((r .said .order .kind ≡ 2) × (byte (r .block) 32 ≡ 0x01)))
 
@@ -22,12 +22,12 @@ module _ (P : Panel) (w : ℕ) where
   abbrev pub OrdersNext : (earlier : List CCall) → Lent → Type 0
   OrdersNext earlier i = OrdersPresent (P .decide (on (recordAfter P w earlier) i))
 
-  -- the touch that a call after these is served by
+  -- the touch that a call after these is served by, if it spends one
   abbrev pub ServedBy : (earlier : List CCall) → Mark → Type 0
   ServedBy earlier k = serverOf w (historyOf P w earlier) ≡ some k
 
   pub record OrdersHaveTheirTouch : Type 0 where
-    -- it has a touch: the latest accepted one, live, the only one, and of the side that the decision names
+    -- it has a touch: the latest accepted one, the only one held, and of the side that the decision names
     pub own : (earlier : List CCall) (i : Lent) → OrdersNext earlier i
         → (k : Mark) × ServedBy earlier k × (heldAt w (historyOf P w earlier) (i .moment) ≡ k ∷ []) × (k .side ≡ i .side)
     -- and no later order has the same
@@ -49,12 +49,12 @@ pub record BodiesAreFetched (P : Panel) : Type 0 where
       → (fetch P body r i .said .answer ≡ 0x0200)
       × (1 ≤ length (bytesOf (fetch P body r i)))
       × (length (bytesOf (fetch P body r i)) + fetch P body r i .said .remainder .count ≡ r .count)
-  -- after enough that nothing stands against nothing is left, and what went out is all that was
+  -- after as many unhindered ones as bytes remained, nothing is left, and what went out is all that remained
   pub enough : (body : List ℕ) (r : Remainder) (fetches : List ToDecide) → r .place + r .count ≤ length body
       → Each (Unhindered P (r .count)) fetches → r .count ≤ length fetches
       → (leftAfter P body r fetches .count ≡ 0) × (fetched P body r fetches ≡ remaining body r)
 
--- ---- an order is finished: nothing but a failed signer stands between a spent touch and its reply
+-- ---- an order is finished: with x and y of 32 bytes, its block, a certificate of its length, no less room and a signature of at most 72 bytes, it gets 9000
 abbrev pub OrdersAreFinished : Panel → Type 0
 OrdersAreFinished P =
     (i : ToDecide) (f : ToFinish) → (length (i .x) ≡ 32) × (length (i .y) ≡ 32)
@@ -73,6 +73,7 @@ pub record Demands (P : Panel) : Type 0 where
   pub orders : (w : ℕ) → P .new w .answer ≡ 0x9000 → OrdersHaveTheirTouch P w
   pub finished : OrdersAreFinished P
   pub bodies : BodiesAreFetched P
+  -- each call by itself: Answers.antt. That every input is answered: P is a function
   pub answers : CallsAnswer P
 
 -- THE THEOREM, proved in proofs/Theorems.antt

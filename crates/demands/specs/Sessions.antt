@@ -1,5 +1,5 @@
--- A body in parts, as C sends it: the first by brinecandle_next_part, each further one by brinecandle_decide on a GET RESPONSE, lent what the last one left. The body
--- stands in the reply buffer; whatever else is lent may differ from call to call. Lists run from left to right.
+-- A body in parts, as C sends it: the first by brinecandle_next_part, each further one by brinecandle_decide on a GET RESPONSE, lent what the last one left.
+-- The body stands in the reply buffer; whatever else is lent may differ from call to call. Lists run from left to right.
 mod Words
 use Words.*
 
@@ -36,7 +36,7 @@ pub record Unhindered (P : Panel) (n : ℕ) (i : ToDecide) : Type 0 where
   pub window : (1 ≤ i .presence .w) × (i .presence .w ≤ 60000)  -- not R6
   pub sides : (i .side ≤ 1) × (i .presence .asker ≤ 1)  -- nor R8
   pub moments : (i .presence .last ≤ i .moment) × (i .moment < 2 ^ 48)  -- nor R1
-  -- nor R2: room for all that remains, or for as much as the frame takes at a time; two bytes more for the status
+  -- nor R2: room for all that remains, or for as much as the frame takes at a time (`limit`; 0 is all); two bytes more for the status
   pub room : (n + 2 ≤ length (i .part)) ⊎ ((1 ≤ P .decide i .said .limit) × (P .decide i .said .limit + 2 ≤ length (i .part)))
 
 -- each of them is so
@@ -44,7 +44,8 @@ pub data Each (Is : ToDecide → Type 0) : List ToDecide → Type 0 where
   none : Each Is []
   also : {i : ToDecide} {rest : List ToDecide} → Is i → Each Is rest → Each Is (i ∷ rest)
 
--- the bytes of the body that go out with a call: the response at the buffer's front, without its status; none but with 0200, of a first part 9000
+-- the bytes of the body that go out with a call: the response at the buffer's front, without its status; only where the answer is 0200, a part, or, for the
+-- first part, 9000
 abbrev pub bytesOf : AfterDeciding → List ℕ
 bytesOf d = if eqb (d .said .answer) 0x0200 then responseBodyOf (take (d .said .length) (d .part)) else []
 

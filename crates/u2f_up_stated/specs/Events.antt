@@ -7,7 +7,7 @@ pub data Role : Type 0 where
   Touching : Role  -- a touch
   Checking : (side : ℕ) → Role  -- a call that reaches the touch check: a direct check, or a decision that comes so far
   Asking : Role  -- whether a prompt is live
-  Settling : (side : ℕ) → Role  -- a decision that is answered before the touch check
+  Settling : (side : ℕ) → Role  -- a decision that is answered without the touch check
   TooShort : (side : ℕ) → Role  -- a decision whose buffer is too short, or whose lent body is shorter than its remainder's end, R2
 
 pub record Call : Type 0 where
@@ -28,10 +28,10 @@ pub data Came : Type 0 where
   TouchAccepted : Came  -- a touch
   TouchIgnored : Came
   TouchFound : Came  -- a call that reaches the touch check: a touch was found, and is spent
-  NoTouchFound : Came  -- none was
+  NoTouchFound : Came  -- none of its side was
   PromptStands : Came  -- an ask
   NoPromptStands : Came
-  AnsweredBefore : Came  -- a decision that is answered before the touch check
+  AnsweredBefore : Came  -- a decision that is answered without the touch check
 
 -- A call and what came of it.
 pub record Event : Type 0 where

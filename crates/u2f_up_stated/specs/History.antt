@@ -1,7 +1,7 @@
 -- Document 01, 'Moments and touches', from "In history terms" on, with document 02, E7: what a history says of its touches, read off
 -- its calls and their outcomes alone. No definition here looks at a presence record.
 -- Histories are lists, NEWEST FIRST: what stands behind an event in the list is its past. Throughout, w is the touch window's length W,
--- past the events so far, t a moment, s a side.
+-- past the events so far, t a moment, k a mark, s a side, or the mark of a prompting refusal.
 mod Words
 use Words.*
 pub use Rattle.u2f_up_stated.specs.Events.{Role, Touching, Checking, Asking, Settling, TooShort, Call, sideOf, Came, RefusedBy, TouchAccepted, TouchIgnored, TouchFound, NoTouchFound, PromptStands, NoPromptStands, AnsweredBefore, Event}
@@ -53,11 +53,11 @@ isPastW w t k = not (isYoung w t k)
 abbrev pub isOf : (side : ℕ) → Mark → Bool
 isOf s k = eqb (k .side) s
 
--- What a call of a side finds at t: young, and its own.
+-- Which unspent touch a call of a side finds at t: young, and its own.
 abbrev pub isFound : (w side t : ℕ) → Mark → Bool
 isFound w s t k = isYoung w t k && isOf s k
 
--- A prompting refusal is a check that finds nothing while no touch of either side is held. (A 6985 beside the other side's is none.)
+-- A prompting refusal is a check that finds nothing while no touch of either side is held. (A 6985 beside the other side's is not one.)
 abbrev pub isPromptingBy : Event → (held : List Mark) → Bool
 isPromptingBy e held = isNoTouchFound (e .came) && not (isAny held)
 
@@ -66,9 +66,9 @@ abbrev pub sideAsked : Option Mark → ℕ
 sideAsked none = 0
 sideAsked (some s) = s .side
 
--- The latest prompting refusal, and the accepted touches that no call has spent. The two are told together: whether a check was a prompting
--- refusal says what its past held, and whose a touch is says the latest prompting refusal before it. A touch goes when a call of its side
--- spends while it is young; one that is old by then stays in the list for good.
+-- The latest prompting refusal, and the accepted touches that no call has spent. The two are told together: what its past held says whether a check was a
+-- prompting refusal, and the latest prompting refusal before a touch says whose it is. A touch goes when a call of its side spends while it is young; one that
+-- is old by then stays in the list for good.
 unfoldable mutual
   pub latestPrompt : ℕ → List Event → Option Mark
   latestPrompt w [] = none
@@ -127,7 +127,7 @@ isPromptStanding w past t = isStandingBy (latestPrompt w past) (latestTouch w pa
 abbrev pub lapsed : ℕ → List Event → List Mark
 lapsed w past = those (isPastW w (lastMoment past)) (unspent w past)
 
--- The touches that are gone from the unspent ones, call by call: what its past held for its side when a call spent.
+-- The spent touches, call by call. (Used in proofs alone.)
 unfoldable pub served : ℕ → List Event → List Mark
 served w [] = []
 served w (e ∷ past) = if isSpending e then heldFor w past (sideOf (e .call .role)) (e .call .moment) ++ served w past else served w past
@@ -155,7 +155,7 @@ isSpendingFor s e = isSpending e && eqb (sideOf (e .call .role)) s
 abbrev pub spendersOf : (side : ℕ) → List Event → ℕ
 spendersOf s past = length (those (isSpendingFor s) past)
 
--- What a history says of its next call, once its side and moment have passed.
+-- What a history says of its next call, where neither side nor moment is refused.
 abbrev pub unrefused : ℕ → List Event → Role → ℕ → Came
 unrefused w past Touching t = if isPromptStanding w past t then TouchAccepted else TouchIgnored
 unrefused w past (Checking s) t = if isAny (heldFor w past s t) then TouchFound else NoTouchFound
