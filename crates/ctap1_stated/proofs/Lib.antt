@@ -1,6 +1,5 @@
 pub mod Refuted
 pub mod Cases
-pub mod OuterChecks
 pub mod Commands
 pub mod Ways
 pub mod RoleKept

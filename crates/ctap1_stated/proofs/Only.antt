@@ -7,7 +7,7 @@ use native.Mathlib.Omega.{arith}
 use native.Mathlib.Decide.{ℕ-discrete, decLe}
 use lib.ListN.{length}
 use Rattle.outcome.specs.Notation.{Determines, Determines3}
-use Rattle.outcome.specs.Outcome.{Outcome, R, Word, Gives}
+use Rattle.outcome.specs.Outcome.{StatusWord, Outcome, R, Word, Gives}
 use Rattle.outcome.proofs.Laws.{r-gives, word-gives}
 use Rattle.apdu_stated.specs.Answers.{Says}
 use Rattle.apdu_stated.specs.Reading.{readOf}
@@ -129,6 +129,9 @@ HardwareNumbers f g p q n =
 -- what the answer says
 pub SaidExactly : Determines Claims.SaidExactly
 SaidExactly f g F G (DecisionAnswer′.Refused why) = F .refused _ why .1 refl ∙ sym (G .refused _ why .1 refl)
-SaidExactly f g F G (DecisionAnswer′.Status s) = F .status _ s .1 refl ∙ sym (G .status _ s .1 refl)
+SaidExactly f g F G (DecisionAnswer′.Status number kind place) =
+    let w : StatusWord = record { number = number; kind = kind; place = place } in
+    F .status (DecisionAnswer′.Status number kind place) w .1 refl ∙ sym (G .status (DecisionAnswer′.Status number kind place) w .1 refl)
 SaidExactly f g F G (DecisionAnswer′.Body n) = F .body _ n .1 refl ∙ sym (G .body _ n .1 refl)
 SaidExactly f g F G DecisionAnswer′.Order = F .ordered _ .1 refl ∙ sym (G .ordered _ .1 refl)
+SaidExactly f g F G (DecisionAnswer′.Part n after) = F .part (DecisionAnswer′.Part n after) n after .1 refl ∙ sym (G .part (DecisionAnswer′.Part n after) n after .1 refl)

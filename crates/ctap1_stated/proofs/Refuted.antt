@@ -30,8 +30,6 @@ use Rattle.ctap1_stated.specs.Session.{remainderLeft}
 use Rattle.ctap1_stated.specs.OneSide.{baseDecisionOf}
 use Rattle.ctap1_stated.specs.Terms.{Decider, onSide, SaysPresent}
 use Rattle.u2f_up_stated.specs.OneSide.{baseBy, baseSettleOf, baseCheckedOf}
-use Rattle.outcome.specs.declared.ApduStatusCode.the-variants as Status′
-use Rattle.outcome.specs.declared.LengthFault.the-variants as Fault′
 use Rattle.ctap1_stated.specs.declared.DecisionAnswer.the-variants as DecisionAnswer′
 use Rattle.ctap1_stated.specs.Claims
 use Rattle.ctap1_stated.specs.Wrong
@@ -651,4 +649,4 @@ bodyForOrder c = omega (arith, ap lengthSaid (c .body (DecisionAnswer′.Body 6)
 
 pub pairUnsaid : Claims.SaidExactly Wrong.pairUnsaid → ⊥
 unfolding lengthSaid
-pairUnsaid c = omega (arith, ap lengthSaid (c .status (DecisionAnswer′.Status (Status′.WrongLength Fault′.Surplus 9)) (Status′.WrongLength Fault′.Surplus 9) .1 refl))
+pairUnsaid c = omega (arith, ap lengthSaid (c .status (DecisionAnswer′.Status 0x6700 2 9) (record { number = 0x6700; kind = 2; place = 9 }) .1 refl))

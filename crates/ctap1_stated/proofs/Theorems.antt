@@ -26,10 +26,12 @@ use Rattle.u2f_up_stated.specs.History.{Role, Mark, Checking, TouchFound, sideO
 use Rattle.u2f_up_stated.specs.Runs.{after, comesTo, cameOf, history}
 use Rattle.u2f_up_stated.specs.Terms.{BadWindow, BadSide, NotRefused, HasTouch}
 use Rattle.u2f_up_stated.specs.declared.Presence.{Presence}
+use Rattle.u2f_up_stated.specs.Numbers.{presenceIn}
+use Rattle.u2f_up_stated.proofs.OnNumbers.{five-apart}
 use Rattle.u2f_up_stated.proofs.Laws.{demand-3, r-apart, servers-next, named-later, named-counts, count, length-those}
 use Rattle.signing_stated.specs.Orders.{kindNo, certificateLength, blankOrder, isOfLayout}
 use Rattle.signing_stated.specs.Finishing.{roomNeeded}
-use Rattle.ctap1_stated.specs.Words.{Remainder, rest, Inputs, DecisionGives, Body, Ordered, Part, DecisionResult, Allowed, DecisionLeft, decisionAnswerOf}
+use Rattle.ctap1_stated.specs.Words.{Remainder, rest, Inputs, DecisionGives, Body, Ordered, Part, DecisionResult, Allowed, DecisionAlone, DecisionHanded, DecisionLeft, Decision, leftFrom, decisionAnswerOf}
 use Rattle.ctap1_stated.specs.Numbers.{allowedOf, attestationOf, isYes, hardwareOf}
 use Rattle.ctap1_stated.specs.Path.{limitOn, frameLimit, roleOf}
 use Rattle.ctap1_stated.specs.Decision.{statusResult, versionBytes, decisionOf, replyLeft}
@@ -40,6 +42,7 @@ use Rattle.ctap1_stated.specs.Table
 use Rattle.ctap1_stated.specs.Claims
 use Rattle.ctap1_stated.specs.declared.Allowed.the-variants as Allowed′
 use Rattle.ctap1_stated.specs.declared.Counter.the-variants as Counter′
+use Rattle.ctap1_stated.specs.declared.DecisionAnswer.the-variants as DecisionAnswer′
 use Rattle.ctap1_stated.proofs.Ways.{Stated, its-own, framed, Way, refused, stated, versioned, fetched, enrolled, signed-03, signed-08, way, row, sound, registering-checks, signing-checks}
 use Rattle.ctap1_stated.proofs.Commands as Commands
 use Rattle.ctap1_stated.specs.OneSide.{baseDecisionOf}
@@ -529,25 +532,38 @@ ByLengthsAlone = by-lengths
 pub SaidExactly : Claims.SaidExactly decisionAnswerOf
 SaidExactly = record {
   refused = λ d why. (decided-apart _ _, ap decisionAnswerOf);
-  status = λ d s. (decided-apart _ _, ap decisionAnswerOf);
+  status = λ d s. (decided-apart d (DecisionAnswer′.Status (s .number) (s .kind) (s .place)), ap decisionAnswerOf);
   body = λ d n. (decided-apart _ _, ap decisionAnswerOf);
   ordered = λ d. (decided-apart _ _, ap decisionAnswerOf);
+  part = λ d n after. (decided-apart _ _, ap decisionAnswerOf);
 }
 
 -- ---- two results are equal
 pub DecidedOneToOne : Claims.DecidedOneToOne
 DecidedOneToOne = decided-apart
 
+-- a decision, the record's numbers and the block are determined together
+left-apart : (x y : Decision × (List ℕ × List ℕ)) (o : DecisionLeft) → length (x .1 .0) ≡ 5 → length (y .1 .0) ≡ 5
+    → leftFrom (x .0) (presenceIn (x .1 .0)) (x .1 .1) ≡ o → leftFrom (y .0) (presenceIn (y .1 .0)) (y .1 .1) ≡ o → x ≡ y
+left-apart x y o l m p q =
+    let same = both-are _ _ p q in
+    let decisions : x .0 ≡ y .0 = decision-apart (x .0) (y .0) (ap (λ (w : DecisionLeft). record { answer = w .said .answer; head = w .said .head; taken = w .said .taken }) same) in
+    let records : x .1 .0 ≡ y .1 .0 = five-apart (x .1 .0) (y .1 .0) l m (ap (λ (w : DecisionLeft). w .said .presence) same) in
+    λ d. (decisions d, (records d, same d .block))
+
 pub ResultsDetermined : Claims.ResultsDetermined
 ResultsDetermined = record {
-  decide =
-      λ frame side t p n e old x y hx hy.
-      let same = both-are _ _ (hx .0) (hy .0) in
-      let decisions : x .0 .decision ≡ y .0 .decision = decision-apart (x .0 .decision) (y .0 .decision) (ap (λ (w : DecisionLeft). w .said) same) in
-      let replies : x .1 .reply ≡ y .1 .reply = both-are _ _ (hx .1) (hy .1) in
-      let limits : x .0 .limit ≡ y .0 .limit = both-are _ _ (hx .2) (hy .2) in
-      let is-c0 : x .0 .«is_get_response» ≡ y .0 .«is_get_response» = both-are _ _ (hx .3) (hy .3) in
-      λ d. (record { decision = decisions d; limit = limits d; «is_get_response» = is-c0 d }, record { reply = replies d; block = same d .block });
+  refused = λ why x y p q. decision-apart x y (both-are _ _ p q);
+  answered = λ s x y p q. decision-apart x y (both-are _ _ p q);
+  version =
+      λ presence t old x y p q.
+      let same = both-are _ _ (p .1 .0) (q .1 .0) in
+      let decisions : x .0 ≡ y .0 = decision-apart (x .0) (y .0) (ap (λ (w : DecisionHanded). record { answer = w .answer; head = w .head; taken = w .taken }) same) in
+      let records : x .1 .0 ≡ y .1 .0 = five-apart (x .1 .0) (y .1 .0) (p .0) (q .0) (ap (λ (w : DecisionHanded). w .presence) same) in
+      let replies : x .1 .1 ≡ y .1 .1 = both-are _ _ (p .1 .1) (q .1 .1) in
+      λ d. (decisions d, (records d, replies d));
+  register = λ frame side t presence n e room says old x y p q. left-apart x y _ (p .0) (q .0) (p .1) (q .1);
+  authenticate = λ frame side t presence n room flags says old x y p q. left-apart x y _ (p .0) (q .0) (p .1) (q .1);
 }
 
 -- ---- the hardware's answers by their numbers

@@ -3,11 +3,11 @@
 -- record, a moment and all that is lent.
 use mathlib.Core.Logic.{_↔_, _⊎_}
 use mathlib.Core.Option.{some}
-use Rattle.ctap1_stated.specs.Words.{AtMostOne, StatusWord, R, Word, SW, Gives, wrongLength, [], _∷_, _++_, drop, ℕ, _+_, _*_, _<_, _≤_, _≡_, Bool, true, false, List, length, Presence, DecisionAndLimit, DecisionAnswer, Remainder, rest, Inputs, Enrolment, Allowed, Attestation, Hardware, HardwareSaid, DecisionGives, Body, Ordered, Part, DecisionResult, handedOf, decisionAnswerOf, Outcome, Refusal, ApduStatusCode, wordOf, refusalNo}
+use Rattle.ctap1_stated.specs.Words.{AtMostOne, StatusWord, R, Word, SW, Gives, wrongLength, [], _∷_, _++_, drop, ℕ, _+_, _*_, _<_, _≤_, _≡_, Bool, true, false, List, length, Presence, Decision, DecisionAnswer, Remainder, rest, Inputs, Enrolment, Allowed, Attestation, Hardware, HardwareSaid, DecisionGives, Body, Ordered, Part, DecisionResult, handedOf, decisionAnswerOf, Outcome, Refusal, ApduStatusCode, wordOf, refusalNo}
 use Rattle.ctap1_stated.specs.Numbers.{allowedOf, attestationOf}
 use Rattle.ctap1_stated.specs.Calls.{PanelCall, DecideAt, callsWith}
 use Rattle.ctap1_stated.specs.OneSide.{baseWith, sidelessResult}
-use Rattle.ctap1_stated.specs.Contracts.{Buffers, Decide}
+use Rattle.ctap1_stated.specs.Contracts as Contract
 use Rattle.ctap1_stated.specs.Terms.{Decider, AreBlocks, withContents, AsLong, HasInsC0, result, movedAt, spentAt, onSide, Comes, OrdersPresent, checkOnlyAnswer}
 use Rattle.ctap1_stated.specs.Table.{Answers}
 pub use Rattle.ctap1_stated.specs.Table.{DecidesExactly}
@@ -18,6 +18,8 @@ use Rattle.ctap1_stated.specs.declared.DecisionAnswer.the-variants as De
 use Rattle.outcome.specs.Terms.{PairsExactly}
 use Rattle.octets.specs.Bytes.{byte, pairAt, laid}
 use Rattle.apdu_stated.specs.Answers.{Says}
+use Rattle.apdu_stated.specs.declared.Apdu.{Apdu}
+use Rattle.command_stated.specs.declared.Ctap1Flags.{Ctap1Flags}
 use Rattle.apdu_stated.specs.Reading.{readOf}
 use Rattle.apdu_stated.specs.Terms.{OldForm}
 use Rattle.response_stated.specs.Parts.{partResponse}
@@ -263,19 +265,26 @@ pub record HardwareNumbers (lend : HardwareSaid → Hardware) : Type 0 where
 
 -- ---- what the answer says
 
--- A refusal's number, a status word with its pair, a body's length, or an order: each case has its value, and no other has it. A view that says 'order' for
--- every body (`bodyForOrder`) fails it, and one that drops a status word's pair (`pairUnsaid`). A part is no answer of the function's: its caller finds it.
+-- A refusal's number, a status word with its pair, a body's length, an order, or a part with what remains: each case has its value, and no other has it. A view that says 'order' for
+-- every body (`bodyForOrder`) fails it, and one that drops a status word's pair (`pairUnsaid`).
 pub record SaidExactly (said : DecisionAnswer → Outcome DecisionGives) : Type 0 where
   pub refused : (d : DecisionAnswer) (why : Refusal) → (said d ≡ R (refusalNo why)) ↔ (d ≡ DecisionAnswer′.Refused why)
-  pub status : (d : DecisionAnswer) (s : ApduStatusCode) → (said d ≡ Word (wordOf s)) ↔ (d ≡ DecisionAnswer′.Status s)
+  pub status : (d : DecisionAnswer) (s : StatusWord) → (said d ≡ Word s) ↔ (d ≡ DecisionAnswer′.Status (s .number) (s .kind) (s .place))
   pub body : (d : DecisionAnswer) (n : ℕ) → (said d ≡ Gives (Body n)) ↔ (d ≡ DecisionAnswer′.Body n)
   pub ordered : (d : DecisionAnswer) → (said d ≡ Gives Ordered) ↔ (d ≡ DecisionAnswer′.Order)
+  pub part : (d : DecisionAnswer) (n : ℕ) (after : Remainder) → (said d ≡ Gives (Part n after)) ↔ (d ≡ DecisionAnswer′.Part n after)
 
 -- ---- two results that satisfy the contract are equal
 abbrev pub DecidedOneToOne : Type 0
 DecidedOneToOne = (a b : DecisionAnswer) → decisionAnswerOf a ≡ decisionAnswerOf b → a ≡ b
 
--- the decision with what its frame says to the session, and what the two buffers hold afterwards
+-- the decision, the record's five numbers, and what the buffer holds afterwards
 pub record ResultsDetermined : Type 0 where
-  pub decide : (frame : List ℕ) (side t : ℕ) (p : Presence) (n : HardwareSaid) (e : Enrolment) (old : Buffers)
-      → AtMostOne (λ (o : DecisionAndLimit × Buffers). Decide frame side t p n e old (o .0) (o .1))
+  pub refused : (why : Refusal) → AtMostOne (Contract.Refused why)
+  pub answered : (s : ApduStatusCode) → AtMostOne (Contract.Answered s)
+  pub version : (presence : List ℕ) (t : ℕ) (old : List ℕ)
+      → AtMostOne (λ (o : Decision × (List ℕ × List ℕ)). (length (o .1 .0) ≡ 5) × Contract.Version presence t old (o .0) (o .1 .0) (o .1 .1))
+  pub register : (frame : List ℕ) (side t : ℕ) (presence : List ℕ) (n : HardwareSaid) (e : Enrolment) (room : ℕ) (says : Apdu) (old : List ℕ)
+      → AtMostOne (λ (o : Decision × (List ℕ × List ℕ)). (length (o .1 .0) ≡ 5) × Contract.Register frame side t presence n e room says old (o .0) (o .1 .0) (o .1 .1))
+  pub authenticate : (frame : List ℕ) (side t : ℕ) (presence : List ℕ) (n : HardwareSaid) (room : ℕ) (flags : Ctap1Flags) (says : Apdu) (old : List ℕ)
+      → AtMostOne (λ (o : Decision × (List ℕ × List ℕ)). (length (o .1 .0) ≡ 5) × Contract.Authenticate frame side t presence n room flags says old (o .0) (o .1 .0) (o .1 .1))

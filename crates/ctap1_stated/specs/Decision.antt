@@ -1,7 +1,7 @@
 -- Document 01, 'The decision', with the record: R6, R8 (document 02, E7) and R1, then along the path, with the touch check and its 6985 said once; and
 -- 'Refusal numbers' as far as they speak of the decision; then what the reply buffer and the lent block hold.
 use Rattle.ctap1_stated.specs.Words.{ℕ, Bool, false, not, List, [], _∷_, Presence, Order}
-use Rattle.ctap1_stated.specs.Words.{if_then_else_, StatusWord, Outcome, R, Word, Gives, plainWord, Inputs, DecisionGives, Body, Ordered, Part, DecisionResult, DecisionLeft, handedOf}
+use Rattle.ctap1_stated.specs.Words.{if_then_else_, StatusWord, Outcome, R, Word, Gives, plainWord, Inputs, DecisionGives, Body, Ordered, Part, DecisionResult, DecisionAlone, DecisionLeft, headOf, handedOf}
 use Rattle.ctap1_stated.specs.Path.{PathEnd, Internal, WrongData, Orders, DecisionPath, NoRoom, Ends, SixBytes, Fetches, Signs, Touch, pathOf}
 use Rattle.octets.specs.Bytes.{laid}
 use Rattle.u2f_up_stated.specs.Moments.{settleOf, checkedOf}
@@ -101,6 +101,21 @@ blockAfter (Gives (Part n after)) bytes old = old
 abbrev pub blockLeft : DecisionResult → List ℕ → List ℕ
 blockLeft r old = blockAfter (r .answer) (r .order .bytes) old
 
--- a result as it is handed back, with the lent block afterwards
+-- a result as it is handed back, with the record and the lent block afterwards
 abbrev pub leftOf : DecisionResult → (old : List ℕ) → DecisionLeft
 leftOf r old = record { said = handedOf r; block = blockLeft r old }
+
+-- an answer that comes with no order and takes no counter, by itself
+abbrev pub blankAlone : Outcome DecisionGives → DecisionAlone
+blankAlone o = record { answer = o; head = headOf blankOrder; taken = false }
+
+-- the last step by itself, and the lent block after it
+abbrev pub endAlone : PathEnd → DecisionAlone
+endAlone Internal = blankAlone (Word (plainWord 0x6f00))
+endAlone WrongData = blankAlone (Word (plainWord 0x6a80))
+endAlone (Orders o taken) = record { answer = Gives Ordered; head = headOf o; taken = taken }
+
+abbrev pub endBlock : PathEnd → (old : List ℕ) → List ℕ
+endBlock Internal old = old
+endBlock WrongData old = old
+endBlock (Orders o taken) old = o .bytes

@@ -23,7 +23,6 @@ pub use Rattle.ctap1_stated.specs.declared.HardwareSaid.{HardwareSaid}
 pub use Rattle.ctap1_stated.specs.declared.DecisionAnswer.{DecisionAnswer}
 use Rattle.ctap1_stated.specs.declared.DecisionAnswer.the-variants as DecisionAnswer′
 pub use Rattle.ctap1_stated.specs.declared.Decision.{Decision}
-pub use Rattle.ctap1_stated.specs.declared.DecisionAndLimit.{DecisionAndLimit}
 pub use Rattle.ctap1_stated.specs.Inputs.{Inputs, DecisionGives, Body, Ordered, Part, DecisionResult, Decider}
 
 -- what of this goes into the order of a Register
@@ -36,9 +35,9 @@ pub record Enrolment : Type 0 where
 abbrev pub enrolmentOf : (newHandle certificate x y : List ℕ) → Enrolment
 enrolmentOf newHandle certificate x y = record { newHandle = newHandle; certificate = certificate; x = x; y = y }
 
--- what is lent where nothing is left to fetch
-abbrev pub unfetched : (side : ℕ) (frame : List ℕ) → Hardware → Enrolment → (room : ℕ) → Inputs
-unfetched side frame hardware e room =
+-- what is lent, piece by piece: `room` and `partRoom` are the lengths of the two buffers
+abbrev pub inputsFrom : (side : ℕ) (frame : List ℕ) → Hardware → Enrolment → (room : ℕ) → Remainder → (partRoom : ℕ) → Inputs
+inputsFrom side frame hardware e room remainder partRoom =
     record {
       side = side;
       frame = frame;
@@ -48,9 +47,13 @@ unfetched side frame hardware e room =
       x = e .x;
       y = e .y;
       room = room;
-      remainder = rest 0 0;
-      partRoom = 0;
+      remainder = remainder;
+      partRoom = partRoom;
     }
+
+-- where nothing is left to fetch
+abbrev pub unfetched : (side : ℕ) (frame : List ℕ) → Hardware → Enrolment → (room : ℕ) → Inputs
+unfetched side frame hardware e room = inputsFrom side frame hardware e room (rest 0 0) 0
 
 -- 01, The decision, 5: "the attestation is missing or failed"
 abbrev pub isPresent : Attestation → Bool
@@ -61,11 +64,21 @@ isPresent Attestation′.Failed = false
 -- 01: the answer's numbers, one line a case
 abbrev pub decisionAnswerOf : DecisionAnswer → Outcome DecisionGives
 decisionAnswerOf (DecisionAnswer′.Refused why) = R (refusalNo why)
-decisionAnswerOf (DecisionAnswer′.Status s) = Word (wordOf s)
+decisionAnswerOf (DecisionAnswer′.Status number kind place) = Word (record { number = number; kind = kind; place = place })
 decisionAnswerOf (DecisionAnswer′.Body n) = Gives (Body n)
 decisionAnswerOf DecisionAnswer′.Order = Gives Ordered
+decisionAnswerOf (DecisionAnswer′.Part n after) = Gives (Part n after)
 
--- a result as it is handed back: of the order its head, since the block is lent
+-- a decision by itself, as a function hands it back: of the order its head, since the block is lent, as the record is
+pub record DecisionAlone : Type 0 where
+  pub answer : Outcome DecisionGives
+  pub head : Head
+  pub taken : Bool
+
+abbrev pub aloneFrom : Decision → DecisionAlone
+aloneFrom d = record { answer = decisionAnswerOf (d .answer); head = d .order; taken = d .taken }
+
+-- with the record beside it
 pub record DecisionHanded : Type 0 where
   pub answer : Outcome DecisionGives
   pub presence : Presence
@@ -75,13 +88,13 @@ pub record DecisionHanded : Type 0 where
 abbrev pub handedOf : DecisionResult → DecisionHanded
 handedOf r = record { answer = r .answer; presence = r .presence; head = headOf (r .order); taken = r .taken }
 
-abbrev pub handedFrom : Decision → DecisionHanded
-handedFrom d = record { answer = decisionAnswerOf (d .answer); presence = d .presence; head = d .order; taken = d .taken }
+abbrev pub handedFrom : Decision → Presence → DecisionHanded
+handedFrom d p = record { answer = decisionAnswerOf (d .answer); presence = p; head = d .order; taken = d .taken }
 
--- the same with what the lent block then holds
+-- and with what the lent block then holds
 pub record DecisionLeft : Type 0 where
   pub said : DecisionHanded
   pub block : List ℕ
 
-abbrev pub leftFrom : Decision → (block : List ℕ) → DecisionLeft
-leftFrom d block = record { said = handedFrom d; block = block }
+abbrev pub leftFrom : Decision → Presence → (block : List ℕ) → DecisionLeft
+leftFrom d p block = record { said = handedFrom d p; block = block }

@@ -590,12 +590,14 @@ looksAtCertificate p t a = if eqb (byte (a .certificate) 0) 0x30 then decisionOf
 -- ---- views: a body said as an order; a status word without its pair
 abbrev pub bodyForOrder : DecisionAnswer → Outcome DecisionGives
 bodyForOrder (DecisionAnswer′.Refused why) = R (refusalNo why)
-bodyForOrder (DecisionAnswer′.Status s) = Word (wordOf s)
+bodyForOrder (DecisionAnswer′.Status number kind place) = Word (record { number = number; kind = kind; place = place })
 bodyForOrder (DecisionAnswer′.Body n) = Gives Ordered
 bodyForOrder DecisionAnswer′.Order = Gives (Body 0)
+bodyForOrder (DecisionAnswer′.Part n after) = Gives (Part n after)
 
 abbrev pub pairUnsaid : DecisionAnswer → Outcome DecisionGives
 pairUnsaid (DecisionAnswer′.Refused why) = R (refusalNo why)
-pairUnsaid (DecisionAnswer′.Status s) = SW (wordOf s .number)
+pairUnsaid (DecisionAnswer′.Status number kind place) = SW number
 pairUnsaid (DecisionAnswer′.Body n) = Gives (Body n)
 pairUnsaid DecisionAnswer′.Order = Gives Ordered
+pairUnsaid (DecisionAnswer′.Part n after) = Gives (Part n after)

@@ -1,9 +1,8 @@
 // The decision: what the hardware answers and what a decision comes to. What they mean stands in specs/, what is claimed in
 // specs/Claims.antt. No function: ctap1 has them.
-use outcome::ApduStatusCode;
 use outcome::Refusal;
+use response_stated::Remainder;
 use signing_stated::Head;
-use u2f_up_stated::Presence;
 
 // The hardware's answers as the panel hands them in. allowed: 0 no, 1 yes, else failed. attestation: 0 missing, 1 present, else failed.
 // stored (the new handle) and good (the given one): 1 yes, else no. The counter is offered where `counted` is 1, else its reading
@@ -47,26 +46,19 @@ pub struct Hardware {
     pub counter: Counter,
 }
 
+// What a decision is answered with. A status word is its number, and the kind and place of a 6700: numbers, so that it is told where it is found. A part is GET
+// RESPONSE's: its response's length, and what remains after it.
 pub enum DecisionAnswer {
     Refused(Refusal),
-    Status(ApduStatusCode),
+    Status(u16, u16, usize),
     Body(usize),
     Order,
+    Part(usize, Remainder),
 }
 
-// The answer, the record to go on with, the order's head (blank where the answer is none; its block is in the lent one), and whether
-// the counter was taken.
+// The answer, the order's head (blank where the answer is none; its block is in the lent one), and whether the counter was taken.
 pub struct Decision {
     pub answer: DecisionAnswer,
-    pub presence: Presence,
     pub order: Head,
     pub taken: bool,
-}
-
-// A decision where nothing is left to fetch, how many bytes of body the frame takes at a time, 0 for all of them, and whether it asks for
-// the next part. What a frame that asks is answered where something is left, its caller finds: it writes the part where it wants it.
-pub struct DecisionAndLimit {
-    pub decision: Decision,
-    pub limit: u32,
-    pub is_get_response: bool,
 }

@@ -15,7 +15,7 @@ pub fn touch(presence: Presence, t: u64) -> Step
     }
 }
 
-pub fn check(presence: Presence, side: u32, t: u64) -> Step
+pub fn check(presence: Presence, side: u64, t: u64) -> Step
     ensures { λ r. ⌜ ConsumeUp presence side t r ⌝ }
 {
     let mut lent = presence;

@@ -49,7 +49,7 @@ fn touch(presence: Presence, t: u64) -> Presence {
     told(lent::touch(presence, t))
 }
 
-fn check(presence: Presence, side: u32, t: u64) -> Presence {
+fn check(presence: Presence, side: u64, t: u64) -> Presence {
     number(true, b"check ", side as u64);
     number(true, b" ", t);
     told(lent::check(presence, side, t))
@@ -61,7 +61,7 @@ fn ask(presence: Presence, t: u64) -> Presence {
 }
 
 // Both windows closed, and the last moment 0, with any W and asker.
-fn closed(w: u64, asker: u32) -> Presence {
+fn closed(w: u64, asker: u64) -> Presence {
     Presence {
         w,
         prompt: Window::Closed,

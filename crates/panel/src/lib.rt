@@ -3,26 +3,23 @@
 // panel_presence, panel_orders and panel_responses.
 use apdu::Reading;
 use apdu_table::TableReading;
-use ctap1::DecisionAnswer;
-use ctap1::HardwareSaid;
+use ctap1_stated::DecisionAnswer;
 use panel_stated::Asked;
 use panel_stated::CommandSaid;
 use panel_stated::DecisionSaid;
 use panel_stated::FrameSaid;
 use panel_stated::Kinded;
-use panel_stated::Made;
 use panel_stated::OrderNumbers;
-use panel_stated::PartSaid;
-use panel_stated::PresenceRecord;
 use panel_stated::ResponseSaid;
-use panel_stated::Stepped;
+use panel_stated::RoomSaid;
 use panel_stated::Wrote;
-use response::Remainder;
+use response::NextPart;
 use signing::Head;
+use u2f_up::Ready;
 ghost use mathlib.Core.Path.{_≡_};
 ghost use Rattle.apdu_table_stated.specs.Answers.{tableReadingOf};
-ghost use Rattle.panel_stated.specs.Exports.{frameNumbers};
-ghost use Rattle.panel_stated.specs.Contracts.{BrinecandleRead, BrinecandleReadStrict, BrinecandleReadByTable, BrinecandleReadStrictByTable, BrinecandleWrite, BrinecandleWriteStrict, BrinecandleReadCommand, BrinecandleNew, BrinecandleGrantUp, BrinecandleConsumeUp, BrinecandleIsUpNeeded, BrinecandleDecide, BrinecandleFinish, BrinecandleWriteResponse, BrinecandleReadResponse, BrinecandleNextPart};
+ghost use Rattle.panel_stated.specs.Exports.{frameNumbers, hardwareIn};
+ghost use Rattle.panel_stated.specs.Contracts.{BrinecandleRead, BrinecandleReadStrict, BrinecandleReadByTable, BrinecandleReadStrictByTable, BrinecandleWrite, BrinecandleWriteStrict, BrinecandleReadCommand, BrinecandleNew, BrinecandleGrantUp, BrinecandleConsumeUp, BrinecandleIsUpNeeded, BrinecandleDecide, BrinecandleFinish, BrinecandleWriteResponse, BrinecandleReadResponse, BrinecandleNextPart, BrinecandleResponseRoom};
 
 // Reads any bytes as a frame; its data comes back as a place in the caller's frame. By cases, and each is a return of its own:
 // so each is written to the caller at once.
@@ -153,78 +150,71 @@ pub extern "C" fn brinecandle_read_command(frame: &[u8]) -> CommandSaid
     panel_frames::read_command_plain(frame)
 }
 
-// A fresh record. What stands for one after a refusal has W 0, so no call takes it.
+// A fresh record, or R6, which leaves the numbers as they were.
 #[no_mangle]
-pub extern "C" fn brinecandle_new(w: u64) -> Made
-    ensures { λ r. ⌜ BrinecandleNew w r ⌝ }
+pub extern "C" fn brinecandle_new(presence: &mut [u64; 5], w: u64) -> u16
+    ensures { λ r. ⌜ BrinecandleNew (now (presence .entry)) w r (now (presence .exit)) ⌝ }
 {
-    panel_presence::made_plain(u2f_up::new(w))
+    panel_presence::made_kept(u2f_up::new(w), presence)
 }
 
 // A finger touches at t.
 #[no_mangle]
-pub extern "C" fn brinecandle_grant_up(presence: PresenceRecord, t: u64) -> Stepped
-    ensures { λ r. ⌜ BrinecandleGrantUp presence t r ⌝ }
+pub extern "C" fn brinecandle_grant_up(presence: &mut [u64; 5], t: u64) -> Asked
+    ensures { λ r. ⌜ BrinecandleGrantUp (now (presence .entry)) t r (now (presence .exit)) ⌝ }
 {
-    panel_presence::step_plain(u2f_up::grant_up(panel_presence::record_lent(presence), t))
+    let held = u2f_up::record_lent(presence);
+    let ready = u2f_up::settle(held, held.asker, t);
+    match ready {
+        Ready::Refused(why) => panel_presence::refused_plain(why),
+        Ready::Record(_) => panel_presence::found_plain(u2f_up::touch_granted(presence, t)),
+    }
 }
 
 // The touch check at t, for the side that checks.
 #[no_mangle]
-pub extern "C" fn brinecandle_consume_up(presence: PresenceRecord, side: u32, t: u64) -> Stepped
-    ensures { λ r. ⌜ BrinecandleConsumeUp presence side t r ⌝ }
+pub extern "C" fn brinecandle_consume_up(presence: &mut [u64; 5], side: u64, t: u64) -> Asked
+    ensures { λ r. ⌜ BrinecandleConsumeUp (now (presence .entry)) side t r (now (presence .exit)) ⌝ }
 {
-    panel_presence::step_plain(u2f_up::consume_up(panel_presence::record_lent(presence), side, t))
+    let ready = u2f_up::settle(u2f_up::record_lent(presence), side, t);
+    match ready {
+        Ready::Refused(why) => panel_presence::refused_plain(why),
+        Ready::Record(_) => panel_presence::found_plain(u2f_up::touch_checked(presence, side, t)),
+    }
 }
 
-// Whether a prompt is live at t. It hands back no record, since it changes none.
+// Whether a prompt is live at t. The record is only read.
 #[no_mangle]
-pub extern "C" fn brinecandle_is_up_needed(presence: PresenceRecord, t: u64) -> Asked
-    ensures { λ r. ⌜ BrinecandleIsUpNeeded presence t r ⌝ }
+pub extern "C" fn brinecandle_is_up_needed(presence: &[u64; 5], t: u64) -> Asked
+    ensures { λ r. ⌜ BrinecandleIsUpNeeded (now (presence .entry)) t r ⌝ }
 {
-    panel_presence::asked_plain(u2f_up::is_up_needed(panel_presence::record_lent(presence), t))
+    panel_presence::asked_plain(u2f_up::is_up_needed(u2f_up::record_lent(presence), t))
 }
 
 // Decides what a frame is answered, for the side that it came from. The block is written for an order alone: a refused call leaves an order that waits
 // for its signature whole. By cases, as brinecandle_read.
 #[no_mangle]
 pub extern "C" fn brinecandle_decide(
+    presence: &mut [u64; 5],
+    session: &mut [u64; 3],
     frame: &[u8],
-    side: u32,
+    side: u64,
     t: u64,
-    presence: PresenceRecord,
-    hardware: HardwareSaid,
+    hardware: &[u32; 6],
     handle: &[u8],
     certificate: &[u8],
     x: &[u8; 32],
     y: &[u8; 32],
-    remainder: Remainder,
     reply: &mut [u8],
     block: &mut [u8; 385],
     part: &mut [u8],
-) -> DecisionSaid
-    ensures { λ r. ⌜ BrinecandleDecide (record {
-      frame = now (frame .entry);
-      side = side;
-      moment = t;
-      presence = presence;
-      hardware = hardware;
-      newHandle = now (handle .entry);
-      certificate = now (certificate .entry);
-      x = now (x .entry);
-      y = now (y .entry);
-      reply = now (reply .entry);
-      block = now (block .entry);
-      remainder = remainder;
-      part = now (part .entry);
-    }) r (now (reply .exit)) (now (block .exit)) (now (part .exit)) ⌝ }
-{
-    let kept = panel_presence::record_lent(presence);
-    let decided = ctap1::decide(
+) -> DecisionSaid {
+    let decided = session::decide(
+        presence,
+        session,
         frame,
         side,
         t,
-        kept,
         hardware,
         handle,
         certificate,
@@ -232,46 +222,31 @@ pub extern "C" fn brinecandle_decide(
         y,
         reply,
         block,
+        part,
     );
-    let limit = decided.limit;
     let decision = decided.decision;
+    let limit = decided.limit;
     let answer = decision.answer;
     let order = decision.order;
     let taken = decision.taken;
-    let after = decision.presence;
     match answer {
-        DecisionAnswer::Refused(why) => return panel_orders::refused_numbers(
-            why,
-            taken,
-            after,
-            remainder,
-            limit,
-        ),
-        DecisionAnswer::Status(status) => return panel_responses::stated_numbers(
-            status,
-            decided.is_get_response,
-            taken,
-            kept,
-            after,
-            remainder,
-            limit,
-            reply,
-            part,
-        ),
-        DecisionAnswer::Body(length) => return panel_orders::body_numbers(
-            length,
-            taken,
-            after,
-            response::nothing(),
-            limit,
-        ),
-        DecisionAnswer::Order => return panel_orders::order_numbers(
-            order,
-            taken,
-            after,
-            response::nothing(),
-            limit,
-        ),
+        DecisionAnswer::Refused(why) => return panel_orders::refused_numbers(why, taken),
+        DecisionAnswer::Status(number, kind, place) => {
+            session::stated(decided.fetches, limit, session);
+            return panel_orders::status_numbers(number, kind, place, taken);
+        }
+        DecisionAnswer::Body(length) => {
+            session::dropped(limit, session);
+            return panel_orders::body_numbers(length, taken);
+        }
+        DecisionAnswer::Order => {
+            session::dropped(limit, session);
+            return panel_orders::order_numbers(order, taken);
+        }
+        DecisionAnswer::Part(length, left) => {
+            session::left(left, limit, session);
+            return panel_orders::part_numbers(length, left, taken);
+        }
     }
 }
 
@@ -337,12 +312,27 @@ pub extern "C" fn brinecandle_read_response(response: &[u8]) -> ResponseSaid
 // Writes the next part of what remains of a body, and its status, at the front of part. A first part is the next one of (0, n).
 #[no_mangle]
 pub extern "C" fn brinecandle_next_part(
+    session: &mut [u64; 3],
     body: &[u8],
-    remainder: Remainder,
-    limit: u32,
     part: &mut [u8],
-) -> PartSaid
-    ensures { λ r. ⌜ BrinecandleNextPart (now (body .entry)) remainder limit (now (part .entry)) r (now (part .exit)) ⌝ }
+) -> Wrote
+    ensures { λ r. ⌜ BrinecandleNextPart (now (session .entry)) (now (body .entry)) (now (part .entry)) r (now (session .exit)) (now (part .exit)) ⌝ }
 {
-    panel_responses::next_plain(response::next_part(body, remainder, limit, part), remainder)
+    let limit = session[2];
+    let next = response::next_part(body, session::remainder_lent(session), limit, part);
+    match next {
+        NextPart::Refused(why) => panel_responses::refused_part(why),
+        NextPart::Part(length, remainder) => {
+            session::left(remainder, limit, session);
+            panel_responses::sent_part(length)
+        }
+    }
+}
+
+// How many bytes a response to this frame can take, where no body to it is longer than `longest`.
+#[no_mangle]
+pub extern "C" fn brinecandle_response_room(frame: &[u8], longest: usize) -> RoomSaid
+    ensures { λ r. ⌜ BrinecandleResponseRoom (now (frame .entry)) longest r ⌝ }
+{
+    panel_responses::room_plain(session::response_room(frame, longest))
 }

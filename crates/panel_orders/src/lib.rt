@@ -10,9 +10,8 @@ use response_stated::Remainder;
 use signing_stated::Finished;
 use signing_stated::Head;
 use signing_stated::Kind;
-use u2f_up_stated::Presence;
 ghost use mathlib.Core.Path.{_≡_};
-ghost use Rattle.panel_stated.specs.Numbers.{noOrder, presenceNumbers};
+ghost use Rattle.panel_stated.specs.Numbers.{noOrder};
 ghost use Rattle.panel_stated.specs.Contracts.{KindNumbered, RefusedPlain, StatusPlain, BodyPlain, PartPlain, OrderPlain, FinishedPlain};
 
 // The answer that is no refusal, no status word and not 0: what stands in the block is to be signed.
@@ -47,9 +46,6 @@ fn numbers(
     length: usize,
     order: OrderNumbers,
     taken: bool,
-    kept: Presence,
-    remainder: Remainder,
-    limit: u32,
 ) -> DecisionSaid
     ensures { λ r. ⌜ r ≡ record {
       answer = answer;
@@ -57,10 +53,7 @@ fn numbers(
       taken = taken;
       length = length;
       order = order;
-      presence = presenceNumbers kept;
       place = fault .place;
-      remainder = remainder;
-      limit = limit;
     } ⌝ }
 {
     DecisionSaid {
@@ -69,108 +62,38 @@ fn numbers(
         taken,
         length,
         order,
-        presence: panel_presence::record_plain(kept),
         place: fault.place,
-        remainder,
-        limit,
     }
 }
 
 // A decision in numbers, by its five cases: one that is answered case by case is written where its caller wants it, at once.
-pub fn refused_numbers(
-    why: Refusal,
-    taken: bool,
-    kept: Presence,
-    remainder: Remainder,
-    limit: u32,
-) -> DecisionSaid
-    ensures { λ r. ⌜ RefusedPlain why taken kept remainder limit r ⌝ }
+pub fn refused_numbers(why: Refusal, taken: bool) -> DecisionSaid
+    ensures { λ r. ⌜ RefusedPlain why taken r ⌝ }
 {
     let answer = outcome::refusal_number(why) as u16;
-    numbers(
-        answer,
-        outcome::no_fault(),
-        0,
-        no_order(),
-        taken,
-        kept,
-        remainder,
-        limit,
-    )
+    numbers(answer, outcome::no_fault(), 0, no_order(), taken)
 }
 
-pub fn status_numbers(
-    status: ApduStatusCode,
-    taken: bool,
-    kept: Presence,
-    remainder: Remainder,
-    limit: u32,
-) -> DecisionSaid
-    ensures { λ r. ⌜ StatusPlain status taken kept remainder limit r ⌝ }
+pub fn status_numbers(number: u16, kind: u16, place: usize, taken: bool) -> DecisionSaid
+    ensures { λ r. ⌜ StatusPlain number kind place taken r ⌝ }
 {
-    let answer = outcome::status_number(status);
-    numbers(
-        answer,
-        outcome::fault(status),
-        0,
-        no_order(),
-        taken,
-        kept,
-        remainder,
-        limit,
-    )
+    numbers(number, FaultNumbers { kind, place }, 0, no_order(), taken)
 }
 
-pub fn body_numbers(
-    length: usize,
-    taken: bool,
-    kept: Presence,
-    remainder: Remainder,
-    limit: u32,
-) -> DecisionSaid
-    ensures { λ r. ⌜ BodyPlain length taken kept remainder limit r ⌝ }
+pub fn body_numbers(length: usize, taken: bool) -> DecisionSaid
+    ensures { λ r. ⌜ BodyPlain length taken r ⌝ }
 {
-    numbers(
-        0x9000,
-        outcome::no_fault(),
-        length,
-        no_order(),
-        taken,
-        kept,
-        remainder,
-        limit,
-    )
+    numbers(0x9000, outcome::no_fault(), length, no_order(), taken)
 }
 
-pub fn part_numbers(
-    length: usize,
-    taken: bool,
-    kept: Presence,
-    remainder: Remainder,
-    limit: u32,
-) -> DecisionSaid
-    ensures { λ r. ⌜ PartPlain length taken kept remainder limit r ⌝ }
+pub fn part_numbers(length: usize, left: Remainder, taken: bool) -> DecisionSaid
+    ensures { λ r. ⌜ PartPlain length left taken r ⌝ }
 {
-    numbers(
-        PART,
-        outcome::no_fault(),
-        length,
-        no_order(),
-        taken,
-        kept,
-        remainder,
-        limit,
-    )
+    numbers(PART, outcome::no_fault(), length, no_order(), taken)
 }
 
-pub fn order_numbers(
-    order: Head,
-    taken: bool,
-    kept: Presence,
-    remainder: Remainder,
-    limit: u32,
-) -> DecisionSaid
-    ensures { λ r. ⌜ OrderPlain order taken kept remainder limit r ⌝ }
+pub fn order_numbers(order: Head, taken: bool) -> DecisionSaid
+    ensures { λ r. ⌜ OrderPlain order taken r ⌝ }
 {
     let kind = order.kind;
     let said = OrderNumbers {
@@ -178,16 +101,7 @@ pub fn order_numbers(
         to_sign: order.to_sign,
         certificate_length: order.certificate_length,
     };
-    numbers(
-        ORDER,
-        outcome::no_fault(),
-        0,
-        said,
-        taken,
-        kept,
-        remainder,
-        limit,
-    )
+    numbers(ORDER, outcome::no_fault(), 0, said, taken)
 }
 
 pub fn finished_plain(finished: Finished) -> Wrote

@@ -1,15 +1,12 @@
-// Responses and parts as plain numbers; and what a GET RESPONSE is answered.
-use outcome::ApduStatusCode;
-use panel_stated::DecisionSaid;
-use panel_stated::PartSaid;
+// Responses as plain numbers, and a session as three numbers that are lent.
+use outcome::Refusal;
 use panel_stated::ResponseSaid;
+use panel_stated::RoomSaid;
 use panel_stated::Wrote;
-use response_stated::NextPart;
 use response_stated::ReadResponse;
-use response_stated::Remainder;
+use response_stated::ResponseRoom;
 use response_stated::WroteResponse;
-use u2f_up_stated::Presence;
-ghost use Rattle.panel_stated.specs.Contracts.{ResponsePlain, WroteResponsePlain, NextPlain, FetchedPlain, StatedPlain};
+ghost use Rattle.panel_stated.specs.Contracts.{ResponsePlain, WroteResponsePlain, SessionLent, SessionKept, NextKept, RoomPlain};
 
 pub fn response_plain(read: ReadResponse) -> ResponseSaid
     ensures { λ r. ⌜ ResponsePlain read r ⌝ }
@@ -43,75 +40,36 @@ pub fn wrote_response_plain(written: WroteResponse) -> Wrote
     }
 }
 
-// After a refusal what remains is what remained.
-pub fn next_plain(next: NextPart, kept: Remainder) -> PartSaid
-    ensures { λ r. ⌜ NextPlain next kept r ⌝ }
+// A part that is refused, and one that is sent.
+pub fn refused_part(why: Refusal) -> Wrote
+    ensures { λ r. ⌜ RefusedPart why r ⌝ }
 {
-    match next {
-        NextPart::Refused(why) => PartSaid {
+    Wrote {
+        answer: outcome::refusal_number(why) as u16,
+        length: 0,
+    }
+}
+
+pub fn sent_part(length: usize) -> Wrote
+    ensures { λ r. ⌜ SentPart length r ⌝ }
+{
+    Wrote {
+        answer: 0x9000,
+        length,
+    }
+}
+
+pub fn room_plain(room: ResponseRoom) -> RoomSaid
+    ensures { λ r. ⌜ RoomPlain room r ⌝ }
+{
+    match room {
+        ResponseRoom::Refused(why) => RoomSaid {
             answer: outcome::refusal_number(why) as u16,
             length: 0,
-            remainder: kept,
         },
-        NextPart::Part(length, remainder) => PartSaid {
+        ResponseRoom::Bytes(length) => RoomSaid {
             answer: 0x9000,
             length,
-            remainder,
         },
     }
-}
-
-// What GET RESPONSE is answered where nothing is left and every check before that is passed: ctap1 says it as if nothing were.
-const NOTHING_LEFT: u16 = 0x6985;
-
-// A GET RESPONSE that comes so far: 6985 where nothing is left, else the next part of the body in `reply`.
-fn fetched_numbers(
-    kept: Presence,
-    settled: Presence,
-    remainder: Remainder,
-    limit: u32,
-    reply: &[u8],
-    part: &mut [u8],
-) -> DecisionSaid
-    ensures { λ r. ⌜ FetchedPlain kept settled remainder limit (now (reply .entry)) (now (part .entry)) r (now (part .exit)) ⌝ }
-{
-    if remainder.count == 0 {
-        let nothing = ApduStatusCode::CondUseNotSatisfied;
-        return panel_orders::status_numbers(nothing, false, settled, remainder, limit);
-    }
-    let next = response::next_part(reply, remainder, limit, part);
-    match next {
-        NextPart::Refused(why) => panel_orders::refused_numbers(why, false, kept, remainder, limit),
-        NextPart::Part(length, left) => panel_orders::part_numbers(
-            length,
-            false,
-            settled,
-            left,
-            limit,
-        ),
-    }
-}
-
-// The status word of a decision that knew of nothing left, where something may be: a GET RESPONSE keeps it, or gets it where only that was
-// missing; any other drops it.
-pub fn stated_numbers(
-    status: ApduStatusCode,
-    is_get_response: bool,
-    taken: bool,
-    kept: Presence,
-    settled: Presence,
-    remainder: Remainder,
-    limit: u32,
-    reply: &[u8],
-    part: &mut [u8],
-) -> DecisionSaid
-    ensures { λ r. ⌜ StatedPlain status «is_get_response» taken kept settled remainder limit (now (reply .entry)) (now (part .entry)) r (now (part .exit)) ⌝ }
-{
-    if !is_get_response {
-        return panel_orders::status_numbers(status, taken, settled, response::nothing(), limit);
-    }
-    if outcome::status_number(status) != NOTHING_LEFT {
-        return panel_orders::status_numbers(status, taken, settled, remainder, limit);
-    }
-    fetched_numbers(kept, settled, remainder, limit, reply, part)
 }

@@ -1,17 +1,16 @@
 -- What is promised of each public function of panel_frames, panel_presence, panel_orders, panel_responses and panel, over what it is lent,
 -- its result, and the final contents of what it writes.
-use Rattle.panel_stated.specs.Words.{ℕ, _≡_, Bool, true, List, length, R, Word, Gives, Body, Ordered, Part, Head, Presence, Remainder, Ordinary, Strict, commandOf, newOf, touchOf, checkOf, askOf, lengthOf, replyOf, fetchPath, along, remainderAfter, partAfter, responseRead, responseWritten, partSent, readResponseOf, partResponse}
-use Rattle.panel_stated.specs.Words.{PresenceRecord, FrameSaid, CommandSaid, Wrote, Made, Stepped, Asked, DecisionSaid, ResponseSaid, PartSaid, Shaped, Kinded}
-use Rattle.panel_stated.specs.Numbers.{presenceOf, presenceNumbers, shapeOf, kindOf, noOrder}
-use Rattle.panel_stated.specs.Exports.{frameNumbers, lengthNumbers, ToWrite, strictAs, readsOf, writesOf, commandNumbers, madeNumbers, askedNumbers, stepNumbers, headAfter, decidedNumbers, decisionNumbers, ToDecide, decidesOf, respondsOf, nextsOf, responseNumbers, partNumbers, statedOf, ToFinish, finishNumbered}
+use Rattle.panel_stated.specs.Words.{ℕ, _≡_, Bool, List, length, R, Word, Gives, Body, Ordered, Part, Head, Presence, Remainder, Session, Ordinary, Strict, commandOf, newOf, touchOf, checkOf, askOf, lengthOf, replyOf, responseRead, responseWritten, partSent, readResponseOf, frameRoomOf}
+use Rattle.panel_stated.specs.Words.{PresenceRecord, SessionRecord, FrameSaid, CommandSaid, Wrote, Asked, DecisionSaid, ResponseSaid, RoomSaid, Shaped, Kinded}
+use Rattle.panel_stated.specs.Numbers.{answerNo, presenceOf, sessionOf, sessionNumbers, shapeOf, kindOf, noOrder}
+use Rattle.panel_stated.specs.Exports.{frameNumbers, lengthNumbers, ToWrite, strictAs, readsOf, writesOf, commandNumbers, madeOver, makesOf, askedNumbers, stepNumbers, headAfter, decidedNumbers, ToDecide, decidesOf, respondsOf, nextsOf, responseNumbers, sentNumbers, sentOver, roomNumbers, ToFinish, finishNumbered}
 use Rattle.apdu_stated.specs.Answers.{saysOf}
 use Rattle.apdu_stated.specs.declared.Apdu.{Apdu}
 use Rattle.command_stated.specs.Command.{commandSaid}
 use Rattle.command_stated.specs.declared.U2fCommand.{U2fCommand}
-use Rattle.u2f_up_stated.specs.Answers.{readyOf, outcomeOf, toldOf}
+use Rattle.u2f_up_stated.specs.Answers.{readyOf, outcomeOf}
 use Rattle.u2f_up_stated.specs.declared.Ready.{Ready}
 use Rattle.u2f_up_stated.specs.declared.Answer.{Answer}
-use Rattle.u2f_up_stated.specs.declared.Step.{Step}
 use Rattle.outcome.specs.Outcome.{wordOf, refusalNo}
 use Rattle.outcome.specs.declared.ApduStatusCode.{ApduStatusCode}
 use Rattle.outcome.specs.declared.Refusal.{Refusal}
@@ -20,6 +19,8 @@ use Rattle.signing_stated.specs.declared.Finished.{Finished}
 use Rattle.response_stated.specs.declared.ReadResponse.{ReadResponse}
 use Rattle.response_stated.specs.declared.WroteResponse.{WroteResponse}
 use Rattle.response_stated.specs.declared.NextPart.{NextPart}
+use Rattle.response_stated.specs.declared.ResponseRoom.{ResponseRoom}
+use Rattle.response_stated.specs.Words.{roomSaid}
 
 -- ---- panel_frames
 abbrev pub ShapeNumbered : ℕ → Shaped → Type 0
@@ -41,42 +42,35 @@ WritePlain w r after = (r ≡ writesOf Ordinary w .said) × (after ≡ writesOf 
 abbrev pub CommandPlain : U2fCommand → CommandSaid → Type 0
 CommandPlain read r = r ≡ commandNumbers (commandSaid read)
 
--- ---- panel_presence
+-- ---- panel_presence: over the record's numbers as they are lent, and as they are then
 abbrev pub RecordLent : PresenceRecord → Presence → Type 0
-RecordLent numbers r = r ≡ presenceOf numbers
+RecordLent n r = r ≡ presenceOf n
 
-abbrev pub RecordPlain : Presence → PresenceRecord → Type 0
-RecordPlain presence r = r ≡ presenceNumbers presence
-
-abbrev pub MadePlain : Ready → Made → Type 0
-MadePlain ready r = r ≡ madeNumbers (readyOf ready)
+abbrev pub MadeKept : Ready → (entry : PresenceRecord) → ℕ → (exit : PresenceRecord) → Type 0
+MadeKept ready entry r exit = (r ≡ answerNo (readyOf ready)) × (exit ≡ madeOver (readyOf ready) entry)
 
 abbrev pub AskedPlain : Answer → Asked → Type 0
 AskedPlain answer r = r ≡ askedNumbers (outcomeOf answer)
-
-abbrev pub StepPlain : Step → Stepped → Type 0
-StepPlain step r = r ≡ stepNumbers (toldOf step)
 
 -- ---- panel_orders
 abbrev pub KindNumbered : ℕ → Kinded → Type 0
 KindNumbered number r = r ≡ kindOf number
 
 -- a decision by its five answers: a refusal, a status word, a body, a part, an order
-abbrev pub RefusedPlain : Refusal → (taken : Bool) → Presence → Remainder → (limit : ℕ) → DecisionSaid → Type 0
-RefusedPlain why taken p left limit r = r ≡ decidedNumbers (R (refusalNo why)) noOrder taken p left limit
+abbrev pub RefusedPlain : Refusal → (taken : Bool) → DecisionSaid → Type 0
+RefusedPlain why taken r = r ≡ decidedNumbers (R (refusalNo why)) noOrder taken
 
-abbrev pub StatusPlain : ApduStatusCode → (taken : Bool) → Presence → Remainder → (limit : ℕ) → DecisionSaid → Type 0
-StatusPlain status taken p left limit r = r ≡ decidedNumbers (Word (wordOf status)) noOrder taken p left limit
+abbrev pub StatusPlain : ApduStatusCode → (taken : Bool) → DecisionSaid → Type 0
+StatusPlain status taken r = r ≡ decidedNumbers (Word (wordOf status)) noOrder taken
 
-abbrev pub BodyPlain : ℕ → (taken : Bool) → Presence → Remainder → (limit : ℕ) → DecisionSaid → Type 0
-BodyPlain length taken p left limit r = r ≡ decidedNumbers (Gives (Body length)) noOrder taken p left limit
+abbrev pub BodyPlain : ℕ → (taken : Bool) → DecisionSaid → Type 0
+BodyPlain length taken r = r ≡ decidedNumbers (Gives (Body length)) noOrder taken
 
--- what remains after the part stands in the answer too
-abbrev pub PartPlain : ℕ → (taken : Bool) → Presence → Remainder → (limit : ℕ) → DecisionSaid → Type 0
-PartPlain length taken p left limit r = r ≡ decidedNumbers (Gives (Part length left)) noOrder taken p left limit
+abbrev pub PartPlain : ℕ → Remainder → (taken : Bool) → DecisionSaid → Type 0
+PartPlain length left taken r = r ≡ decidedNumbers (Gives (Part length left)) noOrder taken
 
-abbrev pub OrderPlain : Head → (taken : Bool) → Presence → Remainder → (limit : ℕ) → DecisionSaid → Type 0
-OrderPlain head taken p left limit r = r ≡ decidedNumbers (Gives Ordered) (headAfter (Gives Ordered) head) taken p left limit
+abbrev pub OrderPlain : Head → (taken : Bool) → DecisionSaid → Type 0
+OrderPlain head taken r = r ≡ decidedNumbers (Gives Ordered) (headAfter (Gives Ordered) head) taken
 
 abbrev pub FinishedPlain : Finished → Wrote → Type 0
 FinishedPlain finished r = r ≡ lengthNumbers (finishedOf finished)
@@ -88,20 +82,17 @@ ResponsePlain read r = r ≡ responseNumbers (responseRead read)
 abbrev pub WroteResponsePlain : WroteResponse → Wrote → Type 0
 WroteResponsePlain written r = r ≡ lengthNumbers (responseWritten written)
 
-abbrev pub NextPlain : NextPart → (kept : Remainder) → PartSaid → Type 0
-NextPlain next kept r = r ≡ partNumbers (partSent next) kept
+abbrev pub SessionLent : SessionRecord → Session → Type 0
+SessionLent n r = r ≡ sessionOf n
 
--- a GET RESPONSE that came so far, in numbers: 6985, R2 or the next part; and the buffer for part and status
-abbrev pub FetchedPlain : (kept settled : Presence) → Remainder → (limit : ℕ) → (body entry : List ℕ) → DecisionSaid → (exit : List ℕ) → Type 0
-FetchedPlain kept settled k limit body entry r exit =
-    let fetched = along (fetchPath (length body) k limit (length entry)) kept settled 0 0 in
-    (r ≡ decisionNumbers fetched (remainderAfter (fetched .answer) true k) limit) × (exit ≡ partAfter (fetched .answer) (partResponse body k limit) entry)
+abbrev pub SessionKept : Session → (exit : SessionRecord) → Type 0
+SessionKept session exit = exit ≡ sessionNumbers session
 
--- the status word of a decision that knew of nothing left, in numbers, and what the buffer for part and status then holds
-abbrev pub StatedPlain : ApduStatusCode → (isC0 taken : Bool) → (kept settled : Presence) → Remainder → (limit : ℕ) → (body entry : List ℕ) → DecisionSaid → (exit : List ℕ) → Type 0
-StatedPlain status isC0 taken kept settled k limit body entry r exit =
-    let stated = statedOf (wordOf status) isC0 taken kept settled (length body) k limit (length entry) in
-    (r ≡ decisionNumbers stated (remainderAfter (stated .answer) isC0 k) limit) × (exit ≡ partAfter (stated .answer) (partResponse body k limit) entry)
+abbrev pub NextKept : NextPart → (entry : SessionRecord) → Wrote → (exit : SessionRecord) → Type 0
+NextKept next entry r exit = (r ≡ sentNumbers (partSent next)) × (exit ≡ sentOver (partSent next) entry)
+
+abbrev pub RoomPlain : ResponseRoom → RoomSaid → Type 0
+RoomPlain room r = r ≡ roomNumbers (roomSaid room)
 
 -- ---- panel: what C links
 abbrev pub BrinecandleRead : List ℕ → FrameSaid → Type 0
@@ -126,22 +117,24 @@ BrinecandleWriteStrict w r after = (r ≡ writesOf Strict w .said) × (after ≡
 abbrev pub BrinecandleReadCommand : List ℕ → CommandSaid → Type 0
 BrinecandleReadCommand frame r = r ≡ commandNumbers (commandOf frame)
 
-abbrev pub BrinecandleNew : ℕ → Made → Type 0
-BrinecandleNew w r = r ≡ madeNumbers (newOf w)
+-- the answer, and the record after the call
+abbrev pub BrinecandleNew : (entry : PresenceRecord) (w : ℕ) → ℕ → (exit : PresenceRecord) → Type 0
+BrinecandleNew entry w r exit = (r ≡ makesOf entry w .answer) × (exit ≡ makesOf entry w .presence)
 
-abbrev pub BrinecandleGrantUp : PresenceRecord → ℕ → Stepped → Type 0
-BrinecandleGrantUp n t r = r ≡ stepNumbers (touchOf (presenceOf n) t)
+abbrev pub BrinecandleGrantUp : (entry : PresenceRecord) (t : ℕ) → Asked → (exit : PresenceRecord) → Type 0
+BrinecandleGrantUp entry t r exit = (r ≡ stepNumbers (touchOf (presenceOf entry) t) .said) × (exit ≡ stepNumbers (touchOf (presenceOf entry) t) .presence)
 
-abbrev pub BrinecandleConsumeUp : PresenceRecord → (side t : ℕ) → Stepped → Type 0
-BrinecandleConsumeUp n s t r = r ≡ stepNumbers (checkOf (presenceOf n) s t)
+abbrev pub BrinecandleConsumeUp : (entry : PresenceRecord) (side t : ℕ) → Asked → (exit : PresenceRecord) → Type 0
+BrinecandleConsumeUp entry s t r exit = (r ≡ stepNumbers (checkOf (presenceOf entry) s t) .said) × (exit ≡ stepNumbers (checkOf (presenceOf entry) s t) .presence)
 
-abbrev pub BrinecandleIsUpNeeded : PresenceRecord → ℕ → Asked → Type 0
+abbrev pub BrinecandleIsUpNeeded : PresenceRecord → (t : ℕ) → Asked → Type 0
 BrinecandleIsUpNeeded n t r = r ≡ askedNumbers (askOf (presenceOf n) t .outcome)
 
--- the answer, and the reply buffer, the block and the buffer for part and status after the call
-abbrev pub BrinecandleDecide : ToDecide → DecisionSaid → (reply block part : List ℕ) → Type 0
-BrinecandleDecide i r reply block part =
-    (r ≡ decidesOf i .said) × (reply ≡ decidesOf i .reply) × (block ≡ decidesOf i .block) × (part ≡ decidesOf i .part)
+-- the answer, and the record, the session, the reply buffer, the block and the buffer for part and status after the call
+abbrev pub BrinecandleDecide : ToDecide → DecisionSaid → PresenceRecord → SessionRecord → (reply block part : List ℕ) → Type 0
+BrinecandleDecide i r presence session reply block part =
+    (r ≡ decidesOf i .said) × (presence ≡ decidesOf i .presence) × (session ≡ decidesOf i .session) × (reply ≡ decidesOf i .reply) × (block ≡ decidesOf i .block)
+    × (part ≡ decidesOf i .part)
 
 -- the answer, and the reply buffer after the call
 abbrev pub BrinecandleFinish : ToFinish → Wrote → (after : List ℕ) → Type 0
@@ -155,6 +148,10 @@ BrinecandleWriteResponse body status entry r exit =
 abbrev pub BrinecandleReadResponse : List ℕ → ResponseSaid → Type 0
 BrinecandleReadResponse response r = r ≡ responseNumbers (readResponseOf response)
 
-abbrev pub BrinecandleNextPart : (body : List ℕ) → Remainder → (limit : ℕ) (entry : List ℕ) → PartSaid → (exit : List ℕ) → Type 0
-BrinecandleNextPart body remainder limit entry r exit =
-    (r ≡ nextsOf body remainder limit entry .said) × (exit ≡ nextsOf body remainder limit entry .buffer)
+-- the answer, and the session and the buffer after the call
+abbrev pub BrinecandleNextPart : (entry : SessionRecord) (body old : List ℕ) → Wrote → (exit : SessionRecord) (part : List ℕ) → Type 0
+BrinecandleNextPart entry body old r exit part =
+    (r ≡ nextsOf entry body old .said) × (exit ≡ nextsOf entry body old .session) × (part ≡ nextsOf entry body old .buffer)
+
+abbrev pub BrinecandleResponseRoom : (frame : List ℕ) (longest : ℕ) → RoomSaid → Type 0
+BrinecandleResponseRoom frame longest r = r ≡ roomNumbers (frameRoomOf frame longest)

@@ -1,15 +1,11 @@
--- What each export answers, in plain numbers, by the outcome that the definitions of the other crates give for its call.
+-- What each export answers and leaves, in plain numbers, by the outcome that the definitions of the other crates give for its call.
 -- A number that an answer has no use for is 0.
 use Rattle.panel_stated.specs.Words.{ℕ, _+_, Bool, false, List, length, StatusWord, Outcome, R, Word, Gives, plainWord, ApduHeader, Presence, Kind, Head, Order, headOf}
-use Rattle.panel_stated.specs.Words.{PresenceRecord, HardwareSaid, OrderNumbers, FrameSaid, CommandSaid, Wrote, Made, Stepped, Asked, DecisionSaid, ResponseSaid, PartSaid, Shaped, Kinded}
-use Rattle.panel_stated.specs.Words.{Says, placeOf, Entry, Strict, inRow, readBy, partsOf, writeBy, bufferBy, Command, Register, Authenticate, Version, GetResponse, handlePlaceOf, Told}
-use Rattle.panel_stated.specs.Words.{kindNo, finishOf, DecisionGives, Body, Ordered, Part, DecisionResult, DecisionHanded, handedOf, decisionOf, Remainder, Response, Sent, frameLimit, fetchPath, along, remainderLeft, partLeft, replyLeft, blockLeft}
-use Rattle.panel_stated.specs.Numbers.{answerNo, decidedNo, faultNo, placeNo, presenceOf, presenceNumbers, isYes, hardwareOf, shapeOf, kindOf, noOrder}
-use mathlib.Core.Bool.{_&&_}
+use Rattle.panel_stated.specs.Words.{PresenceRecord, SessionRecord, HardwareSaid, OrderNumbers, FrameSaid, CommandSaid, Wrote, Asked, DecisionSaid, ResponseSaid, RoomSaid, Shaped, Kinded}
+use Rattle.panel_stated.specs.Words.{Says, readOf, placeOf, Entry, Strict, inRow, readBy, partsOf, writeBy, bufferBy, Command, Register, Authenticate, Version, GetResponse, handlePlaceOf, Told, newOf}
+use Rattle.panel_stated.specs.Words.{kindNo, finishOf, DecisionGives, Body, Ordered, Part, DecisionResult, DecisionHanded, handedOf, decisionOf, rest, Response, Sent, partLeft, replyLeft, blockLeft, sessionAfter}
+use Rattle.panel_stated.specs.Numbers.{answerNo, decidedNo, faultNo, placeNo, presenceOf, presenceNumbers, sessionOf, sessionNumbers, isYes, hardwareOf, shapeOf, kindOf, noOrder}
 use Rattle.response_stated.specs.Terms.{writingOf, sendingOf}
-use lib.Dec.{eqb}
-use Rattle.outcome.specs.Notation.{if_then_else_}
-use Rattle.signing_stated.specs.Orders.{blankOrder}
 use Rattle.ctap1_stated.specs.Words.{Inputs}
 use Rattle.panel_stated.specs.declared.Shaped.the-variants as Shaped′
 use Rattle.panel_stated.specs.declared.Kinded.the-variants as Kinded′
@@ -117,17 +113,23 @@ commandNumbers (Word s) = bareCommand s 0
 commandNumbers (Gives c) = commandGiven c
 
 -- ---- presence
--- "a refused making hands back no record": five zeros, which no call takes, since W is 0
+-- five zeros: closed, and R6 at every call, since W is 0
 abbrev pub noRecord : PresenceRecord
 noRecord = record { w = 0; prompt = 0; touch = 0; last = 0; asker = 0 }
 
-abbrev pub recordIn : Outcome Presence → PresenceRecord
-recordIn (R n) = noRecord
-recordIn (Word s) = noRecord
-recordIn (Gives p) = presenceNumbers p
+-- 01: "a refused making hands back no record": the numbers that are lent stay
+abbrev pub madeOver : Outcome Presence → PresenceRecord → PresenceRecord
+madeOver (R n) lent = lent
+madeOver (Word s) lent = lent
+madeOver (Gives p) lent = presenceNumbers p
 
-abbrev pub madeNumbers : Outcome Presence → Made
-madeNumbers o = record { answer = answerNo o; presence = recordIn o }
+-- what making a record leaves: its answer, and the record
+pub record AfterMaking : Type 0 where
+  pub answer : ℕ
+  pub presence : PresenceRecord
+
+abbrev pub makesOf : PresenceRecord → (w : ℕ) → AfterMaking
+makesOf lent w = record { answer = answerNo (newOf w); presence = madeOver (newOf w) lent }
 
 -- a touch was accepted, a check found a touch, a prompt is live
 abbrev pub yesIn : Outcome Bool → Bool
@@ -138,8 +140,13 @@ yesIn (Gives b) = b
 abbrev pub askedNumbers : Outcome Bool → Asked
 askedNumbers o = record { answer = answerNo o; yes = yesIn o }
 
-abbrev pub stepNumbers : Told → Stepped
-stepNumbers told = record { answer = answerNo (told .outcome); yes = yesIn (told .outcome); presence = presenceNumbers (told .presence) }
+-- what a touch and a check leave: their answer, and the record; "An R refusal changes no buffer and no record": the one that was lent, number by number
+pub record AfterStep : Type 0 where
+  pub said : Asked
+  pub presence : PresenceRecord
+
+abbrev pub stepNumbers : Told → AfterStep
+stepNumbers told = record { said = askedNumbers (told .outcome); presence = presenceNumbers (told .presence) }
 
 -- ---- responses and parts
 -- of a response that is read, the status and the body as a part of the caller's slice (ours): the body's length, counted from the front
@@ -148,11 +155,23 @@ responseNumbers (R n) = record { answer = n; status = 0; length = 0 }
 responseNumbers (Word s) = record { answer = s .number; status = 0; length = 0 }
 responseNumbers (Gives r) = record { answer = 0x9000; status = r .status; length = r .length }
 
--- 02, E2: "any R refusal keeps it": beside a refusal stands the remainder that was lent
-abbrev pub partNumbers : Outcome Sent → Remainder → PartSaid
-partNumbers (R n) kept = record { answer = n; length = 0; remainder = kept }
-partNumbers (Word s) kept = record { answer = s .number; length = 0; remainder = kept }
-partNumbers (Gives sent) kept = record { answer = 0x9000; length = sent .length; remainder = sent .remainder }
+-- a part's response, by its length
+abbrev pub sentNumbers : Outcome Sent → Wrote
+sentNumbers (R n) = record { answer = n; length = 0 }
+sentNumbers (Word s) = record { answer = s .number; length = 0 }
+sentNumbers (Gives sent) = record { answer = 0x9000; length = sent .length }
+
+-- 02, E2: "any R refusal keeps it"; after a part what it left, and the same limit
+abbrev pub sentOver : Outcome Sent → SessionRecord → SessionRecord
+sentOver (R n) lent = lent
+sentOver (Word s) lent = lent
+sentOver (Gives sent) lent = record { place = sent .remainder .place; count = sent .remainder .count; limit = lent .limit }
+
+-- how many bytes a response can take
+abbrev pub roomNumbers : Outcome ℕ → RoomSaid
+roomNumbers (R n) = record { answer = n; length = 0 }
+roomNumbers (Word s) = record { answer = s .number; length = 0 }
+roomNumbers (Gives n) = record { answer = 0x9000; length = n }
 
 -- what a call that writes leaves: its answer, and the buffer
 pub record AfterWriting : Type 0 where
@@ -160,7 +179,8 @@ pub record AfterWriting : Type 0 where
   pub buffer : List ℕ
 
 pub record AfterPart : Type 0 where
-  pub said : PartSaid
+  pub said : Wrote
+  pub session : SessionRecord
   pub buffer : List ℕ
 
 -- the exported readings
@@ -174,8 +194,10 @@ writesOf entry w = record { said = lengthNumbers (writeNumbered entry w); buffer
 abbrev pub respondsOf : (body : List ℕ) (status : ℕ) (old : List ℕ) → AfterWriting
 respondsOf body status old = record { said = lengthNumbers (writingOf body status old .0); buffer = writingOf body status old .1 }
 
-abbrev pub nextsOf : (body : List ℕ) → Remainder → (limit : ℕ) (old : List ℕ) → AfterPart
-nextsOf body r limit old = record { said = partNumbers (sendingOf body r limit old .0) r; buffer = sendingOf body r limit old .1 }
+abbrev pub nextsOf : SessionRecord → (body old : List ℕ) → AfterPart
+nextsOf n body old =
+    let sent = sendingOf body (rest (n .place) (n .count)) (n .limit) old in
+    record { said = sentNumbers (sent .0); session = sentOver (sent .0) n; buffer = sent .1 }
 
 -- ---- decision
 -- a body's length; of a part its response's
@@ -198,40 +220,24 @@ headAfter (Gives (Part n after)) head = noOrder
 abbrev pub orderAfter : Outcome DecisionGives → Order → OrderNumbers
 orderAfter o order = headAfter o (headOf order)
 
--- a decision's numbers, and what is left to fetch and how much the frame takes at a time; the block goes out beside these: `blockLeft`
-abbrev pub decidedNumbers : Outcome DecisionGives → OrderNumbers → (taken : Bool) → Presence → Remainder → (limit : ℕ) → DecisionSaid
-decidedNumbers answer order taken p left limit =
-    record {
-      answer = decidedNo answer;
-      fault = faultNo answer;
-      taken = taken;
-      length = bodyLength answer;
-      order = order;
-      presence = presenceNumbers p;
-      place = placeNo answer;
-      remainder = left;
-      limit = limit;
-    }
+-- a decision's numbers; the block goes out beside these: `blockLeft`
+abbrev pub decidedNumbers : Outcome DecisionGives → OrderNumbers → (taken : Bool) → DecisionSaid
+decidedNumbers answer order taken =
+    record { answer = decidedNo answer; fault = faultNo answer; taken = taken; length = bodyLength answer; order = order; place = placeNo answer }
 
-abbrev pub handedNumbers : DecisionHanded → Remainder → (limit : ℕ) → DecisionSaid
-handedNumbers h left limit = decidedNumbers (h .answer) (headAfter (h .answer) (h .head)) (h .taken) (h .presence) left limit
+abbrev pub handedNumbers : DecisionHanded → DecisionSaid
+handedNumbers h = decidedNumbers (h .answer) (headAfter (h .answer) (h .head)) (h .taken)
 
-abbrev pub decisionNumbers : DecisionResult → Remainder → (limit : ℕ) → DecisionSaid
-decisionNumbers r left limit = handedNumbers (handedOf r) left limit
+abbrev pub decisionNumbers : DecisionResult → DecisionSaid
+decisionNumbers r = handedNumbers (handedOf r)
 
--- 02, E2: what the status word of a decision that was made as if nothing were left comes to where something may be: a C0 that came so far, 6985,
--- gets the next part of the body, if there is one. `room` and `partRoom` are the two buffers' lengths
-unfoldable pub statedOf : StatusWord → (isC0 taken : Bool) → (kept settled : Presence) → (room : ℕ) → Remainder → (limit partRoom : ℕ) → DecisionResult
-statedOf w isC0 taken kept settled room k limit partRoom =
-    if isC0 && eqb (w .number) 0x6985 then along (fetchPath room k limit partRoom) kept settled 0 0
-    else record { answer = Word w; presence = settled; order = blankOrder; taken = taken }
-
--- what the decision is lent, the record and the hardware's answers as numbers
+-- what the decision is lent, record, session and the hardware's answers as numbers
 pub record ToDecide : Type 0 where
+  pub presence : PresenceRecord
+  pub session : SessionRecord
   pub frame : List ℕ
   pub side : ℕ
   pub moment : ℕ
-  pub presence : PresenceRecord
   pub hardware : HardwareSaid
   pub newHandle : List ℕ
   pub certificate : List ℕ
@@ -239,7 +245,6 @@ pub record ToDecide : Type 0 where
   pub y : List ℕ
   pub reply : List ℕ  -- the reply buffer before the call
   pub block : List ℕ  -- the block before the call
-  pub remainder : Remainder
   pub part : List ℕ  -- the buffer for part and status before the call
 
 -- what the numbers stand for: all that is lent but the record and the moment
@@ -254,32 +259,39 @@ inputsOf i =
       x = i .x;
       y = i .y;
       room = length (i .reply);
-      remainder = i .remainder;
+      remainder = rest (i .session .place) (i .session .count);
       partRoom = length (i .part);
     }
 
--- the decision on them, what it leaves to fetch, and both in numbers
+-- the decision on them, what the transport goes on with, and the part
 abbrev pub decidedBy : ToDecide → DecisionResult
 decidedBy i = decisionOf (presenceOf (i .presence)) (i .moment) (inputsOf i)
 
-abbrev pub leftBy : ToDecide → Remainder
-leftBy i = remainderLeft (inputsOf i) (decidedBy i)
-
-abbrev pub saidBy : ToDecide → DecisionSaid
-saidBy i = decisionNumbers (decidedBy i) (leftBy i) (frameLimit (i .frame))
+abbrev pub sessionBy : ToDecide → SessionRecord
+sessionBy i = sessionNumbers (sessionAfter (decidedBy i .answer) (readOf (i .frame)) (sessionOf (i .session)))
 
 abbrev pub partBy : ToDecide → List ℕ
 partBy i = partLeft (inputsOf i) (decidedBy i) (i .reply) (i .part)
 
--- all that a call leaves: its answer, the reply buffer, the block and the buffer for part and status
+-- all that a call leaves: its answer, the record, the session, the reply buffer, the block and the buffer for part and status
 pub record AfterDeciding : Type 0 where
   pub said : DecisionSaid
+  pub presence : PresenceRecord
+  pub session : SessionRecord
   pub reply : List ℕ
   pub block : List ℕ
   pub part : List ℕ
 
 abbrev pub decidesOf : ToDecide → AfterDeciding
-decidesOf i = record { said = saidBy i; reply = replyLeft (decidedBy i) (i .reply); block = blockLeft (decidedBy i) (i .block); part = partBy i }
+decidesOf i =
+    record {
+      said = decisionNumbers (decidedBy i);
+      presence = presenceNumbers (decidedBy i .presence);
+      session = sessionBy i;
+      reply = replyLeft (decidedBy i) (i .reply);
+      block = blockLeft (decidedBy i) (i .block);
+      part = partBy i;
+    }
 
 -- ---- finishing
 -- what finishing is lent, the order as numbers and a block

@@ -5,7 +5,7 @@ pub use mathlib.Core.Path.{_≡_}
 pub use mathlib.Core.Bool.{Bool, true, false}
 pub use mathlib.Core.List.{List}
 pub use lib.Dec.{eqb}
-pub use lib.ListN.{length}
+pub use lib.ListN.{length, getD}
 pub use Rattle.outcome.specs.Notation.{if_then_else_, AtMostOne}
 pub use Rattle.outcome.specs.Outcome.{StatusWord, Outcome, R, Word, SW, Gives, plainWord, lastRefusal}
 pub use Rattle.outcome.specs.Terms.{HasStatus}
@@ -23,17 +23,16 @@ pub use Rattle.ctap1_stated.specs.declared.Attestation.{Attestation}
 pub use Rattle.ctap1_stated.specs.declared.Counter.{Counter}
 pub use Rattle.ctap1_stated.specs.declared.Hardware.{Hardware}
 pub use Rattle.panel_stated.specs.declared.PresenceRecord.{PresenceRecord}
+pub use Rattle.panel_stated.specs.declared.SessionRecord.{SessionRecord}
 pub use Rattle.ctap1_stated.specs.declared.HardwareSaid.{HardwareSaid}
 pub use Rattle.panel_stated.specs.declared.OrderNumbers.{OrderNumbers}
 pub use Rattle.panel_stated.specs.declared.FrameSaid.{FrameSaid}
 pub use Rattle.panel_stated.specs.declared.CommandSaid.{CommandSaid}
 pub use Rattle.panel_stated.specs.declared.Wrote.{Wrote}
-pub use Rattle.panel_stated.specs.declared.Made.{Made}
-pub use Rattle.panel_stated.specs.declared.Stepped.{Stepped}
 pub use Rattle.panel_stated.specs.declared.Asked.{Asked}
 pub use Rattle.panel_stated.specs.declared.DecisionSaid.{DecisionSaid}
 pub use Rattle.panel_stated.specs.declared.ResponseSaid.{ResponseSaid}
-pub use Rattle.panel_stated.specs.declared.PartSaid.{PartSaid}
+pub use Rattle.panel_stated.specs.declared.RoomSaid.{RoomSaid}
 pub use Rattle.panel_stated.specs.declared.Shaped.{Shaped}
 pub use Rattle.panel_stated.specs.declared.Kinded.{Kinded}
 pub use Rattle.apdu_stated.specs.Words.{shapeNo}
@@ -55,3 +54,5 @@ pub use Rattle.response_stated.specs.declared.Remainder.{Remainder}
 pub use Rattle.response_stated.specs.Words.{Response, Sent, rest, responseRead, responseWritten, partSent}
 pub use Rattle.response_stated.specs.Responses.{responseOf, writeResponseOf, responseLaid, readResponseOf}
 pub use Rattle.response_stated.specs.Parts.{nextPartOf, partResponse, partLaid}
+pub use Rattle.session_stated.specs.declared.Session.{Session}
+pub use Rattle.session_stated.specs.Held.{sessionAfter, frameRoomOf}

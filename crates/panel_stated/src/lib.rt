@@ -1,25 +1,30 @@
 // What crosses to C, as plain numbers: the structs of include/brinecandle.h, which .ci/header compares with these. No function:
 // panel_frames, panel_presence, panel_orders and panel_responses have the conversions, panel the exports.
 //
-// The presence record and an order cross as #[repr(C)] structs of numbers, by value: the firmware can copy, print and store
-// them, no call keeps a pointer to them, and a struct lent for writing would be proved by hand. An order's block of 385 bytes
-// crosses as an array lent beside it, since an array does not cross by value. Slices are a pointer and a length.
+// What the firmware keeps between calls is lent and changed in place: the presence record as five numbers, a transport's session as three. So are the
+// hardware's answers lent, as six, to be read. In C each is a struct of as many numbers; here an array, since references to structs are not covered. Results
+// and an order cross as #[repr(C)] structs by value. An order's block of 385 bytes is an array lent beside it. Slices are a pointer and a length.
 //
 // Where a frame's length is wrong, `fault` is 1 to 3 and `place` where; else both are 0. `fault` stands beside the answer, where the two
 // are stored at once.
 use apdu_stated::Case;
-use response_stated::Remainder;
 use signing_stated::Kind;
 
-// The presence record. A window is 0 where it is closed, and otherwise the moment at which it was opened and one more. The asking side
-// is 0 or 1; it has 32 bits, and so has a side that a call names, so that no other number is cut down to one of the two.
-#[repr(C)]
+// The presence record's five numbers, by name. A window is 0 where it is closed, and otherwise the moment at which it was opened and one more. The asking side
+// is 0 or 1; it has 64 bits, and so has a side that a call names, so that no other number is cut down to one of the two.
 pub struct PresenceRecord {
     pub w: u64,
     pub prompt: u64,
     pub touch: u64,
     pub last: u64,
-    pub asker: u32,
+    pub asker: u64,
+}
+
+// A session's three: what remains of a body, from which place on and how many bytes, and how many of them the latest frame takes at a time.
+pub struct SessionRecord {
+    pub place: u64,
+    pub count: u64,
+    pub limit: u64,
 }
 
 // What a frame says: the header, the shape's number, Lc and Le, and where the data stands in the frame.
@@ -61,19 +66,6 @@ pub struct Wrote {
 }
 
 #[repr(C)]
-pub struct Made {
-    pub answer: u16,
-    pub presence: PresenceRecord,
-}
-
-#[repr(C)]
-pub struct Stepped {
-    pub answer: u16,
-    pub yes: bool,
-    pub presence: PresenceRecord,
-}
-
-#[repr(C)]
 pub struct Asked {
     pub answer: u16,
     pub yes: bool,
@@ -94,10 +86,7 @@ pub struct DecisionSaid {
     pub taken: bool,
     pub length: usize,
     pub order: OrderNumbers,
-    pub presence: PresenceRecord,
     pub place: usize,
-    pub remainder: Remainder,
-    pub limit: u32,
 }
 
 // A response's status, and how many bytes of body stand before it.
@@ -108,12 +97,11 @@ pub struct ResponseSaid {
     pub length: usize,
 }
 
-// The length of a part's response, and what remains after it.
+// How many bytes a response can take.
 #[repr(C)]
-pub struct PartSaid {
+pub struct RoomSaid {
     pub answer: u16,
     pub length: usize,
-    pub remainder: Remainder,
 }
 
 // A number that is a shape's, or none.

@@ -5,13 +5,14 @@ use outcome::Refusal;
 pub use response_stated::NextPart;
 pub use response_stated::ReadResponse;
 pub use response_stated::Remainder;
+pub use response_stated::ResponseRoom;
 pub use response_stated::WroteResponse;
 ghost use mathlib.Core.Path.{_≡_};
 ghost use Prim.Native.Nat.{_≤_};
 ghost use lib.Dec.{eqb};
 ghost use Rattle.outcome.specs.Notation.{if_then_else_};
 ghost use Rattle.response_stated.specs.Parts.{partLength, leftStatus};
-ghost use Rattle.response_stated.specs.Contracts.{Limit, Nothing, WriteResponse, ReadsResponse, ResponseBody, PartNext};
+ghost use Rattle.response_stated.specs.Contracts.{Limit, Nothing, WriteResponse, ReadsResponse, ResponseBody, PartNext, RoomFor};
 
 // Done, and done with so many bytes waiting: 61 XX.
 const DONE: u16 = 0x9000;
@@ -19,24 +20,27 @@ const DONE: u16 = 0x9000;
 const WAITING: u16 = 0x6100;
 
 // No limit: a body goes out whole.
-const WHOLE: u32 = 0;
+const WHOLE: u64 = 0;
+
+// A response is its part and two bytes of status: of a longer part no length can say the response's.
+const LONGEST_PART: usize = 0xfffffffffffffffd;
 
 // What a short frame takes where it does not say.
-const LONGEST: u32 = 256;
+const LONGEST: u64 = 256;
 
 // An absent Le is 0.
-fn short_limit(le: u32) -> u32
+fn short_limit(le: u32) -> u64
     ensures { λ r. ⌜ r ≡ (if eqb le 0 then 256 else le) ⌝ }
 {
     if le == 0 {
         return LONGEST;
     }
-    le
+    le as u64
 }
 
 // How many bytes of body a frame that says this takes at a time: Le, or 256 where there is none, in the short shapes; no limit in the
 // extended ones.
-pub fn limit(says: Apdu) -> u32
+pub fn limit(says: Apdu) -> u64
     ensures { λ r. ⌜ Limit says r ⌝ }
 {
     let shape = says.shape;
@@ -98,7 +102,7 @@ pub fn response_body(response: &[u8]) -> &[u8]
 }
 
 // How many bytes of `count` go out under a limit.
-fn part_length(limit: u32, count: usize) -> usize
+fn part_length(limit: u64, count: usize) -> usize
     ensures { λ r. ⌜ (r ≡ partLength limit count) × (r ≤ count) ⌝ }
 {
     if limit == WHOLE {
@@ -124,7 +128,7 @@ fn left_status(left: usize) -> u16
 }
 
 // Writes the next part of what remains of a body, with its status, at the front of out. A first part is the next one of (0, n).
-pub fn next_part(body: &[u8], remainder: Remainder, limit: u32, out: &mut [u8]) -> NextPart
+pub fn next_part(body: &[u8], remainder: Remainder, limit: u64, out: &mut [u8]) -> NextPart
     ensures { λ r. ⌜ PartNext (now (body .entry)) remainder limit (now (out .entry)) r (now (out .exit)) ⌝ }
 {
     let place = remainder.place;
@@ -148,4 +152,15 @@ pub fn next_part(body: &[u8], remainder: Remainder, limit: u32, out: &mut [u8]) 
             },
         ),
     }
+}
+
+// How many bytes the first part of a body can take with its status, under a limit, where no body is longer than `longest`.
+pub fn room(limit: u64, longest: usize) -> ResponseRoom
+    ensures { λ r. ⌜ RoomFor limit longest r ⌝ }
+{
+    let n = part_length(limit, longest);
+    if LONGEST_PART < n {
+        return ResponseRoom::Refused(Refusal::R2);
+    }
+    ResponseRoom::Bytes(n + 2)
 }

@@ -18,7 +18,7 @@ use Rattle.octets.proofs.Laws.{laid-then, part-within, length-part}
 use Rattle.apdu_stated.specs.declared.Case.the-variants.{Instruction, Le1, Lc1Data, Lc1DataLe1, Lc3Data, Lc3DataLe2, Le3}
 use Rattle.response_stated.specs.Words.{Apdu, Says, saysOf, Remainder, WroteResponse, rest, Response, Sent, responseWritten}
 use Rattle.response_stated.specs.Responses.{responseOf, writeResponseOf, responseLaid, readResponseOf, responseBodyOf}
-use Rattle.response_stated.specs.Parts.{limitOf, partLength, leftStatus, restAfter, nextPartOf, partBytes, partResponse, partLaid}
+use Rattle.response_stated.specs.Parts.{limitOf, partLength, leftStatus, restAfter, nextPartOf, partBytes, partResponse, partLaid, responseRoomOf}
 use Rattle.response_stated.specs.declared.WroteResponse.the-variants as Wrote
 
 refusal-same : (a b : ℕ) → _≡_ {A = Outcome ℕ} (R a) (R b) → a ≡ b
@@ -153,6 +153,16 @@ module _ (left : ℕ) where
   pub left-many : (left ≡ 0 → ⊥) → 256 ≤ left → 0x6100 ≡ leftStatus left
   unfolding leftStatus
   left-many n h = rw (ne-eqb left 0 n, le-ltb left 256 h)
+
+-- ---- the room for a part and its status
+module _ (limit longest n : ℕ) (is-n : n ≡ partLength limit longest) where
+  pub room-unsaid : 0xfffffffffffffffd < n → R 2 ≡ responseRoomOf limit longest
+  unfolding responseRoomOf
+  room-unsaid h = rw (le-ltb (partLength limit longest) 0xfffffffffffffffe (omega arith))
+
+  pub room-said : n ≤ 0xfffffffffffffffd → Gives (n + 2) ≡ responseRoomOf limit longest
+  unfolding responseRoomOf
+  room-said h = rw (lt-ltb (partLength limit longest) 0xfffffffffffffffe (omega arith), is-n)
 
 -- ---- the next part: the body's test, in two steps that cannot wrap
 module _ (bodyRoom : ℕ) (r : Remainder) (limit room : ℕ) where

@@ -3,10 +3,11 @@ use Prim.Native.Nat.{ℕ}
 use mathlib.Core.Path.{_≡_, refl, ap}
 use Rattle.outcome.specs.Outcome.{Outcome, R, Word, Gives}
 use Rattle.outcome.proofs.Laws.{one-to-one, refusalOf, refusal-back}
-use Rattle.response_stated.specs.Words.{ReadResponse, WroteResponse, NextPart, rest, Response, Sent, responseRead, responseWritten, partSent}
+use Rattle.response_stated.specs.Words.{ReadResponse, WroteResponse, NextPart, ResponseRoom, rest, Response, Sent, responseRead, responseWritten, partSent, roomSaid}
 use Rattle.response_stated.specs.declared.ReadResponse.the-variants as Read
 use Rattle.response_stated.specs.declared.WroteResponse.the-variants as Wrote
 use Rattle.response_stated.specs.declared.NextPart.the-variants as Next
+use Rattle.response_stated.specs.declared.ResponseRoom.the-variants as Room
 
 readBack : Outcome Response → ReadResponse
 readBack (R n) = Read.Refused (refusalOf n)
@@ -46,3 +47,16 @@ next-back (Next.Part n after) = refl
 
 pub next-same : (a b : NextPart) → partSent a ≡ partSent b → a ≡ b
 next-same = one-to-one partSent nextBack next-back
+
+roomBack : Outcome ℕ → ResponseRoom
+roomBack (R n) = Room.Refused (refusalOf n)
+roomBack (Word w) = Room.Bytes 0
+roomBack (Gives n) = Room.Bytes n
+
+room-back : (a : ResponseRoom) → roomBack (roomSaid a) ≡ a
+unfolding roomBack
+room-back (Room.Refused why) = ap Room.Refused (refusal-back why)
+room-back (Room.Bytes n) = refl
+
+pub room-same : (a b : ResponseRoom) → roomSaid a ≡ roomSaid b → a ≡ b
+room-same = one-to-one roomSaid roomBack room-back

@@ -7,7 +7,7 @@ use native.Mathlib.Omega.{arith}
 use native.Mathlib.Decide.{decLt, ℕ-discrete}
 use lib.ListN.{length, take, drop, take-append-drop}
 use lib.Seq.{drop-drop, length-take-le}
-use Rattle.outcome.specs.Notation.{Determines, Determines3}
+use Rattle.outcome.specs.Notation.{Determines, Determines2, Determines3}
 use Rattle.outcome.specs.Outcome.{Outcome, R, Gives}
 use Rattle.octets.specs.Bytes.{byte}
 use Rattle.octets.proofs.Laws.{length-part}
@@ -18,6 +18,7 @@ use Rattle.response_stated.specs.Terms.{Writer, Sender, reading, sending
 use Rattle.response_stated.specs.declared.ReadResponse.the-variants as ReadResponse′
 use Rattle.response_stated.specs.declared.WroteResponse.the-variants as WroteResponse′
 use Rattle.response_stated.specs.declared.NextPart.the-variants as NextPart′
+use Rattle.response_stated.specs.declared.ResponseRoom.the-variants as ResponseRoom′
 use Rattle.response_stated.specs.Claims
 use Rattle.response_stated.proofs.Theorems.{goes, tells}
 use Rattle.response_stated.proofs.OnBytes.{pair-is, split}
@@ -117,6 +118,13 @@ NextExactly f g p q body r limit old = go (decLt (length body) (r .place + r .co
         sends-at f p body before part left behind r limit old is-body is-r is-n (omega arith)
         ∙ sym (sends-at g q body before part left behind r limit old is-body is-r is-n (omega arith))
 
+pub RoomExactly : Determines2 Claims.RoomExactly
+RoomExactly f g p q limit longest = go (decLt (partLength limit longest + 2) 0x10000000000000000)
+  where
+    go : Dec (partLength limit longest + 2 < 0x10000000000000000) → f limit longest ≡ g limit longest
+    go (yes h) = p .said limit longest _ (goes limit longest) h ∙ sym (q .said limit longest _ (goes limit longest) h)
+    go (no h) = p .unsaid limit longest _ (goes limit longest) (omega arith) ∙ sym (q .unsaid limit longest _ (goes limit longest) (omega arith))
+
 -- ---- views
 pub ReadSaidExactly : Determines Claims.ReadSaidExactly
 ReadSaidExactly f g p q (ReadResponse′.Refused why) = p .refused _ why .1 refl ∙ sym (q .refused _ why .1 refl)
@@ -129,3 +137,7 @@ WrittenSaidExactly f g p q (WroteResponse′.Response n) = p .response _ n .1 re
 pub PartSaidExactly : Determines Claims.PartSaidExactly
 PartSaidExactly f g p q (NextPart′.Refused why) = p .refused _ why .1 refl ∙ sym (q .refused _ why .1 refl)
 PartSaidExactly f g p q (NextPart′.Part n left) = p .part _ n left .1 refl ∙ sym (q .part _ n left .1 refl)
+
+pub RoomSaidExactly : Determines Claims.RoomSaidExactly
+RoomSaidExactly f g p q (ResponseRoom′.Refused why) = p .refused _ why .1 refl ∙ sym (q .refused _ why .1 refl)
+RoomSaidExactly f g p q (ResponseRoom′.Bytes n) = p .bytes _ n .1 refl ∙ sym (q .bytes _ n .1 refl)

@@ -7,6 +7,7 @@ use mathlib.Core.Logic.{inl}
 use native.Mathlib.Omega.{arith}
 use lib.ListN.{length, replicate}
 use Rattle.outcome.specs.Outcome.{Outcome, Gives}
+use Rattle.outcome.specs.declared.Refusal.the-variants.{R2}
 use Rattle.outcome.proofs.Laws.{gives-same, r-gives}
 use Rattle.octets.specs.Bytes.{byte, AreBytes}
 use Rattle.octets.proofs.Laws.{small, bytes-of}
@@ -14,11 +15,12 @@ use Rattle.apdu_stated.specs.Reading.{readOf, readBy, sayOf, lengthsOf, extende
 use Rattle.response_stated.specs.Words.{Says, Remainder, rest, Response, Sent}
 use Rattle.response_stated.specs.Responses.{writeResponseOf, readResponseOf, responseBodyOf}
 use Rattle.response_stated.specs.Parts.{limitOf, partLength, leftStatus, nextPartOf}
-use Rattle.response_stated.specs.Terms.{sending, sendingOf, writingOf, cut, last, nothing-left, some-left, more-left}
+use Rattle.response_stated.specs.Terms.{sending, sendingOf, writingOf, whole, cut, last, nothing-left, some-left, more-left}
 use Rattle.response_stated.specs.Fetching.{Fetch, also, none, up}
 use Rattle.response_stated.specs.declared.ReadResponse.the-variants as ReadResponse′
 use Rattle.response_stated.specs.declared.WroteResponse.the-variants as WroteResponse′
 use Rattle.response_stated.specs.declared.NextPart.the-variants as NextPart′
+use Rattle.response_stated.specs.declared.ResponseRoom.the-variants as ResponseRoom′
 use Rattle.response_stated.specs.Claims
 use Rattle.response_stated.specs.Wrong
 
@@ -216,6 +218,38 @@ atMost255 p =
     ap (λ (s : Says). Wrong.atMost255 (replicate 257 0) (rest 0 257) (limitOf s) (replicate 258 0) .0) is ∙ p .reached .2 in
     omega (arith, ap (λ (s : Sent). s .length) (gives-same _ _ e))
 
+-- ---- the room for a first part
+pub roomForPartAlone : Claims.RoomExactly Wrong.roomForPartAlone → ⊥
+unfolding partLength
+roomForPartAlone p = omega (arith, gives-same _ _ (p .said 1 0 0 (last (omega arith) (omega arith)) (omega arith)))
+
+pub roomForBody : Claims.RoomExactly Wrong.roomForBody → ⊥
+roomForBody p = omega (arith, gives-same _ _ (p .said 1 2 1 (cut (omega arith) (omega arith)) (omega arith)))
+
+pub roomForLimit : Claims.RoomExactly Wrong.roomForLimit → ⊥
+roomForLimit p = omega (arith, gives-same _ _ (p .said 2 1 1 (last (omega arith) (omega arith)) (omega arith)))
+
+pub wrapsTheRoom : Claims.RoomExactly Wrong.wrapsTheRoom → ⊥
+unfolding partLength
+wrapsTheRoom p = r-gives 2 _ (sym (p .unsaid 0 0xfffffffffffffffe 0xfffffffffffffffe whole (omega arith)))
+
+-- for a body of none too little; for two bytes at limit 1, and for one at limit 2, four where three are enough
+pub roomForPartAloneServes : Claims.RoomServes Wrong.roomForPartAlone sendingOf → ⊥
+unfolding nextPartOf partLength
+roomForPartAloneServes p = p .enough 1 0 0 0 [] [] refl (omega arith) (omega arith) (omega arith) 2 refl
+
+pub roomForBodyServes : Claims.RoomServes Wrong.roomForBody sendingOf → ⊥
+unfolding nextPartOf partLength
+roomForBodyServes p = r-gives 2 _ (sym (p .needed 1 2 4 (1 ∷ 2 ∷ []) (0 ∷ 0 ∷ 0 ∷ []) refl (omega arith) (omega arith)))
+
+pub roomForLimitServes : Claims.RoomServes Wrong.roomForLimit sendingOf → ⊥
+unfolding nextPartOf partLength
+roomForLimitServes p = r-gives 2 _ (sym (p .needed 2 1 4 (1 ∷ []) (0 ∷ 0 ∷ 0 ∷ []) refl (omega arith) (omega arith)))
+
+pub wrapsTheRoomServes : Claims.RoomServes Wrong.wrapsTheRoom sendingOf → ⊥
+unfolding nextPartOf partLength
+wrapsTheRoomServes p = p .enough 0 0xfffffffffffffffe 0 0 [] [] refl (omega arith) (omega arith) (omega arith) 2 refl
+
 -- ---- all parts: two bytes, fetched one by one
 abbrev ask : (limit : ℕ) → Fetch
 ask limit = record { limit = limit; buffer = 0 ∷ 0 ∷ 0 ∷ 0 ∷ [] }
@@ -248,3 +282,6 @@ withoutStatusBytes p = omega (arith, gives-same _ _ (p .response (WroteResponse�
 
 pub lengthForLeft : Claims.PartSaidExactly Wrong.lengthForLeft → ⊥
 lengthForLeft p = omega (arith, ap (λ (s : Sent). s .remainder .count) (gives-same _ _ (p .part (NextPart′.Part 3 (rest 1 2)) 3 (rest 1 2) .1 refl)))
+
+pub refusalForRoom : Claims.RoomSaidExactly Wrong.refusalForRoom → ⊥
+refusalForRoom p = r-gives 2 _ (sym (p .refused (ResponseRoom′.Refused R2) R2 .1 refl))

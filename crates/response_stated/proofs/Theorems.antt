@@ -14,13 +14,13 @@ use Rattle.octets.proofs.Laws.{field-at}
 use Rattle.apdu_stated.specs.Terms.{InTable, OneByteLe, full, plain, row1, row2, row3, row4, row5, row7, row8}
 use Rattle.apdu_stated.specs.Reading.{readOf, readBy, sayOf, lengthsOf}
 use Rattle.apdu_stated.proofs.Laws.{read-exactly}
-use Rattle.response_stated.specs.Words.{Says, saysOf, Remainder, rest, Response, Sent, responseRead, responseWritten, partSent}
+use Rattle.response_stated.specs.Words.{Says, saysOf, Remainder, rest, Response, Sent, responseRead, responseWritten, partSent, roomSaid}
 use Rattle.response_stated.specs.Responses.{responseOf, writeResponseOf, responseLaid, readResponseOf, responseBodyOf}
-use Rattle.response_stated.specs.Parts.{limitOf, partLength, leftStatus, restAfter, nextPartOf, partBytes, partResponse, partLaid}
+use Rattle.response_stated.specs.Parts.{limitOf, partLength, leftStatus, restAfter, nextPartOf, partBytes, partResponse, partLaid, responseRoomOf}
 use Rattle.response_stated.specs.Terms.{writingOf, sendingOf, reading, sending, spelled, IsResponse, Goes, Tells, nothing-left, some-left, more-left, Sends}
 use Rattle.response_stated.specs.Claims
 use Rattle.response_stated.proofs.Cases
-use Rattle.response_stated.proofs.Numbers.{read-same, wrote-same, next-same}
+use Rattle.response_stated.proofs.Numbers.{read-same, wrote-same, next-same, room-same}
 use Rattle.response_stated.proofs.OnBytes.{pair-is, laid-spelled, split, long-two, cut-back, read-back, halves, front-of, sends-given, shown}
 use Rattle.response_stated.proofs.Ways
 use Rattle.response_stated.proofs.Walks
@@ -336,6 +336,26 @@ LongestIs258 = record { within = within; reached = reached }
         let x = given-is body r (limitOf says) old n left f in
         omega (arith, Ways.part-limit (limitOf says) (r .count) (range .0))
 
+-- ---- the room for a first part
+pub RoomExactly : Claims.RoomExactly responseRoomOf
+RoomExactly =
+    record {
+      said = λ limit longest n g h. sym (Cases.room-said limit longest n (goes-is g) (omega arith));
+      unsaid = λ limit longest n g h. sym (Cases.room-unsaid limit longest n (goes-is g) (omega arith));
+    }
+
+pub RoomServes : Claims.RoomServes responseRoomOf sendingOf
+RoomServes =
+    record {
+      enough = λ limit longest m n body old said less within room k e.
+          let most = Ways.part-monotone limit n longest less in
+          let holds = Ways.room-holds limit longest m said in
+          r-gives k _ (sym e ∙ sym (Cases.next-given (length body) (rest 0 n) limit (length old) (omega arith) (omega arith)));
+      needed = λ limit longest m body old said within short.
+          let holds = Ways.room-holds limit longest m said in
+          sym (Cases.next-no-room (length body) (rest 0 longest) limit (length old) (omega arith) (omega arith));
+    }
+
 -- ---- all parts
 pub PartsJoin : Claims.PartsJoin sendingOf
 PartsJoin =
@@ -355,7 +375,7 @@ NumberOfParts =
 
 -- ---- the contracts
 pub AnswersOneToOne : Claims.AnswersOneToOne
-AnswersOneToOne = record { read = read-same; wrote = wrote-same; next = next-same }
+AnswersOneToOne = record { read = read-same; wrote = wrote-same; next = next-same; room = room-same }
 
 pub ReadSaidExactly : Claims.ReadSaidExactly responseRead
 ReadSaidExactly = record { refused = λ a why. (read-same _ _, ap responseRead); response = λ a n status. (read-same _ _, ap responseRead) }
@@ -365,6 +385,9 @@ WrittenSaidExactly = record { refused = λ a why. (wrote-same _ _, ap responseWr
 
 pub PartSaidExactly : Claims.PartSaidExactly partSent
 PartSaidExactly = record { refused = λ a why. (next-same _ _, ap partSent); part = λ a n left. (next-same _ _, ap partSent) }
+
+pub RoomSaidExactly : Claims.RoomSaidExactly roomSaid
+RoomSaidExactly = record { refused = λ a why. (room-same _ _, ap roomSaid); bytes = λ a n. (room-same _ _, ap roomSaid) }
 
 -- a function that gives what a definition gives, input by input, is that definition
 pub ContractsAsClaimed : Claims.ContractsAsClaimed
@@ -376,6 +399,7 @@ ContractsAsClaimed =
       read-response = λ f is. subst Claims.ReadsExactly (λ d bytes. sym (is bytes) d) ReadsExactly;
       response-body = λ f is. subst Claims.BodyExactly (λ d bytes. sym (is bytes) d) BodyExactly;
       next-part = λ f is. subst Claims.NextExactly (λ d body r limit old. (sym (is body r limit old .0) d, sym (is body r limit old .1) d)) NextExactly;
+      room = λ f is. subst Claims.RoomExactly (λ d limit longest. sym (is limit longest) d) RoomExactly;
     }
   where
     limit-alike : (g : Says → ℕ) → Claims.LimitExactly g → (says : Says) → Dec (says .shape < 5) → Dec (says .le ≡ 0) → limitOf says ≡ g says
@@ -392,4 +416,5 @@ ResultsDetermined =
       read-response = λ bytes a b p q. read-same a b (both-are _ _ p q);
       response-body = λ bytes a b. both-are a b;
       next-part = λ body r limit old a b p q. pair-is _ _ _ _ (next-same (a .0) (b .0) (both-are _ _ (p .0) (q .0))) (both-are _ _ (p .1) (q .1));
+      room = λ limit longest a b p q. room-same a b (both-are _ _ p q);
     }

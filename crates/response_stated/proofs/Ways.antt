@@ -1,14 +1,15 @@
--- The ways through the next part, with the plain facts that each shows; how long a part is, what it leaves, and that the two join.
+-- The ways through the next part, with the plain facts that each shows; how long a part is, what it leaves, that the two join, and what room it takes.
 use Prim.Native.Nat.{ℕ, _+_, _<_, _≤_}
-use mathlib.Core.Path.{_≡_, ap, subst, _∙_}
+use mathlib.Core.Path.{_≡_, refl, ap, sym, subst, _∙_}
 use mathlib.Core.List.{List, _++_}
 use native.Mathlib.Omega.{arith}
 use native.Mathlib.Decide.{decLt, ℕ-discrete}
 use lib.ListN.{length, take, drop}
 use Rattle.outcome.specs.Outcome.{Outcome, R, Gives}
+use Rattle.outcome.proofs.Laws.{gives-same, r-gives}
 use Rattle.octets.proofs.Laws.{parts-join, length-part}
 use Rattle.response_stated.specs.Words.{Remainder, Sent}
-use Rattle.response_stated.specs.Parts.{partLength, restAfter, nextPartOf, partBytes}
+use Rattle.response_stated.specs.Parts.{partLength, restAfter, nextPartOf, partBytes, responseRoomOf}
 use Rattle.response_stated.specs.Fetching.{remaining}
 use Rattle.response_stated.proofs.Cases
 
@@ -51,6 +52,23 @@ module _ (limit count : ℕ) where
       go (whole z) = omega arith
       go (cut some h) = omega arith
       go (last some h) = omega arith
+
+-- of more at least as much goes out
+pub part-monotone : (limit n k : ℕ) → n ≤ k → partLength limit n ≤ partLength limit k
+part-monotone limit n k less = go (part-way limit k)
+  where
+    go : {m : ℕ} → PartWay limit k m → partLength limit n ≤ m
+    go (whole z) = omega (arith, part-most limit n)
+    go (cut some h) = part-limit limit n some
+    go (last some h) = omega (arith, part-most limit n)
+
+-- a room that is said is the part's and the status's
+pub room-holds : (limit longest m : ℕ) → responseRoomOf limit longest ≡ Gives m → m ≡ partLength limit longest + 2
+room-holds limit longest m e = go (decLt 0xfffffffffffffffd (partLength limit longest))
+  where
+    go : Dec (0xfffffffffffffffd < partLength limit longest) → m ≡ partLength limit longest + 2
+    go (yes h) = absurd (r-gives 2 m (Cases.room-unsaid limit longest _ refl h ∙ e))
+    go (no h) = sym (gives-same _ _ (Cases.room-said limit longest _ refl (omega arith) ∙ e))
 
 -- ---- a part and what it leaves
 module _ (r : Remainder) (limit : ℕ) where

@@ -1,14 +1,16 @@
 -- What is promised of responses and of a body in parts: open this file first. Each claim takes the program as its argument; the definitions
 -- of Responses.antt and Parts.antt meet it by proofs/Theorems.antt, and the programs of Wrong.antt do not by proofs/Refuted.antt. By
 -- proofs/Only.antt nothing else meets a claim named `..Exactly`, and by proofs/Follows.antt the truth, the joining and the number of parts follow
--- of whatever meets `NextExactly`. The words `Writer`, `Sender`, `IsResponse`, `Goes`, `Tells`, `Sends`: Terms.antt. Of a sequence of calls: Fetching.antt.
+-- of whatever meets `NextExactly`, and `RoomServes` where a room meets `RoomExactly` beside it. The words `Writer`, `Sender`, `IsResponse`, `Goes`, `Tells`,
+-- `Sends`: Terms.antt. Of a sequence of calls: Fetching.antt.
 use mathlib.Core.Logic.{_↔_, _⊎_}
 use lib.ListN.{replicate}
-use Rattle.response_stated.specs.Words.{ℕ, _+_, _<_, _≤_, _≡_, List, [], _∷_, _++_, length, take, drop, AtMostOne, Outcome, R, Gives, Refusal, refusalNo, AreBytes, Apdu, Says, saysOf, Remainder, rest, ReadResponse, WroteResponse, NextPart, Response, Sent, responseRead, responseWritten, partSent}
+use Rattle.response_stated.specs.Words.{ℕ, _+_, _<_, _≤_, _≡_, List, [], _∷_, _++_, length, take, drop, AtMostOne, Outcome, R, Gives, Refusal, refusalNo, AreBytes, Apdu, Says, saysOf, Remainder, rest, ReadResponse, WroteResponse, NextPart, ResponseRoom, Response, Sent, responseRead, responseWritten, partSent, roomSaid}
 use Rattle.response_stated.specs.declared.ReadResponse.the-variants as ReadResponse′
 use Rattle.response_stated.specs.declared.WroteResponse.the-variants as WroteResponse′
 use Rattle.response_stated.specs.declared.NextPart.the-variants as NextPart′
-use Rattle.response_stated.specs.Contracts.{Limit, Nothing, WriteResponse, ReadsResponse, ResponseBody, PartNext}
+use Rattle.response_stated.specs.declared.ResponseRoom.the-variants as ResponseRoom′
+use Rattle.response_stated.specs.Contracts.{Limit, Nothing, WriteResponse, ReadsResponse, ResponseBody, PartNext, RoomFor}
 use Rattle.response_stated.specs.Terms.{Writer, Sender, reading, sending, spelled, IsResponse, Goes, Tells, Sends}
 use Rattle.response_stated.specs.Fetching.{Fetch, called, remaining, joined, after, callsUntilDone, Each, HasRoom, Takes, RoundsUp}
 
@@ -121,6 +123,24 @@ pub record LongestIs258 (read : List ℕ → Outcome Says) (limit : Says → ℕ
       × (read (0x00 ∷ 0x03 ∷ 0x00 ∷ 0x00 ∷ []) ≡ Gives says)
       × (next (replicate 257 0) (rest 0 257) (limit says) (replicate 258 0) .0 ≡ Gives (sending 258 (rest 256 1)))
 
+-- ---- the room for a first part
+
+-- Ours: of `longest` bytes what goes out under the limit, and two for the status; R2 where that is 2^64 or more, which no length can say.
+-- Rejects room for the part alone (`roomForPartAlone`), for the body whatever the limit (`roomForBody`), for the limit whatever the body
+-- (`roomForLimit`), and a sum that wraps (`wrapsTheRoom`). Bites at a body of none, at limit 1 and 2 bytes, at limit 2 and one byte, and at 2^64 - 2 bytes.
+pub record RoomExactly (room : (limit longest : ℕ) → Outcome ℕ) : Type 0 where
+  pub said : (limit longest n : ℕ) → Goes limit longest n → n + 2 < 0x10000000000000000 → room limit longest ≡ Gives (n + 2)
+  pub unsaid : (limit longest n : ℕ) → Goes limit longest n → 0x10000000000000000 ≤ n + 2 → room limit longest ≡ R 2
+
+-- Ours: with a buffer of that length the first part of no body of at most `longest` bytes is refused, and with a shorter one that of a body of `longest`
+-- bytes is. Where there is R2 for a room it says nothing.
+-- Rejects `roomForPartAlone` and `wrapsTheRoom`, which are too little for a body of none, and `roomForBody` and `roomForLimit`, one byte more than is needed.
+pub record RoomServes (room : (limit longest : ℕ) → Outcome ℕ) (next : Sender) : Type 0 where
+  pub enough : (limit longest m n : ℕ) (body old : List ℕ) → room limit longest ≡ Gives m → n ≤ longest → n ≤ length body → m ≤ length old
+      → (k : ℕ) → next body (rest 0 n) limit old .0 ≡ R k → ⊥
+  pub needed : (limit longest m : ℕ) (body old : List ℕ) → room limit longest ≡ Gives m → longest ≤ length body → length old < m
+      → next body (rest 0 longest) limit old .0 ≡ R 2
+
 -- ---- all parts
 
 -- 02, E2: "Joining the parts, at any Le values, gives the uncut body". Of every body, every n bytes at its front, and every sequence of calls with any
@@ -147,7 +167,8 @@ pub record NumberOfParts (next : Sender) : Type 0 where
 -- ---- the contracts
 
 -- What each answer says, in the documents' numbers: each case has its values, and no other has them. Rejects a view that gives the length of the body for the
--- status (`lengthForStatus`), one that counts no status bytes (`withoutStatusBytes`), and one that says the part's length for what is left (`lengthForLeft`).
+-- status (`lengthForStatus`), one that counts no status bytes (`withoutStatusBytes`), one that says the part's length for what is left (`lengthForLeft`),
+-- and one that gives a refusal's number for a room (`refusalForRoom`).
 pub record ReadSaidExactly (said : ReadResponse → Outcome Response) : Type 0 where
   pub refused : (a : ReadResponse) (why : Refusal) → (said a ≡ R (refusalNo why)) ↔ (a ≡ ReadResponse′.Refused why)
   pub response : (a : ReadResponse) (n status : ℕ) → (said a ≡ Gives (reading n status)) ↔ (a ≡ ReadResponse′.Response n status)
@@ -159,6 +180,10 @@ pub record WrittenSaidExactly (said : WroteResponse → Outcome ℕ) : Type 0 wh
 pub record PartSaidExactly (said : NextPart → Outcome Sent) : Type 0 where
   pub refused : (a : NextPart) (why : Refusal) → (said a ≡ R (refusalNo why)) ↔ (a ≡ NextPart′.Refused why)
   pub part : (a : NextPart) (n : ℕ) (left : Remainder) → (said a ≡ Gives (sending n left)) ↔ (a ≡ NextPart′.Part n left)
+
+pub record RoomSaidExactly (said : ResponseRoom → Outcome ℕ) : Type 0 where
+  pub refused : (a : ResponseRoom) (why : Refusal) → (said a ≡ R (refusalNo why)) ↔ (a ≡ ResponseRoom′.Refused why)
+  pub bytes : (a : ResponseRoom) (n : ℕ) → (said a ≡ Gives n) ↔ (a ≡ ResponseRoom′.Bytes n)
 
 -- Whatever meets a function's contract meets the claim on it, the functions that no call from C comes to as well; `limit` takes a frame's answer and no
 -- numbers, and gives what whatever meets the claim gives of the numbers. A contract of `response_body` that keeps SW1 fails it, with code to match.
@@ -173,12 +198,15 @@ pub record ContractsAsClaimed : Type 0 where
   pub next-part : (f : (body : List ℕ) → Remainder → (limit : ℕ) (old : List ℕ) → NextPart × List ℕ)
       → ((body : List ℕ) (r : Remainder) (limit : ℕ) (old : List ℕ) → PartNext body r limit old (f body r limit old .0) (f body r limit old .1))
       → NextExactly (λ body r limit old. (partSent (f body r limit old .0), f body r limit old .1))
+  pub room : (f : (limit longest : ℕ) → ResponseRoom) → ((limit longest : ℕ) → RoomFor limit longest (f limit longest))
+      → RoomExactly (λ limit longest. roomSaid (f limit longest))
 
 -- the answers' words tell the cases apart
 pub record AnswersOneToOne : Type 0 where
   pub read : (a b : ReadResponse) → responseRead a ≡ responseRead b → a ≡ b
   pub wrote : (a b : WroteResponse) → responseWritten a ≡ responseWritten b → a ≡ b
   pub next : (a b : NextPart) → partSent a ≡ partSent b → a ≡ b
+  pub room : (a b : ResponseRoom) → roomSaid a ≡ roomSaid b → a ≡ b
 
 -- 01: "Show that two results satisfying it are equal". Of a writer and a sender, the answer and the buffer.
 pub record ResultsDetermined : Type 0 where
@@ -190,3 +218,4 @@ pub record ResultsDetermined : Type 0 where
   pub response-body : (bytes : List ℕ) → AtMostOne (ResponseBody bytes)
   pub next-part : (body : List ℕ) (r : Remainder) (limit : ℕ) (old : List ℕ)
       → AtMostOne (λ (o : NextPart × List ℕ). PartNext body r limit old (o .0) (o .1))
+  pub room : (limit longest : ℕ) → AtMostOne (RoomFor limit longest)

@@ -48,3 +48,10 @@ abbrev pub partLaid : Outcome Sent → (response old : List ℕ) → List ℕ
 partLaid (R n) response old = old
 partLaid (Word s) response old = old
 partLaid (Gives sent) response old = laid response old
+
+-- ours: how many bytes the first part of a body takes with its status, where no body is longer than `longest`; R2 where that is 2^64 or more, which no length
+-- can say
+unfoldable pub responseRoomOf : (limit longest : ℕ) → Outcome ℕ
+responseRoomOf limit longest =
+    if ltb (partLength limit longest) 0xfffffffffffffffe then Gives (partLength limit longest + 2)
+    else R 2

@@ -17,6 +17,8 @@ pub use Rattle.response_stated.specs.declared.WroteResponse.{WroteRespon
 use Rattle.response_stated.specs.declared.WroteResponse.the-variants as WroteResponse′
 pub use Rattle.response_stated.specs.declared.NextPart.{NextPart}
 use Rattle.response_stated.specs.declared.NextPart.the-variants as NextPart′
+pub use Rattle.response_stated.specs.declared.ResponseRoom.{ResponseRoom}
+use Rattle.response_stated.specs.declared.ResponseRoom.the-variants as ResponseRoom′
 
 -- a response that was read: how many bytes of body stand at its front, and the status after them
 pub record Response : Type 0 where
@@ -44,3 +46,7 @@ responseWritten (WroteResponse′.Response n) = Gives n
 abbrev pub partSent : NextPart → Outcome Sent
 partSent (NextPart′.Refused why) = R (refusalNo why)
 partSent (NextPart′.Part n after) = Gives (record { length = n; remainder = after })
+
+abbrev pub roomSaid : ResponseRoom → Outcome ℕ
+roomSaid (ResponseRoom′.Refused why) = R (refusalNo why)
+roomSaid (ResponseRoom′.Bytes n) = Gives n

@@ -1,10 +1,11 @@
 -- Wrong programs, one fault each. proofs/Refuted.antt shows the claim that is false of each.
 use mathlib.Core.Bool.{_&&_}
 use lib.ListN.{replicate}
-use Rattle.response_stated.specs.Words.{ℕ, _+_, _-_, _*_, _/_, _%_, List, [], _∷_, _++_, ltb, leb, eqb, if_then_else_, length, take, drop, Outcome, R, Gives, byte, bytes2, pairAt, laid, refusalNo, Says, Remainder, rest, ReadResponse, WroteResponse, NextPart, Response, Sent}
+use Rattle.response_stated.specs.Words.{ℕ, _+_, _-_, _*_, _/_, _%_, List, [], _∷_, _++_, ltb, leb, eqb, if_then_else_, length, take, drop, Outcome, R, Gives, byte, bytes2, pairAt, laid, refusalNo, Says, Remainder, rest, ReadResponse, WroteResponse, NextPart, ResponseRoom, Response, Sent}
 use Rattle.response_stated.specs.declared.ReadResponse.the-variants as ReadResponse′
 use Rattle.response_stated.specs.declared.WroteResponse.the-variants as WroteResponse′
 use Rattle.response_stated.specs.declared.NextPart.the-variants as NextPart′
+use Rattle.response_stated.specs.declared.ResponseRoom.the-variants as ResponseRoom′
 use Rattle.response_stated.specs.Responses.{responseOf}
 use Rattle.response_stated.specs.Parts.{limitOf, partLength, leftStatus, restAfter, partBytes, partResponse}
 use Rattle.response_stated.specs.Terms.{Writer, Sender, reading, sending, sendingOf}
@@ -160,7 +161,29 @@ sendsStatusFirst body r limit old =
     (if ltb (length old) (partLength limit (r .count) + 2) then (R 2, old)
     else (Gives (sending (partLength limit (r .count) + 2) (restAfter r limit)), laid (bytes2 (leftStatus (restAfter r limit .count)) ++ partBytes body r limit) old))
 
--- ---- views: the length of the body for the status; a response counted without its status; the part's length for what is left
+-- ---- rooms
+
+-- so many bytes, or R2 where no length can say them, as it should be
+abbrev pub asLong : (n : ℕ) → Outcome ℕ
+asLong n = if ltb n 0x10000000000000000 then Gives n else R 2
+
+-- no room for the status
+abbrev pub roomForPartAlone : (limit longest : ℕ) → Outcome ℕ
+roomForPartAlone limit longest = asLong (partLength limit longest)
+
+-- all of the body goes out, whatever the limit
+abbrev pub roomForBody : (limit longest : ℕ) → Outcome ℕ
+roomForBody limit longest = asLong (longest + 2)
+
+-- as much goes out as the limit allows, whatever the body
+abbrev pub roomForLimit : (limit longest : ℕ) → Outcome ℕ
+roomForLimit limit longest = asLong ((if eqb limit 0 then longest else limit) + 2)
+
+-- the sum wraps at 2^64
+abbrev pub wrapsTheRoom : (limit longest : ℕ) → Outcome ℕ
+wrapsTheRoom limit longest = Gives ((partLength limit longest + 2) % 0x10000000000000000)
+
+-- ---- views: the length of the body for the status; a response counted without its status; the part's length for what is left; a refusal's number for a room
 abbrev pub lengthForStatus : ReadResponse → Outcome Response
 lengthForStatus (ReadResponse′.Refused why) = R (refusalNo why)
 lengthForStatus (ReadResponse′.Response n status) = Gives (reading status n)
@@ -172,3 +195,7 @@ withoutStatusBytes (WroteResponse′.Response n) = Gives (n - 2)
 abbrev pub lengthForLeft : NextPart → Outcome Sent
 lengthForLeft (NextPart′.Refused why) = R (refusalNo why)
 lengthForLeft (NextPart′.Part n left) = Gives (sending n (rest (left .place) n))
+
+abbrev pub refusalForRoom : ResponseRoom → Outcome ℕ
+refusalForRoom (ResponseRoom′.Refused why) = Gives (refusalNo why)
+refusalForRoom (ResponseRoom′.Bytes n) = Gives n

@@ -25,3 +25,9 @@ pub enum NextPart {
     Refused(Refusal),
     Part(usize, Remainder),
 }
+
+// How many bytes a response can take; or R2.
+pub enum ResponseRoom {
+    Refused(Refusal),
+    Bytes(usize),
+}

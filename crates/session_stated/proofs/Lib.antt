@@ -1,3 +1,5 @@
+pub mod OuterChecks
+pub mod Cases
 pub mod Steps
 pub mod Laws
 pub mod Counts

@@ -1,3 +1,5 @@
+pub mod Held
 pub mod Sessions
+pub mod Contracts
 pub mod Claims
 pub mod Wrong

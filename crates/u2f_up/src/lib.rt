@@ -13,15 +13,21 @@ ghost use mathlib.Core.Path.{_≡_};
 ghost use Rattle.outcome.specs.Outcome.{Gives, refusalNo};
 ghost use Rattle.u2f_up_stated.specs.Moments.{isLive, isR6, isR8, isR1, grantedOf, gave, refused};
 ghost use Rattle.u2f_up_stated.specs.Answers.{outcomeOf, toldOf};
-ghost use Rattle.u2f_up_stated.specs.Contracts.{New, Settle, TouchCheck, GrantUp, ConsumeUp, IsUpNeeded, GrantUpLent, ConsumeUpLent, IsUpNeededLent};
+ghost use Rattle.u2f_up_stated.specs.Numbers.{windowOf, numberOf};
+ghost use Rattle.u2f_up_stated.specs.Contracts.{New, Settle, TouchCheck, RecordLent, Moved, TouchChecked, TouchGranted, GrantUp, ConsumeUp, IsUpNeeded, GrantUpLent, ConsumeUpLent, IsUpNeededLent};
 
 const U2F_UP_PROMPT_TIMEOUT_MS: u64 = 10000;
 
 const W_MOST: u64 = 60000;
 
-const SIDE_MOST: u32 = 1;
+const SIDE_MOST: u64 = 1;
 
 const MOMENTS: u64 = 1 << 48;
+
+// A window's number where it is closed.
+const CLOSED: u64 = 0;
+
+const GREATEST: u64 = 0xffffffffffffffff;
 
 // R6: W is 0 or above 60,000.
 fn is_r6(w: u64) -> bool
@@ -34,7 +40,7 @@ fn is_r6(w: u64) -> bool
 }
 
 // R8: the side that is named, or the record's, is neither 0 nor 1.
-fn is_r8(named: u32, asker: u32) -> bool
+fn is_r8(named: u64, asker: u64) -> bool
     ensures { λ r. ⌜ r ≡ isR8 named asker ⌝ }
 {
     if SIDE_MOST < named {
@@ -71,7 +77,7 @@ pub fn new(w: u64) -> Ready
 
 // The moment settled, before all else: R6, R8, R1, or the record with its last moment at `t`. A call that names no side names the
 // record's own.
-pub fn settle(presence: Presence, side: u32, t: u64) -> Ready
+pub fn settle(presence: Presence, side: u64, t: u64) -> Ready
     ensures { λ r. ⌜ Settle presence side t r ⌝ }
 {
     if is_r6(presence.w) {
@@ -135,7 +141,7 @@ fn granted(settled: Presence, t: u64) -> Finding
 // The touch check on a settled record: without a live touch a prompt opens for the side that checks; a live touch is spent if it is
 // that side's, and left where it is if not: field by field, which takes a decision that comes here up to 28 instructions less than the
 // record as a whole. For callers that settled the moment themselves and had more to look at before they came here.
-pub fn touch_check(presence: Presence, side: u32, t: u64) -> Finding
+pub fn touch_check(presence: Presence, side: u64, t: u64) -> Finding
     ensures { λ r. ⌜ TouchCheck presence side t r ⌝ }
 {
     let prompt = presence.prompt;
@@ -176,6 +182,91 @@ pub fn touch_check(presence: Presence, side: u32, t: u64) -> Finding
     }
 }
 
+// ---- the record lent as five numbers: W, prompt, touch, last moment, asker. A window is 0 where it is closed, and otherwise its moment and one more. Only the
+// numbers that change are written.
+
+fn window_of(number: u64) -> Window
+    ensures { λ r. ⌜ r ≡ windowOf number ⌝ }
+{
+    if number == CLOSED {
+        return Window::Closed;
+    }
+    Window::Opened(number - 1)
+}
+
+// A moment's number in a window. No moment that settles comes near the greatest number, which has none after it.
+fn number_of(t: u64) -> u64
+    ensures { λ r. ⌜ r ≡ numberOf t ⌝ }
+{
+    if t == GREATEST {
+        return GREATEST;
+    }
+    t + 1
+}
+
+// The record that the numbers stand for.
+pub fn record_lent(numbers: &[u64; 5]) -> Presence
+    ensures { λ r. ⌜ RecordLent (now (numbers .entry)) r ⌝ }
+{
+    Presence {
+        w: numbers[0],
+        prompt: window_of(numbers[1]),
+        touch: window_of(numbers[2]),
+        last: numbers[3],
+        asker: numbers[4],
+    }
+}
+
+// The last moment moves, and nothing else.
+pub fn moved(numbers: &mut [u64; 5], t: u64)
+    ensures { λ _. ⌜ Moved (now (numbers .entry)) t (now (numbers .exit)) ⌝ }
+{
+    let whole: &mut [u64] = numbers;
+    whole[3] = t;
+}
+
+// Whether the window of this number is live.
+fn is_number_live(number: u64, d: u64, t: u64) -> bool
+    ensures { λ r. ⌜ r ≡ isLive (windowOf number) d t ⌝ }
+{
+    is_live(window_of(number), d, t)
+}
+
+// The touch check of a side at a moment that settled, and the last moment moved.
+pub fn touch_checked(numbers: &mut [u64; 5], side: u64, t: u64) -> bool
+    ensures { λ r. ⌜ TouchChecked (now (numbers .entry)) side t r (now (numbers .exit)) ⌝ }
+{
+    let whole: &mut [u64] = numbers;
+    let live = is_number_live(whole[2], whole[0], t);
+    let asker = whole[4];
+    whole[3] = t;
+    if !live {
+        whole[1] = number_of(t);
+        whole[4] = side;
+        return false;
+    }
+    if asker != side {
+        return false;
+    }
+    whole[2] = CLOSED;
+    true
+}
+
+// A touch at a moment that settled, and the last moment moved.
+pub fn touch_granted(numbers: &mut [u64; 5], t: u64) -> bool
+    ensures { λ r. ⌜ TouchGranted (now (numbers .entry)) t r (now (numbers .exit)) ⌝ }
+{
+    let whole: &mut [u64] = numbers;
+    let live = is_number_live(whole[1], U2F_UP_PROMPT_TIMEOUT_MS, t);
+    whole[3] = t;
+    if !live {
+        return false;
+    }
+    whole[1] = CLOSED;
+    whole[2] = number_of(t);
+    true
+}
+
 fn answer_of(yes: bool) -> Answer
     ensures { λ r. ⌜ outcomeOf r ≡ Gives yes ⌝ }
 {
@@ -212,7 +303,7 @@ pub fn grant_up(presence: Presence, t: u64) -> Step
 }
 
 // The touch check at `t`: whether a touch was granted to this side, not yet spent and younger than W; it is spent now.
-pub fn consume_up(presence: Presence, side: u32, t: u64) -> Step
+pub fn consume_up(presence: Presence, side: u64, t: u64) -> Step
     ensures { λ r. ⌜ ConsumeUp presence side t r ⌝ }
 {
     match settle(presence, side, t) {
@@ -241,7 +332,7 @@ pub fn grant_up_lent(presence: &mut Presence, t: u64) -> Answer
     step.answer
 }
 
-pub fn consume_up_lent(presence: &mut Presence, side: u32, t: u64) -> Answer
+pub fn consume_up_lent(presence: &mut Presence, side: u64, t: u64) -> Answer
     ensures { λ r. ⌜ ConsumeUpLent (now (presence .entry)) side t r (now (presence .exit)) ⌝ }
 {
     let step = consume_up(*presence, side, t);

@@ -16,3 +16,4 @@ pub mod Laws
 pub mod Numbers
 pub mod Only
 pub mod Theorems
+pub mod OnNumbers

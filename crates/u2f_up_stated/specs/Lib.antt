@@ -1,5 +1,6 @@
 pub mod Words
 pub mod Moments
+pub mod Numbers
 pub mod Answers
 pub mod Contracts
 pub mod Conditions

@@ -1,5 +1,5 @@
 -- The names that the definitions here are written with, brought together from the shared words and from the source's types.
-pub use Prim.Native.Nat.{ℕ, _+_, _^_, _<_, _≤_}
+pub use Prim.Native.Nat.{ℕ, zero, suc, _+_, _^_, _<_, _≤_}
 pub use mathlib.Core.Path.{_≡_}
 pub use mathlib.Core.Bool.{Bool, true, false, not, _&&_, _||_}
 pub use lib.Dec.{ltb, leb, eqb}

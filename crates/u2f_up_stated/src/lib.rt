@@ -15,7 +15,7 @@ pub struct Presence {
     pub prompt: Window,
     pub touch: Window,
     pub last: u64,
-    pub asker: u32,
+    pub asker: u64,
 }
 
 // A record to go on with, or why there is none.

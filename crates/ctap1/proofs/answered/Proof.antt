@@ -4,11 +4,14 @@ use Rattle.ctap1_stated.proofs.Cases as Cases
 use Rattle.ctap1.proofs.answered.Statement.{statement}
 use Rattle.ctap1.proofs.answered.Tie as tie
 
-blank-requires : tie.Need-blank-requires
-blank-requires c κs = search needs
-
 returns : tie.Need-returns
-returns c = Cases.with-head _ _ _ _ _ (c .blank .ensures)
+returns c = search (needs, Cases.with-word)
 
 pub answered-spec : {M : Type 1} → statement M
-answered-spec = tie.close (tie.spec blank-requires returns)
+answered-spec =
+    tie.close
+    (tie.spec
+    (λ c κs. search needs)
+    (λ c κs. search needs)
+    (λ c κs. search needs)
+    returns)

@@ -4,21 +4,18 @@ use Rattle.ctap1_stated.proofs.Cases as Cases
 use Rattle.ctap1.proofs.enforce.Statement.{statement}
 use Rattle.ctap1.proofs.enforce.Tie as tie
 
-touch-check-requires : tie.Need-touch-check-requires
-touch-check-requires c κs = search needs
-
-answered-requires : tie.Need-answered-requires
-answered-requires c κs = search needs
-
 returns : tie.Need-returns
 returns c = search (needs, Cases.enforced-no-touch)
-
-counted-requires : tie.Need-counted-requires
-counted-requires c κs = search needs
 
 returns-2 : tie.Need-returns-2
 returns-2 c = search (needs, Cases.enforced-touch)
 
 pub enforce-spec : {M : Type 1} → statement M
 enforce-spec =
-    tie.close (tie.spec touch-check-requires answered-requires returns counted-requires returns-2)
+    tie.close
+    (tie.spec
+    (λ c κs. search needs)
+    (λ c κs. search needs)
+    returns
+    (λ c κs. search needs)
+    returns-2)

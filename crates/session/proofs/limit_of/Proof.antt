@@ -1,8 +1,8 @@
 -- `limit_of` meets its contract.
 use borrow.Author.Needs.{needs}
-use Rattle.ctap1.proofs.limit_of.Statement.{statement}
-use Rattle.ctap1.proofs.limit_of.Tie as tie
-use Rattle.ctap1_stated.proofs.OuterChecks
+use Rattle.session.proofs.limit_of.Statement.{statement}
+use Rattle.session.proofs.limit_of.Tie as tie
+use Rattle.session_stated.proofs.OuterChecks
 
 returns : tie.Need-returns
 returns c = search (needs, OuterChecks.limit-of-frame)

@@ -1,8 +1,8 @@
 -- `is_get_response` meets its contract.
 use borrow.Author.Needs.{needs}
-use Rattle.ctap1.proofs.is_get_response.Statement.{statement}
-use Rattle.ctap1.proofs.is_get_response.Tie as tie
-use Rattle.ctap1_stated.proofs.OuterChecks
+use Rattle.session.proofs.is_get_response.Statement.{statement}
+use Rattle.session.proofs.is_get_response.Tie as tie
+use Rattle.session_stated.proofs.OuterChecks
 
 returns : tie.Need-returns
 returns c = search (needs, OuterChecks.asks-of-frame)
