@@ -1,11 +1,11 @@
 -- A law for each `return`, in the form of its need, with the facts as the code has them. It mentions no function.
-use Prim.Native.Nat.{ℕ, zero, suc, _+_, _-_}
-use mathlib.Core.Path.{_≡_, refl, ap, sym, _∙_}
+use Prim.Native.Nat.{ℕ, _+_, _<_, _^_}
+use mathlib.Core.Path.{_≡_, refl, ap, ap₂, sym, _∙_}
 use mathlib.Core.List.{List}
 use native.Mathlib.Omega.{arith}
 use borrow.Author.Tests.{eq-eqb, ne-eqb, not-true, not-false}
-use lib.Dec.{ltb, eqb}
-use lib.ListN.{length}
+use lib.Dec.{eqb}
+use lib.ListN.{length, getD, set}
 use Rattle.outcome.specs.Notation.{if_then_else_}
 use Rattle.outcome.proofs.Laws.{r-gives}
 use Rattle.outcome.specs.Outcome.{Outcome, R, Word, SW, Gives, statusNo, faultOf, wordOf, refusalNo, noFault, plainWord}
@@ -32,21 +32,20 @@ use Rattle.command_stated.specs.Command.{Register, Authenticate, flagsNo, comma
 use Rattle.command_stated.specs.declared.Ctap1Flags.{Ctap1Flags}
 use Rattle.command_stated.specs.declared.U2fCommand.{U2fCommand}
 use Rattle.command_stated.specs.declared.U2fCommand.the-variants as U2fCommand′
-use Rattle.panel_stated.specs.Words.{FrameSaid, CommandSaid, Wrote, Shaped, PresenceRecord, Made, Stepped, Asked, OrderNumbers, DecisionSaid, ResponseSaid, PartSaid, Kinded}
-use Rattle.panel_stated.specs.Numbers.{shapeOf, greatestNo, windowOf, windowNo, presenceOf, presenceNumbers, isYes, kindOf, noOrder}
-use Rattle.panel_stated.specs.Exports.{frameNumbers, lengthNumbers, ToWrite, strictAs, writeAs, writeNumbered, bufferAs, bareCommand, commandNumbers, noRecord, madeNumbers, askedNumbers, stepNumbers, headAfter, decidedNumbers, handedNumbers, decisionNumbers, responseNumbers, partNumbers, statedOf, ToFinish, orderFrom, finishNumbered}
+use Rattle.panel_stated.specs.Words.{FrameSaid, CommandSaid, Wrote, Shaped, Asked, OrderNumbers, DecisionSaid, ResponseSaid, RoomSaid, Kinded, Session, presenceIn, remainderIn, sessionIn, sessionAfter}
+use Rattle.panel_stated.specs.Numbers.{answerNo, shapeOf, isYes, kindOf, noOrder}
+use Rattle.panel_stated.specs.Exports.{frameNumbers, lengthNumbers, ToWrite, strictAs, writeAs, writeNumbered, bufferAs, bareCommand, commandNumbers, madeOver, askedNumbers, headAfter, decidedNumbers, responseNumbers, sentNumbers, sentOver, roomNumbers, ToFinish, orderFrom, finishNumbered}
 use Rattle.panel_stated.specs.declared.Shaped.the-variants as Shaped′
 use mathlib.Core.Bool.{true, false, not, Bool}
-use Rattle.u2f_up_stated.specs.Moments.{touchOf, checkOf, askOf}
-use Rattle.u2f_up_stated.specs.Answers.{readyOf, outcomeOf, toldOf}
+use Rattle.u2f_up_stated.specs.Moments.{Told, isR6, fresh, movedTo, newOf, settleOf, checkedOf, grantedOf, onSettled, gave, touchOf, checkOf, askOf}
+use Rattle.u2f_up_stated.specs.Numbers.{checkedIn, grantedIn}
+use Rattle.u2f_up_stated.specs.Answers.{readyOf, outcomeOf}
 use Rattle.u2f_up_stated.specs.declared.Answer.{Answer}
 use Rattle.u2f_up_stated.specs.declared.Answer.the-variants as Answer′
 use Rattle.u2f_up_stated.specs.declared.Ready.{Ready}
 use Rattle.u2f_up_stated.specs.declared.Ready.the-variants as Ready′
-use Rattle.u2f_up_stated.specs.declared.Step.{Step}
-use Rattle.u2f_up_stated.specs.declared.Window.{Window}
-use Rattle.u2f_up_stated.specs.declared.Window.the-variants.{Closed, Opened}
 use Rattle.u2f_up_stated.specs.declared.Presence.{Presence}
+use Rattle.u2f_up_stated.proofs.OnNumbers.{settles-moved, checked-below, granted-below, five-set}
 use Rattle.signing_stated.specs.Orders.{kindNo}
 use Rattle.signing_stated.specs.Finishing.{Finishing, finishedOf, lengthOf, replyOf}
 use Rattle.signing_stated.specs.declared.Finished.{Finished}
@@ -54,15 +53,17 @@ use Rattle.signing_stated.specs.declared.Finished.the-variants as Finished′
 use Rattle.signing_stated.specs.declared.Kind.{Kind}
 use Rattle.signing_stated.specs.declared.Kind.the-variants as Kind′
 use Rattle.signing_stated.specs.declared.Head.{Head}
-use Rattle.ctap1_stated.specs.Words.{Body, Ordered, Part, DecisionResult, DecisionLeft, decisionAnswerOf, handedFrom, leftFrom}
-use Rattle.ctap1_stated.specs.Path.{Status, frameLimit, sentPath, fetchPath}
-use Rattle.ctap1_stated.specs.Decision.{refusalResult, statusResult, partResult, along, decisionOf, replyLeft, blockLeft, leftOf}
-use Rattle.ctap1_stated.specs.Session.{isGetResponse, remainderAfter, remainderLeft, partAfter, partLeft}
-use Rattle.ctap1_stated.proofs.Laws.{same-refused, same-given, same-word, same-unasked, fetched-decision}
+use Rattle.signing_stated.specs.Contracts.{Finishes}
+use Rattle.ctap1_stated.specs.Words.{DecisionGives, Body, Ordered, Part, DecisionLeft, decisionAnswerOf}
+use Rattle.ctap1_stated.specs.Path.{limitOn, frameLimit}
+use Rattle.ctap1_stated.specs.Session.{isGetResponse}
+use Rattle.ctap1_stated.specs.declared.DecisionAnswer.{DecisionAnswer}
+use Rattle.ctap1_stated.specs.declared.DecisionAnswer.the-variants as DecisionAnswer′
+use Rattle.ctap1_stated.proofs.Cases.{leaves}
 use Rattle.apdu_stated.specs.Reading.{readOf}
 use Rattle.apdu_stated.proofs.Laws.{strict-out, strict-out-kept, strict-same, strict-same-buffer}
-use Rattle.response_stated.specs.Words.{Sent, rest, responseRead, responseWritten, partSent}
-use Rattle.response_stated.specs.Parts.{partLength, restAfter, nextPartOf, partResponse, partLaid}
+use Rattle.response_stated.specs.Words.{Sent, rest, responseRead, responseWritten, partSent, roomSaid}
+use Rattle.response_stated.specs.Terms.{sendingOf}
 use Rattle.response_stated.specs.declared.Remainder.{Remainder}
 use Rattle.response_stated.specs.declared.ReadResponse.{ReadResponse}
 use Rattle.response_stated.specs.declared.ReadResponse.the-variants as ReadResponse′
@@ -70,22 +71,13 @@ use Rattle.response_stated.specs.declared.WroteResponse.{WroteResponse}
 use Rattle.response_stated.specs.declared.WroteResponse.the-variants as WroteResponse′
 use Rattle.response_stated.specs.declared.NextPart.{NextPart}
 use Rattle.response_stated.specs.declared.NextPart.the-variants as NextPart′
-use Rattle.ctap1_stated.specs.declared.DecisionAnswer.{DecisionAnswer}
-use Rattle.ctap1_stated.specs.declared.DecisionAnswer.the-variants as DecisionAnswer′
-use Rattle.ctap1_stated.specs.declared.Decision.{Decision}
-use Rattle.ctap1_stated.specs.declared.Hardware.{Hardware}
+use Rattle.response_stated.specs.declared.ResponseRoom.{ResponseRoom}
+use Rattle.response_stated.specs.declared.ResponseRoom.the-variants as ResponseRoom′
 use Rattle.panel_stated.specs.declared.Kinded.the-variants as Kinded′
-use Rattle.ctap1_stated.specs.Words.{Inputs}
-use Rattle.signing_stated.specs.Contracts.{Finishes}
-use Rattle.panel_stated.specs.Contracts.{StatedPlain}
-use native.Mathlib.Decide.{ℕ-discrete}
 
 -- ---- a definition over an outcome, at the outcome that the call's contract names
 pub through : {A B : Type 0} (f : A → B) (x y : A) (r : B) → x ≡ y → r ≡ f x → r ≡ f y
 through f x y r e is = is ∙ ap f e
-
-pub through-part : (next : NextPart) (o : Outcome Sent) (kept : Remainder) (r : PartSaid) → partSent next ≡ o → r ≡ partNumbers (partSent next) kept → r ≡ partNumbers o kept
-through-part next o kept r e is = is ∙ ap (λ (x : Outcome Sent). partNumbers x kept) e
 
 pub through-written : (written : WroteResponse) (o : Outcome ℕ) (r : Wrote) → responseWritten written ≡ o → r ≡ lengthNumbers (responseWritten written) → r ≡ lengthNumbers o
 through-written written o r e is = is ∙ ap lengthNumbers e
@@ -210,64 +202,111 @@ module _ (header : ApduHeader) (shape : ℕ) (content : List ℕ) (le : ℕ) (ol
     strict-laid new e = e ∙ strict-alike (toWrite header shape content le old) (shapeOf shape) (sym is-b ∙ not-false b z) .1
 
 -- ---- presence
-pub window-closed : (number : ℕ) → number ≡ 0 → Closed ≡ windowOf number
-window-closed number e = rw e refl
+pub refused-asked : (why : Refusal) (n : ℕ) → n ≡ refusalNo why → _≡_ {A = Asked} (record { answer = n; yes = false }) (askedNumbers (R (refusalNo why)))
+refused-asked why n is = rw is
 
-pub window-opened : (number : ℕ) → (number ≡ 0 → ⊥) → Opened (number - 1) ≡ windowOf number
-window-opened zero not = absurd (not refl)
-window-opened (suc m) not = let before : suc m - 1 ≡ m = omega arith in ap Opened before
+module _ (answer : Answer) (r : Asked) where
+  pub asked-refused : (why : Refusal) → answer ≡ Answer′.Refused why → r ≡ askedNumbers (R (refusalNo why)) → r ≡ askedNumbers (outcomeOf answer)
+  asked-refused why z is = is ∙ rw z
 
-module _ (window : Window) where
-  pub closed-numbered : window ≡ Closed → 0 ≡ windowNo window
-  closed-numbered z = rw z
+  pub asked-yes : answer ≡ Answer′.Yes → r ≡ askedNumbers (Gives true) → r ≡ askedNumbers (outcomeOf answer)
+  asked-yes z is = is ∙ rw z
 
-  module _ (m : ℕ) (z : window ≡ Opened m) where
-    pub opened-numbered : (m ≡ greatestNo → ⊥) → m + 1 ≡ windowNo window
-    opened-numbered not = rw (z, ne-eqb m greatestNo not)
+  pub asked-no : answer ≡ Answer′.No → r ≡ askedNumbers (Gives false) → r ≡ askedNumbers (outcomeOf answer)
+  asked-no z is = is ∙ rw z
 
-    pub greatest-numbered : m ≡ greatestNo → greatestNo ≡ windowNo window
-    greatest-numbered e = rw (z, e)
+-- a record that is made
+pub fresh-is : (s : List ℕ) (w : ℕ) → 4 < length s → presenceIn (set (set (set (set (set s 0 w) 1 0) 2 0) 3 0) 4 0) ≡ fresh w
+fresh-is s w long = five-set s w 0 0 0 0 long
 
-pub record-lent : (n : PresenceRecord) (prompt touch : Window) → prompt ≡ windowOf (n .prompt) → touch ≡ windowOf (n .touch)
-    → _≡_ {A = Presence} (record { w = n .w; prompt = prompt; touch = touch; last = n .last; asker = n .asker }) (presenceOf n)
-record-lent n prompt touch p t = rw (p, t)
+module _ (w : ℕ) (made : Ready) (is-made : readyOf made ≡ newOf w) (kept : Presence) where
+  made-at : (d : Ready) → made ≡ d → readyOf d ≡ newOf w
+  made-at d z = ap readyOf (sym z) ∙ is-made
 
-pub record-numbered : (p : Presence) (prompt touch : ℕ) → prompt ≡ windowNo (p .prompt) → touch ≡ windowNo (p .touch)
-    → _≡_ {A = PresenceRecord} (record { w = p .w; prompt = prompt; touch = touch; last = p .last; asker = p .asker }) (presenceNumbers p)
-record-numbered p prompt touch is-prompt is-touch = rw (is-prompt, is-touch)
+  pub new-refused : (why : Refusal) (n : ℕ) → made ≡ Ready′.Refused why → n ≡ refusalNo why → n ≡ answerNo (newOf w)
+  new-refused why n z is = is ∙ ap answerNo (made-at (Ready′.Refused why) z)
 
-module _ (ready : Ready) where
-  pub made-refused : (why : Refusal) (n : ℕ) → ready ≡ Ready′.Refused why → n ≡ refusalNo why → _≡_ {A = Made} (record { answer = n; presence = noRecord }) (madeNumbers (readyOf ready))
-  made-refused why n z is = rw (is, z)
+  pub new-kept : (why : Refusal) → made ≡ Ready′.Refused why → kept ≡ madeOver (newOf w) kept
+  new-kept why z = ap (λ (o : Outcome Presence). madeOver o kept) (made-at (Ready′.Refused why) z)
 
-  pub made-record : (p : Presence) (n : PresenceRecord) → ready ≡ Ready′.Record p → n ≡ presenceNumbers p → _≡_ {A = Made} (record { answer = 0x9000; presence = n }) (madeNumbers (readyOf ready))
-  made-record p n z is = rw (is, z)
+  pub new-given : (p : Presence) → made ≡ Ready′.Record p → 0x9000 ≡ answerNo (newOf w)
+  new-given p z = ap answerNo (made-at (Ready′.Record p) z)
 
-module _ (answer : Answer) where
-  pub asked-refused : (why : Refusal) (n : ℕ) → answer ≡ Answer′.Refused why → n ≡ refusalNo why → _≡_ {A = Asked} (record { answer = n; yes = false }) (askedNumbers (outcomeOf answer))
-  asked-refused why n z is = rw (is, z)
+  pub new-made : (p q : Presence) → made ≡ Ready′.Record p → q ≡ fresh w → q ≡ madeOver (newOf w) kept
+  unfolding newOf
+  new-made p q z is = is ∙ by (isR6 w) (made-at (Ready′.Record p) z)
+    where
+      by : (b : Bool) → Gives p ≡ (if b then R 6 else Gives (fresh w)) → fresh w ≡ madeOver (if b then R 6 else Gives (fresh w)) kept
+      by true e = absurd (r-gives _ _ (sym e))
+      by false e = refl
 
-  pub asked-yes : answer ≡ Answer′.Yes → _≡_ {A = Asked} (record { answer = 0x9000; yes = true }) (askedNumbers (outcomeOf answer))
-  asked-yes z = rw z
+-- ---- a call on lent numbers is the call on the record that they stand for: `held` is the record as it was taken out of them
+module _ (n : List ℕ) (held : Presence) (is-held : held ≡ presenceIn n) (side t : ℕ) (ready : Ready) (is-ready : readyOf ready ≡ settleOf held side t) where
+  settles : readyOf ready ≡ settleOf (presenceIn n) side t
+  settles = is-ready ∙ ap (λ (p : Presence). settleOf p side t) is-held
 
-  pub asked-no : answer ≡ Answer′.No → _≡_ {A = Asked} (record { answer = 0x9000; yes = false }) (askedNumbers (outcomeOf answer))
-  asked-no z = rw z
+  settles-at : (d : Ready) → ready ≡ d → readyOf d ≡ settleOf (presenceIn n) side t
+  settles-at d z = ap readyOf (sym z) ∙ settles
 
-pub stepped : (s : Step) (asked : Asked) (n : PresenceRecord) → asked ≡ askedNumbers (outcomeOf (s .answer)) → n ≡ presenceNumbers (s .presence)
-    → _≡_ {A = Stepped} (record { answer = asked .answer; yes = asked .yes; presence = n }) (stepNumbers (toldOf s))
-stepped s asked n is-asked is-n = rw (is-asked, is-n)
+  told-refused : (why : Refusal) → ready ≡ Ready′.Refused why → (go : Presence → Told) → record { outcome = R (refusalNo why); presence = presenceIn n } ≡ onSettled (presenceIn n) (settleOf (presenceIn n) side t) go
+  told-refused why z go = ap (λ (o : Outcome Presence). onSettled (presenceIn n) o go) (settles-at (Ready′.Refused why) z)
 
--- ---- a call on lent numbers is the call on the record that they stand for
-module _ (n : PresenceRecord) (p : Presence) (t : ℕ) (is-p : p ≡ presenceOf n) where
-  module _ (s : Step) (r : Stepped) (is : r ≡ stepNumbers (toldOf s)) where
-    pub touch-at : toldOf s ≡ touchOf p t → r ≡ stepNumbers (touchOf (presenceOf n) t)
-    touch-at does = is ∙ ap stepNumbers (does ∙ ap (λ (q : Presence). touchOf q t) is-p)
+  told-moved : (q : Presence) → ready ≡ Ready′.Record q → (go : Presence → Told) → go (movedTo (presenceIn n) t) ≡ onSettled (presenceIn n) (settleOf (presenceIn n) side t) go
+  told-moved q z go =
+      ap go (sym (settles-moved (presenceIn n) side t q (settles-at (Ready′.Record q) z) .0)) ∙ ap (λ (o : Outcome Presence). onSettled (presenceIn n) o go) (settles-at (Ready′.Record q) z)
 
-    pub check-at : (side : ℕ) → toldOf s ≡ checkOf p side t → r ≡ stepNumbers (checkOf (presenceOf n) side t)
-    check-at side does = is ∙ ap stepNumbers (does ∙ ap (λ (q : Presence). checkOf q side t) is-p)
+  early : (q : Presence) → ready ≡ Ready′.Record q → t < 2 ^ 48
+  early q z = settles-moved (presenceIn n) side t q (settles-at (Ready′.Record q) z) .1
 
-  pub ask-at : (a : Answer) (r : Asked) → r ≡ askedNumbers (outcomeOf a) → outcomeOf a ≡ askOf p t .outcome → r ≡ askedNumbers (askOf (presenceOf n) t .outcome)
-  ask-at a r is does = is ∙ ap askedNumbers (does ∙ ap (λ (q : Presence). askOf q t .outcome) is-p)
+  checks-refused : (why : Refusal) → ready ≡ Ready′.Refused why → record { outcome = R (refusalNo why); presence = presenceIn n } ≡ checkOf (presenceIn n) side t
+  unfolding checkOf
+  checks-refused why z = told-refused why z (λ q. gave (checkedOf q side t))
+
+  pub check-refused : (why : Refusal) (r : Asked) → ready ≡ Ready′.Refused why → r ≡ askedNumbers (R (refusalNo why)) → r ≡ askedNumbers (checkOf (presenceIn n) side t .outcome)
+  check-refused why r z is = is ∙ ap (λ (x : Told). askedNumbers (x .outcome)) (checks-refused why z)
+
+  pub check-kept : (why : Refusal) → ready ≡ Ready′.Refused why → presenceIn n ≡ checkOf (presenceIn n) side t .presence
+  check-kept why z = ap (λ (x : Told). x .presence) (checks-refused why z)
+
+  checks-found : (q : Presence) → ready ≡ Ready′.Record q → gave (checkedIn (movedTo (presenceIn n) t) side t) ≡ checkOf (presenceIn n) side t
+  unfolding checkOf
+  checks-found q z = ap gave (checked-below (movedTo (presenceIn n) t) side t (early q z)) ∙ told-moved q z (λ p. gave (checkedOf p side t))
+
+  pub check-found : (q : Presence) (found : Bool) (r : Asked) → ready ≡ Ready′.Record q → found ≡ checkedIn (movedTo (presenceIn n) t) side t .yes → r ≡ askedNumbers (Gives found) → r ≡ askedNumbers (checkOf (presenceIn n) side t .outcome)
+  check-found q found r z y is = is ∙ ap (λ (b : Bool). askedNumbers (Gives b)) y ∙ ap (λ (x : Told). askedNumbers (x .outcome)) (checks-found q z)
+
+  pub check-moved : (q after : Presence) → ready ≡ Ready′.Record q → after ≡ checkedIn (movedTo (presenceIn n) t) side t .presence → after ≡ checkOf (presenceIn n) side t .presence
+  check-moved q after z is = is ∙ ap (λ (x : Told). x .presence) (checks-found q z)
+
+-- a touch settles as the record's own side
+module _ (n : List ℕ) (held : Presence) (is-held : held ≡ presenceIn n) (t : ℕ) (ready : Ready) (is-ready : readyOf ready ≡ settleOf held (held .asker) t) where
+  own-side : readyOf ready ≡ settleOf (presenceIn n) (presenceIn n .asker) t
+  own-side = is-ready ∙ ap (λ (p : Presence). settleOf p (p .asker) t) is-held
+
+  touches-refused : (why : Refusal) → ready ≡ Ready′.Refused why → record { outcome = R (refusalNo why); presence = presenceIn n } ≡ touchOf (presenceIn n) t
+  unfolding touchOf
+  touches-refused why z = told-refused n (presenceIn n) refl (presenceIn n .asker) t ready own-side why z (λ q. gave (grantedOf q t))
+
+  pub touch-refused : (why : Refusal) (r : Asked) → ready ≡ Ready′.Refused why → r ≡ askedNumbers (R (refusalNo why)) → r ≡ askedNumbers (touchOf (presenceIn n) t .outcome)
+  touch-refused why r z is = is ∙ ap (λ (x : Told). askedNumbers (x .outcome)) (touches-refused why z)
+
+  pub touch-kept : (why : Refusal) → ready ≡ Ready′.Refused why → presenceIn n ≡ touchOf (presenceIn n) t .presence
+  touch-kept why z = ap (λ (x : Told). x .presence) (touches-refused why z)
+
+  touches-found : (q : Presence) → ready ≡ Ready′.Record q → gave (grantedIn (movedTo (presenceIn n) t) t) ≡ touchOf (presenceIn n) t
+  unfolding touchOf
+  touches-found q z =
+      ap gave (granted-below (movedTo (presenceIn n) t) t (early n (presenceIn n) refl (presenceIn n .asker) t ready own-side q z))
+      ∙ told-moved n (presenceIn n) refl (presenceIn n .asker) t ready own-side q z (λ p. gave (grantedOf p t))
+
+  pub touch-found : (q : Presence) (found : Bool) (r : Asked) → ready ≡ Ready′.Record q → found ≡ grantedIn (movedTo (presenceIn n) t) t .yes → r ≡ askedNumbers (Gives found) → r ≡ askedNumbers (touchOf (presenceIn n) t .outcome)
+  touch-found q found r z y is = is ∙ ap (λ (b : Bool). askedNumbers (Gives b)) y ∙ ap (λ (x : Told). askedNumbers (x .outcome)) (touches-found q z)
+
+  pub touch-moved : (q after : Presence) → ready ≡ Ready′.Record q → after ≡ grantedIn (movedTo (presenceIn n) t) t .presence → after ≡ touchOf (presenceIn n) t .presence
+  touch-moved q after z is = is ∙ ap (λ (x : Told). x .presence) (touches-found q z)
+
+pub ask-at : (n : List ℕ) (held : Presence) (t : ℕ) (a : Answer) (r : Asked) → held ≡ presenceIn n → r ≡ askedNumbers (outcomeOf a) → outcomeOf a ≡ askOf held t .outcome → r ≡ askedNumbers (askOf (presenceIn n) t .outcome)
+ask-at n held t a r is-held is e = is ∙ ap askedNumbers e ∙ ap (λ (p : Presence). askedNumbers (askOf p t .outcome)) is-held
 
 -- ---- numbers that stand for cases
 -- a kind's number is that kind
@@ -280,40 +319,92 @@ pub no-kind : (number : ℕ) → (number ≡ 1 → ⊥) → (number ≡ 2 → �
 unfolding kindOf
 no-kind number a b = rw (ne-eqb number 1 a, ne-eqb number 2 b)
 
--- ---- the decision
-pub put-together : (answer : ℕ) (fault : FaultNumbers) (taken : Bool) (long : ℕ) (order : OrderNumbers) (p : Presence) (left : Remainder) (limit : ℕ) (n : PresenceRecord) → n ≡ presenceNumbers p
-    → _≡_ {A = DecisionSaid}
-    (record { answer = answer; fault = fault .kind; taken = taken; length = long; order = order; presence = n; place = fault .place; remainder = left; limit = limit })
-    (record { answer = answer; fault = fault .kind; taken = taken; length = long; order = order; presence = presenceNumbers p; place = fault .place; remainder = left; limit = limit })
-put-together answer fault taken long order p left limit n is = rw is
-
--- its numbers, by its answer
-module _ (taken : Bool) (p : Presence) (left : Remainder) (limit : ℕ) (r : DecisionSaid) (fault : FaultNumbers) (order : OrderNumbers) where
-  -- as the code puts them together
+-- ---- the decision: its numbers, by its answer, as the code puts them together
+module _ (taken : Bool) (r : DecisionSaid) (fault : FaultNumbers) (order : OrderNumbers) where
   abbrev Put : ℕ → ℕ → Type 0
-  Put answer long =
-      r
-      ≡ record { answer = answer; fault = fault .kind; taken = taken; length = long; order = order; presence = presenceNumbers p; place = fault .place; remainder = left; limit = limit }
+  Put answer long = r ≡ record { answer = answer; fault = fault .kind; taken = taken; length = long; order = order; place = fault .place }
 
   module _ (is-fault : fault ≡ noFault) where
-    pub refused-put : (why : Refusal) (n : ℕ) → n ≡ refusalNo why → order ≡ noOrder → Put n 0 → r ≡ decidedNumbers (R (refusalNo why)) noOrder taken p left limit
+    pub refused-put : (why : Refusal) (n : ℕ) → n ≡ refusalNo why → order ≡ noOrder → Put n 0 → r ≡ decidedNumbers (R (refusalNo why)) noOrder taken
     refused-put why n is none put = put ∙ rw (is, none, is-fault)
 
-    pub body-put : (long : ℕ) → order ≡ noOrder → Put 0x9000 long → r ≡ decidedNumbers (Gives (Body long)) noOrder taken p left limit
+    pub body-put : (long : ℕ) → order ≡ noOrder → Put 0x9000 long → r ≡ decidedNumbers (Gives (Body long)) noOrder taken
     body-put long none put = put ∙ rw (none, is-fault)
 
-    pub part-put : (long : ℕ) → order ≡ noOrder → Put 0x0200 long → r ≡ decidedNumbers (Gives (Part long left)) noOrder taken p left limit
-    part-put long none put = put ∙ rw (none, is-fault)
+    pub part-put : (long : ℕ) (left : Remainder) → order ≡ noOrder → Put 0x0200 long → r ≡ decidedNumbers (Gives (Part long left)) noOrder taken
+    part-put long left none put = put ∙ rw (none, is-fault)
 
-    pub order-put : (head : Head) → order ≡ headAfter (Gives Ordered) head → Put 0x0100 0 → r ≡ decidedNumbers (Gives Ordered) (headAfter (Gives Ordered) head) taken p left limit
+    pub order-put : (head : Head) → order ≡ headAfter (Gives Ordered) head → Put 0x0100 0 → r ≡ decidedNumbers (Gives Ordered) (headAfter (Gives Ordered) head) taken
     order-put head is put = put ∙ rw (is, is-fault)
 
-  pub status-put : (s : ApduStatusCode) (n : ℕ) → n ≡ statusNo s → fault ≡ faultOf s → order ≡ noOrder → Put n 0 → r ≡ decidedNumbers (Word (wordOf s)) noOrder taken p left limit
-  status-put s n is is-fault none put = put ∙ rw (is, none, is-fault)
+pub status-put : (taken : Bool) (r : DecisionSaid) (number kind place : ℕ) (order : OrderNumbers) → order ≡ noOrder
+    → r ≡ record { answer = number; fault = kind; taken = taken; length = 0; order = order; place = place } → r ≡ decidedNumbers (Word (record { number = number; kind = kind; place = place })) noOrder taken
+status-put taken r number kind place order none put = put ∙ rw none
 
 pub head-put : (head : Head) (kind : ℕ) → kind ≡ kindNo (head .kind)
     → _≡_ {A = OrderNumbers} (record { kind = kind; «to_sign» = head .«to_sign»; «certificate_length» = head .«certificate_length» }) (headAfter (Gives Ordered) head)
 head-put head kind is = rw is
+
+-- the session's decision, with the record and the block beside it, is the decision on what is lent: what is said of it by its answer, and what the session goes on with
+module _ (answer : DecisionAnswer) (top : Head) (used : Bool) (q : Presence) (block : List ℕ) (a : Outcome DecisionGives) (p : Presence) (h : Head) (u : Bool) (b : List ℕ)
+    (is : leaves (decisionAnswerOf answer) top used q block ≡ leaves a h u p b) where
+  pub record-left : q ≡ p
+  record-left = ap (λ (x : DecisionLeft). x .said .presence) is
+
+  pub block-left : block ≡ b
+  block-left = ap (λ (x : DecisionLeft). x .block) is
+
+  answer-is : (d : DecisionAnswer) → answer ≡ d → decisionAnswerOf d ≡ a
+  answer-is d z = ap decisionAnswerOf (sym z) ∙ ap (λ (x : DecisionLeft). x .said .answer) is
+
+  said-by : (d : DecisionAnswer) (r : DecisionSaid) → answer ≡ d → r ≡ decidedNumbers (decisionAnswerOf d) (headAfter (decisionAnswerOf d) top) used → r ≡ decidedNumbers a (headAfter a h) u
+  said-by d r z e =
+      e ∙ ap (λ (x : DecisionAnswer). decidedNumbers (decisionAnswerOf x) (headAfter (decisionAnswerOf x) top) used) (sym z)
+      ∙ ap (λ (x : DecisionLeft). decidedNumbers (x .said .answer) (headAfter (x .said .answer) (x .said .head)) (x .said .taken)) is
+
+  pub said-refused : (why : Refusal) (r : DecisionSaid) → answer ≡ DecisionAnswer′.Refused why → r ≡ decidedNumbers (R (refusalNo why)) noOrder used → r ≡ decidedNumbers a (headAfter a h) u
+  said-refused why r z e = said-by (DecisionAnswer′.Refused why) r z e
+
+  pub said-status : (number kind place : ℕ) (r : DecisionSaid) → answer ≡ DecisionAnswer′.Status number kind place
+      → r ≡ decidedNumbers (Word (record { number = number; kind = kind; place = place })) noOrder used → r ≡ decidedNumbers a (headAfter a h) u
+  said-status number kind place r z e = said-by (DecisionAnswer′.Status number kind place) r z e
+
+  pub said-body : (n : ℕ) (r : DecisionSaid) → answer ≡ DecisionAnswer′.Body n → r ≡ decidedNumbers (Gives (Body n)) noOrder used → r ≡ decidedNumbers a (headAfter a h) u
+  said-body n r z e = said-by (DecisionAnswer′.Body n) r z e
+
+  pub said-order : (r : DecisionSaid) → answer ≡ DecisionAnswer′.Order → r ≡ decidedNumbers (Gives Ordered) (headAfter (Gives Ordered) top) used → r ≡ decidedNumbers a (headAfter a h) u
+  said-order r z e = said-by DecisionAnswer′.Order r z e
+
+  pub said-part : (n : ℕ) (left : Remainder) (r : DecisionSaid) → answer ≡ DecisionAnswer′.Part n left → r ≡ decidedNumbers (Gives (Part n left)) noOrder used → r ≡ decidedNumbers a (headAfter a h) u
+  said-part n left r z e = said-by (DecisionAnswer′.Part n left) r z e
+
+  module _ (frame : List ℕ) (lent : Session) where
+    abbrev GoesOn : Session → Type 0
+    GoesOn s = s ≡ sessionAfter a (readOf frame) lent
+
+    goes : (d : DecisionAnswer) (s : Session) → answer ≡ d → s ≡ sessionAfter (decisionAnswerOf d) (readOf frame) lent → GoesOn s
+    goes d s z e = e ∙ ap (λ (o : Outcome DecisionGives). sessionAfter o (readOf frame) lent) (answer-is d z)
+
+    pub goes-refused : (why : Refusal) → answer ≡ DecisionAnswer′.Refused why → GoesOn lent
+    goes-refused why z = goes (DecisionAnswer′.Refused why) lent z refl
+
+    module _ (limit : ℕ) (is-limit : limit ≡ frameLimit frame) (s : Session) where
+      limited : (k : Remainder) → s ≡ record { remainder = k; limit = limit } → s ≡ record { remainder = k; limit = limitOn (readOf frame) }
+      unfolding frameLimit
+      limited k e = e ∙ ap (λ (n : ℕ). record { remainder = k; limit = n }) is-limit
+
+      pub goes-status : (number kind place : ℕ) (fetches : Bool) → answer ≡ DecisionAnswer′.Status number kind place → fetches ≡ isGetResponse (readOf frame)
+          → s ≡ record { remainder = if fetches then lent .remainder else rest 0 0; limit = limit } → GoesOn s
+      goes-status number kind place fetches z f e = goes (DecisionAnswer′.Status number kind place) s z (limited _ e ∙ rw f)
+
+      pub goes-body : (n : ℕ) → answer ≡ DecisionAnswer′.Body n → s ≡ record { remainder = rest 0 0; limit = limit } → GoesOn s
+      goes-body n z e = goes (DecisionAnswer′.Body n) s z (limited _ e)
+
+      pub goes-order : answer ≡ DecisionAnswer′.Order → s ≡ record { remainder = rest 0 0; limit = limit } → GoesOn s
+      goes-order z e = goes DecisionAnswer′.Order s z (limited _ e)
+
+      pub goes-part : (n : ℕ) (left : Remainder) → answer ≡ DecisionAnswer′.Part n left → s ≡ record { remainder = left; limit = limit } → GoesOn s
+      goes-part n left z e = goes (DecisionAnswer′.Part n left) s z (limited _ e)
 
 -- ---- responses and parts
 module _ (read : ReadResponse) where
@@ -330,312 +421,38 @@ module _ (written : WroteResponse) where
   pub response-wrote : (long : ℕ) → written ≡ WroteResponse′.Response long → _≡_ {A = Wrote} (record { answer = 0x9000; length = long }) (lengthNumbers (responseWritten written))
   response-wrote long z = rw z
 
-module _ (next : NextPart) (kept : Remainder) where
-  pub part-refused : (why : Refusal) (n : ℕ) → next ≡ NextPart′.Refused why → n ≡ refusalNo why → _≡_ {A = PartSaid} (record { answer = n; length = 0; remainder = kept }) (partNumbers (partSent next) kept)
-  part-refused why n z is = rw (is, z)
+pub refused-part : (why : Refusal) (n : ℕ) → n ≡ refusalNo why → _≡_ {A = Wrote} (record { answer = n; length = 0 }) (record { answer = refusalNo why; length = 0 })
+refused-part why n is = rw is
 
-  pub part-sent : (long : ℕ) (left : Remainder) → next ≡ NextPart′.Part long left → _≡_ {A = PartSaid} (record { answer = 0x9000; length = long; remainder = left }) (partNumbers (partSent next) kept)
-  part-sent long left z = rw z
+module _ (room : ResponseRoom) where
+  pub room-refused : (why : Refusal) (n : ℕ) → room ≡ ResponseRoom′.Refused why → n ≡ refusalNo why → _≡_ {A = RoomSaid} (record { answer = n; length = 0 }) (roomNumbers (roomSaid room))
+  room-refused why n z is = rw (is, z)
 
--- ---- C0's part
-never-other : (bodyRoom : ℕ) (k : Remainder) (limit room n : ℕ) → R n ≡ nextPartOf bodyRoom k limit room → n ≡ 2
-unfolding nextPartOf
-never-other bodyRoom k limit room n e = by (ltb bodyRoom (k .place + k .count)) (ltb room (partLength limit (k .count) + 2)) e
-  where
-    by : (b c : Bool) → _≡_ {A = Outcome Sent} (R n) (if b then R 2 else if c then R 2 else Gives (record { length = partLength limit (k .count) + 2; remainder = restAfter k limit })) → n ≡ 2
-    by true c x = cc
-    by false true x = cc
-    by false false x = absurd (r-gives _ _ x)
+  pub room-bytes : (n : ℕ) → room ≡ ResponseRoom′.Bytes n → _≡_ {A = RoomSaid} (record { answer = 0x9000; length = n }) (roomNumbers (roomSaid room))
+  room-bytes n z = rw z
 
-module _ (kept settled : Presence) (k : Remainder) (limit : ℕ) (body old : List ℕ) where
-  abbrev fetched : DecisionResult
-  fetched = along (fetchPath (length body) k limit (length old)) kept settled 0 0
+-- the next part of what the session says remains
+module _ (session body old : List ℕ) (k : Remainder) (limit : ℕ) (is-k : k ≡ remainderIn session) (is-limit : limit ≡ getD session 2 0) (next : NextPart) (is-next : partSent next ≡ sendingOf body k limit old .0) where
+  sends : partSent next ≡ sendingOf body (remainderIn session) (getD session 2 0) old .0
+  sends = is-next ∙ ap₂ (λ (r : Remainder) (n : ℕ). sendingOf body r n old .0) is-k is-limit
 
-  abbrev Fetched : DecisionSaid → Type 0
-  Fetched r = r ≡ decisionNumbers fetched (remainderAfter (fetched .answer) true k) limit
+  sends-at : (d : NextPart) → next ≡ d → partSent d ≡ sendingOf body (remainderIn session) (getD session 2 0) old .0
+  sends-at d z = ap partSent (sym z) ∙ sends
 
-  -- a result whose numbers are these
-  at : (x : DecisionResult) (r : DecisionSaid) → x ≡ fetched → r ≡ decisionNumbers x (remainderAfter (x .answer) true k) limit → Fetched r
-  at x r e is = is ∙ ap (λ (y : DecisionResult). decisionNumbers y (remainderAfter (y .answer) true k) limit) e
+  pub next-refused : (why : Refusal) (r : Wrote) → next ≡ NextPart′.Refused why → r ≡ record { answer = refusalNo why; length = 0 } → r ≡ sentNumbers (sendingOf body (remainderIn session) (getD session 2 0) old .0)
+  next-refused why r z e = e ∙ ap sentNumbers (sends-at (NextPart′.Refused why) z)
 
-  module _ (none : k .count ≡ 0) where
-    nothing-is : statusResult 0x6985 settled ≡ fetched
-    unfolding fetchPath
-    nothing-is = rw (eq-eqb (k .count) 0 none)
+  pub next-kept : (why : Refusal) → next ≡ NextPart′.Refused why → sessionIn session ≡ sentOver (sendingOf body (remainderIn session) (getD session 2 0) old .0) (sessionIn session)
+  next-kept why z = ap (λ (o : Outcome Sent). sentOver o (sessionIn session)) (sends-at (NextPart′.Refused why) z)
 
-    pub fetched-nothing : (r : DecisionSaid) → r ≡ decidedNumbers (SW 0x6985) noOrder false settled k limit → Fetched r
-    fetched-nothing r is = at (statusResult 0x6985 settled) r nothing-is is
+  pub next-sent : (n : ℕ) (left : Remainder) (r : Wrote) → next ≡ NextPart′.Part n left → r ≡ record { answer = 0x9000; length = n } → r ≡ sentNumbers (sendingOf body (remainderIn session) (getD session 2 0) old .0)
+  next-sent n left r z e = e ∙ ap sentNumbers (sends-at (NextPart′.Part n left) z)
 
-    pub fetched-kept : old ≡ partAfter (fetched .answer) (partResponse body k limit) old
-    fetched-kept = ap (λ (x : DecisionResult). partAfter (x .answer) (partResponse body k limit) old) nothing-is
+  pub next-left : (n : ℕ) (left : Remainder) (s : Session) → next ≡ NextPart′.Part n left → s ≡ record { remainder = left; limit = limit } → s ≡ sentOver (sendingOf body (remainderIn session) (getD session 2 0) old .0) (sessionIn session)
+  next-left n left s z e = e ∙ ap (λ (m : ℕ). record { remainder = left; limit = m }) is-limit ∙ ap (λ (o : Outcome Sent). sentOver o (sessionIn session)) (sends-at (NextPart′.Part n left) z)
 
-  module _ (more : k .count ≡ 0 → ⊥) (next : NextPart) (is-next : partSent next ≡ nextPartOf (length body) k limit (length old)) where
-    sent-is : (n : NextPart) → next ≡ n → along (sentPath (partSent n)) kept settled 0 0 ≡ fetched
-    unfolding fetchPath
-    sent-is n z = ap (λ (x : NextPart). along (sentPath (partSent x)) kept settled 0 0) (sym z) ∙ rw (ne-eqb (k .count) 0 more, ← is-next)
-
-    pub fetched-refused : (why : Refusal) (r : DecisionSaid) → next ≡ NextPart′.Refused why → r ≡ decidedNumbers (R (refusalNo why)) noOrder false kept k limit → Fetched r
-    fetched-refused why r z is =
-        let two : refusalNo why ≡ 2 = never-other (length body) k limit (length old) (refusalNo why) (ap partSent (sym z) ∙ is-next) in
-        at (refusalResult 2 kept) r (sent-is (NextPart′.Refused why) z) (is ∙ ap (λ (n : ℕ). decidedNumbers (R n) noOrder false kept k limit) two)
-
-    pub fetched-part : (long : ℕ) (left : Remainder) (r : DecisionSaid) → next ≡ NextPart′.Part long left → r ≡ decidedNumbers (Gives (Part long left)) noOrder false settled left limit → Fetched r
-    fetched-part long left r z is = at (partResult (record { length = long; remainder = left }) settled) r (sent-is (NextPart′.Part long left) z) is
-
-    pub fetched-wrote : (new : List ℕ) → new ≡ partLaid (nextPartOf (length body) k limit (length old)) (partResponse body k limit) old → new ≡ partAfter (fetched .answer) (partResponse body k limit) old
-    unfolding fetchPath
-    fetched-wrote new is = is ∙ by (nextPartOf (length body) k limit (length old)) ∙ rw (ne-eqb (k .count) 0 more)
-      where
-        by : (o : Outcome Sent) → partLaid o (partResponse body k limit) old ≡ partAfter (along (sentPath o) kept settled 0 0 .answer) (partResponse body k limit) old
-        by (R n) = refl
-        by (Word s) = refl
-        by (Gives sent) = refl
-
--- ---- the status word of a decision that knew of nothing left
-module _ (s : ApduStatusCode) (b taken : Bool) (kept settled : Presence) (k : Remainder) (limit : ℕ) (body old : List ℕ) where
-  abbrev stated : DecisionResult
-  stated = statedOf (wordOf s) b taken kept settled (length body) k limit (length old)
-
-  abbrev Stated : DecisionSaid → Type 0
-  Stated r = r ≡ decisionNumbers stated (remainderAfter (stated .answer) b k) limit
-
-  abbrev Laid : List ℕ → Type 0
-  Laid new = new ≡ partAfter (stated .answer) (partResponse body k limit) old
-
-  module _ (m : not b ≡ true) where
-    pub stated-unasked : (r : DecisionSaid) (none : Remainder) → none ≡ rest 0 0 → r ≡ decidedNumbers (Word (wordOf s)) noOrder taken settled none limit → Stated r
-    unfolding statedOf
-    stated-unasked r none is e = e ∙ rw (is, not-true b m)
-
-    pub unasked-kept : Laid old
-    unfolding statedOf
-    unasked-kept = rw (not-true b m)
-
-  module _ (m : not b ≡ false) (number : ℕ) (is-number : number ≡ statusNo s) where
-    module _ (other : number ≡ 0x6985 → ⊥) where
-      pub stated-other : (r : DecisionSaid) → r ≡ decidedNumbers (Word (wordOf s)) noOrder taken settled k limit → Stated r
-      unfolding statedOf
-      stated-other r e = e ∙ rw (not-false b m, ne-eqb (statusNo s) 0x6985 (λ z. other (is-number ∙ z)))
-
-      pub other-kept : Laid old
-      unfolding statedOf
-      other-kept = rw (not-false b m, ne-eqb (statusNo s) 0x6985 (λ z. other (is-number ∙ z)))
-
-    module _ (so-far : number ≡ 0x6985) where
-      pub stated-fetched : (r : DecisionSaid) → Fetched kept settled k limit body old r → Stated r
-      unfolding statedOf
-      stated-fetched r e = e ∙ rw (not-false b m, eq-eqb (statusNo s) 0x6985 (sym is-number ∙ so-far))
-
-      pub fetched-laid : (new : List ℕ) → new ≡ partAfter (fetched kept settled k limit body old .answer) (partResponse body k limit) old → Laid new
-      unfolding statedOf
-      fetched-laid new e = e ∙ rw (not-false b m, eq-eqb (statusNo s) 0x6985 (sym is-number ∙ so-far))
-
--- neither the reply nor the block is written
-sent-leaves : (kept settled : Presence) (old : List ℕ) (o : Outcome Sent) → (old ≡ replyLeft (along (sentPath o) kept settled 0 0) old) × (old ≡ blockLeft (along (sentPath o) kept settled 0 0) old)
-sent-leaves kept settled old (R n) = (refl, refl)
-sent-leaves kept settled old (Word w) = (refl, refl)
-sent-leaves kept settled old (Gives sent) = (refl, refl)
-
-fetched-leaves : (kept settled : Presence) (k : Remainder) (limit : ℕ) (body part old : List ℕ) → (old ≡ replyLeft (fetched kept settled k limit body part) old) × (old ≡ blockLeft (fetched kept settled k limit body part) old)
-unfolding fetchPath
-fetched-leaves kept settled k limit body part old = by (eqb (k .count) 0)
-  where
-    by : (b : Bool)
-        → (old ≡ replyLeft (along (if b then Status 0x6985 else sentPath (nextPartOf (length body) k limit (length part))) kept settled 0 0) old)
-        × (old ≡ blockLeft (along (if b then Status 0x6985 else sentPath (nextPartOf (length body) k limit (length part))) kept settled 0 0) old)
-    by true = (refl, refl)
-    by false = sent-leaves kept settled old (nextPartOf (length body) k limit (length part))
-
--- ---- a decision on lent numbers is the decision on the record that they stand for; and one that knows of nothing left is the decision, but
--- for a C0 that comes so far
-abbrev asked : (side : ℕ) (frame : List ℕ) (k : Hardware) (handle certificate x y : List ℕ) (room : ℕ) (left : Remainder) (partRoom : ℕ) → Inputs
-asked side frame k handle certificate x y room left partRoom =
-    record { side = side; frame = frame; hardware = k; newHandle = handle; certificate = certificate; x = x; y = y; room = room; remainder = left; partRoom = partRoom }
-
-module _ (frame : List ℕ) (side t : ℕ) (handle certificate x y : List ℕ) (n : PresenceRecord) (k : Hardware) (p : Presence) (is-p : p ≡ presenceOf n) (reply : List ℕ) (left : Remainder) (part : List ℕ) where
-  abbrev lent : Inputs
-  lent = asked side frame k handle certificate x y (length reply) left (length part)
-
-  abbrev bare : DecisionResult
-  bare = decisionOf p t (asked side frame k handle certificate x y (length reply) (rest 0 0) 0)
-
-  abbrev whole : DecisionResult
-  whole = decisionOf (presenceOf n) t lent
-
-  same-p : decisionOf p t lent ≡ whole
-  same-p = rw is-p
-
-  module _ (d : Decision) (old new : List ℕ) (is-d : leftFrom d new ≡ leftOf bare old) where
-    answer-is : decisionAnswerOf (d .answer) ≡ bare .answer
-    answer-is = ap (λ (w : DecisionLeft). w .said .answer) is-d
-
-    -- what it is without a remainder, the decision is
-    module _ (is : bare ≡ whole) where
-      numbers : (r : DecisionSaid) (z : Remainder) (limit : ℕ) → r ≡ handedNumbers (handedFrom d) z limit → z ≡ remainderLeft lent bare → limit ≡ frameLimit frame
-          → r ≡ decisionNumbers whole (remainderLeft lent whole) (frameLimit frame)
-      numbers r z limit e is-z is-limit =
-          e ∙ ap (λ (w : DecisionLeft). handedNumbers (w .said) z limit) is-d ∙ ap (λ (q : Remainder). decisionNumbers bare q limit) is-z
-          ∙ ap (λ (l : ℕ). decisionNumbers bare (remainderLeft lent bare) l) is-limit ∙ ap (λ (b : DecisionResult). decisionNumbers b (remainderLeft lent b) (frameLimit frame)) is
-
-      block-left : new ≡ blockLeft whole old
-      block-left = ap (λ (w : DecisionLeft). w .block) is-d ∙ ap (λ (b : DecisionResult). blockLeft b old) is
-
-      reply-left : (after : List ℕ) → after ≡ replyLeft bare reply → after ≡ replyLeft whole reply
-      reply-left after e = e ∙ ap (λ (b : DecisionResult). replyLeft b reply) is
-
-      part-left : part ≡ partLeft lent bare reply part → part ≡ partLeft lent whole reply part
-      part-left e = e ∙ ap (λ (b : DecisionResult). partLeft lent b reply part) is
-
-    abbrev Numbers : DecisionSaid → Type 0
-    Numbers r = r ≡ decisionNumbers whole (remainderLeft lent whole) (frameLimit frame)
-
-    -- by the answer: a refusal
-    module _ (why : Refusal) (z : d .answer ≡ DecisionAnswer′.Refused why) where
-      refusal-is : bare .answer ≡ R (refusalNo why)
-      refusal-is = sym answer-is ∙ ap decisionAnswerOf z
-
-      refusal-same : bare ≡ whole
-      refusal-same = sym (same-refused p t lent (refusalNo why) refusal-is) ∙ same-p
-
-      pub decide-refused : (r : DecisionSaid) (limit : ℕ) → limit ≡ frameLimit frame → r ≡ decidedNumbers (R (refusalNo why)) noOrder (d .taken) (d .presence) left limit → Numbers r
-      decide-refused r limit is-limit e = numbers refusal-same r left limit (e ∙ rw z) (rw refusal-is) is-limit
-
-      pub refused-reply : (after : List ℕ) → after ≡ replyLeft bare reply → after ≡ replyLeft whole reply
-      refused-reply = reply-left refusal-same
-
-      pub refused-block : new ≡ blockLeft whole old
-      refused-block = block-left refusal-same
-
-      pub refused-part : part ≡ partLeft lent whole reply part
-      refused-part = part-left refusal-same (rw refusal-is)
-
-    -- a body; an order
-    module _ (long : ℕ) (z : d .answer ≡ DecisionAnswer′.Body long) where
-      body-is : bare .answer ≡ Gives (Body long)
-      body-is = sym answer-is ∙ ap decisionAnswerOf z
-
-      body-same : bare ≡ whole
-      body-same = sym (same-given p t lent (Body long) body-is) ∙ same-p
-
-      pub decide-body : (r : DecisionSaid) (limit : ℕ) (none : Remainder) → limit ≡ frameLimit frame → none ≡ rest 0 0 → r ≡ decidedNumbers (Gives (Body long)) noOrder (d .taken) (d .presence) none limit → Numbers r
-      decide-body r limit none is-limit is-none e = numbers body-same r none limit (e ∙ rw z) (is-none ∙ rw body-is) is-limit
-
-      pub body-reply : (after : List ℕ) → after ≡ replyLeft bare reply → after ≡ replyLeft whole reply
-      body-reply = reply-left body-same
-
-      pub body-block : new ≡ blockLeft whole old
-      body-block = block-left body-same
-
-      pub body-part : part ≡ partLeft lent whole reply part
-      body-part = part-left body-same (rw body-is)
-
-    module _ (z : d .answer ≡ DecisionAnswer′.Order) where
-      order-is : bare .answer ≡ Gives Ordered
-      order-is = sym answer-is ∙ ap decisionAnswerOf z
-
-      order-same : bare ≡ whole
-      order-same = sym (same-given p t lent Ordered order-is) ∙ same-p
-
-      pub decide-order : (r : DecisionSaid) (limit : ℕ) (none : Remainder) → limit ≡ frameLimit frame → none ≡ rest 0 0
-          → r ≡ decidedNumbers (Gives Ordered) (headAfter (Gives Ordered) (d .order)) (d .taken) (d .presence) none limit → Numbers r
-      decide-order r limit none is-limit is-none e = numbers order-same r none limit (e ∙ rw z) (is-none ∙ rw order-is) is-limit
-
-      pub order-reply : (after : List ℕ) → after ≡ replyLeft bare reply → after ≡ replyLeft whole reply
-      order-reply = reply-left order-same
-
-      pub order-block : new ≡ blockLeft whole old
-      order-block = block-left order-same
-
-      pub order-part : part ≡ partLeft lent whole reply part
-      order-part = part-left order-same (rw order-is)
-
-    -- a status word: of a frame that does not ask, of one that does and did not come so far, and of one that did
-    module _ (s : ApduStatusCode) (z : d .answer ≡ DecisionAnswer′.Status s) (b : Bool) (is-b : b ≡ isGetResponse (readOf frame)) where
-      word-is : bare .answer ≡ Word (wordOf s)
-      word-is = sym answer-is ∙ ap decisionAnswerOf z
-
-      module _ (body : List ℕ) (is-body : body ≡ replyLeft bare reply) (limit : ℕ) (is-limit : limit ≡ frameLimit frame) where
-        body-kept : body ≡ reply
-        body-kept = is-body ∙ rw word-is
-
-        block-kept : new ≡ old
-        block-kept = ap (λ (w : DecisionLeft). w .block) is-d ∙ rw word-is
-
-        -- where the decision is the one without a remainder, its word
-        module _ (is : bare ≡ whole) where
-          word-whole : whole .answer ≡ Word (wordOf s)
-          word-whole = ap (λ (r : DecisionResult). r .answer) (sym is) ∙ word-is
-
-          word-numbers : (r : DecisionSaid) → r ≡ decidedNumbers (Word (wordOf s)) noOrder (d .taken) (d .presence) (if b then left else rest 0 0) limit → Numbers r
-          word-numbers r e = numbers is r (if b then left else rest 0 0) limit (e ∙ rw z) (ap (λ (c : Bool). if c then left else rest 0 0) is-b ∙ rw word-is) is-limit
-
-          word-left : (body ≡ replyLeft whole reply) × (new ≡ blockLeft whole old)
-          word-left = (body-kept ∙ rw word-whole, block-kept ∙ rw word-whole)
-
-          word-part : (after : List ℕ) → after ≡ part → after ≡ partLeft lent whole reply part
-          word-part after e = e ∙ rw word-whole
-
-        -- where it is the next part
-        module _ (isC0 : isGetResponse (readOf frame) ≡ true) (so-far : statusNo s ≡ 0x6985) where
-          fetched-is : fetched p (d .presence) left limit body part ≡ whole
-          fetched-is =
-              ap (λ (l : List ℕ). fetched p (d .presence) left limit l part) body-kept ∙ ap (λ (q : Presence). fetched p q left limit reply part) (ap (λ (w : DecisionLeft). w .said .presence) is-d)
-              ∙ ap (λ (l : ℕ). fetched p (bare .presence) left l reply part) is-limit ∙ sym (fetched-decision p t lent isC0 (wordOf s) word-is so-far) ∙ same-p
-
-          fetched-numbers : (r : DecisionSaid) → Fetched p (d .presence) left limit body part r → Numbers r
-          fetched-numbers r e =
-              e ∙ ap (λ (x : DecisionResult). decisionNumbers x (remainderAfter (x .answer) true left) limit) fetched-is
-              ∙ ap (λ (l : ℕ). decisionNumbers whole (remainderAfter (whole .answer) true left) l) is-limit
-              ∙ ap (λ (c : Bool). decisionNumbers whole (remainderAfter (whole .answer) c left) (frameLimit frame)) (sym isC0)
-
-          fetched-left : (body ≡ replyLeft whole reply) × (new ≡ blockLeft whole old)
-          fetched-left = (
-            body-kept ∙ fetched-leaves p (d .presence) left limit body part reply .0 ∙ ap (λ (x : DecisionResult). replyLeft x reply) fetched-is,
-            block-kept ∙ fetched-leaves p (d .presence) left limit body part old .1 ∙ ap (λ (x : DecisionResult). blockLeft x old) fetched-is,
-          )
-
-          fetched-part-left : (after : List ℕ) → after ≡ partAfter (fetched p (d .presence) left limit body part .answer) (partResponse body left limit) part → after ≡ partLeft lent whole reply part
-          fetched-part-left after e =
-              e ∙ ap (λ (x : DecisionResult). partAfter (x .answer) (partResponse body left limit) part) fetched-is ∙ ap (λ (l : List ℕ). partAfter (whole .answer) (partResponse l left limit) part) body-kept
-              ∙ ap (λ (l : ℕ). partAfter (whole .answer) (partResponse reply left l) part) is-limit
-
-        -- both, by whether the frame asks and by the word
-        abbrev Comes : Bool → Type 0
-        Comes c =
-            (r : DecisionSaid) (after : List ℕ)
-            → r ≡ decisionNumbers (statedOf (wordOf s) c (d .taken) p (d .presence) (length body) left limit (length part)) (remainderAfter (statedOf (wordOf s) c (d .taken) p (d .presence) (length body) left limit (length part) .answer) c left) limit
-            → after ≡ partAfter (statedOf (wordOf s) c (d .taken) p (d .presence) (length body) left limit (length part) .answer) (partResponse body left limit) part
-            → Numbers r × (body ≡ replyLeft whole reply) × (new ≡ blockLeft whole old) × (after ≡ partLeft lent whole reply part)
-
-        comes : (c : Bool) → c ≡ b → Comes c
-        unfolding statedOf
-        comes false e r after f g =
-            let is : bare ≡ whole = sym (same-unasked p t lent (sym is-b ∙ sym e)) ∙ same-p in
-            (word-numbers is r (f ∙ ap (λ (c : Bool). decidedNumbers (Word (wordOf s)) noOrder (d .taken) (d .presence) (if c then left else rest 0 0) limit) e), word-left is .0, word-left is .1, word-part is after g)
-        comes true e r after f g = by (ℕ-discrete (statusNo s) 0x6985)
-          where
-            by : Dec (statusNo s ≡ 0x6985) → Numbers r × (body ≡ replyLeft whole reply) × (new ≡ blockLeft whole old) × (after ≡ partLeft lent whole reply part)
-            by (yes n) =
-                let isC0 : isGetResponse (readOf frame) ≡ true = sym is-b ∙ sym e in
-                let hit : eqb (statusNo s) 0x6985 ≡ true = eq-eqb (statusNo s) 0x6985 n in
-                (fetched-numbers isC0 n r (rw hit at f), fetched-left isC0 n .0, fetched-left isC0 n .1, fetched-part-left isC0 n after (rw hit at g))
-            by (no n) =
-                let is : bare ≡ whole = sym (same-word p t lent (wordOf s) word-is n) ∙ same-p in
-                let hit : eqb (statusNo s) 0x6985 ≡ false = ne-eqb (statusNo s) 0x6985 n in
-                (word-numbers is r ((rw hit at f) ∙ ap (λ (c : Bool). decidedNumbers (Word (wordOf s)) noOrder (d .taken) (d .presence) (if c then left else rest 0 0) limit) e), word-left is .0, word-left is .1, word-part is after (rw hit at g))
-
-        module _ (r : DecisionSaid) (after : List ℕ) (says : StatedPlain s b (d .taken) p (d .presence) left limit body part r after) where
-          pub decide-status : Numbers r
-          decide-status = comes b refl r after (says .0) (says .1) .0
-
-          pub status-reply : body ≡ replyLeft whole reply
-          status-reply = comes b refl r after (says .0) (says .1) .1
-
-          pub status-block : new ≡ blockLeft whole old
-          status-block = comes b refl r after (says .0) (says .1) .2
-
-          pub status-part : after ≡ partLeft lent whole reply part
-          status-part = comes b refl r after (says .0) (says .1) .3
+  pub next-laid : (new : List ℕ) → new ≡ sendingOf body k limit old .1 → new ≡ sendingOf body (remainderIn session) (getD session 2 0) old .1
+  next-laid new e = e ∙ ap₂ (λ (r : Remainder) (n : ℕ). sendingOf body r n old .1) is-k is-limit
 
 -- ---- finishing
 module _ (finished : Finished) where

@@ -1,6 +1,6 @@
+pub mod Lists
 pub mod Cases
 pub mod Outcomes
-pub mod Runs
 pub mod Exported
 pub mod Theorems
 pub mod Only

@@ -10,7 +10,10 @@ use lib.ListN.{length}
 use Rattle.outcome.specs.Notation.{Determines, Determines2, Determines3}
 use Rattle.outcome.specs.Outcome.{StatusWord, Outcome, R, Word, Gives, lastRefusal}
 use Rattle.outcome.specs.Terms.{HasStatus}
-use Rattle.outcome.proofs.Laws.{gives-same, r-gives, word-gives}
+use Rattle.outcome.proofs.Laws.{gives-same, r-gives, r-word, word-gives}
+use Rattle.outcome.specs.Notation.{if_then_else_}
+use lib.Dec.{ltb}
+use Rattle.apdu_stated.proofs.Frames.{read-refuses-not}
 use Rattle.apdu_stated.specs.Answers.{Says}
 use Rattle.octets.specs.Bytes.{AreBytes}
 use Rattle.octets.specs.Terms.{DeterminesOn}
@@ -26,16 +29,17 @@ use Rattle.ctap1_stated.specs.Terms.{HasInsC0}
 use Rattle.ctap1_stated.proofs.Laws.{sound, limits-exactly, Asked, is-refused, is-word, is-part, asked}
 use Rattle.response_stated.specs.Words.{Sent, rest}
 use Rattle.response_stated.specs.Terms.{sending, sendingOf, writingOf}
-use Rattle.response_stated.specs.Parts.{nextPartOf}
+use Rattle.response_stated.specs.Parts.{limitOf, partLength, nextPartOf, responseRoomOf}
 use Rattle.response_stated.specs.Responses.{writeResponseOf}
-use Rattle.response_stated.proofs.Laws.{next-exactly, writes-exactly, write-short, write-room, NextWay, short-body, short-buffer, given, next-way}
+use Rattle.response_stated.proofs.Laws.{next-exactly, room-exactly, writes-exactly, write-short, write-room, NextWay, short-body, short-buffer, given, next-way}
 use Rattle.response_stated.specs.declared.Remainder.{Remainder}
 use Rattle.signing_stated.specs.declared.Kind.{Kind}
 use Rattle.signing_stated.specs.declared.Kind.the-variants as Kind′
-use Rattle.panel_stated.specs.Words.{DecisionSaid, PresenceRecord, Entry, Ordinary, Strict, Case, Instruction, Le1, Lc1Data, Lc1DataLe1, Lc3Data, Lc3DataLe2, Le3, shapeNo}
-use Rattle.panel_stated.specs.Terms.{NoShape, nought, retired, above, IsNumbered, AreOf64Bits, AfterWriting, AfterPart, AfterDeciding, Reports}
-use Rattle.panel_stated.specs.Numbers.{decidedNo, presenceOf}
-use Rattle.panel_stated.specs.Exports.{ToDecide, inputsOf, decidedBy}
+use Rattle.panel_stated.specs.Words.{DecisionSaid, Session, presenceIn, remainderIn, sessionIn, inputsIn, Entry, Ordinary, Strict, Case, Instruction, Le1, Lc1Data, Lc1DataLe1, Lc3Data, Lc3DataLe2, Le3, shapeNo}
+use Rattle.panel_stated.specs.Terms.{NoShape, nought, retired, above, SameNumbers, IsNumbered, AfterMaking, AfterWriting, AfterPart, AfterDeciding, Reports}
+use Rattle.panel_stated.specs.Numbers.{decidedNo}
+use Rattle.panel_stated.proofs.Lists.{same-record}
+use Rattle.panel_stated.specs.Exports.{ToDecide, decidedBy}
 use Rattle.panel_stated.proofs.Outcomes
 use Rattle.panel_stated.specs.Claims
 
@@ -57,27 +61,6 @@ KindNumbers f g p q zero = p .none 0 (inl refl) ∙ sym (q .none 0 (inl refl))
 KindNumbers f g p q (suc zero) = p .register ∙ sym (q .register)
 KindNumbers f g p q (suc (suc zero)) = p .authenticate ∙ sym (q .authenticate)
 KindNumbers f g p q (suc (suc (suc n))) = p .none (suc (suc (suc n))) (inr (omega arith)) ∙ sym (q .none (suc (suc (suc n))) (inr (omega arith)))
-
--- ---- records
-presence-equal : (a b : Presence) → a .w ≡ b .w → a .prompt ≡ b .prompt → a .touch ≡ b .touch → a .last ≡ b .last → a .asker ≡ b .asker → a ≡ b
-presence-equal a b w p t l k = λ d. record { w = w d; prompt = p d; touch = t d; last = l d; asker = k d }
-
-pub RecordNumbers : Determines Claims.RecordNumbers
-RecordNumbers f g p q n =
-    presence-equal (f n) (g n) (p .w n ∙ sym (q .w n)) (by-prompt (n .prompt) refl) (by-touch (n .touch) refl) (p .last n ∙ sym (q .last n)) (p .asker n ∙ sym (q .asker n))
-  where
-    by-prompt : (k : ℕ) → n .prompt ≡ k → f n .prompt ≡ g n .prompt
-    by-prompt zero e = p .prompt-closed n e ∙ sym (q .prompt-closed n e)
-    by-prompt (suc m) e = p .prompt-opened n m (omega (arith, e)) ∙ sym (q .prompt-opened n m (omega (arith, e)))
-
-    by-touch : (k : ℕ) → n .touch ≡ k → f n .touch ≡ g n .touch
-    by-touch zero e = p .touch-closed n e ∙ sym (q .touch-closed n e)
-    by-touch (suc m) e = p .touch-opened n m (omega (arith, e)) ∙ sym (q .touch-opened n m (omega (arith, e)))
-
--- a plain form that numbers go through unchanged is the way back of what they stand for
-pub NumbersBack : (lend : PresenceRecord → Presence) (f g : Presence → PresenceRecord) → Claims.NumbersBack lend f → Claims.NumbersBack lend g
-    → (n : PresenceRecord) → AreOf64Bits n → f (lend n) ≡ g (lend n)
-NumbersBack lend f g p q n h = p n h ∙ sym (q n h)
 
 -- ---- what is not said is 0
 pub FrameNumbers : Determines Claims.FrameNumbers
@@ -103,28 +86,20 @@ ResponseNumbers f g p q (R n) = p .refused n ∙ sym (q .refused n)
 ResponseNumbers f g p q (Word s) = p .status s ∙ sym (q .status s)
 ResponseNumbers f g p q (Gives r) = p .given r ∙ sym (q .given r)
 
-pub PartNumbers : Determines2 Claims.PartNumbers
-PartNumbers f g p q (R n) k = p .refused n k ∙ sym (q .refused n k)
-PartNumbers f g p q (Word s) k = p .status s k ∙ sym (q .status s k)
-PartNumbers f g p q (Gives sent) k = p .given sent k ∙ sym (q .given sent k)
+pub SentNumbers : Determines Claims.SentNumbers
+SentNumbers f g p q (R n) = p .refused n ∙ sym (q .refused n)
+SentNumbers f g p q (Word s) = p .status s ∙ sym (q .status s)
+SentNumbers f g p q (Gives sent) = p .given sent ∙ sym (q .given sent)
+
+pub RoomNumbers : Determines Claims.RoomNumbers
+RoomNumbers f g p q (R n) = p .refused n ∙ sym (q .refused n)
+RoomNumbers f g p q (Word s) = p .status s ∙ sym (q .status s)
+RoomNumbers f g p q (Gives n) = p .given n ∙ sym (q .given n)
 
 pub AskedNumbers : Determines Claims.AskedNumbers
 AskedNumbers f g p q (R n) = p .refused n ∙ sym (q .refused n)
 AskedNumbers f g p q (Word s) = p .status s ∙ sym (q .status s)
 AskedNumbers f g p q (Gives b) = p .given b ∙ sym (q .given b)
-
-pub StepNumbers : Determines Claims.StepNumbers
-StepNumbers f g p q told = by-outcome (told .outcome) (told .presence)
-  where
-    by-outcome : (o : Outcome Bool) (r : Presence) → f (record { outcome = o; presence = r }) ≡ g (record { outcome = o; presence = r })
-    by-outcome (R n) r = p .refused n r ∙ sym (q .refused n r)
-    by-outcome (Word s) r = p .status s r ∙ sym (q .status s r)
-    by-outcome (Gives b) r = p .given b r ∙ sym (q .given b r)
-
-pub MadeNumbers : Determines Claims.MadeNumbers
-MadeNumbers f g p q (R n) = p .refused n ∙ sym (q .refused n)
-MadeNumbers f g p q (Word s) = p .status s ∙ sym (q .status s)
-MadeNumbers f g p q (Gives r) = p .given r ∙ sym (q .given r)
 
 pub OrderNumbersExactly : Determines2 Claims.OrderNumbersExactly
 OrderNumbersExactly f g p q (R n) o = p .refused n o ∙ sym (q .refused n o)
@@ -144,38 +119,27 @@ BlockExactly f g p q (Gives (Body n)) bytes old = p .body n bytes old ∙ sym (q
 BlockExactly f g p q (Gives (Part n after)) bytes old = p .part n after bytes old ∙ sym (q .part n after bytes old)
 BlockExactly f g p q (Gives Ordered) bytes old = p .ordered bytes old ∙ sym (q .ordered bytes old)
 
-decision-equal : (a b : DecisionSaid) → a .answer ≡ b .answer → a .fault ≡ b .fault → a .place ≡ b .place → a .length ≡ b .length → a .taken ≡ b .taken → a .order ≡ b .order
-    → a .presence ≡ b .presence → a .remainder ≡ b .remainder → a .limit ≡ b .limit → a ≡ b
-decision-equal a b e f n l t o p k m = λ d. record { answer = e d; fault = f d; taken = t d; length = l d; order = o d; presence = p d; place = n d; remainder = k d; limit = m d }
+decision-equal : (a b : DecisionSaid) → a .answer ≡ b .answer → a .fault ≡ b .fault → a .place ≡ b .place → a .length ≡ b .length → a .taken ≡ b .taken → a .order ≡ b .order → a ≡ b
+decision-equal a b e f n l t o = λ d. record { answer = e d; fault = f d; taken = t d; length = l d; order = o d; place = n d }
 
-pub DecisionNumbers : Determines3 Claims.DecisionNumbers
-DecisionNumbers f g p q r k l =
+pub DecisionNumbers : Determines Claims.DecisionNumbers
+DecisionNumbers f g p q r =
     let all = by-answer (r .answer) refl in
-    decision-equal (f r k l) (g r k l) (all .0) (all .1) (all .2) (all .3) (p .taken r k l ∙ sym (q .taken r k l)) (p .order r k l ∙ sym (q .order r k l)) (p .presence r k l ∙ sym (q .presence r k l))
-    (p .remainder r k l ∙ sym (q .remainder r k l)) (p .limit r k l ∙ sym (q .limit r k l))
+    decision-equal (f r) (g r) (all .0) (all .1) (all .2) (all .3) (p .taken r ∙ sym (q .taken r)) (p .order r ∙ sym (q .order r))
   where
     Alike : Type 0
-    Alike = (f r k l .answer ≡ g r k l .answer) × (f r k l .fault ≡ g r k l .fault) × (f r k l .place ≡ g r k l .place) × (f r k l .length ≡ g r k l .length)
+    Alike = (f r .answer ≡ g r .answer) × (f r .fault ≡ g r .fault) × (f r .place ≡ g r .place) × (f r .length ≡ g r .length)
 
-    alike : (n m at long : ℕ) → (f r k l .answer ≡ n) × (f r k l .fault ≡ m) × (f r k l .place ≡ at) × (f r k l .length ≡ long)
-        → (g r k l .answer ≡ n) × (g r k l .fault ≡ m) × (g r k l .place ≡ at) × (g r k l .length ≡ long) → Alike
+    alike : (n m at long : ℕ) → (f r .answer ≡ n) × (f r .fault ≡ m) × (f r .place ≡ at) × (f r .length ≡ long)
+        → (g r .answer ≡ n) × (g r .fault ≡ m) × (g r .place ≡ at) × (g r .length ≡ long) → Alike
     alike n m at long a b = (a .0 ∙ sym (b .0), a .1 ∙ sym (b .1), a .2 ∙ sym (b .2), a .3 ∙ sym (b .3))
 
     by-answer : (o : Outcome DecisionGives) → r .answer ≡ o → Alike
-    by-answer (R n) e = alike _ _ _ _ (p .refused r k l n e) (q .refused r k l n e)
-    by-answer (Word s) e = alike _ _ _ _ (p .status r k l s e) (q .status r k l s e)
-    by-answer (Gives (Body n)) e = alike _ _ _ _ (p .body r k l n e) (q .body r k l n e)
-    by-answer (Gives (Part n after)) e = alike _ _ _ _ (p .part r k l n after e) (q .part r k l n after e)
-    by-answer (Gives Ordered) e = alike _ _ _ _ (p .ordered r k l e) (q .ordered r k l e)
-
-pub StatedExactly : (f g : StatusWord → (isC0 taken : Bool) → (kept settled : Presence) → (room : ℕ) → Remainder → (limit partRoom : ℕ) → DecisionResult) → Claims.StatedExactly f → Claims.StatedExactly g
-    → (w : StatusWord) (isC0 taken : Bool) (kept settled : Presence) (room : ℕ) (k : Remainder) (limit partRoom : ℕ) → f w isC0 taken kept settled room k limit partRoom ≡ g w isC0 taken kept settled room k limit partRoom
-StatedExactly f g p q w false taken kept settled room k limit partRoom = p .unasked w taken kept settled room k limit partRoom ∙ sym (q .unasked w taken kept settled room k limit partRoom)
-StatedExactly f g p q w true taken kept settled room k limit partRoom = by (ℕ-discrete (w .number) 0x6985)
-  where
-    by : Dec (w .number ≡ 0x6985) → f w true taken kept settled room k limit partRoom ≡ g w true taken kept settled room k limit partRoom
-    by (yes e) = p .fetched w taken kept settled room k limit partRoom e ∙ sym (q .fetched w taken kept settled room k limit partRoom e)
-    by (no n) = p .other w true taken kept settled room k limit partRoom n ∙ sym (q .other w true taken kept settled room k limit partRoom n)
+    by-answer (R n) e = alike _ _ _ _ (p .refused r n e) (q .refused r n e)
+    by-answer (Word s) e = alike _ _ _ _ (p .status r s e) (q .status r s e)
+    by-answer (Gives (Body n)) e = alike _ _ _ _ (p .body r n e) (q .body r n e)
+    by-answer (Gives (Part n after)) e = alike _ _ _ _ (p .part r n after e) (q .part r n after e)
+    by-answer (Gives Ordered) e = alike _ _ _ _ (p .ordered r e) (q .ordered r e)
 
 itself : {A : Type 0} (s : StatusWord) → HasStatus {A = A} (s .number) (Word s)
 itself s = record { word = s; is = refl; numbered = refl }
@@ -206,52 +170,57 @@ leftBy (R n) = rest 0 0
 leftBy (Word s) = rest 0 0
 leftBy (Gives sent) = sent .remainder
 
-does-ask : (i : ToDecide) → Dec (HasInsC0 (inputsOf i))
+does-ask : (i : ToDecide) → Dec (HasInsC0 (inputsIn i))
 does-ask i = by (readOf (i .frame)) refl
   where
-    at : (said : Says) → readOf (i .frame) ≡ Gives said → Dec (said .header .ins ≡ 0xC0) → Dec (HasInsC0 (inputsOf i))
+    at : (said : Says) → readOf (i .frame) ≡ Gives said → Dec (said .header .ins ≡ 0xC0) → Dec (HasInsC0 (inputsIn i))
     at said e (yes k) = yes (said, e, k)
     at said e (no k) = no (λ x. k (ap (λ (s : Says). s .header .ins) (gives-same said (x .0) (sym e ∙ x .1)) ∙ x .2))
 
-    by : (o : Outcome Says) → readOf (i .frame) ≡ o → Dec (HasInsC0 (inputsOf i))
+    by : (o : Outcome Says) → readOf (i .frame) ≡ o → Dec (HasInsC0 (inputsIn i))
     by (R n) e = no (λ x. r-gives n (x .0) (sym e ∙ x .1))
     by (Word s) e = no (λ x. word-gives s (x .0) (sym e ∙ x .1))
     by (Gives said) e = at said e (ℕ-discrete (said .header .ins) 0xC0)
 
 module _ (i : ToDecide) where
   -- a C0 is given no body and no order
-  asked-body : (n : ℕ) (r : DecisionResult) → Asked (presenceOf (i .presence)) (i .moment) (inputsOf i) r → r .answer ≡ Gives (Body n) → ⊥
+  asked-body : (n : ℕ) (r : DecisionResult) → Asked (presenceIn (i .presence)) (i .moment) (inputsIn i) r → r .answer ≡ Gives (Body n) → ⊥
   asked-body n _ (is-refused m) e = r-gives _ _ e
   asked-body n _ (is-word w q) e = word-gives _ _ e
   asked-body n _ (is-part a b c) e = part-body _ _ _ e
 
-  asked-order : (r : DecisionResult) → Asked (presenceOf (i .presence)) (i .moment) (inputsOf i) r → r .answer ≡ Gives Ordered → ⊥
+  asked-order : (r : DecisionResult) → Asked (presenceIn (i .presence)) (i .moment) (inputsIn i) r → r .answer ≡ Gives Ordered → ⊥
   asked-order _ (is-refused m) e = r-gives _ _ e
   asked-order _ (is-word w q) e = word-gives _ _ e
   asked-order _ (is-part a b c) e = part-order _ _ e
 
   numbered : IsNumbered (decidedBy i .answer)
-  numbered = Outcomes.decision-said (presenceOf (i .presence)) (i .moment) (inputsOf i)
+  numbered = Outcomes.decision-said (presenceIn (i .presence)) (i .moment) (inputsIn i)
 
   module _ (f : ToDecide → AfterDeciding) (p : Claims.DecideExported f) where
     -- its row is the definition's
     the-row : p .row i .0 ≡ decidedBy i
-    the-row = sym (sound (presenceOf (i .presence)) (i .moment) (inputsOf i) (p .row i .0) (p .row i .1))
+    the-row = sym (sound (presenceIn (i .presence)) (i .moment) (inputsIn i) (p .row i .0) (p .row i .1))
 
     reported : Reports (f i .said) (decidedBy i)
     reported = subst (λ (r : DecisionResult). Reports (f i .said) r) the-row (p .row i .2)
 
-    limited : f i .said .limit ≡ frameLimit (i .frame)
-    limited = p .limit i frameLimit limits-exactly
+    recorded : presenceIn (f i .presence) ≡ decidedBy i .presence
+    recorded = p .row i .3 ∙ ap (λ (r : DecisionResult). r .presence) the-row
+
+    limited : lastRefusal < f i .said .answer → sessionIn (f i .session) .limit ≡ frameLimit (i .frame)
+    limited high = p .limit i frameLimit limits-exactly high
 
     sent : f i .said .answer ≡ 0x0200
-        → sendingOf (i .reply) (i .remainder) (frameLimit (i .frame)) (i .part) ≡ (Gives (sending (f i .said .length) (f i .said .remainder)), f i .part)
-    sent is = subst (λ (l : ℕ). sendingOf (i .reply) (i .remainder) l (i .part) ≡ (Gives (sending (f i .said .length) (f i .said .remainder)), f i .part)) limited (p .part i sendingOf next-exactly is)
+        → sendingOf (i .reply) (remainderIn (i .session)) (frameLimit (i .frame)) (i .part) ≡ (Gives (sending (f i .said .length) (remainderIn (f i .session))), f i .part)
+    sent is =
+        subst (λ (l : ℕ). sendingOf (i .reply) (remainderIn (i .session)) l (i .part) ≡ (Gives (sending (f i .said .length) (remainderIn (f i .session))), f i .part)) (limited (omega (arith, is)))
+        (p .part i sendingOf next-exactly is)
 
     ordered : f i .said .answer ≡ 0x0100 → f i .block ≡ decidedBy i .order .bytes
-    ordered is = p .row i .3 is ∙ ap (λ (r : DecisionResult). r .order .bytes) the-row
+    ordered is = p .row i .4 is ∙ ap (λ (r : DecisionResult). r .order .bytes) the-row
 
-    dropped : (HasInsC0 (inputsOf i) → ⊥) → lastRefusal < f i .said .answer → f i .said .remainder ≡ rest 0 0
+    dropped : (HasInsC0 (inputsIn i) → ⊥) → lastRefusal < f i .said .answer → remainderIn (f i .session) ≡ rest 0 0
     dropped n high = p .drops i (λ said r c. n (said, r, c)) high
 
   module _ (f g : ToDecide → AfterDeciding) (p : Claims.DecideExported f) (q : Claims.DecideExported g) where
@@ -259,16 +228,20 @@ module _ (i : ToDecide) where
     same-answer = reported f p .answer ∙ sym (reported g q .answer)
 
     by-remainder : (o : Outcome DecisionGives) → decidedBy i .answer ≡ o → IsNumbered o → f i .said .answer ≡ decidedNo o → g i .said .answer ≡ decidedNo o
-        → Dec (HasInsC0 (inputsOf i)) → f i .said .remainder ≡ g i .said .remainder
-    by-remainder (R n) e h a b d = p .refused i (omega (arith, h .0, a)) (omega (arith, h .1, a)) ∙ sym (q .refused i (omega (arith, h .0, b)) (omega (arith, h .1, b)))
+        → Dec (HasInsC0 (inputsIn i)) → remainderIn (f i .session) ≡ remainderIn (g i .session)
+    by-remainder (R n) e h a b d = ap (λ (s : Session). s .remainder) (p .refused i (omega (arith, h .1, a)) ∙ sym (q .refused i (omega (arith, h .1, b))))
     by-remainder (Word s) e h a b (yes x) =
         p .keeps i (x .0) (x .1) (x .2) (omega (arith, h .0, a)) (omega (arith, h .1, a)) ∙ sym (q .keeps i (x .0) (x .1) (x .2) (omega (arith, h .0, b)) (omega (arith, h .1, b)))
     by-remainder (Word s) e h a b (no x) = dropped f p x (omega (arith, h .0, a)) ∙ sym (dropped g q x (omega (arith, h .0, b)))
-    by-remainder (Gives (Body n)) e h a b (yes x) = absurd (asked-body n (decidedBy i) (asked (presenceOf (i .presence)) (i .moment) (inputsOf i) x) e)
+    by-remainder (Gives (Body n)) e h a b (yes x) = absurd (asked-body n (decidedBy i) (asked (presenceIn (i .presence)) (i .moment) (inputsIn i) x) e)
     by-remainder (Gives (Body n)) e h a b (no x) = dropped f p x (omega (arith, a)) ∙ sym (dropped g q x (omega (arith, b)))
-    by-remainder (Gives Ordered) e h a b (yes x) = absurd (asked-order (decidedBy i) (asked (presenceOf (i .presence)) (i .moment) (inputsOf i) x) e)
+    by-remainder (Gives Ordered) e h a b (yes x) = absurd (asked-order (decidedBy i) (asked (presenceIn (i .presence)) (i .moment) (inputsIn i) x) e)
     by-remainder (Gives Ordered) e h a b (no x) = dropped f p x (omega (arith, a)) ∙ sym (dropped g q x (omega (arith, b)))
     by-remainder (Gives (Part n k)) e h a b d = ap (λ (o : Outcome Sent × List ℕ). leftBy (o .0)) (sym (sent f p a) ∙ sent g q b)
+
+    by-limit : Dec (lastRefusal < f i .said .answer) → sessionIn (f i .session) .limit ≡ sessionIn (g i .session) .limit
+    by-limit (yes h) = limited f p h ∙ sym (limited g q (omega (arith, h, same-answer)))
+    by-limit (no h) = ap (λ (s : Session). s .limit) (p .refused i (omega (arith, h)) ∙ sym (q .refused i (omega (arith, h, same-answer))))
 
     by-reply : Dec (f i .said .answer ≡ 0x9000) → f i .reply ≡ g i .reply
     by-reply (yes is) = p .version i is ∙ sym (q .version i (sym same-answer ∙ is))
@@ -282,43 +255,103 @@ module _ (i : ToDecide) where
     by-part (yes is) = ap (λ (o : Outcome Sent × List ℕ). o .1) (sym (sent f p is) ∙ sent g q (sym same-answer ∙ is))
     by-part (no n) = p .no-part i n ∙ sym (q .no-part i (λ is. n (same-answer ∙ is)))
 
-deciding-equal : (a b : AfterDeciding) → a .said ≡ b .said → a .reply ≡ b .reply → a .block ≡ b .block → a .part ≡ b .part → a ≡ b
-deciding-equal a b s r k t = λ d. record { said = s d; reply = r d; block = k d; part = t d }
+-- what is said, and the buffers, are the same; of the record's and the session's numbers what they stand for
+pub record Alike (a b : AfterDeciding) : Type 0 where
+  pub said : a .said ≡ b .said
+  pub presence : presenceIn (a .presence) ≡ presenceIn (b .presence)
+  pub session : sessionIn (a .session) ≡ sessionIn (b .session)
+  pub reply : a .reply ≡ b .reply
+  pub block : a .block ≡ b .block
+  pub part : a .part ≡ b .part
 
-pub DecideExported : Determines Claims.DecideExported
+pub DecideExported : (f g : ToDecide → AfterDeciding) → Claims.DecideExported f → Claims.DecideExported g → (i : ToDecide) → Alike (f i) (g i)
 DecideExported f g p q i =
     let a = reported i f p in
     let b = reported i g q in
     let left = by-remainder i f g p q (decidedBy i .answer) refl (numbered i) (a .answer) (b .answer) (does-ask i) in
-    let said =
-    decision-equal (f i .said) (g i .said) (a .answer ∙ sym (b .answer)) (a .fault ∙ sym (b .fault)) (a .place ∙ sym (b .place)) (a .long ∙ sym (b .long)) (a .taken ∙ sym (b .taken))
-    (a .order ∙ sym (b .order)) (a .presence ∙ sym (b .presence)) left (limited i f p ∙ sym (limited i g q)) in
-    deciding-equal (f i) (g i) said (by-reply i f g p q (ℕ-discrete (f i .said .answer) 0x9000)) (by-block i f g p q (ℕ-discrete (f i .said .answer) 0x0100)) (by-part i f g p q (ℕ-discrete (f i .said .answer) 0x0200))
+    let limit = by-limit i f g p q (decLt lastRefusal (f i .said .answer)) in
+    record {
+      said =
+          decision-equal (f i .said) (g i .said) (a .answer ∙ sym (b .answer)) (a .fault ∙ sym (b .fault)) (a .place ∙ sym (b .place)) (a .long ∙ sym (b .long)) (a .taken ∙ sym (b .taken))
+          (a .order ∙ sym (b .order));
+      presence = recorded i f p ∙ sym (recorded i g q);
+      session = λ d. record { remainder = left d; limit = limit d };
+      reply = by-reply i f g p q (ℕ-discrete (f i .said .answer) 0x9000);
+      block = by-block i f g p q (ℕ-discrete (f i .said .answer) 0x0100);
+      part = by-part i f g p q (ℕ-discrete (f i .said .answer) 0x0200);
+    }
 
--- ---- the exported next part and response
-after-part : (a b : AfterPart) → a .said ≡ b .said → a .buffer ≡ b .buffer → a ≡ b
-after-part a b s t = λ d. record { said = s d; buffer = t d }
+-- ---- the exported making
+pub MakeExported : (f g : (presence : List ℕ) (w : ℕ) → AfterMaking) → Claims.MakeExported f → Claims.MakeExported g
+    → (n : List ℕ) (w : ℕ) → (f n w .said ≡ g n w .said) × SameNumbers 5 (f n w .presence) (g n w .presence)
+MakeExported f g p q n w = by (ℕ-discrete w 0) (decLt 60000 w)
+  where
+    refused : (w ≡ 0) ⊎ (60000 < w) → (f n w .said ≡ g n w .said) × SameNumbers 5 (f n w .presence) (g n w .presence)
+    refused h =
+        let x = p .refused n w h in
+        let y = q .refused n w h in
+        (x .0 ∙ sym (y .0), λ k m. x .1 k m ∙ sym (y .1 k m))
 
+    by : Dec (w ≡ 0) → Dec (60000 < w) → (f n w .said ≡ g n w .said) × SameNumbers 5 (f n w .presence) (g n w .presence)
+    by (yes z) d = refused (inl z)
+    by (no z) (yes h) = refused (inr h)
+    by (no z) (no h) =
+        let x = p .made n w (omega (arith, z)) (omega (arith, h)) in
+        let y = q .made n w (omega (arith, z)) (omega (arith, h)) in
+        (x .0 ∙ sym (y .0), same-record (f n w .presence) (g n w .presence) (x .1 ∙ sym (y .1)))
+
+-- ---- the exported next part, room and response
 after-writing : (a b : AfterWriting) → a .said ≡ b .said → a .buffer ≡ b .buffer → a ≡ b
 after-writing a b s t = λ d. record { said = s d; buffer = t d }
 
-pub NextPartExported : (f g : (body : List ℕ) → Remainder → (limit : ℕ) (old : List ℕ) → AfterPart) → Claims.NextPartExported f → Claims.NextPartExported g
-    → (body : List ℕ) (r : Remainder) (limit : ℕ) (old : List ℕ) → f body r limit old ≡ g body r limit old
-NextPartExported f g p q body r limit old = by (nextPartOf (length body) r limit (length old)) (next-way (length body) r limit (length old)) refl
+pub NextPartExported : (f g : (session body part : List ℕ) → AfterPart) → Claims.NextPartExported f → Claims.NextPartExported g
+    → (session body old : List ℕ) → (f session body old .said ≡ g session body old .said) × (sessionIn (f session body old .session) ≡ sessionIn (g session body old .session))
+    × (f session body old .part ≡ g session body old .part)
+NextPartExported f g p q session body old = by (nextPartOf (length body) k l (length old)) (next-way (length body) k l (length old)) refl
   where
-    refused : (m : ℕ) → sendingOf body r limit old .0 ≡ R m → f body r limit old ≡ g body r limit old
-    refused m e =
-        let x = p .refused sendingOf next-exactly body r limit old m e in
-        let y = q .refused sendingOf next-exactly body r limit old m e in
-        after-part _ _ (x .0 ∙ sym (y .0)) (x .1 ∙ sym (y .1))
+    k : Remainder
+    k = remainderIn session
 
-    by : (o : Outcome Sent) → NextWay (length body) r limit (length old) o → sendingOf body r limit old .0 ≡ o → f body r limit old ≡ g body r limit old
+    l : ℕ
+    l = sessionIn session .limit
+
+    Same : Type 0
+    Same = (f session body old .said ≡ g session body old .said) × (sessionIn (f session body old .session) ≡ sessionIn (g session body old .session)) × (f session body old .part ≡ g session body old .part)
+
+    refused : (m : ℕ) → sendingOf body (remainderIn session) (sessionIn session .limit) old .0 ≡ R m → Same
+    refused m e =
+        let x = p .refused sendingOf next-exactly session body old m e in
+        let y = q .refused sendingOf next-exactly session body old m e in
+        (x .0 ∙ sym (y .0), x .1 ∙ sym (y .1), x .2 ∙ sym (y .2))
+
+    by : (o : Outcome Sent) → NextWay (length body) k l (length old) o → sendingOf body (remainderIn session) (sessionIn session .limit) old .0 ≡ o → Same
     by _ (short-body h) e = refused 2 e
-    by _ (short-buffer h k) e = refused 2 e
-    by _ (given h k) e =
-        let x = p .given sendingOf next-exactly body r limit old _ _ e in
-        let y = q .given sendingOf next-exactly body r limit old _ _ e in
-        after-part _ _ (x .0 ∙ sym (y .0)) (x .1 ∙ sym (y .1))
+    by _ (short-buffer h m) e = refused 2 e
+    by _ (given h m) e =
+        let x = p .given sendingOf next-exactly session body old _ _ e in
+        let y = q .given sendingOf next-exactly session body old _ _ e in
+        (x .0 ∙ sym (y .0), x .1 ∙ sym (y .1), x .2 ∙ sym (y .2))
+
+room-no-word : (limit longest : ℕ) (s : StatusWord) → responseRoomOf limit longest ≡ Word s → ⊥
+unfolding responseRoomOf
+room-no-word limit longest s e = by (ltb (partLength limit longest) 0xfffffffffffffffe) e
+  where
+    by : (b : Bool) → _≡_ {A = Outcome ℕ} (if b then Gives (partLength limit longest + 2) else R 2) (Word s) → ⊥
+    by true x = word-gives _ _ (sym x)
+    by false x = r-word _ _ x
+
+pub RoomExported : Determines2 Claims.RoomExported
+RoomExported f g p q frame longest = by (readOf frame) refl
+  where
+    at : (said : Says) → readOf frame ≡ Gives said → (o : Outcome ℕ) → responseRoomOf (limitOf said) longest ≡ o → f frame longest ≡ g frame longest
+    at said r (R m) e = p .refused responseRoomOf room-exactly frame longest said m r e ∙ sym (q .refused responseRoomOf room-exactly frame longest said m r e)
+    at said r (Word s) e = absurd (room-no-word (limitOf said) longest s e)
+    at said r (Gives n) e = p .given responseRoomOf room-exactly frame longest said n r e ∙ sym (q .given responseRoomOf room-exactly frame longest said n r e)
+
+    by : (o : Outcome Says) → readOf frame ≡ o → f frame longest ≡ g frame longest
+    by (R n) e = absurd (read-refuses-not frame n e)
+    by (Word w) e = p .no-shape frame longest w e ∙ sym (q .no-shape frame longest w e)
+    by (Gives said) e = at said e (responseRoomOf (limitOf said) longest) refl
 
 pub ResponseExported : Determines3 Claims.ResponseExported
 ResponseExported f g p q body status old = by (decLt (length old) (length body + 2))

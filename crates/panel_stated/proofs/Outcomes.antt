@@ -26,7 +26,8 @@ use Rattle.ctap1_stated.specs.declared.Allowed.the-variants as Allowed′
 use Rattle.response_stated.specs.Words.{Sent}
 use Rattle.response_stated.specs.declared.Remainder.{Remainder}
 use Rattle.response_stated.specs.Responses.{writeResponseOf, readResponseOf}
-use Rattle.response_stated.specs.Parts.{partLength, nextPartOf}
+use Rattle.response_stated.specs.Parts.{limitOf, partLength, nextPartOf, responseRoomOf}
+use Rattle.session_stated.specs.Held.{roomOn, frameRoomOf}
 use Rattle.panel_stated.specs.Terms.{IsNumbered}
 use mathlib.Core.Path.{_≡_, refl, sym}
 use Rattle.outcome.proofs.Laws.{r-word, r-gives}
@@ -134,6 +135,15 @@ pub next-said : (bodyRoom : ℕ) (r : Remainder) (limit room : ℕ) → IsNumber
 unfolding nextPartOf
 next-said bodyRoom r limit room =
     test (ltb bodyRoom (r .place + r .count)) _ _ (omega arith, omega arith) (test (ltb room (partLength limit (r .count) + 2)) _ _ (omega arith, omega arith) tt)
+
+pub room-said : (frame : List ℕ) (longest : ℕ) → IsNumbered (frameRoomOf frame longest)
+unfolding frameRoomOf responseRoomOf
+room-said frame longest = by (readOf frame)
+  where
+    by : (o : Outcome Says) → IsNumbered (roomOn o longest)
+    by (R n) = tt
+    by (Word s) = tt
+    by (Gives said) = test (ltb (partLength (limitOf said) longest) 0xfffffffffffffffe) _ _ tt (omega arith, omega arith)
 
 -- ---- the decision
 abbrev OfPath : DecisionPath → Type 0

@@ -13,10 +13,8 @@ use Rattle.apdu_stated.specs.Writing.{frameOf, payloadOf, writeBy, bufferBy, wr
 use Rattle.apdu_stated.proofs.Laws.{reading-exactly, write-exactly}
 use Rattle.octets.proofs.Laws.{small, bytes-of}
 use Rattle.apdu_stated.specs.Reading.{readBy, lengthsOf, sayOf, shortOf, extendedOf, afterData, dataOf}
-use Rattle.u2f_up_stated.specs.History.{Call, Checking}
-use Rattle.u2f_up_stated.specs.Runs.{own, after, doneBy}
-use Rattle.panel_stated.specs.Terms.{numbersAfter, nought, retired, above}
-use Rattle.u2f_up_stated.specs.Moments.{touchOf, checkOf, askOf, settleOf, grantedOf, checkedOf, fresh, movedTo}
+use Rattle.panel_stated.specs.Terms.{nought, retired, above}
+use Rattle.u2f_up_stated.specs.Moments.{newOf, touchOf, checkOf, settleOf, grantedOf, checkedOf, fresh}
 use Rattle.u2f_up_stated.specs.declared.Window.the-variants.{Closed, Opened}
 use Rattle.u2f_up_stated.specs.declared.Presence.{Presence}
 use Rattle.ctap1_stated.specs.Words.{Ordered, Part, DecisionResult}
@@ -27,17 +25,17 @@ use Rattle.ctap1_stated.proofs.Laws.{sound, limits-exactly}
 use Rattle.command_stated.specs.Command.{commandOf, onReading, byInstruction, registerOf, versionOf, getResponseOf, applicationOf, challengeOf}
 use Rattle.response_stated.specs.Words.{rest, Sent}
 use Rattle.response_stated.specs.Terms.{sendingOf, writingOf}
-use Rattle.response_stated.specs.Parts.{partLength, nextPartOf, limitOf, leftStatus}
+use Rattle.response_stated.specs.Parts.{partLength, nextPartOf, limitOf, leftStatus, responseRoomOf}
 use Rattle.response_stated.specs.Responses.{writeResponseOf}
-use Rattle.response_stated.proofs.Laws.{next-exactly, writes-exactly}
+use Rattle.response_stated.proofs.Laws.{next-exactly, writes-exactly, room-exactly}
 use Rattle.outcome.proofs.Laws.{r-gives, r-word}
 use Rattle.octets.specs.Bytes.{AreBytes, partOf, byte}
 use Rattle.signing_stated.specs.Orders.{isAuthenticateLayout, registerOrderOf, block}
 use Rattle.signing_stated.specs.Finishing.{finishOf}
 use Rattle.signing_stated.specs.declared.Kind.the-variants as Kind′
-use Rattle.panel_stated.specs.Words.{Ordinary, Strict, Instruction, Lc3DataLe2, Window, Made, PresenceRecord, OrderNumbers, FrameSaid, CommandSaid, Wrote, Stepped, Asked, Order, ResponseSaid, PartSaid, HardwareSaid, Remainder}
-use Rattle.panel_stated.specs.Numbers.{answerNo, decidedNo, presenceOf, presenceNumbers, shapeOf, kindOf}
-use Rattle.panel_stated.specs.Exports.{ToWrite, ToDecide, writeNumbered, finishNumbered, saidBy, askedNumbers, stepNumbers, decidesOf, statedOf, commandNumbers}
+use Rattle.panel_stated.specs.Words.{Ordinary, Strict, Instruction, Lc3DataLe2, OrderNumbers, FrameSaid, CommandSaid, Wrote, Asked, Order, ResponseSaid, RoomSaid, Remainder, Session}
+use Rattle.panel_stated.specs.Numbers.{answerNo, decidedNo, shapeOf, kindOf}
+use Rattle.panel_stated.specs.Exports.{ToWrite, ToDecide, writeNumbered, finishNumbered, touchesOf, checksOf, asksOf, decidesOf, commandNumbers}
 use Rattle.panel_stated.specs.Claims
 use Rattle.panel_stated.specs.Wrong
 use Rattle.panel_stated.specs.declared.Kinded.the-variants as Kinded′
@@ -57,45 +55,22 @@ pub orderIs0 : Claims.NoAnswerIs0 answerNo Wrong.orderIs0 → ⊥
 orderIs0 p = p .decision (Gives Ordered) tt refl
 
 -- ---- records
-abbrev oneOpened : PresenceRecord
-oneOpened = record { w = 5000; prompt = 0; touch = 8; last = 9; asker = 0 }
+-- W, prompt, touch, last moment, asker: a touch opened at 7
+abbrev oneOpened : List ℕ
+oneOpened = 5000 ∷ 0 ∷ 8 ∷ 9 ∷ 0 ∷ []
 
-pub windowsSwapped : Claims.NumbersBack Wrong.windowsSwapped presenceNumbers → ⊥
-windowsSwapped p = let e : _≡_ {A = ℕ} 8 0 = ap (λ (n : PresenceRecord). n .prompt) (p oneOpened (omega arith, omega arith)) in omega arith
+pub clearsAtR6 : Claims.MakeExported Wrong.clearsAtR6 → ⊥
+unfolding newOf
+clearsAtR6 p = let e : _≡_ {A = ℕ} 0 5000 = p .refused oneOpened 0 (inl refl) .1 0 (omega arith) in omega arith
 
-pub swappedBothWays : Claims.RecordNumbers Wrong.swappedBothWays → ⊥
-swappedBothWays p =
-    let e : Opened 7 ≡ Closed = p .prompt-closed oneOpened refl in let z : _≡_ {A = ℕ} 0 1 = cc in omega arith
+-- 65,537 is R6, and 1 is not
+pub madeFrom16Bits : Claims.MakeExported Wrong.madeFrom16Bits → ⊥
+unfolding newOf
+madeFrom16Bits p = let e : _≡_ {A = ℕ} 0x9000 6 = p .refused oneOpened 65537 (inr (omega arith)) .0 in omega arith
 
--- the natural way to begin in C, `{.w = 5000}`: at moment 100 there would be a touch
-abbrev zeroed : PresenceRecord
-zeroed = record { w = 5000; prompt = 0; touch = 0; last = 0; asker = 0 }
-
-pub greatestIsClosed : Claims.RecordNumbers Wrong.greatestIsClosed → ⊥
-greatestIsClosed p =
-    let e : Opened 0 ≡ Closed = p .touch-closed zeroed refl in let z : _≡_ {A = ℕ} 0 1 = cc in omega arith
-
--- a prompt opened at moment 0
-abbrev promptedAt0 : Presence
-promptedAt0 = record { w = 5000; prompt = Opened 0; touch = Closed; last = 0; asker = 0 }
-
--- a record's numbers with open windows numbered by their moment, and a making that gives them
-abbrev itsMoment : Window → ℕ
-itsMoment Closed = 0
-itsMoment (Opened m) = m
-
-abbrev asItsMoment : Presence → PresenceRecord
-asItsMoment p = record { w = p .w; prompt = itsMoment (p .prompt); touch = itsMoment (p .touch); last = p .last; asker = p .asker }
-
-abbrev madeAsItsMoment : ℕ → Made
-madeAsItsMoment w = record { answer = 0x9000; presence = asItsMoment (fresh w) }
-
-pub openedAtItsNumber : Claims.RecordsBack Wrong.openedAtItsNumber asItsMoment → ⊥
-openedAtItsNumber p =
-    let e : Closed ≡ Opened 0 = ap (λ (q : Presence). q .prompt) (p promptedAt0 (omega arith) tt) in let z : _≡_ {A = ℕ} 0 1 = cc in omega arith
-
-pub refusedMoves : Claims.RefusalHandsBack Wrong.refusedMoves (λ n s t. Wrong.refusedMoves n t) saidBy → ⊥
-refusedMoves p = let e : _≡_ {A = ℕ} 8 9 = ap (λ (n : PresenceRecord). n .last) (p .grant-up oneOpened 8 (omega arith, omega arith) (omega arith)) in omega arith
+pub refusedMoves : Claims.RefusalKeeps Wrong.refusedMoves checksOf decidesOf → ⊥
+unfolding touchOf settleOf
+refusedMoves p = let e : _≡_ {A = ℕ} 8 9 = p .grant-up oneOpened 8 (omega arith) 3 (omega arith) in omega arith
 
 -- ---- numbers that stand for cases
 pub shape0Accepted : Claims.ShapeNumbers Wrong.shape0Accepted → ⊥
@@ -145,7 +120,7 @@ commandFaultUnsaid p = let e : _≡_ {A = ℕ} 0 6 = ap (λ (c : CommandSaid). c
 
 pub decisionFaultUnsaid : Claims.DecisionNumbers Wrong.decisionFaultUnsaid → ⊥
 decisionFaultUnsaid p =
-    let e : _≡_ {A = ℕ} 0 6 = (p .status (record { answer = Word missing6; presence = fresh 5000; order = login; taken = false }) (rest 0 0) 0 missing6 refl .2) in omega arith
+    let e : _≡_ {A = ℕ} 0 6 = (p .status (record { answer = Word missing6; presence = fresh 5000; order = login; taken = false }) missing6 refl .2) in omega arith
 
 abbrev registering : Says
 registering = record { header = record { cla = 0; ins = 1; p1 = 3; p2 = 0 }; shape = 3; dataAt = 5; lc = 64; le = 0 }
@@ -164,20 +139,6 @@ yesBesideRefusal p = let e : _≡_ {A = Bool} true false = ap (λ (a : Asked). a
 
 pub alwaysNo : Claims.AskedNumbers Wrong.alwaysNo → ⊥
 alwaysNo p = let e : _≡_ {A = Bool} false true = ap (λ (a : Asked). a .yes) (p .given true) in let z : _≡_ {A = ℕ} 0 1 = cc in omega arith
-
-pub lastMomentLost : Claims.StepNumbers Wrong.lastMomentLost → ⊥
-lastMomentLost p =
-    let e : _≡_ {A = ℕ} 0 7 = ap (λ (s : Stepped). s .presence .last) (p .given true (movedTo (fresh 5000) 7)) in omega arith
-
-pub stepYesBesideRefusal : Claims.StepNumbers Wrong.stepYesBesideRefusal → ⊥
-stepYesBesideRefusal p =
-    let e : _≡_ {A = Bool} true false = ap (λ (s : Stepped). s .yes) (p .refused 1 (fresh 5000)) in let z : _≡_ {A = ℕ} 0 1 = cc in omega arith
-
-pub madeBesideRefusal : Claims.MadeNumbers Wrong.madeBesideRefusal → ⊥
-madeBesideRefusal p = let e : _≡_ {A = ℕ} 1 0 = ap (λ (m : Made). m .presence .w) (p .refused 6) in omega arith
-
-pub madeWithoutRecord : Claims.MadeNumbers Wrong.madeWithoutRecord → ⊥
-madeWithoutRecord p = let e : _≡_ {A = ℕ} 0 5000 = ap (λ (m : Made). m .presence .w) (p .given (fresh 5000)) in omega arith
 
 pub ordersAlike : Claims.OrderNumbersExactly Wrong.ordersAlike → ⊥
 ordersAlike p = let e : _≡_ {A = ℕ} 1 2 = ap (λ (n : OrderNumbers). n .kind) (p .authenticate login refl) in omega arith
@@ -198,22 +159,9 @@ placesOneOn p =
 -- ---- decisions and runs
 pub takenUnsaid : Claims.DecisionNumbers Wrong.takenUnsaid → ⊥
 takenUnsaid p =
-    let e : _≡_ {A = Bool} false true = p .taken (record { answer = Gives Ordered; presence = fresh 5000; order = login; taken = true }) (rest 0 0) 0 in
+    let e : _≡_ {A = Bool} false true = p .taken (record { answer = Gives Ordered; presence = fresh 5000; order = login; taken = true }) in
     let z : _≡_ {A = ℕ} 0 1 = cc in
     omega arith
-
-pub limitUnsaid : Claims.DecisionNumbers Wrong.limitUnsaid → ⊥
-limitUnsaid p = let e : _≡_ {A = ℕ} 0 256 = p .limit (record { answer = Gives Ordered; presence = fresh 5000; order = login; taken = true }) (rest 0 0) 256 in omega arith
-
--- ---- a status word where something is left
--- where nothing remains but a byte, and there is no room: R2
-pub neverFetched : Claims.StatedExactly Wrong.neverFetched → ⊥
-unfolding fetchPath nextPartOf partLength
-neverFetched p = r-word 2 (plainWord 0x6985) (sym (ap (λ (r : DecisionResult). r .answer) (p .fetched (plainWord 0x6985) false (fresh 5000) (fresh 5000) 1 (rest 0 1) 0 0 refl)))
-
-pub fetchedUnasked : Claims.StatedExactly Wrong.fetchedUnasked → ⊥
-unfolding statedOf fetchPath nextPartOf partLength
-fetchedUnasked p = r-word 2 (plainWord 0x6985) (ap (λ (r : DecisionResult). r .answer) (p .unasked (plainWord 0x6985) false (fresh 5000) (fresh 5000) 1 (rest 0 1) 0 0))
 
 -- ---- responses and parts
 pub responseStatusUnsaid : Claims.ResponseNumbers Wrong.responseStatusUnsaid → ⊥
@@ -222,21 +170,18 @@ responseStatusUnsaid p = let e : _≡_ {A = ℕ} 0 0x9000 = ap (λ (r : Response
 pub responseWithStatus : Claims.ResponseNumbers Wrong.responseWithStatus → ⊥
 responseWithStatus p = let e : _≡_ {A = ℕ} 8 6 = ap (λ (r : ResponseSaid). r .length) (p .given (record { length = 6; status = 0x9000 })) in omega arith
 
-pub refusalForgets : Claims.PartNumbers Wrong.refusalForgets → ⊥
-refusalForgets p = let e : _≡_ {A = ℕ} 0 5 = ap (λ (r : PartSaid). r .remainder .count) (p .refused 2 (rest 1 5)) in omega arith
+pub sentWithoutStatus : Claims.SentNumbers Wrong.sentWithoutStatus → ⊥
+sentWithoutStatus p = let e : _≡_ {A = ℕ} 4 6 = ap (λ (r : Wrote). r .length) (p .given (record { length = 6; remainder = rest 5 1 })) in omega arith
 
-pub partForgets : Claims.PartNumbers Wrong.partForgets → ⊥
-partForgets p = let e : _≡_ {A = ℕ} 5 1 = ap (λ (r : PartSaid). r .remainder .count) (p .given (record { length = 6; remainder = rest 5 1 }) (rest 1 5)) in omega arith
+pub roomBesideRefusal : Claims.RoomNumbers Wrong.roomBesideRefusal → ⊥
+roomBesideRefusal p = let e : _≡_ {A = ℕ} 258 0 = ap (λ (r : RoomSaid). r .length) (p .refused 2) in omega arith
 
--- a check at moment 0 on a fresh record
-abbrev checkedAt0 : List Call
-checkedAt0 = record { role = Checking 0; moment = 0 } ∷ []
-
-pub runsAtItsNumber : Claims.RunsOverNumbers madeAsItsMoment Wrong.runsAtItsNumber asItsMoment → ⊥
-unfolding after numbersAfter doneBy checkOf settleOf checkedOf
-runsAtItsNumber p =
-    let e : Closed ≡ Opened 0 = ap (λ (q : Presence). q .prompt) (p .records Call own (λ q d. refl) 5000 (omega arith) (omega arith) checkedAt0) in
-    let z : _≡_ {A = ℕ} 0 1 = cc in
+-- a frame without Le, and a body of 1,000 bytes: 258
+pub roomUncut : Claims.RoomExported Wrong.roomUncut → ⊥
+unfolding readBy sayOf lengthsOf limitOf responseRoomOf partLength
+roomUncut p =
+    let said : Says = record { header = record { cla = 0x00; ins = 0xC0; p1 = 0x00; p2 = 0x00 }; shape = 1; lc = 0; le = 0; dataAt = 4 } in
+    let e : _≡_ {A = ℕ} 1002 258 = ap (λ (r : RoomSaid). r .length) (p .given responseRoomOf room-exactly (0x00 ∷ 0xC0 ∷ 0x00 ∷ 0x00 ∷ []) 1000 said 258 refl refl) in
     omega arith
 
 -- ---- the hardware, and orders of no kind
@@ -254,16 +199,16 @@ noKindIsR2 p =
     omega arith
 
 -- ---- the exported decision
-abbrev hardware : (allowed : ℕ) → HardwareSaid
-hardware n = record { allowed = n; stored = 1; attestation = 1; good = 1; counted = 1; counter = 7 }
+abbrev hardware : (allowed : ℕ) → List ℕ
+hardware n = n ∷ 1 ∷ 1 ∷ 1 ∷ 1 ∷ 7 ∷ []
 
 -- with a live touch
-abbrev touched : PresenceRecord
-touched = record { w = 5000; prompt = 0; touch = 1; last = 0; asker = 0 }
+abbrev touched : List ℕ
+touched = 5000 ∷ 0 ∷ 1 ∷ 0 ∷ 0 ∷ []
 
 abbrev lending : (frame : List ℕ) (allowed : ℕ) (reply : List ℕ) → Remainder → (part : List ℕ) → ToDecide
 lending frame n reply r part =
-    record { frame = frame; side = 0; moment = 1; presence = touched; hardware = hardware n; newHandle = []; certificate = []; x = replicate 32 1; y = replicate 32 2; reply = reply; block = []; remainder = r; part = part }
+    record { presence = touched; session = r .place ∷ r .count ∷ 5 ∷ []; frame = frame; side = 0; moment = 1; hardware = hardware n; newHandle = []; certificate = []; x = replicate 32 1; y = replicate 32 2; reply = reply; block = []; part = part }
 
 abbrev fetchFrame : List ℕ
 fetchFrame = 0x00 ∷ 0xC0 ∷ 0x00 ∷ 0x00 ∷ []
@@ -271,7 +216,25 @@ fetchFrame = 0x00 ∷ 0xC0 ∷ 0x00 ∷ 0x00 ∷ []
 -- C0 where nothing is left: 6985, and its limit of 256
 pub limitOfBodiesAlone : Claims.DecideExported Wrong.limitOfBodiesAlone → ⊥
 unfolding decisionOf pathOf allowedPath commandPath versionPath registerPath registerEnding settleOf checkedOf fetchPath nextPartOf frameLimit limitOf partLength commandOf onReading byInstruction getResponseOf versionOf readBy sayOf lengthsOf shortOf extendedOf afterData allowedOf attestationOf leftStatus
-limitOfBodiesAlone p = let e : _≡_ {A = ℕ} 0 256 = p .limit (lending fetchFrame 1 [] (rest 0 0) []) frameLimit limits-exactly in omega arith
+limitOfBodiesAlone p = let e : _≡_ {A = ℕ} 0 256 = p .limit (lending fetchFrame 1 [] (rest 0 0) []) frameLimit limits-exactly (omega arith) in omega arith
+
+-- a decision before the last moment, 2: R1
+pub refusedForgets : Claims.RefusalKeeps touchesOf checksOf Wrong.refusedForgets → ⊥
+unfolding decisionOf pathOf allowedPath commandPath settleOf commandOf onReading readBy allowedOf
+refusedForgets p =
+    let i : ToDecide = record { presence = 5000 ∷ 0 ∷ 0 ∷ 2 ∷ 0 ∷ []; session = 1 ∷ 2 ∷ 5 ∷ []; frame = []; side = 0; moment = 1; hardware = hardware 1; newHandle = []; certificate = []; x = []; y = []; reply = []; block = []; part = [] } in
+    let e : _≡_ {A = ℕ} 0 5 = p .decided i (omega arith) .1 2 (omega arith) in
+    omega arith
+
+-- a Register, with a touch: the touch stays
+pub recordForgotten : Claims.DecideExported Wrong.recordForgotten → ⊥
+unfolding decisionOf pathOf allowedPath commandPath versionPath registerPath registerEnding settleOf checkedOf fetchPath nextPartOf frameLimit limitOf partLength commandOf onReading byInstruction getResponseOf versionOf readBy sayOf lengthsOf shortOf extendedOf afterData allowedOf attestationOf leftStatus registerOf
+recordForgotten p =
+    let i = lending (0x00 ∷ 0x01 ∷ 0x00 ∷ 0x00 ∷ 0x40 ∷ replicate 64 0x00) 1 (replicate 139 0) (rest 0 0) [] in
+    let x = p .row i in
+    let e : Opened 0 ≡ Closed = ap (λ (q : Presence). q .touch) (x .3 ∙ ap (λ (r : DecisionResult). r .presence) (sym (sound _ _ _ (x .0) (x .1)))) in
+    let z : _≡_ {A = ℕ} 0 1 = cc in
+    omega arith
 
 -- Version, six bytes lent for its body and none for a part
 pub roomsSwapped : Claims.DecideExported Wrong.roomsSwapped → ⊥
@@ -309,7 +272,7 @@ unfolding decisionOf pathOf allowedPath commandPath versionPath registerPath reg
 pointSwapped p =
     let i = lending (0x00 ∷ 0x01 ∷ 0x00 ∷ 0x00 ∷ 0x40 ∷ replicate 64 0x00) 1 (replicate 139 0) (rest 0 0) [] in
     let x = p .row i in
-    let e : _≡_ {A = ℕ} 2 1 = ap (λ (l : List ℕ). byte l 66) (x .3 refl ∙ ap (λ (r : DecisionResult). r .order .bytes) (sym (sound _ _ _ (x .0) (x .1)))) in
+    let e : _≡_ {A = ℕ} 2 1 = ap (λ (l : List ℕ). byte l 66) (x .4 refl ∙ ap (λ (r : DecisionResult). r .order .bytes) (sym (sound _ _ _ (x .0) (x .1)))) in
     omega arith
 
 -- ---- the exported next part and response
@@ -317,14 +280,14 @@ pointSwapped p =
 pub nextForgets : Claims.NextPartExported Wrong.nextForgets → ⊥
 unfolding nextPartOf partLength
 nextForgets p =
-    let e : _≡_ {A = ℕ} 0 1 = ap (λ (s : PartSaid). s .remainder .count) (p .refused sendingOf next-exactly (7 ∷ []) (rest 0 1) 1 [] 2 refl .0) in
+    let e : _≡_ {A = ℕ} 0 1 = ap (λ (s : Session). s .remainder .count) (p .refused sendingOf next-exactly (0 ∷ 1 ∷ 1 ∷ []) (7 ∷ []) [] 2 refl .1) in
     omega arith
 
 -- two bytes by one
 pub nextWhole : Claims.NextPartExported Wrong.nextWhole → ⊥
 unfolding nextPartOf partLength
 nextWhole p =
-    let e : _≡_ {A = ℕ} 4 3 = ap (λ (s : PartSaid). s .length) (p .given sendingOf next-exactly (7 ∷ 8 ∷ []) (rest 0 2) 1 (replicate 4 0) 3 (rest 1 1) refl .0) in
+    let e : _≡_ {A = ℕ} 4 3 = ap (λ (s : Wrote). s .length) (p .given sendingOf next-exactly (0 ∷ 2 ∷ 1 ∷ []) (7 ∷ 8 ∷ []) (replicate 4 0) 3 (rest 1 1) refl .0) in
     omega arith
 
 -- 6985
@@ -400,29 +363,24 @@ parametersSwapped p =
     omega arith
 
 -- ---- sides: 256 is cut down to 0
-abbrev askedBy256 : PresenceRecord
-askedBy256 = record { w = 5000; prompt = 0; touch = 0; last = 0; asker = 256 }
+abbrev askedBy256 : List ℕ
+askedBy256 = 5000 ∷ 0 ∷ 0 ∷ 0 ∷ 256 ∷ []
 
-pub askerCut : Claims.RecordNumbers Wrong.askerCut → ⊥
-askerCut d = omega (arith, d .asker askedBy256)
+abbrev closed : List ℕ
+closed = 5000 ∷ 0 ∷ 0 ∷ 0 ∷ 0 ∷ []
 
-abbrev touch : PresenceRecord → ℕ → Stepped
-touch n t = stepNumbers (touchOf (presenceOf n) t)
-
-abbrev ask : PresenceRecord → ℕ → Asked
-ask n t = askedNumbers (askOf (presenceOf n) t .outcome)
-
-pub touchAnySide : Claims.SideCrosses Wrong.touchAnySide ask (λ n s t. stepNumbers (checkOf (presenceOf n) s t)) decidesOf → ⊥
+pub touchAnySide : Claims.SideCrosses Wrong.touchAnySide asksOf checksOf decidesOf → ⊥
 unfolding touchOf settleOf grantedOf
 touchAnySide d = let z : _≡_ {A = ℕ} 0x9000 8 = d .touched askedBy256 0 .1 (⊎-elim (λ z. omega arith) (λ z. omega arith), omega arith) in omega arith
 
-pub sideCutInCheck : Claims.SideCrosses touch ask Wrong.sideCutInCheck decidesOf → ⊥
+pub sideCutInCheck : Claims.SideCrosses touchesOf asksOf Wrong.sideCutInCheck decidesOf → ⊥
 unfolding checkOf settleOf checkedOf
-sideCutInCheck d = let z : _≡_ {A = ℕ} 0x9000 8 = d .checked zeroed 256 0 .1 (⊎-elim (λ z. omega arith) (λ z. omega arith), inl (omega arith)) in omega arith
+sideCutInCheck d = let z : _≡_ {A = ℕ} 0x9000 8 = d .checked closed 256 0 .1 (⊎-elim (λ z. omega arith) (λ z. omega arith), inl (omega arith)) in omega arith
 
 -- no byte at all, from side 256
-pub sideCutInDecide : Claims.SideCrosses touch ask (λ n s t. stepNumbers (checkOf (presenceOf n) s t)) Wrong.sideCutInDecide → ⊥
+pub sideCutInDecide : Claims.SideCrosses touchesOf asksOf checksOf Wrong.sideCutInDecide → ⊥
 unfolding decisionOf pathOf allowedPath commandPath settleOf commandOf onReading readBy allowedOf
 sideCutInDecide d =
-    let z : _≡_ {A = ℕ} 0x6a80 8 = d .decided (record { frame = []; side = 256; moment = 1; presence = touched; hardware = hardware 1; newHandle = []; certificate = []; x = []; y = []; reply = []; block = []; remainder = rest 0 0; part = [] }) .1 (⊎-elim (λ z. omega arith) (λ z. omega arith), inl (omega arith)) in
+    let i : ToDecide = record { presence = touched; session = 0 ∷ 0 ∷ 0 ∷ []; frame = []; side = 256; moment = 1; hardware = hardware 1; newHandle = []; certificate = []; x = []; y = []; reply = []; block = []; part = [] } in
+    let z : _≡_ {A = ℕ} 0x6a80 8 = d .decided i .1 (⊎-elim (λ z. omega arith) (λ z. omega arith), inl (omega arith)) in
     omega arith

@@ -1,49 +1,45 @@
 -- The definitions meet the claims of specs/Claims.antt, each under the claim's own name.
-use Prim.Native.Nat.{ℕ, zero, suc, _≤_, _<_, _^_, _+_}
+use Prim.Native.Nat.{ℕ, _≤_, _<_, _+_}
 use mathlib.Core.Path.{_≡_, refl, ap, sym, subst, _∙_}
 use mathlib.Core.Logic.{_↔_, _⊎_, inl, inr, ⊎-elim}
+use mathlib.Core.Bool.{Bool, true, false}
+use mathlib.Core.List.{List}
 use native.Mathlib.Omega.{arith}
-use borrow.Author.Tests.{ne-eqb, le-ltb}
+use borrow.Author.Tests.{ne-eqb, lt-ltb, le-ltb}
 use lib.ListN.{length}
 use Rattle.outcome.specs.Outcome.{StatusWord, Outcome, R, Word, Gives, lastRefusal}
 use Rattle.outcome.specs.Terms.{HasStatus}
 use Rattle.outcome.proofs.Laws.{word-same, word-gives, r-gives, r-word, both-are}
+use Rattle.octets.specs.Bytes.{partOf}
+use Rattle.apdu_stated.specs.Answers.{Says}
+use Rattle.apdu_stated.specs.Reading.{dataOf}
 use Rattle.apdu_stated.specs.Writing.{partsOf}
-use Rattle.u2f_up_stated.specs.declared.Window.{Window}
-use Rattle.u2f_up_stated.specs.declared.Window.the-variants.{Closed, Opened}
-use Rattle.signing_stated.specs.Orders.{kindNo, blankOrder, headOf}
-use Rattle.ctap1_stated.specs.Words.{DecisionGives, Body, Ordered, Part}
-use Rattle.panel_stated.specs.Numbers.{answerNo, decidedNo, faultNo, placeNo, greatestNo, windowOf, windowNo, presenceOf, presenceNumbers, shapeOf, kindOf}
-use Rattle.ctap1_stated.specs.Decision.{blockAfter}
-use Rattle.panel_stated.specs.Exports.{ToWrite, ToDecide, ToFinish, inputsOf, writeAs, finishAs, writeNumbered, readsOf, writesOf, finishNumbered, headAfter, frameNumbers, commandNumbers, lengthNumbers, askedNumbers, stepNumbers, madeNumbers, decisionNumbers, decidedBy, saidBy, responseNumbers, partNumbers, statedOf, respondsOf, nextsOf, decidesOf, bodyLength}
+use Rattle.apdu_stated.proofs.Laws.{data-within}
+use Rattle.command_stated.specs.Command.{Command, commandOf, challengeOf, applicationOf, handleOf}
+use Rattle.command_stated.proofs.Laws.{RegisterExactly, AuthenticateExactly}
+use Rattle.u2f_up_stated.specs.Terms.{BadWindow, BadSide}
+use Rattle.u2f_up_stated.specs.Moments.{newOf, Told, settleOf, onSettled, touchOf, checkOf, askOf}
+use Rattle.u2f_up_stated.specs.declared.Presence.{Presence}
+use Rattle.u2f_up_stated.proofs.Laws.{touches-exactly, checks-exactly, asks-exactly}
+use Rattle.u2f_up_stated.proofs.OnNumbers.{five-apart}
+use Rattle.signing_stated.specs.Orders.{kindNo, headOf}
+use Rattle.ctap1_stated.specs.Words.{Inputs, DecisionGives, Body, Ordered, Part}
+use Rattle.ctap1_stated.specs.Decision.{decisionOf, blockAfter}
+use Rattle.ctap1_stated.proofs.Laws.{side-refused-exactly}
+use Rattle.panel_stated.specs.Words.{Kind, Order, OrderNumbers, Remainder, Entry, Ordinary, Strict, presenceIn, inputsIn}
+use Rattle.panel_stated.specs.Numbers.{answerNo, decidedNo, faultNo, placeNo, presenceNumbers, sessionNumbers, shapeOf, kindOf}
+use Rattle.panel_stated.specs.Exports.{ToWrite, ToDecide, ToFinish, writeAs, finishAs, writeNumbered, readsOf, writesOf, finishNumbered, headAfter, frameNumbers, commandNumbers, lengthNumbers, madeOver, makesOf, askedNumbers, touchesOf, checksOf, asksOf, decisionNumbers, decidedBy, responseNumbers, sentNumbers, roomNumbers, roomsOf, respondsOf, nextsOf, decidesOf, bodyLength}
+use Rattle.panel_stated.specs.Contracts.{BrinecandleNew, BrinecandleDecide}
 use Rattle.panel_stated.specs.Claims
-use Rattle.panel_stated.specs.Terms.{NoShape, nought, retired, above, IsNumbered, IsOfMoment, AfterWriting, AfterDeciding, AfterPart, AfterFetching, HasData, register, authenticate}
+use Rattle.panel_stated.specs.Terms.{SameNumbers, NoShape, nought, retired, above, IsNumbered, AfterMaking, AfterStep, AfterWriting, AfterDeciding, AfterPart, HasData, register, authenticate}
 use Rattle.panel_stated.specs.declared.Shaped.{Shaped}
 use Rattle.panel_stated.specs.declared.Shaped.the-variants as Shaped′
 use Rattle.panel_stated.specs.declared.Kinded.{Kinded}
 use Rattle.panel_stated.specs.declared.Kinded.the-variants as Kinded′
 use Rattle.panel_stated.proofs.Cases
+use Rattle.panel_stated.proofs.Lists.{record-back, same-record, same-session, three-apart}
 use Rattle.panel_stated.proofs.Outcomes
-use Rattle.panel_stated.proofs.Exported.{reader-exported, writer-exported, decide-exported, next-part-exported, response-exported}
-use Rattle.panel_stated.proofs.Runs.{runs-over}
-use mathlib.Core.Bool.{Bool, true, false}
-use mathlib.Core.List.{List}
-use Rattle.octets.specs.Bytes.{partOf}
-use Rattle.apdu_stated.specs.Answers.{Says}
-use Rattle.apdu_stated.specs.Reading.{dataOf}
-use Rattle.apdu_stated.proofs.Laws.{data-within}
-use Rattle.command_stated.specs.Command.{Command, commandOf, challengeOf, applicationOf, handleOf}
-use Rattle.command_stated.proofs.Laws.{RegisterExactly, AuthenticateExactly}
-use Rattle.u2f_up_stated.specs.Terms.{BadWindow, BadSide}
-use Rattle.u2f_up_stated.proofs.Laws.{touches-exactly, checks-exactly, asks-exactly}
-use Rattle.ctap1_stated.proofs.Laws.{side-refused-exactly}
-use Rattle.u2f_up_stated.specs.Moments.{newOf, fresh, Told, settleOf, onSettled, touchOf, checkOf, askOf}
-use Rattle.u2f_up_stated.specs.declared.Presence.{Presence}
-use Rattle.ctap1_stated.specs.Words.{Inputs, DecisionResult}
-use Rattle.ctap1_stated.specs.Session.{remainderLeft}
-use Rattle.response_stated.specs.declared.Remainder.{Remainder}
-use Rattle.ctap1_stated.specs.Decision.{decisionOf}
-use Rattle.panel_stated.specs.Words.{Kind, Order, PresenceRecord, OrderNumbers, Entry, Ordinary, Strict}
+use Rattle.panel_stated.proofs.Exported.{reader-exported, writer-exported, decide-exported, decide-anew, next-part-exported, room-exported, response-exported}
 
 -- ---- one answer number says which answer it is
 pub EveryOutcomeNumbered : Claims.EveryOutcomeNumbered
@@ -57,11 +53,12 @@ EveryOutcomeNumbered =
       grant-up = Outcomes.touch-said;
       consume-up = λ p s t. Outcomes.check-said p t s;
       is-up-needed = Outcomes.ask-said;
-      decide = λ i. Outcomes.decision-said (presenceOf (i .presence)) (i .moment) (inputsOf i);
+      decide = λ i. Outcomes.decision-said (presenceIn (i .presence)) (i .moment) (inputsIn i);
       finish = λ i. finish (kindOf (i .order .kind)) i;
       write-response = Outcomes.write-response-said;
       read-response = Outcomes.read-response-said;
       next-part = Outcomes.next-said;
+      response-room = Outcomes.room-said;
     }
   where
     write : (entry : Entry) (s : Shaped) (w : ToWrite) → IsNumbered (writeAs entry s w)
@@ -155,46 +152,6 @@ NoAnswerIs0 = record { answered = answered; decision = decision }
     decision (Gives Ordered) h e = omega (arith, e)
     decision (Gives (Part n r)) h e = omega (arith, e)
 
--- ---- records
-number-back : (n : ℕ) → n < 2 ^ 64 → windowNo (windowOf n) ≡ n
-number-back zero h = refl
-number-back (suc m) h = rw (ne-eqb m greatestNo (λ e. below m h e)) (omega arith)
-  where
-    below : (m : ℕ) → suc m < 2 ^ 64 → m ≡ greatestNo → ⊥
-    below m h e = omega arith
-
-opened-back : (n m : ℕ) → n ≡ m + 1 → windowOf n ≡ Opened m
-opened-back zero m e = absurd (omega (arith, e))
-opened-back (suc k) m e = let same : k ≡ m = omega (arith, e) in ap Opened same
-
-window-back : (w : Window) → IsOfMoment w → windowOf (windowNo w) ≡ w
-window-back Closed h = refl
-window-back (Opened m) h = rw (ne-eqb m greatestNo (λ e. below m h e)) (opened-back (m + 1) m refl)
-  where
-    below : (m : ℕ) → m < 2 ^ 48 → m ≡ greatestNo → ⊥
-    below m h e = omega arith
-
-pub NumbersBack : Claims.NumbersBack presenceOf presenceNumbers
-NumbersBack n h = rw (number-back (n .prompt) (h .0), number-back (n .touch) (h .1)) refl
-
-pub RecordsBack : Claims.RecordsBack presenceOf presenceNumbers
-RecordsBack p prompt touch = rw (window-back (p .prompt) prompt, window-back (p .touch) touch) refl
-
-closed-at : (n : ℕ) → n ≡ 0 → windowOf n ≡ Closed
-closed-at n e = rw e refl
-
-pub RecordNumbers : Claims.RecordNumbers presenceOf
-RecordNumbers =
-    record {
-      w = λ n. refl;
-      last = λ n. refl;
-      asker = λ n. refl;
-      prompt-closed = λ n. closed-at (n .prompt);
-      prompt-opened = λ n. opened-back (n .prompt);
-      touch-closed = λ n. closed-at (n .touch);
-      touch-opened = λ n. opened-back (n .touch);
-    }
-
 -- ---- numbers that stand for cases
 no-shape-at : (n : ℕ) → NoShape n → Shaped′.Nothing ≡ shapeOf n
 no-shape-at n (nought z) = Cases.no-shape n (λ y. omega arith) (λ y. omega arith) (λ y. omega arith) (λ y. omega arith) (λ y. omega arith) (λ y. omega arith) (λ y. omega arith)
@@ -254,17 +211,14 @@ LengthNumbers = record { refused = λ n. refl; status = λ n. refl; given = λ n
 pub ResponseNumbers : Claims.ResponseNumbers responseNumbers
 ResponseNumbers = record { refused = λ n. refl; status = λ n. refl; given = λ r. refl }
 
-pub PartNumbers : Claims.PartNumbers partNumbers
-PartNumbers = record { refused = λ n k. refl; status = λ n k. refl; given = λ sent k. refl }
+pub SentNumbers : Claims.SentNumbers sentNumbers
+SentNumbers = record { refused = λ n. refl; status = λ n. refl; given = λ sent. refl }
+
+pub RoomNumbers : Claims.RoomNumbers roomNumbers
+RoomNumbers = record { refused = λ n. refl; status = λ n. refl; given = λ n. refl }
 
 pub AskedNumbers : Claims.AskedNumbers askedNumbers
 AskedNumbers = record { refused = λ n. refl; status = λ n. refl; given = λ b. refl }
-
-pub StepNumbers : Claims.StepNumbers stepNumbers
-StepNumbers = record { refused = λ n p. refl; status = λ n p. refl; given = λ b p. refl }
-
-pub MadeNumbers : Claims.MadeNumbers madeNumbers
-MadeNumbers = record { refused = λ n. refl; status = λ n. refl; given = λ p. refl }
 
 pub OrderNumbersExactly : Claims.OrderNumbersExactly (λ o order. headAfter o (headOf order))
 OrderNumbersExactly =
@@ -279,20 +233,6 @@ OrderNumbersExactly =
   where
     numbered : Order → Kind → OrderNumbers
     numbered o k = record { kind = kindNo k; «to_sign» = o .«to_sign»; «certificate_length» = o .«certificate_length» }
-
-pub StatedExactly : Claims.StatedExactly statedOf
-unfolding statedOf
-StatedExactly =
-    record {
-      unasked = λ w taken kept settled room k limit partRoom. refl;
-      other = λ w isC0 taken kept settled room k limit partRoom n. by w isC0 taken kept settled room k limit partRoom n;
-      fetched = λ w taken kept settled room k limit partRoom e. rw e;
-    }
-  where
-    by : (w : StatusWord) (isC0 taken : Bool) (kept settled : Presence) (room : ℕ) (k : Remainder) (limit partRoom : ℕ) → (w .number ≡ 0x6985 → ⊥)
-        → statedOf w isC0 taken kept settled room k limit partRoom ≡ record { answer = Word w; presence = settled; order = blankOrder; taken = taken }
-    by w true taken kept settled room k limit partRoom n = rw (ne-eqb (w .number) 0x6985 n)
-    by w false taken kept settled room k limit partRoom n = refl
 
 pub BlockExactly : Claims.BlockExactly blockAfter
 BlockExactly =
@@ -328,33 +268,25 @@ PlacesCut =
     cut-application frame _ _ (register s) = let at : s .dataAt + 32 + 32 ≡ s .dataAt + 64 = omega arith in ap (partOf frame (s .dataAt + 32)) at
     cut-application frame _ _ (authenticate p1 s) = let at : s .dataAt + 32 + 32 ≡ s .dataAt + 64 = omega arith in ap (partOf frame (s .dataAt + 32)) at
 
--- ---- a refusal hands back the record that was lent
+-- ---- a refusal leaves the record that was lent
 refused-record : (p : Presence) (o : Outcome Presence) (go : Presence → Told) → IsNumbered o
     → ((q : Presence) → (b : Bool) × (go q .outcome ≡ Gives b)) → answerNo (onSettled p o go .outcome) ≤ lastRefusal → onSettled p o go .presence ≡ p
 refused-record p (R n) go h given low = refl
 refused-record p (Word s) go h given low = refl
 refused-record p (Gives q) go h given low = absurd (omega (arith, ap answerNo (given q .1)))
 
-decision-kept : (p : Presence) (t : ℕ) (a : Inputs) → (o : Outcome DecisionGives) → decisionOf p t a .answer ≡ o → IsNumbered o
-    → 1 ≤ decidedNo o → decidedNo o ≤ lastRefusal → decisionOf p t a .presence ≡ p
-decision-kept p t a (R n) e h low high = Outcomes.decision-refused p t a n e
-decision-kept p t a (Word s) e h low high = absurd (omega (arith, h .0))
-decision-kept p t a (Gives (Body n)) e h low high = absurd (omega arith)
-decision-kept p t a (Gives Ordered) e h low high = absurd (omega arith)
-decision-kept p t a (Gives (Part n r)) e h low high = absurd (omega arith)
+decision-kept : (p : Presence) (t : ℕ) (a : Inputs) → (o : Outcome DecisionGives) → decisionOf p t a .answer ≡ o → IsNumbered o → decidedNo o ≤ lastRefusal → decisionOf p t a .presence ≡ p
+decision-kept p t a (R n) e h high = Outcomes.decision-refused p t a n e
+decision-kept p t a (Word s) e h high = absurd (omega (arith, h .0))
+decision-kept p t a (Gives (Body n)) e h high = absurd (omega arith)
+decision-kept p t a (Gives Ordered) e h high = absurd (omega arith)
+decision-kept p t a (Gives (Part n r)) e h high = absurd (omega arith)
 
-remainder-kept : (a : Inputs) (r : DecisionResult) (o : Outcome DecisionGives) → r .answer ≡ o → IsNumbered o → 1 ≤ decidedNo o → decidedNo o ≤ lastRefusal → remainderLeft a r ≡ a .remainder
-remainder-kept a r (R n) e h low high = rw e
-remainder-kept a r (Word s) e h low high = absurd (omega (arith, h .0))
-remainder-kept a r (Gives (Body n)) e h low high = absurd (omega arith)
-remainder-kept a r (Gives Ordered) e h low high = absurd (omega arith)
-remainder-kept a r (Gives (Part n k)) e h low high = absurd (omega arith)
-
-pub SideCrosses : Claims.SideCrosses (λ n t. stepNumbers (touchOf (presenceOf n) t)) (λ n t. askedNumbers (askOf (presenceOf n) t .outcome)) (λ n s t. stepNumbers (checkOf (presenceOf n) s t)) decidesOf
+pub SideCrosses : Claims.SideCrosses touchesOf asksOf checksOf decidesOf
 SideCrosses = record {
-  touched = λ n t. unnamed n (touchOf (presenceOf n) t .outcome) (Outcomes.touch-said (presenceOf n) t) (touches-exactly .settles .r8 (presenceOf n) t);
-  asked = λ n t. unnamed n (askOf (presenceOf n) t .outcome) (Outcomes.ask-said (presenceOf n) t) (asks-exactly .settles .r8 (presenceOf n) t);
-  checked = λ n s t. through (checkOf (presenceOf n) s t .outcome) (Outcomes.check-said (presenceOf n) t s) (checks-exactly .settles s .r8 (presenceOf n) t);
+  touched = λ n t. unnamed n (touchOf (presenceIn n) t .outcome) (Outcomes.touch-said (presenceIn n) t) (touches-exactly .settles .r8 (presenceIn n) t);
+  asked = λ n t. unnamed n (askOf (presenceIn n) t .outcome) (Outcomes.ask-said (presenceIn n) t) (asks-exactly .settles .r8 (presenceIn n) t);
+  checked = λ n s t. through (checkOf (presenceIn n) s t .outcome) (Outcomes.check-said (presenceIn n) t s) (checks-exactly .settles s .r8 (presenceIn n) t);
   decided = decided;
 }
   where
@@ -363,49 +295,69 @@ SideCrosses = record {
     through o said exactly = let told = AnswerTells .refused o said 8 (omega arith) in (λ e. exactly .0 (told .0 e), λ b. told .1 (exactly .1 b))
 
     -- what names no side counts as naming the record's
-    unnamed : (n : PresenceRecord) (o : Outcome Bool) → IsNumbered o → (o ≡ R 8) ↔ ((BadWindow (n .w) → ⊥) × BadSide (n .asker) (n .asker)) → (answerNo o ≡ 8) ↔ ((BadWindow (n .w) → ⊥) × (1 < n .asker))
+    unnamed : (n : List ℕ) (o : Outcome Bool) → IsNumbered o → (o ≡ R 8) ↔ ((BadWindow (presenceIn n .w) → ⊥) × BadSide (presenceIn n .asker) (presenceIn n .asker))
+        → (answerNo o ≡ 8) ↔ ((BadWindow (presenceIn n .w) → ⊥) × (1 < presenceIn n .asker))
     unnamed n o said exactly = let x = through o said exactly in (λ e. (x .0 e .0, ⊎-elim (λ h. h) (λ h. h) (x .0 e .1)), λ b. x .1 (b .0, inl (b .1)))
 
-    decided : (i : ToDecide) → (decidedNo (decidedBy i .answer) ≡ 8) ↔ ((BadWindow (i .presence .w) → ⊥) × BadSide (i .side) (i .presence .asker))
+    decided : (i : ToDecide) → (decidedNo (decidedBy i .answer) ≡ 8) ↔ ((BadWindow (presenceIn (i .presence) .w) → ⊥) × BadSide (i .side) (presenceIn (i .presence) .asker))
     decided i =
-        let told = DecisionTells .refused (decidedBy i .answer) (Outcomes.decision-said (presenceOf (i .presence)) (i .moment) (inputsOf i)) 8 (omega arith) (omega arith) in
-        let exactly = side-refused-exactly (presenceOf (i .presence)) (i .moment) (inputsOf i) in
+        let told = DecisionTells .refused (decidedBy i .answer) (Outcomes.decision-said (presenceIn (i .presence)) (i .moment) (inputsIn i)) 8 (omega arith) (omega arith) in
+        let exactly = side-refused-exactly (presenceIn (i .presence)) (i .moment) (inputsIn i) in
         (λ e. exactly .0 (told .0 e), λ b. told .1 (exactly .1 b))
 
-pub RefusalHandsBack : Claims.RefusalHandsBack (λ n t. stepNumbers (touchOf (presenceOf n) t)) (λ n s t. stepNumbers (checkOf (presenceOf n) s t)) saidBy
+pub RefusalKeeps : Claims.RefusalKeeps touchesOf checksOf decidesOf
 unfolding touchOf checkOf
-RefusalHandsBack =
+RefusalKeeps =
     record {
-      grant-up = λ n t h low. ap presenceNumbers (refused-record (presenceOf n) (settleOf (presenceOf n) (n .asker) t) _ (Outcomes.settle-said (presenceOf n) (n .asker) t) (λ q. (_, refl)) low) ∙ NumbersBack n h;
-      consume-up = λ n s t h low. ap presenceNumbers (refused-record (presenceOf n) (settleOf (presenceOf n) s t) _ (Outcomes.settle-said (presenceOf n) s t) (λ q. (_, refl)) low) ∙ NumbersBack n h;
-      decided =
-          λ i h low high. (
-            ap presenceNumbers (decision-kept (presenceOf (i .presence)) (i .moment) (inputsOf i) (decidedBy i .answer) refl (EveryOutcomeNumbered .decide i) low high) ∙ NumbersBack (i .presence) h,
-            remainder-kept (inputsOf i) (decidedBy i) (decidedBy i .answer) refl (EveryOutcomeNumbered .decide i) low high,
+      grant-up = λ n t low. kept n _ (refused-record (presenceIn n) (settleOf (presenceIn n) (presenceIn n .asker) t) _ (Outcomes.settle-said (presenceIn n) (presenceIn n .asker) t) (λ q. (_, refl)) low);
+      consume-up = λ n s t low. kept n _ (refused-record (presenceIn n) (settleOf (presenceIn n) s t) _ (Outcomes.settle-said (presenceIn n) s t) (λ q. (_, refl)) low);
+      decided = λ i low.
+          (
+            kept (i .presence) _ (decision-kept (presenceIn (i .presence)) (i .moment) (inputsIn i) (decidedBy i .answer) refl (EveryOutcomeNumbered .decide i) low),
+            same-session (decidesOf i .session) (i .session) (decide-exported .refused i low),
           );
     }
+  where
+    kept : (n : List ℕ) (p : Presence) → p ≡ presenceIn n → SameNumbers 5 (presenceNumbers p) n
+    kept n p e = same-record (presenceNumbers p) n (record-back p ∙ e)
 
 pub DecisionNumbers : Claims.DecisionNumbers decisionNumbers
 DecisionNumbers =
     record {
-      refused = λ r k l n e. (ap decidedNo e, ap faultNo e, ap placeNo e, ap bodyLength e);
-      status = λ r k l s e. (ap decidedNo e, ap faultNo e, ap placeNo e, ap bodyLength e);
-      body = λ r k l n e. (ap decidedNo e, ap faultNo e, ap placeNo e, ap bodyLength e);
-      part = λ r k l n after e. (ap decidedNo e, ap faultNo e, ap placeNo e, ap bodyLength e);
-      ordered = λ r k l e. (ap decidedNo e, ap faultNo e, ap placeNo e, ap bodyLength e);
-      taken = λ r k l. refl;
-      order = λ r k l. refl;
-      presence = λ r k l. refl;
-      remainder = λ r k l. refl;
-      limit = λ r k l. refl;
+      refused = λ r n e. (ap decidedNo e, ap faultNo e, ap placeNo e, ap bodyLength e);
+      status = λ r s e. (ap decidedNo e, ap faultNo e, ap placeNo e, ap bodyLength e);
+      body = λ r n e. (ap decidedNo e, ap faultNo e, ap placeNo e, ap bodyLength e);
+      part = λ r n after e. (ap decidedNo e, ap faultNo e, ap placeNo e, ap bodyLength e);
+      ordered = λ r e. (ap decidedNo e, ap faultNo e, ap placeNo e, ap bodyLength e);
+      taken = λ r. refl;
+      order = λ r. refl;
     }
 
 -- ---- as they are exported
+-- of whatever meets the contract
+make-exported : (f : (presence : List ℕ) (w : ℕ) → AfterMaking) → ((n : List ℕ) (w : ℕ) → BrinecandleNew n w (f n w .said) (f n w .presence)) → Claims.MakeExported f
+unfolding newOf
+make-exported f meets =
+    record {
+      made = λ n w low high. let is = meets n w in (is .0 ∙ rw (ne-eqb w 0 (λ e. omega arith), le-ltb 60000 w high), is .1 ∙ rw (ne-eqb w 0 (λ e. omega arith), le-ltb 60000 w high));
+      refused = λ n w h. let is = meets n w in (is .0 ∙ ap answerNo (bad w h), same-record (f n w .presence) n (is .1 ∙ ap (λ (o : Outcome Presence). madeOver o (presenceIn n)) (bad w h)));
+    }
+  where
+    bad : (w : ℕ) → (w ≡ 0) ⊎ (60000 < w) → newOf w ≡ R 6
+    bad w (inl z) = rw z
+    bad w (inr h) = rw (ne-eqb w 0 (λ e. omega arith), lt-ltb 60000 w h)
+
+pub MakeExported : Claims.MakeExported makesOf
+MakeExported = make-exported makesOf (λ n w. (refl, record-back (madeOver (newOf w) (presenceIn n))))
+
 pub DecideExported : Claims.DecideExported decidesOf
 DecideExported = decide-exported
 
 pub NextPartExported : Claims.NextPartExported nextsOf
-NextPartExported = next-part-exported
+NextPartExported = next-part-exported nextsOf (λ session body part. (refl, refl, refl))
+
+pub RoomExported : Claims.RoomExported roomsOf
+RoomExported = room-exported
 
 pub ReadExported : Claims.ReadExported (readsOf Ordinary)
 ReadExported = reader-exported Ordinary
@@ -422,7 +374,7 @@ WriteStrictExported = writer-exported Strict (λ w out. sym (no-shape-at (w .sha
 pub ResponseExported : Claims.ResponseExported respondsOf
 ResponseExported = response-exported
 
--- a function that gives what a definition gives, input by input, is that definition
+-- a function that gives what a definition gives, input by input, is that definition; of the record's and the session's numbers the claims look at what they stand for
 pub ContractsAsClaimed : Claims.ContractsAsClaimed
 ContractsAsClaimed =
     record {
@@ -432,21 +384,23 @@ ContractsAsClaimed =
       read-strict-by-table = λ f is. subst Claims.ReadStrictExported (λ d frame. sym (is frame) d) ReadStrictExported;
       write = λ f is. subst Claims.WriteExported (λ d w. record { said = sym (is w .0) d; buffer = sym (is w .1) d }) WriteExported;
       write-strict = λ f is. subst Claims.WriteStrictExported (λ d w. record { said = sym (is w .0) d; buffer = sym (is w .1) d }) WriteStrictExported;
-      decide = λ f is. subst Claims.DecideExported (λ d i. record { said = sym (is i .0) d; reply = sym (is i .1) d; block = sym (is i .2) d; part = sym (is i .3) d }) DecideExported;
-      next-part = λ f is. subst Claims.NextPartExported (λ d body k l old. record { said = sym (is body k l old .0) d; buffer = sym (is body k l old .1) d }) NextPartExported;
+      new = make-exported;
+      decide = λ f is.
+          decide-anew f
+          (subst Claims.DecideExported
+          (λ d i.
+          record {
+            said = sym (is i .0) d;
+            presence = presenceNumbers (sym (is i .1) d);
+            session = sessionNumbers (sym (is i .2) d);
+            reply = sym (is i .3) d;
+            block = sym (is i .4) d;
+            part = sym (is i .5) d;
+          })
+          DecideExported);
+      next-part = next-part-exported;
+      response-room = λ f is. subst Claims.RoomExported (λ d frame longest. sym (is frame longest) d) RoomExported;
       write-response = λ f is. subst Claims.ResponseExported (λ d body s old. record { said = sym (is body s old .0) d; buffer = sym (is body s old .1) d }) ResponseExported;
-    }
-
--- ---- runs
-new-record : (w : ℕ) → 0 < w → w ≤ 60000 → madeNumbers (newOf w) .presence ≡ presenceNumbers (fresh w)
-unfolding newOf
-new-record w low high = rw (ne-eqb w 0 (λ e. omega arith), le-ltb 60000 w high)
-
-pub RunsOverNumbers : Claims.RunsOverNumbers (λ w. madeNumbers (newOf w)) presenceOf presenceNumbers
-RunsOverNumbers =
-    record {
-      records = λ D 𝒞 keeps w low high ds. runs-over 𝒞 keeps w RecordsBack (new-record w low high) ds;
-      outcomes = λ D 𝒞 keeps w low high ds d. ap (λ (p : Presence). 𝒞 .does p d .outcome) (runs-over 𝒞 keeps w RecordsBack (new-record w low high) ds);
     }
 
 -- ---- two results that satisfy a contract are equal
@@ -459,17 +413,16 @@ ResultsDetermined =
       strict-plain = λ n count a b. both-are a b;
       write-plain = λ w a b p q. written a b (both-are _ _ (p .0) (q .0)) (both-are _ _ (p .1) (q .1));
       command-plain = λ read a b. both-are a b;
-      record-lent = λ n a b. both-are a b;
-      record-plain = λ p a b. both-are a b;
-      made-plain = λ ready a b. both-are a b;
+      refused-asked = λ why a b. both-are a b;
+      found-asked = λ found a b. both-are a b;
+      made-kept = λ ready n a b p q. made a b (p .0) (q .0) (both-are _ _ (p .1 .0) (q .1 .0)) (both-are _ _ (p .1 .1) (q .1 .1));
       asked-plain = λ answer a b. both-are a b;
-      step-plain = λ step a b. both-are a b;
       kind-numbered = λ n a b. both-are a b;
-      refused-numbers = λ why taken p k l a b. both-are a b;
-      status-numbers = λ s taken p k l a b. both-are a b;
-      body-numbers = λ n taken p k l a b. both-are a b;
-      part-numbers = λ n taken p k l a b. both-are a b;
-      order-numbers = λ head taken p k l a b. both-are a b;
+      refused-numbers = λ why taken a b. both-are a b;
+      status-numbers = λ number kind place taken a b. both-are a b;
+      body-numbers = λ n taken a b. both-are a b;
+      part-numbers = λ n k taken a b. both-are a b;
+      order-numbers = λ head taken a b. both-are a b;
       finished-plain = λ finished a b. both-are a b;
       brinecandle-read = λ frame a b. both-are a b;
       brinecandle-read-strict = λ frame a b. both-are a b;
@@ -478,29 +431,43 @@ ResultsDetermined =
       brinecandle-write = λ w a b p q. written a b (both-are _ _ (p .0) (q .0)) (both-are _ _ (p .1) (q .1));
       brinecandle-write-strict = λ w a b p q. written a b (both-are _ _ (p .0) (q .0)) (both-are _ _ (p .1) (q .1));
       brinecandle-read-command = λ frame a b. both-are a b;
-      brinecandle-new = λ w a b. both-are a b;
-      brinecandle-grant-up = λ n t a b. both-are a b;
-      brinecandle-consume-up = λ n s t a b. both-are a b;
+      brinecandle-new = λ n w a b p q. made a b (p .0) (q .0) (both-are _ _ (p .1 .0) (q .1 .0)) (both-are _ _ (p .1 .1) (q .1 .1));
+      brinecandle-grant-up = λ n t a b p q. stepped a b (p .0) (q .0) (both-are _ _ (p .1 .0) (q .1 .0)) (both-are _ _ (p .1 .1) (q .1 .1));
+      brinecandle-consume-up = λ n s t a b p q. stepped a b (p .0) (q .0) (both-are _ _ (p .1 .0) (q .1 .0)) (both-are _ _ (p .1 .1) (q .1 .1));
       brinecandle-is-up-needed = λ n t a b. both-are a b;
-      brinecandle-decide = λ i a b p q. decided a b (both-are _ _ (p .0) (q .0)) (both-are _ _ (p .1) (q .1)) (both-are _ _ (p .2) (q .2)) (both-are _ _ (p .3) (q .3));
+      brinecandle-decide = λ i a b p q. decided i a b (p .0) (q .0) (p .1) (q .1) (p .2) (q .2);
       brinecandle-finish = λ i a b p q. written a b (both-are _ _ (p .0) (q .0)) (both-are _ _ (p .1) (q .1));
       response-plain = λ read a b. both-are a b;
       wrote-response-plain = λ written a b. both-are a b;
-      next-plain = λ next kept a b. both-are a b;
-      stated-numbers = λ s isC0 taken kept settled k l body old a b p q. fetched a b (both-are _ _ (p .0) (q .0)) (both-are _ _ (p .1) (q .1));
+      refused-part = λ why a b. both-are a b;
+      sent-part = λ n a b. both-are a b;
+      room-plain = λ room a b. both-are a b;
       brinecandle-write-response = λ body status old a b p q. written a b (both-are _ _ (p .0) (q .0)) (both-are _ _ (p .1) (q .1));
       brinecandle-read-response = λ response a b. both-are a b;
-      brinecandle-next-part = λ body k l old a b p q. parted a b (both-are _ _ (p .0) (q .0)) (both-are _ _ (p .1) (q .1));
+      brinecandle-next-part = λ session body part a b p q.
+          parted a b (both-are _ _ (p .1 .0) (q .1 .0)) (three-apart (a .session) (b .session) (p .0) (q .0) (both-are _ _ (p .1 .1) (q .1 .1))) (both-are _ _ (p .1 .2) (q .1 .2));
+      brinecandle-response-room = λ frame longest a b. both-are a b;
     }
   where
     written : (a b : AfterWriting) → a .said ≡ b .said → a .buffer ≡ b .buffer → a ≡ b
     written a b e f = λ d. record { said = e d; buffer = f d }
 
-    decided : (a b : AfterDeciding) → a .said ≡ b .said → a .reply ≡ b .reply → a .block ≡ b .block → a .part ≡ b .part → a ≡ b
-    decided a b e f g h = λ d. record { said = e d; reply = f d; block = g d; part = h d }
+    made : (a b : AfterMaking) → length (a .presence) ≡ 5 → length (b .presence) ≡ 5 → a .said ≡ b .said → presenceIn (a .presence) ≡ presenceIn (b .presence) → a ≡ b
+    made a b m n e f = let same = five-apart (a .presence) (b .presence) m n f in λ d. record { said = e d; presence = same d }
 
-    parted : (a b : AfterPart) → a .said ≡ b .said → a .buffer ≡ b .buffer → a ≡ b
-    parted a b e f = λ d. record { said = e d; buffer = f d }
+    stepped : (a b : AfterStep) → length (a .presence) ≡ 5 → length (b .presence) ≡ 5 → a .said ≡ b .said → presenceIn (a .presence) ≡ presenceIn (b .presence) → a ≡ b
+    stepped a b m n e f = let same = five-apart (a .presence) (b .presence) m n f in λ d. record { said = e d; presence = same d }
 
-    fetched : (a b : AfterFetching) → a .said ≡ b .said → a .buffer ≡ b .buffer → a ≡ b
-    fetched a b e f = λ d. record { said = e d; buffer = f d }
+    decided : (i : ToDecide) (a b : AfterDeciding) → length (a .presence) ≡ 5 → length (b .presence) ≡ 5 → length (a .session) ≡ 3 → length (b .session) ≡ 3
+        → BrinecandleDecide i (a .said) (a .presence) (a .session) (a .reply) (a .block) (a .part) → BrinecandleDecide i (b .said) (b .presence) (b .session) (b .reply) (b .block) (b .part) → a ≡ b
+    decided i a b m n k l p q =
+        let said = both-are _ _ (p .0) (q .0) in
+        let presence = five-apart (a .presence) (b .presence) m n (both-are _ _ (p .1) (q .1)) in
+        let session = three-apart (a .session) (b .session) k l (both-are _ _ (p .2) (q .2)) in
+        let reply = both-are _ _ (p .3) (q .3) in
+        let block = both-are _ _ (p .4) (q .4) in
+        let part = both-are _ _ (p .5) (q .5) in
+        λ d. record { said = said d; presence = presence d; session = session d; reply = reply d; block = block d; part = part d }
+
+    parted : (a b : AfterPart) → a .said ≡ b .said → a .session ≡ b .session → a .part ≡ b .part → a ≡ b
+    parted a b e f g = λ d. record { said = e d; session = f d; part = g d }

@@ -4,39 +4,37 @@
 use mathlib.Core.Logic.{_↔_, _⊎_}
 use mathlib.Core.List.{_∷_}
 use lib.ListN.{drop}
-use Rattle.panel_stated.specs.Words.{ℕ, _≡_, _≤_, _<_, Bool, List, AtMostOne, StatusWord, Outcome, R, Word, Gives, HasStatus, lastRefusal, Closed, Opened, Presence, Order, Head}
+use Rattle.panel_stated.specs.Words.{ℕ, _≡_, _≤_, _<_, Bool, List, AtMostOne, StatusWord, Outcome, R, Word, Gives, HasStatus, lastRefusal, Closed, Presence, Order, Head}
 use Rattle.panel_stated.specs.Words.{Instruction, Le1, Lc1Data, Lc1DataLe1, Lc3Data, Lc3DataLe2, Le3}
-use Rattle.panel_stated.specs.Words.{PresenceRecord, OrderNumbers, Shaped, Kinded}
-use Rattle.panel_stated.specs.Words.{FrameSaid, CommandSaid, Wrote, Made, Stepped, Asked, DecisionSaid, ResponseSaid, PartSaid}
-use Rattle.panel_stated.specs.Words.{Says, Entry, Case, Parts, partsOf, shapeNo, Command, Register, Authenticate, Version, GetResponse, Told, length, Remainder, Response, Sent, along, fetchPath, true, writeResponseOf, readResponseOf, nextPartOf, _+_, false, readOf, strictOf, commandOf, newOf, touchOf, checkOf, askOf, finishOf, DecisionGives, Body, Ordered, Part, DecisionResult}
+use Rattle.panel_stated.specs.Words.{OrderNumbers, Shaped, Kinded, presenceIn, remainderIn, sessionIn, hardwareIn, frameRoomOf}
+use Rattle.panel_stated.specs.Words.{FrameSaid, CommandSaid, Wrote, Asked, DecisionSaid, ResponseSaid, RoomSaid}
+use Rattle.panel_stated.specs.Words.{Says, Entry, Case, Parts, partsOf, shapeNo, Command, Register, Authenticate, Version, GetResponse, length, Remainder, Response, Sent, writeResponseOf, readResponseOf, nextPartOf, _+_, false, readOf, strictOf, commandOf, newOf, touchOf, checkOf, askOf, DecisionGives, Body, Ordered, Part, DecisionResult, finishOf}
 use Rattle.panel_stated.specs.Exports.{orderAfter, ToWrite, ToDecide, ToFinish, decidedBy, writeNumbered, finishNumbered}
-use Rattle.panel_stated.specs.Contracts.{ShapeNumbered, FramePlain, FrameStatusPlain, StrictPlain, WritePlain, CommandPlain, RecordLent, RecordPlain, MadePlain, AskedPlain, StepPlain, KindNumbered, RefusedPlain, StatusPlain, BodyPlain, PartPlain, OrderPlain, FinishedPlain, ResponsePlain, WroteResponsePlain, NextPlain, StatedPlain}
-use Rattle.panel_stated.specs.Contracts.{BrinecandleRead, BrinecandleReadStrict, BrinecandleReadByTable, BrinecandleReadStrictByTable, BrinecandleWrite, BrinecandleWriteStrict, BrinecandleReadCommand, BrinecandleNew, BrinecandleGrantUp, BrinecandleConsumeUp, BrinecandleIsUpNeeded, BrinecandleDecide, BrinecandleFinish, BrinecandleWriteResponse, BrinecandleReadResponse, BrinecandleNextPart}
+use Rattle.panel_stated.specs.Contracts.{ShapeNumbered, FramePlain, FrameStatusPlain, StrictPlain, WritePlain, CommandPlain, RefusedAsked, FoundAsked, AskedPlain, MadeKept, KindNumbered, RefusedPlain, StatusPlain, BodyPlain, PartPlain, OrderPlain, FinishedPlain, ResponsePlain, WroteResponsePlain, RefusedPart, SentPart, RoomPlain}
+use Rattle.panel_stated.specs.Contracts.{BrinecandleRead, BrinecandleReadStrict, BrinecandleReadByTable, BrinecandleReadStrictByTable, BrinecandleWrite, BrinecandleWriteStrict, BrinecandleReadCommand, BrinecandleNew, BrinecandleGrantUp, BrinecandleConsumeUp, BrinecandleIsUpNeeded, BrinecandleDecide, BrinecandleFinish, BrinecandleWriteResponse, BrinecandleReadResponse, BrinecandleNextPart, BrinecandleResponseRoom}
 use Rattle.octets.specs.Bytes.{AreBytes, partOf}
 use Rattle.apdu_stated.specs.Reading.{dataOf}
 use Rattle.apdu_stated.specs.Claims as Frames
 use Rattle.apdu_stated.specs.Terms.{InTable, Carries as Carried}
 use Rattle.command_stated.specs.Command.{challengeOf, applicationOf, handleOf}
-use Rattle.panel_stated.specs.Numbers.{presenceNumbers, presenceOf, hardwareOf, isYes}
+use Rattle.panel_stated.specs.Numbers.{hardwareOf, isYes}
 use Rattle.ctap1_stated.specs.Claims as Decision
 use Rattle.ctap1_stated.specs.Table.{Answers}
 use Rattle.response_stated.specs.Claims as Responses
+use Rattle.response_stated.specs.Parts.{limitOf}
 use Rattle.response_stated.specs.Terms.{Sender, Writer, sending}
-use Rattle.signing_stated.specs.Orders.{blankOrder}
 use Rattle.u2f_up_stated.specs.Terms.{BadWindow, BadSide}
-use Rattle.u2f_up_stated.specs.Runs.{Caller, Keeps, after, next}
-use Rattle.panel_stated.specs.Terms.{numbersAfter, NoShape, IsNumbered, IsOfMoment, AreOf64Bits, HasData, AfterWriting, AfterDeciding, AfterPart, AfterFetching, Reports}
+use Rattle.panel_stated.specs.Terms.{SameNumbers, NoShape, IsNumbered, HasData, AfterMaking, AfterStep, AfterWriting, AfterDeciding, AfterPart, Reports}
 use Rattle.outcome.specs.declared.ApduStatusCode.{ApduStatusCode}
 use Rattle.outcome.specs.declared.Refusal.{Refusal}
 use Rattle.apdu_stated.specs.declared.Apdu.{Apdu}
 use Rattle.command_stated.specs.declared.U2fCommand.{U2fCommand}
 use Rattle.u2f_up_stated.specs.declared.Ready.{Ready}
 use Rattle.u2f_up_stated.specs.declared.Answer.{Answer}
-use Rattle.u2f_up_stated.specs.declared.Step.{Step}
 use Rattle.signing_stated.specs.declared.Finished.{Finished}
 use Rattle.response_stated.specs.declared.ReadResponse.{ReadResponse}
 use Rattle.response_stated.specs.declared.WroteResponse.{WroteResponse}
-use Rattle.response_stated.specs.declared.NextPart.{NextPart}
+use Rattle.response_stated.specs.declared.ResponseRoom.{ResponseRoom}
 use Rattle.signing_stated.specs.declared.Kind.the-variants as Kind′
 use Rattle.panel_stated.specs.declared.Shaped.the-variants as Shaped′
 use Rattle.panel_stated.specs.declared.Kinded.the-variants as Kinded′
@@ -59,6 +57,7 @@ pub record EveryOutcomeNumbered : Type 0 where
   pub write-response : (body : List ℕ) (room : ℕ) → IsNumbered (writeResponseOf body room)
   pub read-response : (response : List ℕ) → IsNumbered (readResponseOf response)
   pub next-part : (bodyRoom : ℕ) (r : Remainder) (limit room : ℕ) → IsNumbered (nextPartOf bodyRoom r limit room)
+  pub response-room : (frame : List ℕ) (longest : ℕ) → IsNumbered (frameRoomOf frame longest)
 
 -- So the number 9000 is exactly what was asked for, a refusal's number exactly that refusal, and a status word's exactly that
 -- status word, whatever its pair. 01: "a definition gives this paper's number and values for each of its cases". A table that gives 9000 for a
@@ -86,57 +85,31 @@ pub record NoAnswerIs0 (answer : Outcome Bool → ℕ) (decided : Outcome Decisi
 
 -- ---- records
 
--- The numbers of a record come back as they were lent; two that stand for one record are the same numbers. Windows that change
--- places on their way in (`windowsSwapped`) fail it, at a record with one window closed.
-abbrev pub NumbersBack : (PresenceRecord → Presence) → (Presence → PresenceRecord) → Type 0
-NumbersBack lend plain = (n : PresenceRecord) → AreOf64Bits n → plain (lend n) ≡ n
+-- A record is made in the numbers that are lent: W from 1 to 60,000, both windows closed, last moment 0, side 0; R6 for any other W leaves them. 01: "A fresh
+-- record is made with a touch window W of 1..60,000, both windows closed and last moment 0; a refused making hands back no record." A making that clears the
+-- record with R6 (`clearsAtR6`) fails it, and one that looks at 16 bits of W (`madeFrom16Bits`).
+pub record MakeExported (make : (presence : List ℕ) (w : ℕ) → AfterMaking) : Type 0 where
+  pub made : (n : List ℕ) (w : ℕ) → 1 ≤ w → w ≤ 60000
+      → (make n w .said ≡ 0x9000) × (presenceIn (make n w .presence) ≡ record { w = w; prompt = Closed; touch = Closed; last = 0; asker = 0 })
+  pub refused : (n : List ℕ) (w : ℕ) → (w ≡ 0) ⊎ (60000 < w) → (make n w .said ≡ 6) × SameNumbers 5 (make n w .presence) n
 
--- A record whose windows were opened at moments goes out and comes back whole: the closed number is the number of no moment. Ours;
--- DECISIONS, a window as one number. Open windows numbered by their moment itself on both ways (`openedAtItsNumber`) fail it: a
--- window opened at moment 0 is lost.
-abbrev pub RecordsBack : (PresenceRecord → Presence) → (Presence → PresenceRecord) → Type 0
-RecordsBack lend plain = (p : Presence) → IsOfMoment (p .prompt) → IsOfMoment (p .touch) → lend (plain p) ≡ p
+-- "An R refusal changes no buffer and no record", said of the numbers: after a refusal the record that was lent is as it was, number by number, and after a
+-- decision the session too (02, E2: "any R refusal keeps it"). A touch that moves the last moment all the same (`refusedMoves`) fails it, before the last
+-- moment, and a decision that forgets the limit (`refusedForgets`).
+pub record RefusalKeeps (touch : (presence : List ℕ) (t : ℕ) → AfterStep) (check : (presence : List ℕ) (side t : ℕ) → AfterStep) (decide : ToDecide → AfterDeciding) : Type 0 where
+  pub grant-up : (n : List ℕ) (t : ℕ) → touch n t .said .answer ≤ lastRefusal → SameNumbers 5 (touch n t .presence) n
+  pub consume-up : (n : List ℕ) (s t : ℕ) → check n s t .said .answer ≤ lastRefusal → SameNumbers 5 (check n s t .presence) n
+  pub decided : (i : ToDecide) → decide i .said .answer ≤ lastRefusal → SameNumbers 5 (decide i .presence) (i .presence) × SameNumbers 3 (decide i .session) (i .session)
 
--- What the five numbers stand for: 0 is a closed window, so that a record of zeros with W set is a closed one, and any number above
--- it a window opened at the moment before. Ours; DECISIONS, a window as one number. Windows that change places on both ways
--- (`swappedBothWays`) fail it, and closed windows under the greatest number (`greatestIsClosed`): a record of zeros with W set would have
--- a touch that there was not. The asking side is the number itself: one that is cut down to 8 bits (`askerCut`) fails it, at 256.
-pub record RecordNumbers (lend : PresenceRecord → Presence) : Type 0 where
-  pub w : (n : PresenceRecord) → lend n .w ≡ n .w
-  pub last : (n : PresenceRecord) → lend n .last ≡ n .last
-  pub asker : (n : PresenceRecord) → lend n .asker ≡ n .asker
-  pub prompt-closed : (n : PresenceRecord) → n .prompt ≡ 0 → lend n .prompt ≡ Closed
-  pub prompt-opened : (n : PresenceRecord) (m : ℕ) → n .prompt ≡ m + 1 → lend n .prompt ≡ Opened m
-  pub touch-closed : (n : PresenceRecord) → n .touch ≡ 0 → lend n .touch ≡ Closed
-  pub touch-opened : (n : PresenceRecord) (m : ℕ) → n .touch ≡ m + 1 → lend n .touch ≡ Opened m
-
--- Demand 3 over the exported numbers, which is what the firmware holds: in every run from `brinecandle_new`, each call taking the
--- numbers that the last one gave, they stand for the record that demand 3 speaks of (u2f_up_stated, `Demand3`), so that each call has
--- the outcome that it has there. For every way of calling that does to the record only what its kinds say, the panel's among them.
--- `runsAtItsNumber` fails it: after a check at moment 0 the prompt is lost, and the touch that follows is not accepted.
-pub record RunsOverNumbers (made : ℕ → Made) (lend : PresenceRecord → Presence) (plain : Presence → PresenceRecord) : Type 1 where
-  pub records : (D : Type 0) (𝒞 : Caller D) → Keeps 𝒞 → (w : ℕ) → 0 < w → w ≤ 60000
-      → (ds : List D) → lend (numbersAfter made lend plain 𝒞 w ds) ≡ after 𝒞 w ds
-  pub outcomes : (D : Type 0) (𝒞 : Caller D) → Keeps 𝒞 → (w : ℕ) → 0 < w → w ≤ 60000
-      → (ds : List D) (d : D) → 𝒞 .does (lend (numbersAfter made lend plain 𝒞 w ds)) d .outcome ≡ next 𝒞 w ds d
-
--- "An R refusal changes no buffer and no record", said of the numbers: beside a refusal's number stands the record that was lent,
--- number by number, and after a decision the remainder too (02, E2: "any R refusal keeps it"). A check that moves the last moment all
--- the same (`refusedMoves`) fails it, before the last moment.
-pub record RefusalHandsBack (touch : PresenceRecord → ℕ → Stepped) (check : PresenceRecord → (side t : ℕ) → Stepped) (decide : ToDecide → DecisionSaid) : Type 0 where
-  pub grant-up : (n : PresenceRecord) (t : ℕ) → AreOf64Bits n → touch n t .answer ≤ lastRefusal → touch n t .presence ≡ n
-  pub consume-up : (n : PresenceRecord) (s t : ℕ) → AreOf64Bits n → check n s t .answer ≤ lastRefusal → check n s t .presence ≡ n
-  pub decided : (i : ToDecide) → AreOf64Bits (i .presence) → 1 ≤ decide i .answer → decide i .answer ≤ lastRefusal → (decide i .presence ≡ i .presence) × (decide i .remainder ≡ i .remainder)
-
--- 02, E7: "R8 for a side other than 0 or 1, named or in the record"; ours: the side crosses with 32 bits, so that 256 or -1 in C is
--- not cut down to a side. So a check and a decision answer 8 exactly for such a number, as it was lent, once W is right; touch and ask, which name
+-- 02, E7: "R8 for a side other than 0 or 1, named or in the record"; ours: the side crosses with 64 bits, and so does the record's, so that 256, 2^32 or -1 in C
+-- is not cut down to a side. So a check and a decision answer 8 exactly for such a number, as it was lent, once W is right; touch and ask, which name
 -- none, exactly for the record's. An export that looks at 8 bits of the side (`sideCutInCheck`, `sideCutInDecide`) fails it, at 256, and a touch that does
 -- not look at the record's (`touchAnySide`).
-pub record SideCrosses (touch : PresenceRecord → ℕ → Stepped) (ask : PresenceRecord → ℕ → Asked) (check : PresenceRecord → (side t : ℕ) → Stepped) (decide : ToDecide → AfterDeciding) : Type 0 where
-  pub touched : (n : PresenceRecord) (t : ℕ) → (touch n t .answer ≡ 8) ↔ ((BadWindow (n .w) → ⊥) × (1 < n .asker))
-  pub asked : (n : PresenceRecord) (t : ℕ) → (ask n t .answer ≡ 8) ↔ ((BadWindow (n .w) → ⊥) × (1 < n .asker))
-  pub checked : (n : PresenceRecord) (s t : ℕ) → (check n s t .answer ≡ 8) ↔ ((BadWindow (n .w) → ⊥) × BadSide s (n .asker))
-  pub decided : (i : ToDecide) → (decide i .said .answer ≡ 8) ↔ ((BadWindow (i .presence .w) → ⊥) × BadSide (i .side) (i .presence .asker))
+pub record SideCrosses (touch : (presence : List ℕ) (t : ℕ) → AfterStep) (ask : (presence : List ℕ) (t : ℕ) → Asked) (check : (presence : List ℕ) (side t : ℕ) → AfterStep) (decide : ToDecide → AfterDeciding) : Type 0 where
+  pub touched : (n : List ℕ) (t : ℕ) → (touch n t .said .answer ≡ 8) ↔ ((BadWindow (presenceIn n .w) → ⊥) × (1 < presenceIn n .asker))
+  pub asked : (n : List ℕ) (t : ℕ) → (ask n t .answer ≡ 8) ↔ ((BadWindow (presenceIn n .w) → ⊥) × (1 < presenceIn n .asker))
+  pub checked : (n : List ℕ) (s t : ℕ) → (check n s t .said .answer ≡ 8) ↔ ((BadWindow (presenceIn n .w) → ⊥) × BadSide s (presenceIn n .asker))
+  pub decided : (i : ToDecide) → (decide i .said .answer ≡ 8) ↔ ((BadWindow (presenceIn (i .presence) .w) → ⊥) × BadSide (i .side) (presenceIn (i .presence) .asker))
 
 -- ---- numbers that stand for cases
 
@@ -247,13 +220,17 @@ pub record ResponseNumbers (plain : Outcome Response → ResponseSaid) : Type 0 
   pub status : (s : StatusWord) → plain (Word s) ≡ record { answer = s .number; status = 0; length = 0 }
   pub given : (r : Response) → plain (Gives r) ≡ record { answer = 0x9000; status = r .status; length = r .length }
 
--- A part's response and what remains after it; beside a refusal what remained before (02, E2: "any R refusal keeps it"). A table
--- that hands back nothing with R2 (`refusalForgets`) fails it: what was left could not be fetched any more; and one that
--- hands back what remained before a part (`partForgets`).
-pub record PartNumbers (plain : Outcome Sent → Remainder → PartSaid) : Type 0 where
-  pub refused : (n : ℕ) (kept : Remainder) → plain (R n) kept ≡ record { answer = n; length = 0; remainder = kept }
-  pub status : (s : StatusWord) (kept : Remainder) → plain (Word s) kept ≡ record { answer = s .number; length = 0; remainder = kept }
-  pub given : (sent : Sent) (kept : Remainder) → plain (Gives sent) kept ≡ record { answer = 0x9000; length = sent .length; remainder = sent .remainder }
+-- A part's response, by its length, or 0 beside a refusal. A table that counts it without its status (`sentWithoutStatus`) fails it.
+pub record SentNumbers (plain : Outcome Sent → Wrote) : Type 0 where
+  pub refused : (n : ℕ) → plain (R n) ≡ record { answer = n; length = 0 }
+  pub status : (s : StatusWord) → plain (Word s) ≡ record { answer = s .number; length = 0 }
+  pub given : (sent : Sent) → plain (Gives sent) ≡ record { answer = 0x9000; length = sent .length }
+
+-- How many bytes a response can take, or 0 beside a refusal. A table that says a length beside R2 (`roomBesideRefusal`) fails it.
+pub record RoomNumbers (plain : Outcome ℕ → RoomSaid) : Type 0 where
+  pub refused : (n : ℕ) → plain (R n) ≡ record { answer = n; length = 0 }
+  pub status : (s : StatusWord) → plain (Word s) ≡ record { answer = s .number; length = 0 }
+  pub given : (n : ℕ) → plain (Gives n) ≡ record { answer = 0x9000; length = n }
 
 -- What a touch, a check or an ask says: `yes` beside 9000 alone. A table that says yes beside a refusal (`yesBesideRefusal`) fails it:
 -- the firmware would take a refused touch for an accepted one. So does one that never says yes (`alwaysNo`).
@@ -261,19 +238,6 @@ pub record AskedNumbers (plain : Outcome Bool → Asked) : Type 0 where
   pub refused : (n : ℕ) → plain (R n) ≡ record { answer = n; yes = false }
   pub status : (s : StatusWord) → plain (Word s) ≡ record { answer = s .number; yes = false }
   pub given : (b : Bool) → plain (Gives b) ≡ record { answer = 0x9000; yes = b }
-
--- The same beside the record after the call. `stepYesBesideRefusal` fails it, and a record without its last moment (`lastMomentLost`).
-pub record StepNumbers (plain : Told → Stepped) : Type 0 where
-  pub refused : (n : ℕ) (p : Presence) → plain (record { outcome = R n; presence = p }) ≡ record { answer = n; yes = false; presence = presenceNumbers p }
-  pub status : (s : StatusWord) (p : Presence) → plain (record { outcome = Word s; presence = p }) ≡ record { answer = s .number; yes = false; presence = presenceNumbers p }
-  pub given : (b : Bool) (p : Presence) → plain (record { outcome = Gives b; presence = p }) ≡ record { answer = 0x9000; yes = b; presence = presenceNumbers p }
-
--- 01: "a refused making hands back no record": five zeros, which no call takes, since W is 0. A making that hands back a fresh record
--- beside its refusal (`madeBesideRefusal`) fails it, as does one that never hands one back (`madeWithoutRecord`).
-pub record MadeNumbers (plain : Outcome Presence → Made) : Type 0 where
-  pub refused : (n : ℕ) → plain (R n) ≡ record { answer = n; presence = record { w = 0; prompt = 0; touch = 0; last = 0; asker = 0 } }
-  pub status : (s : StatusWord) → plain (Word s) ≡ record { answer = s .number; presence = record { w = 0; prompt = 0; touch = 0; last = 0; asker = 0 } }
-  pub given : (p : Presence) → plain (Gives p) ≡ record { answer = 0x9000; presence = presenceNumbers p }
 
 -- The numbers of a decision's order: kind 1 or 2, the number of bytes to sign, the certificate length; zeros where there is none.
 -- A table that numbers an Authenticate order 1 (`ordersAlike`) fails it.
@@ -288,32 +252,17 @@ pub record OrderNumbersExactly (plain : Outcome DecisionGives → Order → Orde
       → plain (Gives Ordered) o ≡ record { kind = 2; «to_sign» = o .«to_sign»; «certificate_length» = o .«certificate_length» }
 
 -- A decision's numbers. A decision whose counter was taken and goes out as not taken (`takenUnsaid`) fails it: the counter would not
--- grow; one that keeps the pair of a 6700 to itself (`decisionFaultUnsaid`), and one that never says a limit (`limitUnsaid`): every body
--- would go out whole.
-pub record DecisionNumbers (plain : DecisionResult → Remainder → (limit : ℕ) → DecisionSaid) : Type 0 where
-  pub refused : (r : DecisionResult) (k : Remainder) (l n : ℕ) → r .answer ≡ R n → (plain r k l .answer ≡ n) × (plain r k l .fault ≡ 0) × (plain r k l .place ≡ 0) × (plain r k l .length ≡ 0)
-  pub status : (r : DecisionResult) (k : Remainder) (l : ℕ) (s : StatusWord) → r .answer ≡ Word s
-      → (plain r k l .answer ≡ s .number) × (plain r k l .fault ≡ s .kind) × (plain r k l .place ≡ s .place) × (plain r k l .length ≡ 0)
-  pub body : (r : DecisionResult) (k : Remainder) (l n : ℕ) → r .answer ≡ Gives (Body n) → (plain r k l .answer ≡ 0x9000) × (plain r k l .fault ≡ 0) × (plain r k l .place ≡ 0) × (plain r k l .length ≡ n)
-  pub part : (r : DecisionResult) (k : Remainder) (l n : ℕ) (after : Remainder) → r .answer ≡ Gives (Part n after)
-      → (plain r k l .answer ≡ 0x0200) × (plain r k l .fault ≡ 0) × (plain r k l .place ≡ 0) × (plain r k l .length ≡ n)
-  pub ordered : (r : DecisionResult) (k : Remainder) (l : ℕ) → r .answer ≡ Gives Ordered → (plain r k l .answer ≡ 0x0100) × (plain r k l .fault ≡ 0) × (plain r k l .place ≡ 0) × (plain r k l .length ≡ 0)
-  pub taken : (r : DecisionResult) (k : Remainder) (l : ℕ) → plain r k l .taken ≡ r .taken
-  pub order : (r : DecisionResult) (k : Remainder) (l : ℕ) → plain r k l .order ≡ orderAfter (r .answer) (r .order)  -- by `OrderNumbersExactly`
-  pub presence : (r : DecisionResult) (k : Remainder) (l : ℕ) → plain r k l .presence ≡ presenceNumbers (r .presence)  -- by `RecordNumbers` and `NumbersBack`
-  pub remainder : (r : DecisionResult) (k : Remainder) (l : ℕ) → plain r k l .remainder ≡ k
-  pub limit : (r : DecisionResult) (k : Remainder) (l : ℕ) → plain r k l .limit ≡ l
-
--- What a decision's status word, found as if nothing were left, comes to where something may be: the word itself, but for the 6985 of a frame that asks
--- for the next part, which gets it. 02, E2: "then 6985 when nothing remains; then .." the part. One that never fetches (`neverFetched`)
--- fails it, and one that fetches at any 6985 (`fetchedUnasked`): a Register without a touch would get a part of an earlier body.
-pub record StatedExactly (stated : StatusWord → (isC0 taken : Bool) → (kept settled : Presence) → (room : ℕ) → Remainder → (limit partRoom : ℕ) → DecisionResult) : Type 0 where
-  pub unasked : (w : StatusWord) (taken : Bool) (kept settled : Presence) (room : ℕ) (k : Remainder) (limit partRoom : ℕ)
-      → stated w false taken kept settled room k limit partRoom ≡ record { answer = Word w; presence = settled; order = blankOrder; taken = taken }
-  pub other : (w : StatusWord) (isC0 taken : Bool) (kept settled : Presence) (room : ℕ) (k : Remainder) (limit partRoom : ℕ) → (w .number ≡ 0x6985 → ⊥)
-      → stated w isC0 taken kept settled room k limit partRoom ≡ record { answer = Word w; presence = settled; order = blankOrder; taken = taken }
-  pub fetched : (w : StatusWord) (taken : Bool) (kept settled : Presence) (room : ℕ) (k : Remainder) (limit partRoom : ℕ) → w .number ≡ 0x6985
-      → stated w true taken kept settled room k limit partRoom ≡ along (fetchPath room k limit partRoom) kept settled 0 0
+-- grow; and one that keeps the pair of a 6700 to itself (`decisionFaultUnsaid`).
+pub record DecisionNumbers (plain : DecisionResult → DecisionSaid) : Type 0 where
+  pub refused : (r : DecisionResult) (n : ℕ) → r .answer ≡ R n → (plain r .answer ≡ n) × (plain r .fault ≡ 0) × (plain r .place ≡ 0) × (plain r .length ≡ 0)
+  pub status : (r : DecisionResult) (s : StatusWord) → r .answer ≡ Word s
+      → (plain r .answer ≡ s .number) × (plain r .fault ≡ s .kind) × (plain r .place ≡ s .place) × (plain r .length ≡ 0)
+  pub body : (r : DecisionResult) (n : ℕ) → r .answer ≡ Gives (Body n) → (plain r .answer ≡ 0x9000) × (plain r .fault ≡ 0) × (plain r .place ≡ 0) × (plain r .length ≡ n)
+  pub part : (r : DecisionResult) (n : ℕ) (after : Remainder) → r .answer ≡ Gives (Part n after)
+      → (plain r .answer ≡ 0x0200) × (plain r .fault ≡ 0) × (plain r .place ≡ 0) × (plain r .length ≡ n)
+  pub ordered : (r : DecisionResult) → r .answer ≡ Gives Ordered → (plain r .answer ≡ 0x0100) × (plain r .fault ≡ 0) × (plain r .place ≡ 0) × (plain r .length ≡ 0)
+  pub taken : (r : DecisionResult) → plain r .taken ≡ r .taken
+  pub order : (r : DecisionResult) → plain r .order ≡ orderAfter (r .answer) (r .order)  -- by `OrderNumbersExactly`
 
 -- The exported decision as a whole, of what C lends under each name: a row of document 01's table and E2's (`row`), on what is lent, its numbers, and
 -- what the call leaves. 02, E2: "a refused C0 or any R refusal keeps it"; "A frame with another INS or in no shape drops the remainder". Ours: the
@@ -324,33 +273,45 @@ pub record StatedExactly (stated : StatusWord → (isC0 taken : Bool) → (kept 
 pub record DecideExported (decide : ToDecide → AfterDeciding) : Type 0 where
   pub row : (i : ToDecide)
       → (r : DecisionResult)
-      × Answers (presenceOf (i .presence)) (i .moment)
-      (record { side = i .side; frame = i .frame; hardware = hardwareOf (i .hardware); newHandle = i .newHandle; certificate = i .certificate; x = i .x; y = i .y; room = length (i .reply); remainder = i .remainder; partRoom = length (i .part) }) r
+      × Answers (presenceIn (i .presence)) (i .moment)
+      (record { side = i .side; frame = i .frame; hardware = hardwareOf (hardwareIn (i .hardware)); newHandle = i .newHandle; certificate = i .certificate; x = i .x; y = i .y; room = length (i .reply); remainder = remainderIn (i .session); partRoom = length (i .part) }) r
       × Reports (decide i .said) r
+      × (presenceIn (decide i .presence) ≡ r .presence)
       × (decide i .said .answer ≡ 0x0100 → decide i .block ≡ r .order .bytes)
-  pub limit : (i : ToDecide) (limit : List ℕ → ℕ) → Decision.LimitsExactly limit → decide i .said .limit ≡ limit (i .frame)
-  pub refused : (i : ToDecide) → 1 ≤ decide i .said .answer → decide i .said .answer ≤ lastRefusal → decide i .said .remainder ≡ i .remainder
+  pub limit : (i : ToDecide) (limit : List ℕ → ℕ) → Decision.LimitsExactly limit → lastRefusal < decide i .said .answer → sessionIn (decide i .session) .limit ≡ limit (i .frame)
+  pub refused : (i : ToDecide) → decide i .said .answer ≤ lastRefusal → sessionIn (decide i .session) ≡ sessionIn (i .session)
   pub keeps : (i : ToDecide) (said : Says) → readOf (i .frame) ≡ Gives said → said .header .ins ≡ 0xC0 → 0x6000 ≤ decide i .said .answer → decide i .said .answer < 0x9000
-      → decide i .said .remainder ≡ i .remainder
+      → remainderIn (decide i .session) ≡ remainderIn (i .session)
   pub drops : (i : ToDecide) → ((said : Says) → readOf (i .frame) ≡ Gives said → said .header .ins ≡ 0xC0 → ⊥) → lastRefusal < decide i .said .answer
-      → decide i .said .remainder ≡ record { place = 0; count = 0 }
+      → remainderIn (decide i .session) ≡ record { place = 0; count = 0 }
   pub version : (i : ToDecide) → decide i .said .answer ≡ 0x9000 → decide i .reply ≡ 0x55 ∷ 0x32 ∷ 0x46 ∷ 0x5F ∷ 0x56 ∷ 0x32 ∷ drop 6 (i .reply)
   pub reply : (i : ToDecide) → (decide i .said .answer ≡ 0x9000 → ⊥) → decide i .reply ≡ i .reply
   pub block : (i : ToDecide) → (decide i .said .answer ≡ 0x0100 → ⊥) → decide i .block ≡ i .block
   pub part : (i : ToDecide) (next : Sender) → Responses.NextExactly next → decide i .said .answer ≡ 0x0200
-      → next (i .reply) (i .remainder) (decide i .said .limit) (i .part) ≡ (Gives (sending (decide i .said .length) (decide i .said .remainder)), decide i .part)
+      → next (i .reply) (remainderIn (i .session)) (sessionIn (decide i .session) .limit) (i .part) ≡ (Gives (sending (decide i .said .length) (remainderIn (decide i .session))), decide i .part)
   pub no-part : (i : ToDecide) → (decide i .said .answer ≡ 0x0200 → ⊥) → decide i .part ≡ i .part
 
 -- The exported next part and the exported response, by whatever sender and writer meet response_stated's `NextExactly` and `WritesExactly`: their
--- answer in numbers, and their buffer. 02, E2: "any R refusal keeps it". An export that hands back nothing with R2
+-- answer in numbers, and their buffer; what remains and the limit are the session's. 02, E2: "any R refusal keeps it". An export that forgets what remains with R2
 -- (`nextForgets`) fails it, one that looks at no limit (`nextWhole`), and one that writes 9000 whatever it is lent (`responds9000`).
-pub record NextPartExported (next : (body : List ℕ) → Remainder → (limit : ℕ) (old : List ℕ) → AfterPart) : Type 0 where
-  pub given : (sender : Sender) → Responses.NextExactly sender → (body : List ℕ) (r : Remainder) (limit : ℕ) (old : List ℕ) (n : ℕ) (left : Remainder)
-      → sender body r limit old .0 ≡ Gives (sending n left)
-      → (next body r limit old .said ≡ record { answer = 0x9000; length = n; remainder = left }) × (next body r limit old .buffer ≡ sender body r limit old .1)
-  pub refused : (sender : Sender) → Responses.NextExactly sender → (body : List ℕ) (r : Remainder) (limit : ℕ) (old : List ℕ) (m : ℕ)
-      → sender body r limit old .0 ≡ R m
-      → (next body r limit old .said ≡ record { answer = m; length = 0; remainder = r }) × (next body r limit old .buffer ≡ old)
+pub record NextPartExported (next : (session body part : List ℕ) → AfterPart) : Type 0 where
+  pub given : (sender : Sender) → Responses.NextExactly sender → (session body old : List ℕ) (n : ℕ) (left : Remainder)
+      → sender body (remainderIn session) (sessionIn session .limit) old .0 ≡ Gives (sending n left)
+      → (next session body old .said ≡ record { answer = 0x9000; length = n })
+      × (sessionIn (next session body old .session) ≡ record { remainder = left; limit = sessionIn session .limit })
+      × (next session body old .part ≡ sender body (remainderIn session) (sessionIn session .limit) old .1)
+  pub refused : (sender : Sender) → Responses.NextExactly sender → (session body old : List ℕ) (m : ℕ)
+      → sender body (remainderIn session) (sessionIn session .limit) old .0 ≡ R m
+      → (next session body old .said ≡ record { answer = m; length = 0 }) × (sessionIn (next session body old .session) ≡ sessionIn session) × (next session body old .part ≡ old)
+
+-- The exported room, by whatever room meets response_stated's `RoomExactly`: of a frame that is read by its limit, "for bytes in no shape two". An export that
+-- takes every frame for an extended one (`roomUncut`) fails it.
+pub record RoomExported (rooms : (frame : List ℕ) (longest : ℕ) → RoomSaid) : Type 0 where
+  pub given : (room : (limit longest : ℕ) → Outcome ℕ) → Responses.RoomExactly room → (frame : List ℕ) (longest : ℕ) (said : Says) (n : ℕ) → readOf frame ≡ Gives said
+      → room (limitOf said) longest ≡ Gives n → rooms frame longest ≡ record { answer = 0x9000; length = n }
+  pub refused : (room : (limit longest : ℕ) → Outcome ℕ) → Responses.RoomExactly room → (frame : List ℕ) (longest : ℕ) (said : Says) (m : ℕ) → readOf frame ≡ Gives said
+      → room (limitOf said) longest ≡ R m → rooms frame longest ≡ record { answer = m; length = 0 }
+  pub no-shape : (frame : List ℕ) (longest : ℕ) (w : StatusWord) → readOf frame ≡ Word w → rooms frame longest ≡ record { answer = 0x9000; length = 2 }
 
 pub record ResponseExported (respond : (body : List ℕ) (status : ℕ) (old : List ℕ) → AfterWriting) : Type 0 where
   pub given : (writer : Writer) → Responses.WritesExactly writer → (body : List ℕ) (status : ℕ) (old : List ℕ) (n : ℕ) → writer body status old .0 ≡ Gives n
@@ -431,9 +392,12 @@ pub record ContractsAsClaimed : Type 0 where
   pub read-strict-by-table : (f : List ℕ → FrameSaid) → ((frame : List ℕ) → BrinecandleReadStrictByTable frame (f frame)) → ReadStrictExported f
   pub write : (f : ToWrite → AfterWriting) → ((w : ToWrite) → BrinecandleWrite w (f w .said) (f w .buffer)) → WriteExported f
   pub write-strict : (f : ToWrite → AfterWriting) → ((w : ToWrite) → BrinecandleWriteStrict w (f w .said) (f w .buffer)) → WriteStrictExported f
-  pub decide : (f : ToDecide → AfterDeciding) → ((i : ToDecide) → BrinecandleDecide i (f i .said) (f i .reply) (f i .block) (f i .part)) → DecideExported f
-  pub next-part : (f : (body : List ℕ) → Remainder → (limit : ℕ) (old : List ℕ) → AfterPart)
-      → ((body : List ℕ) (k : Remainder) (limit : ℕ) (old : List ℕ) → BrinecandleNextPart body k limit old (f body k limit old .said) (f body k limit old .buffer)) → NextPartExported f
+  pub new : (f : (presence : List ℕ) (w : ℕ) → AfterMaking) → ((n : List ℕ) (w : ℕ) → BrinecandleNew n w (f n w .said) (f n w .presence)) → MakeExported f
+  pub decide : (f : ToDecide → AfterDeciding)
+      → ((i : ToDecide) → BrinecandleDecide i (f i .said) (f i .presence) (f i .session) (f i .reply) (f i .block) (f i .part)) → DecideExported f
+  pub next-part : (f : (session body part : List ℕ) → AfterPart)
+      → ((session body part : List ℕ) → BrinecandleNextPart session body part (f session body part .said) (f session body part .session) (f session body part .part)) → NextPartExported f
+  pub response-room : (f : (frame : List ℕ) (longest : ℕ) → RoomSaid) → ((frame : List ℕ) (longest : ℕ) → BrinecandleResponseRoom frame longest (f frame longest)) → RoomExported f
   pub write-response : (f : (body : List ℕ) (status : ℕ) (old : List ℕ) → AfterWriting)
       → ((body : List ℕ) (status : ℕ) (old : List ℕ) → BrinecandleWriteResponse body status old (f body status old .said) (f body status old .buffer)) → ResponseExported f
 
@@ -445,17 +409,16 @@ pub record ResultsDetermined : Type 0 where
   pub strict-plain : (n count : ℕ) → AtMostOne (StrictPlain n count)
   pub write-plain : (w : ToWrite) → AtMostOne (λ (r : AfterWriting). WritePlain w (r .said) (r .buffer))
   pub command-plain : (read : U2fCommand) → AtMostOne (CommandPlain read)
-  pub record-lent : (n : PresenceRecord) → AtMostOne (RecordLent n)
-  pub record-plain : (p : Presence) → AtMostOne (RecordPlain p)
-  pub made-plain : (ready : Ready) → AtMostOne (MadePlain ready)
+  pub refused-asked : (why : Refusal) → AtMostOne (RefusedAsked why)
+  pub found-asked : (yes : Bool) → AtMostOne (FoundAsked yes)
+  pub made-kept : (ready : Ready) (n : List ℕ) → AtMostOne (λ (r : AfterMaking). (length (r .presence) ≡ 5) × MadeKept ready n (r .said) (r .presence))
   pub asked-plain : (answer : Answer) → AtMostOne (AskedPlain answer)
-  pub step-plain : (step : Step) → AtMostOne (StepPlain step)
   pub kind-numbered : (n : ℕ) → AtMostOne (KindNumbered n)
-  pub refused-numbers : (why : Refusal) (taken : Bool) (p : Presence) (k : Remainder) (l : ℕ) → AtMostOne (RefusedPlain why taken p k l)
-  pub status-numbers : (s : ApduStatusCode) (taken : Bool) (p : Presence) (k : Remainder) (l : ℕ) → AtMostOne (StatusPlain s taken p k l)
-  pub body-numbers : (n : ℕ) (taken : Bool) (p : Presence) (k : Remainder) (l : ℕ) → AtMostOne (BodyPlain n taken p k l)
-  pub part-numbers : (n : ℕ) (taken : Bool) (p : Presence) (k : Remainder) (l : ℕ) → AtMostOne (PartPlain n taken p k l)
-  pub order-numbers : (head : Head) (taken : Bool) (p : Presence) (k : Remainder) (l : ℕ) → AtMostOne (OrderPlain head taken p k l)
+  pub refused-numbers : (why : Refusal) (taken : Bool) → AtMostOne (RefusedPlain why taken)
+  pub status-numbers : (number kind place : ℕ) (taken : Bool) → AtMostOne (StatusPlain number kind place taken)
+  pub body-numbers : (n : ℕ) (taken : Bool) → AtMostOne (BodyPlain n taken)
+  pub part-numbers : (n : ℕ) (k : Remainder) (taken : Bool) → AtMostOne (PartPlain n k taken)
+  pub order-numbers : (head : Head) (taken : Bool) → AtMostOne (OrderPlain head taken)
   pub finished-plain : (finished : Finished) → AtMostOne (FinishedPlain finished)
   pub brinecandle-read : (frame : List ℕ) → AtMostOne (BrinecandleRead frame)
   pub brinecandle-read-strict : (frame : List ℕ) → AtMostOne (BrinecandleReadStrict frame)
@@ -464,17 +427,20 @@ pub record ResultsDetermined : Type 0 where
   pub brinecandle-write : (w : ToWrite) → AtMostOne (λ (r : AfterWriting). BrinecandleWrite w (r .said) (r .buffer))
   pub brinecandle-write-strict : (w : ToWrite) → AtMostOne (λ (r : AfterWriting). BrinecandleWriteStrict w (r .said) (r .buffer))
   pub brinecandle-read-command : (frame : List ℕ) → AtMostOne (BrinecandleReadCommand frame)
-  pub brinecandle-new : (w : ℕ) → AtMostOne (BrinecandleNew w)
-  pub brinecandle-grant-up : (n : PresenceRecord) (t : ℕ) → AtMostOne (BrinecandleGrantUp n t)
-  pub brinecandle-consume-up : (n : PresenceRecord) (s t : ℕ) → AtMostOne (BrinecandleConsumeUp n s t)
-  pub brinecandle-is-up-needed : (n : PresenceRecord) (t : ℕ) → AtMostOne (BrinecandleIsUpNeeded n t)
-  pub brinecandle-decide : (i : ToDecide) → AtMostOne (λ (r : AfterDeciding). BrinecandleDecide i (r .said) (r .reply) (r .block) (r .part))
+  pub brinecandle-new : (n : List ℕ) (w : ℕ) → AtMostOne (λ (r : AfterMaking). (length (r .presence) ≡ 5) × BrinecandleNew n w (r .said) (r .presence))
+  pub brinecandle-grant-up : (n : List ℕ) (t : ℕ) → AtMostOne (λ (r : AfterStep). (length (r .presence) ≡ 5) × BrinecandleGrantUp n t (r .said) (r .presence))
+  pub brinecandle-consume-up : (n : List ℕ) (s t : ℕ) → AtMostOne (λ (r : AfterStep). (length (r .presence) ≡ 5) × BrinecandleConsumeUp n s t (r .said) (r .presence))
+  pub brinecandle-is-up-needed : (n : List ℕ) (t : ℕ) → AtMostOne (BrinecandleIsUpNeeded n t)
+  pub brinecandle-decide : (i : ToDecide)
+      → AtMostOne (λ (r : AfterDeciding). (length (r .presence) ≡ 5) × (length (r .session) ≡ 3) × BrinecandleDecide i (r .said) (r .presence) (r .session) (r .reply) (r .block) (r .part))
   pub brinecandle-finish : (i : ToFinish) → AtMostOne (λ (r : AfterWriting). BrinecandleFinish i (r .said) (r .buffer))
   pub response-plain : (read : ReadResponse) → AtMostOne (ResponsePlain read)
   pub wrote-response-plain : (written : WroteResponse) → AtMostOne (WroteResponsePlain written)
-  pub next-plain : (next : NextPart) (kept : Remainder) → AtMostOne (NextPlain next kept)
-  pub stated-numbers : (s : ApduStatusCode) (isC0 taken : Bool) (kept settled : Presence) (k : Remainder) (l : ℕ) (body old : List ℕ)
-      → AtMostOne (λ (r : AfterFetching). StatedPlain s isC0 taken kept settled k l body old (r .said) (r .buffer))
+  pub refused-part : (why : Refusal) → AtMostOne (RefusedPart why)
+  pub sent-part : (n : ℕ) → AtMostOne (SentPart n)
+  pub room-plain : (room : ResponseRoom) → AtMostOne (RoomPlain room)
   pub brinecandle-write-response : (body : List ℕ) (status : ℕ) (old : List ℕ) → AtMostOne (λ (r : AfterWriting). BrinecandleWriteResponse body status old (r .said) (r .buffer))
   pub brinecandle-read-response : (response : List ℕ) → AtMostOne (BrinecandleReadResponse response)
-  pub brinecandle-next-part : (body : List ℕ) (k : Remainder) (l : ℕ) (old : List ℕ) → AtMostOne (λ (r : AfterPart). BrinecandleNextPart body k l old (r .said) (r .buffer))
+  pub brinecandle-next-part : (session body part : List ℕ)
+      → AtMostOne (λ (r : AfterPart). (length (r .session) ≡ 3) × BrinecandleNextPart session body part (r .said) (r .session) (r .part))
+  pub brinecandle-response-room : (frame : List ℕ) (longest : ℕ) → AtMostOne (BrinecandleResponseRoom frame longest)

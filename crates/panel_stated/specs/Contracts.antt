@@ -1,9 +1,10 @@
 -- What is promised of each public function of panel_frames, panel_presence, panel_orders, panel_responses and panel, over what it is lent,
 -- its result, and the final contents of what it writes.
-use Rattle.panel_stated.specs.Words.{ℕ, _≡_, Bool, List, length, R, Word, Gives, Body, Ordered, Part, Head, Presence, Remainder, Session, Ordinary, Strict, commandOf, newOf, touchOf, checkOf, askOf, lengthOf, replyOf, responseRead, responseWritten, partSent, readResponseOf, frameRoomOf}
-use Rattle.panel_stated.specs.Words.{PresenceRecord, SessionRecord, FrameSaid, CommandSaid, Wrote, Asked, DecisionSaid, ResponseSaid, RoomSaid, Shaped, Kinded}
-use Rattle.panel_stated.specs.Numbers.{answerNo, presenceOf, sessionOf, sessionNumbers, shapeOf, kindOf, noOrder}
-use Rattle.panel_stated.specs.Exports.{frameNumbers, lengthNumbers, ToWrite, strictAs, readsOf, writesOf, commandNumbers, madeOver, makesOf, askedNumbers, stepNumbers, headAfter, decidedNumbers, ToDecide, decidesOf, respondsOf, nextsOf, responseNumbers, sentNumbers, sentOver, roomNumbers, ToFinish, finishNumbered}
+use Rattle.panel_stated.specs.Words.{ℕ, _≡_, Bool, List, R, Word, Gives, Body, Ordered, Part, Head, Remainder, Ordinary, Strict, commandOf, newOf, touchOf, checkOf, lengthOf, replyOf, responseRead, responseWritten, readResponseOf, presenceIn, sessionIn}
+use Rattle.panel_stated.specs.Words.{FrameSaid, CommandSaid, Wrote, Asked, DecisionSaid, ResponseSaid, RoomSaid, Shaped, Kinded}
+use Rattle.panel_stated.specs.Numbers.{answerNo, shapeOf, kindOf, noOrder}
+use Rattle.panel_stated.specs.Exports.{frameNumbers, lengthNumbers, ToWrite, strictAs, readsOf, writesOf, commandNumbers, madeOver, makesOf, askedNumbers, touchesOf, checksOf, asksOf, headAfter, decidedNumbers, ToDecide, decidedBy, sessionBy, decidesOf, respondsOf, responseNumbers, sentNumbers, sentOver, roomNumbers, roomsOf, ToFinish, finishNumbered}
+use Rattle.response_stated.specs.Terms.{sendingOf}
 use Rattle.apdu_stated.specs.Answers.{saysOf}
 use Rattle.apdu_stated.specs.declared.Apdu.{Apdu}
 use Rattle.command_stated.specs.Command.{commandSaid}
@@ -18,7 +19,6 @@ use Rattle.signing_stated.specs.Finishing.{finishedOf}
 use Rattle.signing_stated.specs.declared.Finished.{Finished}
 use Rattle.response_stated.specs.declared.ReadResponse.{ReadResponse}
 use Rattle.response_stated.specs.declared.WroteResponse.{WroteResponse}
-use Rattle.response_stated.specs.declared.NextPart.{NextPart}
 use Rattle.response_stated.specs.declared.ResponseRoom.{ResponseRoom}
 use Rattle.response_stated.specs.Words.{roomSaid}
 
@@ -42,15 +42,19 @@ WritePlain w r after = (r ≡ writesOf Ordinary w .said) × (after ≡ writesOf 
 abbrev pub CommandPlain : U2fCommand → CommandSaid → Type 0
 CommandPlain read r = r ≡ commandNumbers (commandSaid read)
 
--- ---- panel_presence: over the record's numbers as they are lent, and as they are then
-abbrev pub RecordLent : PresenceRecord → Presence → Type 0
-RecordLent n r = r ≡ presenceOf n
+-- ---- panel_presence
+-- what is said to a touch, a check and an ask: refused, or `yes`
+abbrev pub RefusedAsked : Refusal → Asked → Type 0
+RefusedAsked why r = r ≡ askedNumbers (R (refusalNo why))
 
-abbrev pub MadeKept : Ready → (entry : PresenceRecord) → ℕ → (exit : PresenceRecord) → Type 0
-MadeKept ready entry r exit = (r ≡ answerNo (readyOf ready)) × (exit ≡ madeOver (readyOf ready) entry)
+abbrev pub FoundAsked : Bool → Asked → Type 0
+FoundAsked found r = r ≡ askedNumbers (Gives found)
 
 abbrev pub AskedPlain : Answer → Asked → Type 0
 AskedPlain answer r = r ≡ askedNumbers (outcomeOf answer)
+
+abbrev pub MadeKept : Ready → (entry : List ℕ) → ℕ → (exit : List ℕ) → Type 0
+MadeKept ready entry r exit = (r ≡ answerNo (readyOf ready)) × (presenceIn exit ≡ madeOver (readyOf ready) (presenceIn entry))
 
 -- ---- panel_orders
 abbrev pub KindNumbered : ℕ → Kinded → Type 0
@@ -60,8 +64,8 @@ KindNumbered number r = r ≡ kindOf number
 abbrev pub RefusedPlain : Refusal → (taken : Bool) → DecisionSaid → Type 0
 RefusedPlain why taken r = r ≡ decidedNumbers (R (refusalNo why)) noOrder taken
 
-abbrev pub StatusPlain : ApduStatusCode → (taken : Bool) → DecisionSaid → Type 0
-StatusPlain status taken r = r ≡ decidedNumbers (Word (wordOf status)) noOrder taken
+abbrev pub StatusPlain : (number kind place : ℕ) (taken : Bool) → DecisionSaid → Type 0
+StatusPlain number kind place taken r = r ≡ decidedNumbers (Word (record { number = number; kind = kind; place = place })) noOrder taken
 
 abbrev pub BodyPlain : ℕ → (taken : Bool) → DecisionSaid → Type 0
 BodyPlain length taken r = r ≡ decidedNumbers (Gives (Body length)) noOrder taken
@@ -82,14 +86,12 @@ ResponsePlain read r = r ≡ responseNumbers (responseRead read)
 abbrev pub WroteResponsePlain : WroteResponse → Wrote → Type 0
 WroteResponsePlain written r = r ≡ lengthNumbers (responseWritten written)
 
-abbrev pub SessionLent : SessionRecord → Session → Type 0
-SessionLent n r = r ≡ sessionOf n
+-- a part that is refused, and one that is sent
+abbrev pub RefusedPart : Refusal → Wrote → Type 0
+RefusedPart why r = r ≡ record { answer = refusalNo why; length = 0 }
 
-abbrev pub SessionKept : Session → (exit : SessionRecord) → Type 0
-SessionKept session exit = exit ≡ sessionNumbers session
-
-abbrev pub NextKept : NextPart → (entry : SessionRecord) → Wrote → (exit : SessionRecord) → Type 0
-NextKept next entry r exit = (r ≡ sentNumbers (partSent next)) × (exit ≡ sentOver (partSent next) entry)
+abbrev pub SentPart : ℕ → Wrote → Type 0
+SentPart length r = r ≡ record { answer = 0x9000; length = length }
 
 abbrev pub RoomPlain : ResponseRoom → RoomSaid → Type 0
 RoomPlain room r = r ≡ roomNumbers (roomSaid room)
@@ -118,23 +120,23 @@ abbrev pub BrinecandleReadCommand : List ℕ → CommandSaid → Type 0
 BrinecandleReadCommand frame r = r ≡ commandNumbers (commandOf frame)
 
 -- the answer, and the record after the call
-abbrev pub BrinecandleNew : (entry : PresenceRecord) (w : ℕ) → ℕ → (exit : PresenceRecord) → Type 0
-BrinecandleNew entry w r exit = (r ≡ makesOf entry w .answer) × (exit ≡ makesOf entry w .presence)
+abbrev pub BrinecandleNew : (entry : List ℕ) (w : ℕ) → ℕ → (exit : List ℕ) → Type 0
+BrinecandleNew entry w r exit = (r ≡ makesOf entry w .said) × (presenceIn exit ≡ madeOver (newOf w) (presenceIn entry))
 
-abbrev pub BrinecandleGrantUp : (entry : PresenceRecord) (t : ℕ) → Asked → (exit : PresenceRecord) → Type 0
-BrinecandleGrantUp entry t r exit = (r ≡ stepNumbers (touchOf (presenceOf entry) t) .said) × (exit ≡ stepNumbers (touchOf (presenceOf entry) t) .presence)
+abbrev pub BrinecandleGrantUp : (entry : List ℕ) (t : ℕ) → Asked → (exit : List ℕ) → Type 0
+BrinecandleGrantUp entry t r exit = (r ≡ touchesOf entry t .said) × (presenceIn exit ≡ touchOf (presenceIn entry) t .presence)
 
-abbrev pub BrinecandleConsumeUp : (entry : PresenceRecord) (side t : ℕ) → Asked → (exit : PresenceRecord) → Type 0
-BrinecandleConsumeUp entry s t r exit = (r ≡ stepNumbers (checkOf (presenceOf entry) s t) .said) × (exit ≡ stepNumbers (checkOf (presenceOf entry) s t) .presence)
+abbrev pub BrinecandleConsumeUp : (entry : List ℕ) (side t : ℕ) → Asked → (exit : List ℕ) → Type 0
+BrinecandleConsumeUp entry s t r exit = (r ≡ checksOf entry s t .said) × (presenceIn exit ≡ checkOf (presenceIn entry) s t .presence)
 
-abbrev pub BrinecandleIsUpNeeded : PresenceRecord → (t : ℕ) → Asked → Type 0
-BrinecandleIsUpNeeded n t r = r ≡ askedNumbers (askOf (presenceOf n) t .outcome)
+abbrev pub BrinecandleIsUpNeeded : (presence : List ℕ) (t : ℕ) → Asked → Type 0
+BrinecandleIsUpNeeded presence t r = r ≡ asksOf presence t
 
 -- the answer, and the record, the session, the reply buffer, the block and the buffer for part and status after the call
-abbrev pub BrinecandleDecide : ToDecide → DecisionSaid → PresenceRecord → SessionRecord → (reply block part : List ℕ) → Type 0
+abbrev pub BrinecandleDecide : ToDecide → DecisionSaid → (presence session reply block part : List ℕ) → Type 0
 BrinecandleDecide i r presence session reply block part =
-    (r ≡ decidesOf i .said) × (presence ≡ decidesOf i .presence) × (session ≡ decidesOf i .session) × (reply ≡ decidesOf i .reply) × (block ≡ decidesOf i .block)
-    × (part ≡ decidesOf i .part)
+    (r ≡ decidesOf i .said) × (presenceIn presence ≡ decidedBy i .presence) × (sessionIn session ≡ sessionBy i)
+    × (reply ≡ decidesOf i .reply) × (block ≡ decidesOf i .block) × (part ≡ decidesOf i .part)
 
 -- the answer, and the reply buffer after the call
 abbrev pub BrinecandleFinish : ToFinish → Wrote → (after : List ℕ) → Type 0
@@ -148,10 +150,11 @@ BrinecandleWriteResponse body status entry r exit =
 abbrev pub BrinecandleReadResponse : List ℕ → ResponseSaid → Type 0
 BrinecandleReadResponse response r = r ≡ responseNumbers (readResponseOf response)
 
--- the answer, and the session and the buffer after the call
-abbrev pub BrinecandleNextPart : (entry : SessionRecord) (body old : List ℕ) → Wrote → (exit : SessionRecord) (part : List ℕ) → Type 0
-BrinecandleNextPart entry body old r exit part =
-    (r ≡ nextsOf entry body old .said) × (exit ≡ nextsOf entry body old .session) × (part ≡ nextsOf entry body old .buffer)
+-- the answer, and the session and the buffer for part and status after the call
+abbrev pub BrinecandleNextPart : (session body part : List ℕ) → Wrote → (left exit : List ℕ) → Type 0
+BrinecandleNextPart session body part r left exit =
+    let sent = sendingOf body (sessionIn session .remainder) (sessionIn session .limit) part in
+    (r ≡ sentNumbers (sent .0)) × (sessionIn left ≡ sentOver (sent .0) (sessionIn session)) × (exit ≡ sent .1)
 
 abbrev pub BrinecandleResponseRoom : (frame : List ℕ) (longest : ℕ) → RoomSaid → Type 0
-BrinecandleResponseRoom frame longest r = r ≡ roomNumbers (frameRoomOf frame longest)
+BrinecandleResponseRoom frame longest r = r ≡ roomsOf frame longest

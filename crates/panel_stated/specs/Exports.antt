@@ -1,12 +1,12 @@
 -- What each export answers and leaves, in plain numbers, by the outcome that the definitions of the other crates give for its call.
 -- A number that an answer has no use for is 0.
-use Rattle.panel_stated.specs.Words.{ℕ, _+_, Bool, false, List, length, StatusWord, Outcome, R, Word, Gives, plainWord, ApduHeader, Presence, Kind, Head, Order, headOf}
-use Rattle.panel_stated.specs.Words.{PresenceRecord, SessionRecord, HardwareSaid, OrderNumbers, FrameSaid, CommandSaid, Wrote, Asked, DecisionSaid, ResponseSaid, RoomSaid, Shaped, Kinded}
-use Rattle.panel_stated.specs.Words.{Says, readOf, placeOf, Entry, Strict, inRow, readBy, partsOf, writeBy, bufferBy, Command, Register, Authenticate, Version, GetResponse, handlePlaceOf, Told, newOf}
-use Rattle.panel_stated.specs.Words.{kindNo, finishOf, DecisionGives, Body, Ordered, Part, DecisionResult, DecisionHanded, handedOf, decisionOf, rest, Response, Sent, partLeft, replyLeft, blockLeft, sessionAfter}
-use Rattle.panel_stated.specs.Numbers.{answerNo, decidedNo, faultNo, placeNo, presenceOf, presenceNumbers, sessionOf, sessionNumbers, isYes, hardwareOf, shapeOf, kindOf, noOrder}
+use Rattle.panel_stated.specs.Words.{ℕ, _+_, Bool, false, List, length, StatusWord, Outcome, R, Word, Gives, plainWord, ApduHeader, Presence, Session, Kind, Head, Order, headOf}
+use Rattle.panel_stated.specs.Words.{OrderNumbers, FrameSaid, CommandSaid, Wrote, Asked, DecisionSaid, ResponseSaid, RoomSaid, Shaped, Kinded}
+use Rattle.panel_stated.specs.Words.{Says, readOf, placeOf, Entry, Strict, inRow, readBy, partsOf, writeBy, bufferBy, Command, Register, Authenticate, Version, GetResponse, handlePlaceOf, Told, newOf, touchOf, checkOf, askOf}
+use Rattle.panel_stated.specs.Words.{kindNo, finishOf, DecisionGives, Body, Ordered, Part, DecisionResult, decisionOf, Response, Sent, partLeft, replyLeft, blockLeft, presenceIn, sessionIn, sessionAfter, frameRoomOf, inputsIn}
+pub use Rattle.panel_stated.specs.Words.{ToDecide}
+use Rattle.panel_stated.specs.Numbers.{answerNo, decidedNo, faultNo, placeNo, presenceNumbers, sessionNumbers, isYes, shapeOf, kindOf, noOrder}
 use Rattle.response_stated.specs.Terms.{writingOf, sendingOf}
-use Rattle.ctap1_stated.specs.Words.{Inputs}
 use Rattle.panel_stated.specs.declared.Shaped.the-variants as Shaped′
 use Rattle.panel_stated.specs.declared.Kinded.the-variants as Kinded′
 
@@ -112,24 +112,20 @@ commandNumbers (R n) = bareCommand (plainWord n) 0
 commandNumbers (Word s) = bareCommand s 0
 commandNumbers (Gives c) = commandGiven c
 
--- ---- presence
--- five zeros: closed, and R6 at every call, since W is 0
-abbrev pub noRecord : PresenceRecord
-noRecord = record { w = 0; prompt = 0; touch = 0; last = 0; asker = 0 }
-
--- 01: "a refused making hands back no record": the numbers that are lent stay
-abbrev pub madeOver : Outcome Presence → PresenceRecord → PresenceRecord
+-- ---- presence: over the record's five numbers as they are lent, and as they are then
+-- 01: "a refused making hands back no record": the one that is lent stays
+abbrev pub madeOver : Outcome Presence → Presence → Presence
 madeOver (R n) lent = lent
 madeOver (Word s) lent = lent
-madeOver (Gives p) lent = presenceNumbers p
+madeOver (Gives p) lent = p
 
 -- what making a record leaves: its answer, and the record
 pub record AfterMaking : Type 0 where
-  pub answer : ℕ
-  pub presence : PresenceRecord
+  pub said : ℕ
+  pub presence : List ℕ
 
-abbrev pub makesOf : PresenceRecord → (w : ℕ) → AfterMaking
-makesOf lent w = record { answer = answerNo (newOf w); presence = madeOver (newOf w) lent }
+abbrev pub makesOf : (presence : List ℕ) (w : ℕ) → AfterMaking
+makesOf lent w = record { said = answerNo (newOf w); presence = presenceNumbers (madeOver (newOf w) (presenceIn lent)) }
 
 -- a touch was accepted, a check found a touch, a prompt is live
 abbrev pub yesIn : Outcome Bool → Bool
@@ -140,13 +136,22 @@ yesIn (Gives b) = b
 abbrev pub askedNumbers : Outcome Bool → Asked
 askedNumbers o = record { answer = answerNo o; yes = yesIn o }
 
--- what a touch and a check leave: their answer, and the record; "An R refusal changes no buffer and no record": the one that was lent, number by number
+-- what a touch and a check leave: their answer, and the record
 pub record AfterStep : Type 0 where
   pub said : Asked
-  pub presence : PresenceRecord
+  pub presence : List ℕ
 
 abbrev pub stepNumbers : Told → AfterStep
 stepNumbers told = record { said = askedNumbers (told .outcome); presence = presenceNumbers (told .presence) }
+
+abbrev pub touchesOf : (presence : List ℕ) (t : ℕ) → AfterStep
+touchesOf lent t = stepNumbers (touchOf (presenceIn lent) t)
+
+abbrev pub checksOf : (presence : List ℕ) (side t : ℕ) → AfterStep
+checksOf lent s t = stepNumbers (checkOf (presenceIn lent) s t)
+
+abbrev pub asksOf : (presence : List ℕ) (t : ℕ) → Asked
+asksOf lent t = askedNumbers (askOf (presenceIn lent) t .outcome)
 
 -- ---- responses and parts
 -- of a response that is read, the status and the body as a part of the caller's slice (ours): the body's length, counted from the front
@@ -162,10 +167,10 @@ sentNumbers (Word s) = record { answer = s .number; length = 0 }
 sentNumbers (Gives sent) = record { answer = 0x9000; length = sent .length }
 
 -- 02, E2: "any R refusal keeps it"; after a part what it left, and the same limit
-abbrev pub sentOver : Outcome Sent → SessionRecord → SessionRecord
+abbrev pub sentOver : Outcome Sent → Session → Session
 sentOver (R n) lent = lent
 sentOver (Word s) lent = lent
-sentOver (Gives sent) lent = record { place = sent .remainder .place; count = sent .remainder .count; limit = lent .limit }
+sentOver (Gives sent) lent = record { remainder = sent .remainder; limit = lent .limit }
 
 -- how many bytes a response can take
 abbrev pub roomNumbers : Outcome ℕ → RoomSaid
@@ -173,15 +178,19 @@ roomNumbers (R n) = record { answer = n; length = 0 }
 roomNumbers (Word s) = record { answer = s .number; length = 0 }
 roomNumbers (Gives n) = record { answer = 0x9000; length = n }
 
+abbrev pub roomsOf : (frame : List ℕ) (longest : ℕ) → RoomSaid
+roomsOf frame longest = roomNumbers (frameRoomOf frame longest)
+
 -- what a call that writes leaves: its answer, and the buffer
 pub record AfterWriting : Type 0 where
   pub said : Wrote
   pub buffer : List ℕ
 
+-- what a part leaves: its answer, the session, and the buffer for part and status
 pub record AfterPart : Type 0 where
   pub said : Wrote
-  pub session : SessionRecord
-  pub buffer : List ℕ
+  pub session : List ℕ
+  pub part : List ℕ
 
 -- the exported readings
 abbrev pub readsOf : Entry → List ℕ → FrameSaid
@@ -194,10 +203,10 @@ writesOf entry w = record { said = lengthNumbers (writeNumbered entry w); buffer
 abbrev pub respondsOf : (body : List ℕ) (status : ℕ) (old : List ℕ) → AfterWriting
 respondsOf body status old = record { said = lengthNumbers (writingOf body status old .0); buffer = writingOf body status old .1 }
 
-abbrev pub nextsOf : SessionRecord → (body old : List ℕ) → AfterPart
-nextsOf n body old =
-    let sent = sendingOf body (rest (n .place) (n .count)) (n .limit) old in
-    record { said = sentNumbers (sent .0); session = sentOver (sent .0) n; buffer = sent .1 }
+abbrev pub nextsOf : (session body part : List ℕ) → AfterPart
+nextsOf session body old =
+    let sent = sendingOf body (sessionIn session .remainder) (sessionIn session .limit) old in
+    record { said = sentNumbers (sent .0); session = sessionNumbers (sentOver (sent .0) (sessionIn session)); part = sent .1 }
 
 -- ---- decision
 -- a body's length; of a part its response's
@@ -225,59 +234,21 @@ abbrev pub decidedNumbers : Outcome DecisionGives → OrderNumbers → (taken : 
 decidedNumbers answer order taken =
     record { answer = decidedNo answer; fault = faultNo answer; taken = taken; length = bodyLength answer; order = order; place = placeNo answer }
 
-abbrev pub handedNumbers : DecisionHanded → DecisionSaid
-handedNumbers h = decidedNumbers (h .answer) (headAfter (h .answer) (h .head)) (h .taken)
-
 abbrev pub decisionNumbers : DecisionResult → DecisionSaid
-decisionNumbers r = handedNumbers (handedOf r)
+decisionNumbers r = decidedNumbers (r .answer) (orderAfter (r .answer) (r .order)) (r .taken)
 
--- what the decision is lent, record, session and the hardware's answers as numbers
-pub record ToDecide : Type 0 where
-  pub presence : PresenceRecord
-  pub session : SessionRecord
-  pub frame : List ℕ
-  pub side : ℕ
-  pub moment : ℕ
-  pub hardware : HardwareSaid
-  pub newHandle : List ℕ
-  pub certificate : List ℕ
-  pub x : List ℕ
-  pub y : List ℕ
-  pub reply : List ℕ  -- the reply buffer before the call
-  pub block : List ℕ  -- the block before the call
-  pub part : List ℕ  -- the buffer for part and status before the call
-
--- what the numbers stand for: all that is lent but the record and the moment
-abbrev pub inputsOf : ToDecide → Inputs
-inputsOf i =
-    record {
-      side = i .side;
-      frame = i .frame;
-      hardware = hardwareOf (i .hardware);
-      newHandle = i .newHandle;
-      certificate = i .certificate;
-      x = i .x;
-      y = i .y;
-      room = length (i .reply);
-      remainder = rest (i .session .place) (i .session .count);
-      partRoom = length (i .part);
-    }
-
--- the decision on them, what the transport goes on with, and the part
+-- the decision on what is lent, and what the transport goes on with
 abbrev pub decidedBy : ToDecide → DecisionResult
-decidedBy i = decisionOf (presenceOf (i .presence)) (i .moment) (inputsOf i)
+decidedBy i = decisionOf (presenceIn (i .presence)) (i .moment) (inputsIn i)
 
-abbrev pub sessionBy : ToDecide → SessionRecord
-sessionBy i = sessionNumbers (sessionAfter (decidedBy i .answer) (readOf (i .frame)) (sessionOf (i .session)))
-
-abbrev pub partBy : ToDecide → List ℕ
-partBy i = partLeft (inputsOf i) (decidedBy i) (i .reply) (i .part)
+abbrev pub sessionBy : ToDecide → Session
+sessionBy i = sessionAfter (decidedBy i .answer) (readOf (i .frame)) (sessionIn (i .session))
 
 -- all that a call leaves: its answer, the record, the session, the reply buffer, the block and the buffer for part and status
 pub record AfterDeciding : Type 0 where
   pub said : DecisionSaid
-  pub presence : PresenceRecord
-  pub session : SessionRecord
+  pub presence : List ℕ
+  pub session : List ℕ
   pub reply : List ℕ
   pub block : List ℕ
   pub part : List ℕ
@@ -287,10 +258,10 @@ decidesOf i =
     record {
       said = decisionNumbers (decidedBy i);
       presence = presenceNumbers (decidedBy i .presence);
-      session = sessionBy i;
+      session = sessionNumbers (sessionBy i);
       reply = replyLeft (decidedBy i) (i .reply);
       block = blockLeft (decidedBy i) (i .block);
-      part = partBy i;
+      part = partLeft (inputsIn i) (decidedBy i) (i .reply) (i .part);
     }
 
 -- ---- finishing

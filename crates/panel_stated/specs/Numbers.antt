@@ -1,10 +1,10 @@
--- Document 01, 'Forms that change': "exported to it over plain numbers and byte slices". Which number stands for what:
--- answers, windows and records, shapes and kinds. The hardware's answers are ctap1_stated's, which takes them as numbers.
-use Rattle.panel_stated.specs.Words.{ℕ, zero, suc, _+_, List, getD, eqb, if_then_else_, Outcome, R, Word, Gives, rest, Session}
+-- Document 01, 'Forms that change': "exported to it over plain numbers and byte slices". Which number stands for what: answers, records and sessions, shapes and
+-- kinds. The hardware's answers are ctap1_stated's, which takes them as numbers.
+use Rattle.panel_stated.specs.Words.{ℕ, suc, List, [], _∷_, eqb, if_then_else_, Outcome, R, Word, Gives, Session}
 use Rattle.panel_stated.specs.Words.{Instruction, Le1, Lc1Data, Lc1DataLe1, Lc3Data, Lc3DataLe2, Le3}
 use Rattle.panel_stated.specs.Words.{Window, Closed, Opened, Presence}
 pub use Rattle.ctap1_stated.specs.Numbers.{allowedOf, attestationOf, isYes, counterOf, hardwareOf}
-use Rattle.panel_stated.specs.Words.{PresenceRecord, SessionRecord, HardwareSaid, OrderNumbers, Shaped, Kinded, DecisionGives, Body, Ordered, Part}
+use Rattle.panel_stated.specs.Words.{OrderNumbers, Shaped, Kinded, DecisionGives, Body, Ordered, Part}
 use Rattle.signing_stated.specs.declared.Kind.the-variants.{Register, Authenticate}
 use Rattle.panel_stated.specs.declared.Shaped.the-variants as Shaped′
 use Rattle.panel_stated.specs.declared.Kinded.the-variants as Kinded′
@@ -35,40 +35,16 @@ placeNo (R n) = 0
 placeNo (Word s) = s .place
 placeNo (Gives a) = 0
 
--- ours: DECISIONS, a window as one number: 0 is closed, any other number a window that was opened at the moment before it
-abbrev pub windowOf : ℕ → Window
-windowOf zero = Closed
-windowOf (suc m) = Opened m
-
--- and back
+-- the numbers of a record, and of a session, in their order; what they stand for: `presenceIn` (u2f_up_stated's Numbers.antt), `sessionIn` (session_stated's Held.antt)
 abbrev pub windowNo : Window → ℕ
 windowNo Closed = 0
-windowNo (Opened m) = m + 1
+windowNo (Opened m) = suc m
 
--- the record that five numbers stand for; the asking side is its own number, whatever that is: R8 is for the call to say
-abbrev pub presenceOf : PresenceRecord → Presence
-presenceOf n = record { w = n .w; prompt = windowOf (n .prompt); touch = windowOf (n .touch); last = n .last; asker = n .asker }
+abbrev pub presenceNumbers : Presence → List ℕ
+presenceNumbers p = p .w ∷ windowNo (p .prompt) ∷ windowNo (p .touch) ∷ p .last ∷ p .asker ∷ []
 
--- and back: every record of five numbers is one record's, and every record has five numbers
-abbrev pub presenceNumbers : Presence → PresenceRecord
-presenceNumbers p = record { w = p .w; prompt = windowNo (p .prompt); touch = windowNo (p .touch); last = p .last; asker = p .asker }
-
--- 02, E2, and ours: the session that three numbers stand for, and back
-abbrev pub sessionOf : SessionRecord → Session
-sessionOf n = record { remainder = rest (n .place) (n .count); limit = n .limit }
-
-abbrev pub sessionNumbers : Session → SessionRecord
-sessionNumbers s = record { place = s .remainder .place; count = s .remainder .count; limit = s .limit }
-
--- what is lent as an array, by name: a record's five numbers, a session's three, the hardware's six, each in the order of its struct
-abbrev pub recordIn : List ℕ → PresenceRecord
-recordIn s = record { w = getD s 0 0; prompt = getD s 1 0; touch = getD s 2 0; last = getD s 3 0; asker = getD s 4 0 }
-
-abbrev pub sessionIn : List ℕ → SessionRecord
-sessionIn s = record { place = getD s 0 0; count = getD s 1 0; limit = getD s 2 0 }
-
-abbrev pub hardwareIn : List ℕ → HardwareSaid
-hardwareIn s = record { allowed = getD s 0 0; attestation = getD s 1 0; stored = getD s 2 0; good = getD s 3 0; counted = getD s 4 0; counter = getD s 5 0 }
+abbrev pub sessionNumbers : Session → List ℕ
+sessionNumbers s = s .remainder .place ∷ s .remainder .count ∷ s .limit ∷ []
 
 -- 01, 'Eight frame shapes', the column "no"; ours: a shape number outside 1..8 is R5; 02, E13: shape 6 is retired, "the writer
 -- R5", and the others keep their numbers

@@ -3,7 +3,7 @@
 pub use Prim.Native.Nat.{ℕ, zero, suc, _+_, _-_, _^_, _≤_, _<_}
 pub use mathlib.Core.Path.{_≡_}
 pub use mathlib.Core.Bool.{Bool, true, false}
-pub use mathlib.Core.List.{List}
+pub use mathlib.Core.List.{List, [], _∷_}
 pub use lib.Dec.{eqb}
 pub use lib.ListN.{length, getD}
 pub use Rattle.outcome.specs.Notation.{if_then_else_, AtMostOne}
@@ -22,8 +22,6 @@ pub use Rattle.ctap1_stated.specs.declared.Allowed.{Allowed}
 pub use Rattle.ctap1_stated.specs.declared.Attestation.{Attestation}
 pub use Rattle.ctap1_stated.specs.declared.Counter.{Counter}
 pub use Rattle.ctap1_stated.specs.declared.Hardware.{Hardware}
-pub use Rattle.panel_stated.specs.declared.PresenceRecord.{PresenceRecord}
-pub use Rattle.panel_stated.specs.declared.SessionRecord.{SessionRecord}
 pub use Rattle.ctap1_stated.specs.declared.HardwareSaid.{HardwareSaid}
 pub use Rattle.panel_stated.specs.declared.OrderNumbers.{OrderNumbers}
 pub use Rattle.panel_stated.specs.declared.FrameSaid.{FrameSaid}
@@ -55,4 +53,6 @@ pub use Rattle.response_stated.specs.Words.{Response, Sent, rest, responseRead,
 pub use Rattle.response_stated.specs.Responses.{responseOf, writeResponseOf, responseLaid, readResponseOf}
 pub use Rattle.response_stated.specs.Parts.{nextPartOf, partResponse, partLaid}
 pub use Rattle.session_stated.specs.declared.Session.{Session}
-pub use Rattle.session_stated.specs.Held.{sessionAfter, frameRoomOf}
+pub use Rattle.session_stated.specs.Held.{remainderIn, sessionIn, hardwareIn, sessionAfter, frameRoomOf}
+pub use Rattle.session_stated.specs.Contracts.{ToDecide, inputsIn}
+pub use Rattle.u2f_up_stated.specs.Numbers.{presenceIn}

@@ -1,15 +1,15 @@
 -- Wrong programs, one fault each, said as what they do otherwise than the definition. proofs/Refuted.antt has that each fails
 -- its claim.
-use Rattle.panel_stated.specs.Words.{ℕ, _+_, Bool, true, false, eqb, List, if_then_else_, StatusWord, Outcome, R, Word, Gives, Window, Closed, Opened, Presence, Order, Instruction, Lc3DataLe2}
-use Rattle.panel_stated.specs.Words.{DecisionSaid, PresenceRecord, OrderNumbers, FrameSaid, CommandSaid, Wrote, Made, Stepped, Asked, ResponseSaid, PartSaid, Shaped, Kinded}
-use Rattle.panel_stated.specs.Words.{Says, Command, Register, Authenticate, Version, GetResponse, Told, touchOf, checkOf, DecisionResult, DecisionGives, Body, Ordered, Part, toSign, certificateLength, Remainder, rest, Response, Sent}
-use Rattle.panel_stated.specs.Numbers.{greatestNo, windowOf, presenceOf, presenceNumbers, shapeOf, kindOf}
-use Rattle.panel_stated.specs.Exports.{ToFinish, finishNumbered, frameNumbers, commandNumbers, lengthNumbers, madeNumbers, askedNumbers, orderAfter, decisionNumbers, stepNumbers, responseNumbers, partNumbers, statedOf}
+use Rattle.panel_stated.specs.Words.{ℕ, _+_, _-_, Bool, true, false, eqb, List, if_then_else_, StatusWord, Outcome, R, Word, Gives, lastRefusal, Presence, Order, Instruction, Lc3DataLe2}
+use Rattle.panel_stated.specs.Words.{DecisionSaid, OrderNumbers, FrameSaid, CommandSaid, Wrote, Asked, ResponseSaid, RoomSaid, Shaped, Kinded}
+use Rattle.panel_stated.specs.Words.{Says, Command, Register, Authenticate, Version, GetResponse, touchOf, DecisionResult, DecisionGives, Body, Ordered, Part, toSign, certificateLength, Remainder, rest, Response, Sent, presenceIn, remainderIn, sessionIn, inputsIn}
+use Rattle.panel_stated.specs.Numbers.{presenceNumbers, sessionNumbers, shapeOf, kindOf}
+use Rattle.panel_stated.specs.Exports.{ToFinish, finishNumbered, frameNumbers, commandNumbers, lengthNumbers, makesOf, askedNumbers, orderAfter, decisionNumbers, stepNumbers, touchesOf, checksOf, responseNumbers, sentNumbers, roomNumbers}
 use Rattle.panel_stated.specs.Words.{Entry, Ordinary, Strict}
-use Rattle.panel_stated.specs.Exports.{ToWrite, writeNumbered, readsOf, writesOf, ToDecide, inputsOf, decidedBy, decidesOf, nextsOf, respondsOf, AfterWriting, AfterPart, AfterDeciding}
+use Rattle.panel_stated.specs.Exports.{ToWrite, writeNumbered, readsOf, writesOf, ToDecide, decidedBy, decidesOf, nextsOf, respondsOf, AfterMaking, AfterStep, AfterWriting, AfterPart, AfterDeciding}
+use Rattle.u2f_up_stated.specs.Moments.{movedTo}
 use Rattle.ctap1_stated.specs.Decision.{blockAfter}
 use Rattle.ctap1_stated.specs.Session.{partLeft}
-use Rattle.signing_stated.specs.Orders.{blankOrder}
 use Rattle.signing_stated.specs.declared.Kind.the-variants as Kind′
 use Rattle.panel_stated.specs.declared.Shaped.the-variants as Shaped′
 use Rattle.panel_stated.specs.declared.Kinded.the-variants as Kinded′
@@ -49,46 +49,51 @@ orderIs0 (Gives Ordered) = 0
 orderIs0 (Gives (Part n after)) = 0x0200
 
 -- ---- records
--- the touch window taken for the prompt window, on the way in
-abbrev pub windowsSwapped : PresenceRecord → Presence
-windowsSwapped n = let p = presenceOf n in record { w = p .w; prompt = p .touch; touch = p .prompt; last = p .last; asker = p .asker }
+-- "a refused making hands back no record": the one that was lent is gone
+abbrev pub clearsAtR6 : (presence : List ℕ) (w : ℕ) → AfterMaking
+clearsAtR6 n w = let a = makesOf n w in record { said = a .said; presence = if eqb (a .said) 6 then replicate 5 0 else a .presence }
 
--- the same on both ways: this is the way in, and the claim asks for no other
-abbrev pub swappedBothWays : PresenceRecord → Presence
-swappedBothWays n = windowsSwapped n
+-- W has 64 bits. Here 16 of them are looked at
+abbrev pub madeFrom16Bits : (presence : List ℕ) (w : ℕ) → AfterMaking
+madeFrom16Bits n w = makesOf n (w % 0x10000)
 
--- a window as one number: an open window numbered by its moment, on both ways
-abbrev itsNumber : ℕ → Window
-itsNumber n = if eqb n 0 then Closed else Opened n
+-- "An R refusal changes no buffer and no record": the last moment moves all the same; and a decision forgets the limit
+abbrev pub refusedMoves : (presence : List ℕ) (t : ℕ) → AfterStep
+refusedMoves n t = record { said = touchesOf n t .said; presence = presenceNumbers (movedTo (presenceIn n) t) }
 
-abbrev pub openedAtItsNumber : PresenceRecord → Presence
-openedAtItsNumber n = record { w = n .w; prompt = itsNumber (n .prompt); touch = itsNumber (n .touch); last = n .last; asker = n .asker }
+abbrev pub refusedForgets : ToDecide → AfterDeciding
+refusedForgets i =
+    let a = decidesOf i in
+    record { said = a .said; presence = a .presence; session = if leb (a .said .answer) lastRefusal then replicate 3 0 else a .session; reply = a .reply; block = a .block; part = a .part }
 
--- a window as one number: a closed window under the greatest number, so that 0 is a window opened at moment 0
-abbrev unlessGreatest : ℕ → Window
-unlessGreatest n = if eqb n greatestNo then Closed else Opened n
+-- ours: a side has 64 bits, so that 256, 2^32 or -1 in C is not cut down to one. Here 8 bits of it are looked at, in a check, in a decision; and, "named or in the
+-- record", a touch takes any record
+abbrev pub touchAnySide : (presence : List ℕ) (t : ℕ) → AfterStep
+touchAnySide n t = let p = presenceIn n in stepNumbers (touchOf (record { w = p .w; prompt = p .prompt; touch = p .touch; last = p .last; asker = 0 }) t)
 
-abbrev pub greatestIsClosed : PresenceRecord → Presence
-greatestIsClosed n = record { w = n .w; prompt = unlessGreatest (n .prompt); touch = unlessGreatest (n .touch); last = n .last; asker = n .asker }
+abbrev pub sideCutInCheck : (presence : List ℕ) (side t : ℕ) → AfterStep
+sideCutInCheck n s t = checksOf n (s % 256) t
 
--- "An R refusal changes no buffer and no record": the last moment moves all the same
-abbrev pub refusedMoves : PresenceRecord → ℕ → Stepped
-refusedMoves n t = record { answer = 1; yes = false; presence = record { w = n .w; prompt = n .prompt; touch = n .touch; last = t; asker = n .asker } }
-
--- ours: a side has 32 bits, so that 256 or -1 in C is not cut down to one. Here 8 bits of a side are looked at, in the record, in a check, in a
--- decision
-abbrev pub askerCut : PresenceRecord → Presence
-askerCut n = record { w = n .w; prompt = windowOf (n .prompt); touch = windowOf (n .touch); last = n .last; asker = n .asker % 256 }
-
--- "named or in the record": a touch takes any record
-abbrev pub touchAnySide : PresenceRecord → ℕ → Stepped
-touchAnySide n t = stepNumbers (touchOf (presenceOf (record { w = n .w; prompt = n .prompt; touch = n .touch; last = n .last; asker = 0 })) t)
-
-abbrev pub sideCutInCheck : PresenceRecord → (side t : ℕ) → Stepped
-sideCutInCheck n s t = stepNumbers (checkOf (presenceOf n) (s % 256) t)
+abbrev lentWith : ToDecide → (side : ℕ) (x y reply part : List ℕ) → ToDecide
+lentWith i side x y reply part =
+    record {
+      presence = i .presence;
+      session = i .session;
+      frame = i .frame;
+      side = side;
+      moment = i .moment;
+      hardware = i .hardware;
+      newHandle = i .newHandle;
+      certificate = i .certificate;
+      x = x;
+      y = y;
+      reply = reply;
+      block = i .block;
+      part = part;
+    }
 
 abbrev pub sideCutInDecide : ToDecide → AfterDeciding
-sideCutInDecide i = decidesOf (record { frame = i .frame; side = i .side % 256; moment = i .moment; presence = i .presence; hardware = i .hardware; newHandle = i .newHandle; certificate = i .certificate; x = i .x; y = i .y; reply = i .reply; block = i .block; remainder = i .remainder; part = i .part })
+sideCutInDecide i = decidesOf (lentWith i (i .side % 256) (i .x) (i .y) (i .reply) (i .part))
 
 -- ---- numbers that stand for cases
 -- a shape number outside 1..8 is R5. Here 0 is taken for Instruction
@@ -166,28 +171,6 @@ yesBesideRefusal (Gives b) = askedNumbers (Gives b)
 abbrev pub alwaysNo : Outcome Bool → Asked
 alwaysNo o = record { answer = askedNumbers o .answer; yes = false }
 
--- the record after a call without its last moment
-abbrev pub lastMomentLost : Told → Stepped
-lastMomentLost told =
-    let step = stepNumbers told in
-    let p = step .presence in
-    record { answer = step .answer; yes = step .yes; presence = record { w = p .w; prompt = p .prompt; touch = p .touch; last = 0; asker = p .asker } }
-
-abbrev pub stepYesBesideRefusal : Told → Stepped
-stepYesBesideRefusal told =
-    let asked = yesBesideRefusal (told .outcome) in
-    record { answer = asked .answer; yes = asked .yes; presence = presenceNumbers (told .presence) }
-
--- "a refused making hands back no record": one that a call would take
-abbrev pub madeBesideRefusal : Outcome Presence → Made
-madeBesideRefusal (R n) = record { answer = n; presence = record { w = 1; prompt = 0; touch = 0; last = 0; asker = 0 } }
-madeBesideRefusal (Word s) = madeNumbers (Word s)
-madeBesideRefusal (Gives p) = madeNumbers (Gives p)
-
--- a making that hands back no record, whether refused or not
-abbrev pub madeWithoutRecord : Outcome Presence → Made
-madeWithoutRecord o = record { answer = madeNumbers o .answer; presence = record { w = 0; prompt = 0; touch = 0; last = 0; asker = 0 } }
-
 -- every order numbered as a Register
 abbrev pub ordersAlike : Outcome DecisionGives → Order → OrderNumbers
 ordersAlike (R n) o = orderAfter (R n) o
@@ -218,10 +201,10 @@ placesOneOn (Gives s) =
 
 -- ---- decisions and runs
 -- "the offered counter is reported as taken": it is not
-abbrev pub takenUnsaid : DecisionResult → Remainder → (limit : ℕ) → DecisionSaid
-takenUnsaid r k l =
-    let n = decisionNumbers r k l in
-    record { answer = n .answer; fault = n .fault; taken = false; length = n .length; order = n .order; presence = n .presence; place = n .place; remainder = n .remainder; limit = n .limit }
+abbrev pub takenUnsaid : DecisionResult → DecisionSaid
+takenUnsaid r =
+    let n = decisionNumbers r in
+    record { answer = n .answer; fault = n .fault; taken = false; length = n .length; order = n .order; place = n .place }
 
 -- 02, E1: "carry the pair upward"; ours: out to C too. Here the pair stays behind, beside a frame's status, a command's and a decision's
 abbrev pub frameFaultUnsaid : Outcome Says → FrameSaid
@@ -244,14 +227,10 @@ commandFaultUnsaid o =
       place = 0;
     }
 
-abbrev pub decisionFaultUnsaid : DecisionResult → Remainder → (limit : ℕ) → DecisionSaid
-decisionFaultUnsaid r k l =
-    let n = decisionNumbers r k l in
-    record { answer = n .answer; fault = 0; taken = n .taken; length = n .length; order = n .order; presence = n .presence; place = 0; remainder = n .remainder; limit = n .limit }
-
--- the decision hands the limit out with its answer. Here it does not
-abbrev pub limitUnsaid : DecisionResult → Remainder → (limit : ℕ) → DecisionSaid
-limitUnsaid r k l = decisionNumbers r k 0
+abbrev pub decisionFaultUnsaid : DecisionResult → DecisionSaid
+decisionFaultUnsaid r =
+    let n = decisionNumbers r in
+    record { answer = n .answer; fault = 0; taken = n .taken; length = n .length; order = n .order; place = 0 }
 
 -- a response that is read: no status; and the status counted in with the body
 abbrev pub responseStatusUnsaid : Outcome Response → ResponseSaid
@@ -260,21 +239,17 @@ responseStatusUnsaid o = let n = responseNumbers o in record { answer = n .answe
 abbrev pub responseWithStatus : Outcome Response → ResponseSaid
 responseWithStatus o = let n = responseNumbers o in record { answer = n .answer; status = n .status; length = n .length + 2 }
 
--- 02, E2: "any R refusal keeps it". Here nothing is left after it; and nothing has moved after a part
-abbrev pub refusalForgets : Outcome Sent → Remainder → PartSaid
-refusalForgets (R n) kept = partNumbers (R n) (rest 0 0)
-refusalForgets (Word s) kept = partNumbers (Word s) kept
-refusalForgets (Gives sent) kept = partNumbers (Gives sent) kept
+-- a part's response without its status
+abbrev pub sentWithoutStatus : Outcome Sent → Wrote
+sentWithoutStatus (R n) = sentNumbers (R n)
+sentWithoutStatus (Word s) = sentNumbers (Word s)
+sentWithoutStatus (Gives sent) = record { answer = 0x9000; length = sent .length - 2 }
 
-abbrev pub partForgets : Outcome Sent → Remainder → PartSaid
-partForgets o kept = let n = partNumbers o kept in record { answer = n .answer; length = n .length; remainder = kept }
-
--- "fetches the next part": never; and at any 6985
-abbrev pub neverFetched : StatusWord → (isC0 taken : Bool) → (kept settled : Presence) → (room : ℕ) → Remainder → (limit partRoom : ℕ) → DecisionResult
-neverFetched w isC0 taken kept settled room k limit partRoom = record { answer = Word w; presence = settled; order = blankOrder; taken = taken }
-
-abbrev pub fetchedUnasked : StatusWord → (isC0 taken : Bool) → (kept settled : Presence) → (room : ℕ) → Remainder → (limit partRoom : ℕ) → DecisionResult
-fetchedUnasked w isC0 taken kept settled room k limit partRoom = statedOf w true taken kept settled room k limit partRoom
+-- a length beside a refusal
+abbrev pub roomBesideRefusal : Outcome ℕ → RoomSaid
+roomBesideRefusal (R n) = record { answer = n; length = 258 }
+roomBesideRefusal (Word s) = roomNumbers (Word s)
+roomBesideRefusal (Gives n) = roomNumbers (Gives n)
 
 -- kind and place change places
 abbrev pub kindForPlace : Outcome Says → FrameSaid
@@ -295,60 +270,65 @@ kindForPlace o =
       place = n .fault;
     }
 
--- a window as one number: the same in a run, from the making on
-abbrev pub runsAtItsNumber : PresenceRecord → Presence
-runsAtItsNumber n = openedAtItsNumber n
-
 -- over plain numbers any other kind is R7. Here it is refused for its room
 abbrev pub noKindIsR2 : ToFinish → Outcome (List ℕ)
 noKindIsR2 i = if leb 3 (i .order .kind) then R 2 else finishNumbered i
 
 -- ---- the exported decision, next part and response: all as they are to be, but for one thing
-abbrev saidWith : DecisionSaid → Remainder → (limit : ℕ) → DecisionSaid
-saidWith n left limit =
-    record { answer = n .answer; fault = n .fault; taken = n .taken; length = n .length; order = n .order; presence = n .presence; place = n .place; remainder = left; limit = limit }
+abbrev leavesSession : AfterDeciding → (session : List ℕ) → AfterDeciding
+leavesSession a session = record { said = a .said; presence = a .presence; session = session; reply = a .reply; block = a .block; part = a .part }
 
 -- the limit comes with an order too. Here with a body alone
 abbrev pub limitOfBodiesAlone : ToDecide → AfterDeciding
 limitOfBodiesAlone i =
     let a = decidesOf i in
-    record { said = saidWith (a .said) (a .said .remainder) (if eqb (a .said .answer) 0x9000 then a .said .limit else 0); reply = a .reply; block = a .block; part = a .part }
+    leavesSession a (sessionNumbers (record { remainder = remainderIn (a .session); limit = if eqb (a .said .answer) 0x9000 then sessionIn (a .session) .limit else 0 }))
 
 -- body and part are lent apart. Here each is taken for the other
 abbrev pub roomsSwapped : ToDecide → AfterDeciding
 roomsSwapped i =
-    let a =
-    decidesOf (record { frame = i .frame; side = i .side; moment = i .moment; presence = i .presence; hardware = i .hardware; newHandle = i .newHandle; certificate = i .certificate; x = i .x; y = i .y; reply = i .part; block = i .block; remainder = i .remainder; part = i .reply }) in
-    record { said = a .said; reply = a .part; block = a .block; part = a .reply }
+    let a = decidesOf (lentWith i (i .side) (i .x) (i .y) (i .part) (i .reply)) in
+    record { said = a .said; presence = a .presence; session = a .session; reply = a .part; block = a .block; part = a .reply }
 
 -- "a refused C0 .. keeps it": a status word drops it
 abbrev pub dropsAtC0 : ToDecide → AfterDeciding
 dropsAtC0 i =
     let a = decidesOf i in
-    record { said = saidWith (a .said) (if leb 0x6000 (a .said .answer) then rest 0 0 else a .said .remainder) (a .said .limit); reply = a .reply; block = a .block; part = a .part }
+    leavesSession a (sessionNumbers (record { remainder = if leb 0x6000 (a .said .answer) then rest 0 0 else remainderIn (a .session); limit = sessionIn (a .session) .limit }))
+
+-- a touch is spent. Here the record stays as it was lent
+abbrev pub recordForgotten : ToDecide → AfterDeciding
+recordForgotten i = let a = decidesOf i in record { said = a .said; presence = i .presence; session = a .session; reply = a .reply; block = a .block; part = a .part }
 
 -- a part is cut out of the uncut body. Here out of the buffer for part and status
 abbrev pub partOfItself : ToDecide → AfterDeciding
-partOfItself i = let a = decidesOf i in record { said = a .said; reply = a .reply; block = a .block; part = partLeft (inputsOf i) (decidedBy i) (i .part) (i .part) }
+partOfItself i =
+    let a = decidesOf i in
+    record { said = a .said; presence = a .presence; session = a .session; reply = a .reply; block = a .block; part = partLeft (inputsIn i) (decidedBy i) (i .part) (i .part) }
 
 -- and written to another buffer. Here to the uncut body's
 abbrev pub partOverTheBody : ToDecide → AfterDeciding
-partOverTheBody i = let a = decidesOf i in record { said = a .said; reply = partLeft (inputsOf i) (decidedBy i) (i .reply) (a .reply); block = a .block; part = i .part }
+partOverTheBody i =
+    let a = decidesOf i in
+    record { said = a .said; presence = a .presence; session = a .session; reply = partLeft (inputsIn i) (decidedBy i) (i .reply) (a .reply); block = a .block; part = i .part }
 
 -- "x, y" of the new key's point: y, x
 abbrev pub pointSwapped : ToDecide → AfterDeciding
-pointSwapped i =
-    decidesOf (record { frame = i .frame; side = i .side; moment = i .moment; presence = i .presence; hardware = i .hardware; newHandle = i .newHandle; certificate = i .certificate; x = i .y; y = i .x; reply = i .reply; block = i .block; remainder = i .remainder; part = i .part })
+pointSwapped i = decidesOf (lentWith i (i .side) (i .y) (i .x) (i .reply) (i .part))
 
 -- 02, E2: "any R refusal keeps it". Here nothing is left after it
-abbrev pub nextForgets : (body : List ℕ) → Remainder → (limit : ℕ) (old : List ℕ) → AfterPart
-nextForgets body r limit old =
-    let a = nextsOf body r limit old in
-    record { said = record { answer = a .said .answer; length = a .said .length; remainder = if eqb (a .said .answer) 2 then rest 0 0 else a .said .remainder }; buffer = a .buffer }
+abbrev pub nextForgets : (session body part : List ℕ) → AfterPart
+nextForgets session body old =
+    let a = nextsOf session body old in
+    record { said = a .said; session = if eqb (a .said .answer) 2 then replicate 3 0 else a .session; part = a .part }
 
 -- 02, E2: "a body longer than Le (256 where absent) is cut". Here it goes out as a whole
-abbrev pub nextWhole : (body : List ℕ) → Remainder → (limit : ℕ) (old : List ℕ) → AfterPart
-nextWhole body r limit old = nextsOf body r 0 old
+abbrev pub nextWhole : (session body part : List ℕ) → AfterPart
+nextWhole session body old = nextsOf (sessionNumbers (record { remainder = remainderIn session; limit = 0 })) body old
+
+-- in the short shapes the first part is cut. Here the room is the whole body's
+abbrev pub roomUncut : (frame : List ℕ) (longest : ℕ) → RoomSaid
+roomUncut frame longest = record { answer = 0x9000; length = longest + 2 }
 
 -- the status is any number of 16 bits. Here it is 9000
 abbrev pub responds9000 : (body : List ℕ) (status : ℕ) (old : List ℕ) → AfterWriting

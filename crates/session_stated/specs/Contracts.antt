@@ -22,7 +22,7 @@ use Rattle.session_stated.specs.Held.{sessionIn, remainderIn, hardwareIn
 use Rattle.session_stated.specs.declared.SessionDecision.{SessionDecision}
 
 -- all that a decision is lent, record, session and the hardware's answers as numbers
-pub record Lent : Type 0 where
+pub record ToDecide : Type 0 where
   pub presence : List ℕ
   pub session : List ℕ
   pub frame : List ℕ
@@ -37,24 +37,24 @@ pub record Lent : Type 0 where
   pub block : List ℕ
   pub part : List ℕ
 
-abbrev pub inputsIn : Lent → Inputs
+abbrev pub inputsIn : ToDecide → Inputs
 inputsIn i =
     inputsFrom (i .side) (i .frame) (hardwareOf (hardwareIn (i .hardware))) (enrolmentOf (i .newHandle) (i .certificate) (i .x) (i .y)) (length (i .reply)) (remainderIn (i .session)) (length (i .part))
 
 -- what a decision leaves by this result: the record, the order's block, the reply buffer for Version's body, the buffer for part and status
-abbrev pub Leaves : Lent → DecisionResult → Decision → (presence reply block part : List ℕ) → Type 0
+abbrev pub Leaves : ToDecide → DecisionResult → Decision → (presence reply block part : List ℕ) → Type 0
 Leaves i d r presence reply block part =
     (leftFrom r (presenceIn presence) block ≡ leftOf d (i .block)) × (reply ≡ replyLeft d (i .reply)) × (part ≡ partLeft (inputsIn i) d (i .reply) (i .part))
 
 -- the decision as a whole (ctap1_stated's Decision.antt, `decisionOf`), and what its frame says to the session
-abbrev pub Decide : Lent → SessionDecision → (presence reply block part : List ℕ) → Type 0
+abbrev pub Decide : ToDecide → SessionDecision → (presence reply block part : List ℕ) → Type 0
 Decide i r presence reply block part =
     Leaves i (decisionOf (presenceIn (i .presence)) (i .moment) (inputsIn i)) (r .decision) presence reply block part
     × (r .limit ≡ frameLimit (i .frame))
     × (r .fetches ≡ isGetResponse (readOf (i .frame)))
 
 -- by the command, once the moment is settled and CTAP1 is allowed
-abbrev pub Commanded : Lent → Decision → (presence reply block part : List ℕ) → Type 0
+abbrev pub Commanded : ToDecide → Decision → (presence reply block part : List ℕ) → Type 0
 Commanded i r presence reply block part =
     Leaves i (alongIn (commandPath (inputsIn i) (commandOf (i .frame))) (i .presence) (i .side) (i .moment)) r presence reply block part
 

@@ -225,3 +225,21 @@ settles-moved p side t q e = by (settleOf p side t) (settle-way p side t) e
         below : Dec (t < 2 ^ 48) → (BadMoment (p .last) t → ⊥) → t < 2 ^ 48
         below (yes h) n = h
         below (no h) n = absurd (n (inl (omega (arith, h))))
+
+-- all five written, one after the other
+pub five-set : (s : List ℕ) (w prompt touch last asker : ℕ) → 4 < length s
+    → presenceIn (set (set (set (set (set s 0 w) 1 prompt) 2 touch) 3 last) 4 asker) ≡ record { w = w; prompt = windowOf prompt; touch = windowOf touch; last = last; asker = asker }
+five-set s w prompt touch last asker long =
+    let a = set s 0 w in
+    let b = set a 1 prompt in
+    let c = set b 2 touch in
+    let d = set c 3 last in
+    let la : 4 < length a = lt-length-set s 0 w long in
+    let lb : 4 < length b = lt-length-set a 1 prompt la in
+    let lc : 4 < length c = lt-length-set b 2 touch lb in
+    let ld : 4 < length d = lt-length-set c 3 last lc in
+    at-4 d asker ld
+    ∙ ap (λ (p : Presence). record { w = p .w; prompt = p .prompt; touch = p .touch; last = p .last; asker = asker }) (moved-in c last (omega (arith, lc)))
+    ∙ ap (λ (p : Presence). record { w = p .w; prompt = p .prompt; touch = p .touch; last = last; asker = asker }) (at-2 b touch (omega (arith, lb)))
+    ∙ ap (λ (p : Presence). record { w = p .w; prompt = p .prompt; touch = windowOf touch; last = last; asker = asker }) (at-1 a prompt (omega (arith, la)))
+    ∙ ap (λ (n : ℕ). record { w = n; prompt = windowOf prompt; touch = windowOf touch; last = last; asker = asker }) (getD-set-same s 0 w 0 (omega (arith, long)))
