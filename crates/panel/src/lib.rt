@@ -18,7 +18,7 @@ use signing::Head;
 use u2f_up::Ready;
 ghost use mathlib.Core.Path.{_≡_};
 ghost use Rattle.apdu_table_stated.specs.Answers.{tableReadingOf};
-ghost use Rattle.panel_stated.specs.Exports.{frameNumbers, hardwareIn};
+ghost use Rattle.panel_stated.specs.Exports.{frameNumbers};
 ghost use Rattle.panel_stated.specs.Contracts.{BrinecandleRead, BrinecandleReadStrict, BrinecandleReadByTable, BrinecandleReadStrictByTable, BrinecandleWrite, BrinecandleWriteStrict, BrinecandleReadCommand, BrinecandleNew, BrinecandleGrantUp, BrinecandleConsumeUp, BrinecandleIsUpNeeded, BrinecandleDecide, BrinecandleFinish, BrinecandleWriteResponse, BrinecandleReadResponse, BrinecandleNextPart, BrinecandleResponseRoom};
 
 // Reads any bytes as a frame; its data comes back as a place in the caller's frame. By cases, and each is a return of its own:
@@ -155,7 +155,14 @@ pub extern "C" fn brinecandle_read_command(frame: &[u8]) -> CommandSaid
 pub extern "C" fn brinecandle_new(presence: &mut [u64; 5], w: u64) -> u16
     ensures { λ r. ⌜ BrinecandleNew (now (presence .entry)) w r (now (presence .exit)) ⌝ }
 {
-    panel_presence::made_kept(u2f_up::new(w), presence)
+    let made = u2f_up::new(w);
+    match made {
+        Ready::Refused(why) => outcome::refusal_number(why) as u16,
+        Ready::Record(_) => {
+            panel_presence::fresh(w, presence);
+            0x9000
+        }
+    }
 }
 
 // A finger touches at t.
@@ -208,7 +215,23 @@ pub extern "C" fn brinecandle_decide(
     reply: &mut [u8],
     block: &mut [u8; 385],
     part: &mut [u8],
-) -> DecisionSaid {
+) -> DecisionSaid
+    ensures { λ r. ⌜ BrinecandleDecide (record {
+      presence = now (presence .entry);
+      session = now (session .entry);
+      frame = now (frame .entry);
+      side = side;
+      moment = t;
+      hardware = now (hardware .entry);
+      newHandle = now (handle .entry);
+      certificate = now (certificate .entry);
+      x = now (x .entry);
+      y = now (y .entry);
+      reply = now (reply .entry);
+      block = now (block .entry);
+      part = now (part .entry);
+    }) r (now (presence .exit)) (now (session .exit)) (now (reply .exit)) (now (block .exit)) (now (part .exit)) ⌝ }
+{
     let decided = session::decide(
         presence,
         session,

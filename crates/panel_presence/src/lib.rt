@@ -1,11 +1,8 @@
-// The presence record as five numbers that are lent, and what touch, check and ask answer.
+// What touch, check and ask answer, and a fresh record's five numbers.
 use outcome::Refusal;
 use panel_stated::Asked;
 use u2f_up_stated::Answer;
-use u2f_up_stated::Ready;
-ghost use mathlib.Core.Path.{_≡_};
-ghost use Rattle.panel_stated.specs.Numbers.{windowOf, windowNo};
-ghost use Rattle.panel_stated.specs.Contracts.{RecordLent, RecordKept, MadeKept, AskedPlain, StepKept};
+ghost use Rattle.panel_stated.specs.Contracts.{RefusedAsked, FoundAsked, AskedPlain, FreshKept};
 
 // What a call says that is refused, and one that is not.
 pub fn refused_plain(why: Refusal) -> Asked
@@ -36,19 +33,14 @@ pub fn asked_plain(answer: Answer) -> Asked
     }
 }
 
-// A fresh record, or a refusal, which leaves every number as it was.
-pub fn made_kept(ready: Ready, numbers: &mut [u64; 5]) -> u16
-    ensures { λ r. ⌜ MadeKept ready (now (numbers .entry)) r (now (numbers .exit)) ⌝ }
+// A fresh record with the touch window `w`, over whatever the numbers were.
+pub fn fresh(w: u64, numbers: &mut [u64; 5])
+    ensures { λ _. ⌜ FreshKept w (now (numbers .exit)) ⌝ }
 {
-    match ready {
-        Ready::Refused(why) => outcome::refusal_number(why) as u16,
-        Ready::Record(presence) => {
-            numbers[0] = presence.w;
-            numbers[1] = 0;
-            numbers[2] = 0;
-            numbers[3] = presence.last;
-            numbers[4] = presence.asker;
-            0x9000
-        }
-    }
+    let whole: &mut [u64] = numbers;
+    whole[0] = w;
+    whole[1] = 0;
+    whole[2] = 0;
+    whole[3] = 0;
+    whole[4] = 0;
 }

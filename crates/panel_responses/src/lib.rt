@@ -1,4 +1,4 @@
-// Responses as plain numbers, and a session as three numbers that are lent.
+// Responses, parts and the room for them as plain numbers.
 use outcome::Refusal;
 use panel_stated::ResponseSaid;
 use panel_stated::RoomSaid;
@@ -6,7 +6,7 @@ use panel_stated::Wrote;
 use response_stated::ReadResponse;
 use response_stated::ResponseRoom;
 use response_stated::WroteResponse;
-ghost use Rattle.panel_stated.specs.Contracts.{ResponsePlain, WroteResponsePlain, SessionLent, SessionKept, NextKept, RoomPlain};
+ghost use Rattle.panel_stated.specs.Contracts.{ResponsePlain, WroteResponsePlain, RefusedPart, SentPart, RoomPlain};
 
 pub fn response_plain(read: ReadResponse) -> ResponseSaid
     ensures { λ r. ⌜ ResponsePlain read r ⌝ }

@@ -6,6 +6,7 @@ use native.Mathlib.Omega.{arith}
 use borrow.Author.Tests.{eq-eqb, ne-eqb, not-true, not-false}
 use lib.Dec.{eqb}
 use lib.ListN.{length, getD, set}
+use lib.Seq.{lt-length-set}
 use Rattle.outcome.specs.Notation.{if_then_else_}
 use Rattle.outcome.proofs.Laws.{r-gives}
 use Rattle.outcome.specs.Outcome.{Outcome, R, Word, SW, Gives, statusNo, faultOf, wordOf, refusalNo, noFault, plainWord}
@@ -219,26 +220,31 @@ module _ (answer : Answer) (r : Asked) where
 pub fresh-is : (s : List ℕ) (w : ℕ) → 4 < length s → presenceIn (set (set (set (set (set s 0 w) 1 0) 2 0) 3 0) 4 0) ≡ fresh w
 fresh-is s w long = five-set s w 0 0 0 0 long
 
-module _ (w : ℕ) (made : Ready) (is-made : readyOf made ≡ newOf w) (kept : Presence) where
+pub four-written : (s : List ℕ) (w : ℕ) → 4 < length s → 4 < length (set (set (set (set s 0 w) 1 0) 2 0) 3 0)
+four-written s w long =
+    lt-length-set (set (set (set s 0 w) 1 0) 2 0) 3 0 (lt-length-set (set (set s 0 w) 1 0) 2 0 (lt-length-set (set s 0 w) 1 0 (lt-length-set s 0 w long)))
+
+module _ (w : ℕ) (made : Ready) (is-made : readyOf made ≡ newOf w) where
   made-at : (d : Ready) → made ≡ d → readyOf d ≡ newOf w
   made-at d z = ap readyOf (sym z) ∙ is-made
 
   pub new-refused : (why : Refusal) (n : ℕ) → made ≡ Ready′.Refused why → n ≡ refusalNo why → n ≡ answerNo (newOf w)
   new-refused why n z is = is ∙ ap answerNo (made-at (Ready′.Refused why) z)
 
-  pub new-kept : (why : Refusal) → made ≡ Ready′.Refused why → kept ≡ madeOver (newOf w) kept
-  new-kept why z = ap (λ (o : Outcome Presence). madeOver o kept) (made-at (Ready′.Refused why) z)
-
   pub new-given : (p : Presence) → made ≡ Ready′.Record p → 0x9000 ≡ answerNo (newOf w)
   new-given p z = ap answerNo (made-at (Ready′.Record p) z)
 
-  pub new-made : (p q : Presence) → made ≡ Ready′.Record p → q ≡ fresh w → q ≡ madeOver (newOf w) kept
-  unfolding newOf
-  new-made p q z is = is ∙ by (isR6 w) (made-at (Ready′.Record p) z)
-    where
-      by : (b : Bool) → Gives p ≡ (if b then R 6 else Gives (fresh w)) → fresh w ≡ madeOver (if b then R 6 else Gives (fresh w)) kept
-      by true e = absurd (r-gives _ _ (sym e))
-      by false e = refl
+  module _ (kept : Presence) where
+    pub new-kept : (why : Refusal) → made ≡ Ready′.Refused why → kept ≡ madeOver (newOf w) kept
+    new-kept why z = ap (λ (o : Outcome Presence). madeOver o kept) (made-at (Ready′.Refused why) z)
+
+    pub new-made : (p q : Presence) → made ≡ Ready′.Record p → q ≡ fresh w → q ≡ madeOver (newOf w) kept
+    unfolding newOf
+    new-made p q z is = is ∙ by (isR6 w) (made-at (Ready′.Record p) z)
+      where
+        by : (b : Bool) → Gives p ≡ (if b then R 6 else Gives (fresh w)) → fresh w ≡ madeOver (if b then R 6 else Gives (fresh w)) kept
+        by true e = absurd (r-gives _ _ (sym e))
+        by false e = refl
 
 -- ---- a call on lent numbers is the call on the record that they stand for: `held` is the record as it was taken out of them
 module _ (n : List ℕ) (held : Presence) (is-held : held ≡ presenceIn n) (side t : ℕ) (ready : Ready) (is-ready : readyOf ready ≡ settleOf held side t) where

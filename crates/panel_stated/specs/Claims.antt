@@ -10,7 +10,7 @@ use Rattle.panel_stated.specs.Words.{OrderNumbers, Shaped, Kinded, prese
 use Rattle.panel_stated.specs.Words.{FrameSaid, CommandSaid, Wrote, Asked, DecisionSaid, ResponseSaid, RoomSaid}
 use Rattle.panel_stated.specs.Words.{Says, Entry, Case, Parts, partsOf, shapeNo, Command, Register, Authenticate, Version, GetResponse, length, Remainder, Response, Sent, writeResponseOf, readResponseOf, nextPartOf, _+_, false, readOf, strictOf, commandOf, newOf, touchOf, checkOf, askOf, DecisionGives, Body, Ordered, Part, DecisionResult, finishOf}
 use Rattle.panel_stated.specs.Exports.{orderAfter, ToWrite, ToDecide, ToFinish, decidedBy, writeNumbered, finishNumbered}
-use Rattle.panel_stated.specs.Contracts.{ShapeNumbered, FramePlain, FrameStatusPlain, StrictPlain, WritePlain, CommandPlain, RefusedAsked, FoundAsked, AskedPlain, MadeKept, KindNumbered, RefusedPlain, StatusPlain, BodyPlain, PartPlain, OrderPlain, FinishedPlain, ResponsePlain, WroteResponsePlain, RefusedPart, SentPart, RoomPlain}
+use Rattle.panel_stated.specs.Contracts.{ShapeNumbered, FramePlain, FrameStatusPlain, StrictPlain, WritePlain, CommandPlain, RefusedAsked, FoundAsked, AskedPlain, FreshKept, KindNumbered, RefusedPlain, StatusPlain, BodyPlain, PartPlain, OrderPlain, FinishedPlain, ResponsePlain, WroteResponsePlain, RefusedPart, SentPart, RoomPlain}
 use Rattle.panel_stated.specs.Contracts.{BrinecandleRead, BrinecandleReadStrict, BrinecandleReadByTable, BrinecandleReadStrictByTable, BrinecandleWrite, BrinecandleWriteStrict, BrinecandleReadCommand, BrinecandleNew, BrinecandleGrantUp, BrinecandleConsumeUp, BrinecandleIsUpNeeded, BrinecandleDecide, BrinecandleFinish, BrinecandleWriteResponse, BrinecandleReadResponse, BrinecandleNextPart, BrinecandleResponseRoom}
 use Rattle.octets.specs.Bytes.{AreBytes, partOf}
 use Rattle.apdu_stated.specs.Reading.{dataOf}
@@ -29,7 +29,6 @@ use Rattle.outcome.specs.declared.ApduStatusCode.{ApduStatusCode}
 use Rattle.outcome.specs.declared.Refusal.{Refusal}
 use Rattle.apdu_stated.specs.declared.Apdu.{Apdu}
 use Rattle.command_stated.specs.declared.U2fCommand.{U2fCommand}
-use Rattle.u2f_up_stated.specs.declared.Ready.{Ready}
 use Rattle.u2f_up_stated.specs.declared.Answer.{Answer}
 use Rattle.signing_stated.specs.declared.Finished.{Finished}
 use Rattle.response_stated.specs.declared.ReadResponse.{ReadResponse}
@@ -411,7 +410,7 @@ pub record ResultsDetermined : Type 0 where
   pub command-plain : (read : U2fCommand) → AtMostOne (CommandPlain read)
   pub refused-asked : (why : Refusal) → AtMostOne (RefusedAsked why)
   pub found-asked : (yes : Bool) → AtMostOne (FoundAsked yes)
-  pub made-kept : (ready : Ready) (n : List ℕ) → AtMostOne (λ (r : AfterMaking). (length (r .presence) ≡ 5) × MadeKept ready n (r .said) (r .presence))
+  pub fresh-kept : (w : ℕ) → AtMostOne (λ (n : List ℕ). (length n ≡ 5) × FreshKept w n)
   pub asked-plain : (answer : Answer) → AtMostOne (AskedPlain answer)
   pub kind-numbered : (n : ℕ) → AtMostOne (KindNumbered n)
   pub refused-numbers : (why : Refusal) (taken : Bool) → AtMostOne (RefusedPlain why taken)

@@ -2,15 +2,15 @@
 -- its result, and the final contents of what it writes.
 use Rattle.panel_stated.specs.Words.{ℕ, _≡_, Bool, List, R, Word, Gives, Body, Ordered, Part, Head, Remainder, Ordinary, Strict, commandOf, newOf, touchOf, checkOf, lengthOf, replyOf, responseRead, responseWritten, readResponseOf, presenceIn, sessionIn}
 use Rattle.panel_stated.specs.Words.{FrameSaid, CommandSaid, Wrote, Asked, DecisionSaid, ResponseSaid, RoomSaid, Shaped, Kinded}
-use Rattle.panel_stated.specs.Numbers.{answerNo, shapeOf, kindOf, noOrder}
+use Rattle.panel_stated.specs.Numbers.{shapeOf, kindOf, noOrder}
 use Rattle.panel_stated.specs.Exports.{frameNumbers, lengthNumbers, ToWrite, strictAs, readsOf, writesOf, commandNumbers, madeOver, makesOf, askedNumbers, touchesOf, checksOf, asksOf, headAfter, decidedNumbers, ToDecide, decidedBy, sessionBy, decidesOf, respondsOf, responseNumbers, sentNumbers, sentOver, roomNumbers, roomsOf, ToFinish, finishNumbered}
 use Rattle.response_stated.specs.Terms.{sendingOf}
 use Rattle.apdu_stated.specs.Answers.{saysOf}
 use Rattle.apdu_stated.specs.declared.Apdu.{Apdu}
 use Rattle.command_stated.specs.Command.{commandSaid}
 use Rattle.command_stated.specs.declared.U2fCommand.{U2fCommand}
-use Rattle.u2f_up_stated.specs.Answers.{readyOf, outcomeOf}
-use Rattle.u2f_up_stated.specs.declared.Ready.{Ready}
+use Rattle.u2f_up_stated.specs.Moments.{fresh}
+use Rattle.u2f_up_stated.specs.Answers.{outcomeOf}
 use Rattle.u2f_up_stated.specs.declared.Answer.{Answer}
 use Rattle.outcome.specs.Outcome.{wordOf, refusalNo}
 use Rattle.outcome.specs.declared.ApduStatusCode.{ApduStatusCode}
@@ -53,8 +53,8 @@ FoundAsked found r = r ≡ askedNumbers (Gives found)
 abbrev pub AskedPlain : Answer → Asked → Type 0
 AskedPlain answer r = r ≡ askedNumbers (outcomeOf answer)
 
-abbrev pub MadeKept : Ready → (entry : List ℕ) → ℕ → (exit : List ℕ) → Type 0
-MadeKept ready entry r exit = (r ≡ answerNo (readyOf ready)) × (presenceIn exit ≡ madeOver (readyOf ready) (presenceIn entry))
+abbrev pub FreshKept : (w : ℕ) (exit : List ℕ) → Type 0
+FreshKept w exit = presenceIn exit ≡ fresh w
 
 -- ---- panel_orders
 abbrev pub KindNumbered : ℕ → Kinded → Type 0

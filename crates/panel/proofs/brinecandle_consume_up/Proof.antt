@@ -1,21 +1,25 @@
--- `brinecandle_consume_up` meets its contract.
+-- `brinecandle_consume_up` meets its contract: refused, or the touch check on the numbers.
 use borrow.Author.Needs.{needs}
 use Rattle.panel_stated.proofs.Cases
 use Rattle.panel.proofs.brinecandle_consume_up.Statement.{statement}
 use Rattle.panel.proofs.brinecandle_consume_up.Tie as tie
 
-record-lent-requires : tie.Need-record-lent-requires
-record-lent-requires c κs = search needs
-
-consume-up-requires : tie.Need-consume-up-requires
-consume-up-requires c κs = search needs
-
-step-plain-requires : tie.Need-step-plain-requires
-step-plain-requires c κs = search needs
-
 returns : tie.Need-returns
-returns c = search (needs, Cases.check-at)
+returns c = (search (needs, Cases.check-refused), search (needs, Cases.check-kept))
+
+returns-2 : tie.Need-returns-2
+returns-2 c = (search (needs, Cases.check-found), search (needs, Cases.check-moved))
 
 pub brinecandle-consume-up-spec : {M : Type 1} → statement M
 brinecandle-consume-up-spec =
-    tie.close (tie.spec record-lent-requires consume-up-requires step-plain-requires returns)
+    tie.close
+    (tie.spec
+    (λ c κs. search needs)
+    (λ c κs. search needs)
+    (λ c. search needs)
+    (λ c κs. search needs)
+    (λ c. search needs)
+    (λ c κs. search needs)
+    (λ c κs. search needs)
+    returns
+    returns-2)

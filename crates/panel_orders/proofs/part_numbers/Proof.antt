@@ -1,11 +1,17 @@
 -- `part_numbers` meets its contract.
 use borrow.Author.Needs.{needs}
+use Rattle.panel_stated.proofs.Cases
 use Rattle.panel_orders.proofs.part_numbers.Statement.{statement}
 use Rattle.panel_orders.proofs.part_numbers.Tie as tie
-use Rattle.panel_stated.proofs.Cases
 
 returns : tie.Need-returns
 returns c = search (needs, Cases.part-put)
 
 pub part-numbers-spec : {M : Type 1} → statement M
-part-numbers-spec = tie.close (tie.spec (λ c κs. search needs) (λ c κs. search needs) (λ c κs. search needs) returns)
+part-numbers-spec =
+    tie.close
+    (tie.spec
+    (λ c κs. search needs)
+    (λ c κs. search needs)
+    (λ c κs. search needs)
+    returns)

@@ -1,8 +1,8 @@
 -- `refused_numbers` meets its contract.
 use borrow.Author.Needs.{needs}
+use Rattle.panel_stated.proofs.Cases
 use Rattle.panel_orders.proofs.refused_numbers.Statement.{statement}
 use Rattle.panel_orders.proofs.refused_numbers.Tie as tie
-use Rattle.panel_stated.proofs.Cases
 
 returns : tie.Need-returns
 returns c = search (needs, Cases.refused-put)
