@@ -27,7 +27,7 @@ use Rattle.u2f_up_stated.specs.Runs.{after, comesTo, cameOf, history}
 use Rattle.u2f_up_stated.specs.Terms.{BadWindow, BadSide, NotRefused, HasTouch}
 use Rattle.u2f_up_stated.specs.declared.Presence.{Presence}
 use Rattle.u2f_up_stated.specs.Numbers.{presenceIn}
-use Rattle.u2f_up_stated.proofs.OnNumbers.{five-apart}
+use Rattle.u2f_up_stated.proofs.Laws.{five-apart}
 use Rattle.u2f_up_stated.proofs.Laws.{demand-3, r-apart, servers-next, named-later, named-counts, count, length-those}
 use Rattle.signing_stated.specs.Orders.{kindNo, certificateLength, blankOrder, isOfLayout}
 use Rattle.signing_stated.specs.Finishing.{roomNeeded}

@@ -29,7 +29,7 @@ use Rattle.signing_stated.specs.Words.{headOf}
 use Rattle.signing_stated.specs.Orders.{blankOrder}
 use Rattle.u2f_up_stated.specs.declared.Presence.{Presence}
 use Rattle.ctap1_stated.specs.Words.{DecisionGives, Part, DecisionResult, DecisionHanded, handedOf}
-use Rattle.ctap1_stated.proofs.Cases.{alone, handed, with-record, with-head}
+use Rattle.ctap1_stated.proofs.Laws.{alone, handed, with-record, with-head}
 use Rattle.ctap1_stated.specs.Path.{Status, sentPath, fetchPath}
 use Rattle.ctap1_stated.specs.Decision.{refusalResult, statusResult, along, blankAlone}
 use Rattle.ctap1_stated.specs.Session.{partAfter}

@@ -25,7 +25,7 @@ use Rattle.command_stated.specs.declared.U2fCommand.{U2fCommand}
 use Rattle.command_stated.specs.declared.U2fCommand.the-variants as U2fCommand′
 use Rattle.u2f_up_stated.specs.Moments.{movedTo, settleOf, checkedOf}
 use Rattle.u2f_up_stated.specs.Numbers.{checkedIn}
-use Rattle.u2f_up_stated.proofs.OnNumbers.{settles-moved, checked-below}
+use Rattle.u2f_up_stated.proofs.Laws.{settles-moved, checked-below}
 use Rattle.signing_stated.specs.declared.Head.{Head}
 use Rattle.u2f_up_stated.specs.Answers.{readyOf}
 use Rattle.u2f_up_stated.specs.declared.Presence.{Presence}
@@ -45,7 +45,7 @@ use Rattle.ctap1_stated.specs.Decision.{statusResult, ended, touchChecked, alon
 use Rattle.ctap1_stated.specs.Session.{isGetResponse, partAfter, partLeft}
 use Rattle.ctap1_stated.specs.Path.{PathEnd, Internal, WrongData, Orders, DecisionPath, NoRoom, Status, SixBytes, Signs, Touch, versionPath, registerPath, registerEnding, countedEnding, loginPath, limitOn, frameLimit, sentPath, fetchPath, commandPath, allowedPath, pathOf}
 use Rattle.ctap1_stated.specs.declared.Allowed.the-variants as Allowed′
-use Rattle.ctap1_stated.proofs.Cases.{alone, leaves, beside, with-block, stays}
+use Rattle.ctap1_stated.proofs.Laws.{alone, leaves, beside, with-block, stays}
 
 -- ---- a refusal, a status word, an order: only Version's path writes the reply
 data Plain : Outcome DecisionGives → Type 0 where

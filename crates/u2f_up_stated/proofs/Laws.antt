@@ -12,3 +12,5 @@ pub use Rattle.u2f_up_stated.proofs.Ways.{bad-window, bad-side, bad-mom
 pub use Rattle.u2f_up_stated.proofs.OneSide.{Mine, base-refused, base-no-status, SettledSame, refusing, moving, settled-same, checked-same, same, run, one-side}
 -- Which refusal a touch, a check and an ask give, exactly.
 pub use Rattle.u2f_up_stated.proofs.Theorems.{TouchesExactly as touches-exactly, ChecksExactly as checks-exactly, AsksExactly as asks-exactly}
+-- The record lent as five numbers: no two of the same; a moment that settles, and the touch check there.
+pub use Rattle.u2f_up_stated.proofs.OnNumbers.{settles-moved, checked-below, granted-below, five-apart}

@@ -14,6 +14,6 @@ pub mod Keepers
 pub mod OneSide
 pub mod Laws
 pub mod Numbers
+pub mod OnNumbers
 pub mod Only
 pub mod Theorems
-pub mod OnNumbers

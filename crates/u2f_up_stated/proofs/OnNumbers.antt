@@ -15,8 +15,8 @@ use Rattle.outcome.specs.Outcome.{Outcome, Gives}
 use Rattle.outcome.proofs.Laws.{r-gives, gives-same}
 use Rattle.u2f_up_stated.specs.Words.{Window, Closed, Opened, Presence, Finding}
 use Rattle.u2f_up_stated.specs.Moments.{isLive, isPrompting, movedTo, settleOf, checkedOf, grantedOf}
-use Rattle.u2f_up_stated.specs.Terms.{BadMoment}
-use Rattle.u2f_up_stated.proofs.Ways.{SettleWay, settle-way, r6, r8, r1, moves}
+use Rattle.u2f_up_stated.specs.Terms.{BadMoment, LiveNumber}
+use Rattle.u2f_up_stated.proofs.Ways.{SettleWay, settle-way, r6, r8, r1, moves, window-live, window-over, window-is}
 use Rattle.u2f_up_stated.specs.Numbers.{windowOf, presenceIn, numberOf, checkedIn, grantedIn}
 
 -- ---- a window's number
@@ -27,8 +27,36 @@ pub opened-is : (n : ℕ) → (n ≡ 0 → ⊥) → Opened (n - 1) ≡ windowOf 
 opened-is zero not = absurd (not refl)
 opened-is (suc m) not = let before : suc m - 1 ≡ m = omega arith in ap Opened before
 
-opened-after : (n m : ℕ) → n ≡ m + 1 → windowOf n ≡ Opened m
+closed-apart : (m : ℕ) → Closed ≡ Opened m → ⊥
+closed-apart m e = let z : _≡_ {A = ℕ} 0 1 = cc in omega arith
+
+opened-same : (m n : ℕ) → Opened m ≡ Opened n → m ≡ n
+opened-same m n e = cc
+
+pub opened-after : (n m : ℕ) → n ≡ m + 1 → windowOf n ≡ Opened m
 opened-after n m e = let s : n ≡ suc m = omega (arith, e) in rw s
+
+pub opened-back : (n m : ℕ) → windowOf n ≡ Opened m → n ≡ m + 1
+opened-back zero m e = absurd (closed-apart m e)
+opened-back (suc k) m e = let same : k ≡ m = opened-same k m e in omega (arith, same)
+
+pub closed-back : (n : ℕ) → windowOf n ≡ Closed → n ≡ 0
+closed-back zero e = refl
+closed-back (suc k) e = absurd (closed-apart k (sym e))
+
+-- a live window's number
+pub number-live : (n d t : ℕ) → LiveNumber n d t → isLive (windowOf n) d t ≡ true
+number-live n d t (m, e, h) = window-live (windowOf n) d t (m, opened-after n m e, h)
+
+pub number-over : (n d t : ℕ) → (LiveNumber n d t → ⊥) → isLive (windowOf n) d t ≡ false
+number-over n d t not = window-over (windowOf n) d t (λ (m, e, h). not (m, opened-back n m e, h))
+
+pub live-number : (n d t : ℕ) → Dec (LiveNumber n d t)
+live-number n d t = by (window-is (windowOf n) d t)
+  where
+    by : Dec ((m : ℕ) × (windowOf n ≡ Opened m) × (t < m + d)) → Dec (LiveNumber n d t)
+    by (yes (m, e, h)) = yes (m, opened-back n m e, h)
+    by (no not) = no (λ (m, e, h). not (m, opened-after n m e, h))
 
 pub greatest-is : (t : ℕ) → t ≡ 0xffffffffffffffff → 0xffffffffffffffff ≡ numberOf t
 greatest-is t e = rw (eq-eqb t 0xffffffffffffffff e)
@@ -167,17 +195,23 @@ module _ (s : List ℕ) (t : ℕ) (long : 4 < length s) (live : Bool) (is-prompt
   pub granted-it : (n : ℕ) → n ≡ numberOf t → not live ≡ false → presenceIn (set (set (set s 3 t) 1 0) 2 n) ≡ granted .presence
   granted-it n is-n b = grants n is-n b .1
 
--- ---- at a moment below 2^48 they are the definitions of Moments.antt
-number-below : (t : ℕ) → t < 2 ^ 48 → windowOf (numberOf t) ≡ Opened t
-number-below t h = rw (ne-eqb t 0xffffffffffffffff (λ e. omega arith)) (opened-after (t + 1) t refl)
+-- ---- at a moment that has a number after it they are the definitions of Moments.antt
+opens-at : (t : ℕ) → (t ≡ 0xffffffffffffffff → ⊥) → windowOf (numberOf t) ≡ Opened t
+opens-at t n = rw (ne-eqb t 0xffffffffffffffff n) (opened-after (t + 1) t refl)
+
+pub checked-not-greatest : (p : Presence) (side t : ℕ) → (t ≡ 0xffffffffffffffff → ⊥) → checkedIn p side t ≡ checkedOf p side t
+unfolding checkedIn checkedOf
+checked-not-greatest p side t n = rw (opens-at t n)
+
+pub granted-not-greatest : (p : Presence) (t : ℕ) → (t ≡ 0xffffffffffffffff → ⊥) → grantedIn p t ≡ grantedOf p t
+unfolding grantedIn grantedOf
+granted-not-greatest p t n = rw (opens-at t n)
 
 pub checked-below : (p : Presence) (side t : ℕ) → t < 2 ^ 48 → checkedIn p side t ≡ checkedOf p side t
-unfolding checkedIn checkedOf
-checked-below p side t h = rw (number-below t h)
+checked-below p side t h = checked-not-greatest p side t (λ e. omega (arith, e, h))
 
 pub granted-below : (p : Presence) (t : ℕ) → t < 2 ^ 48 → grantedIn p t ≡ grantedOf p t
-unfolding grantedIn grantedOf
-granted-below p t h = rw (number-below t h)
+granted-below p t h = granted-not-greatest p t (λ e. omega (arith, e, h))
 
 -- a window that is read and then looked at
 pub live-is : (number d t : ℕ) (window : Window) (live : Bool) → window ≡ windowOf number → live ≡ isLive window d t → live ≡ isLive (windowOf number) d t

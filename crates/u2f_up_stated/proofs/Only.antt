@@ -1,9 +1,10 @@
 -- Only the definition meets each claim: two functions that meet it agree on every input.
-use Prim.Native.Nat.{ℕ, _<_, _≤_}
-use mathlib.Core.Path.{_≡_, refl, sym, ap₂, _∙_}
+use Prim.Native.Nat.{ℕ, zero, suc, _<_, _≤_}
+use mathlib.Core.Path.{_≡_, refl, sym, ap, ap₂, _∙_}
 use mathlib.Core.Bool.{Bool}
 use mathlib.Core.List.{List, [], _∷_}
 use Rattle.outcome.specs.Notation.{Determines, Determines2, Determines3}
+use native.Mathlib.Omega.{arith}
 use native.Mathlib.Decide.{ℕ-discrete}
 use Rattle.u2f_up_stated.specs.Words.{Outcome, R, Presence, Finding}
 use Rattle.u2f_up_stated.specs.Moments.{Told}
@@ -13,9 +14,10 @@ use Rattle.u2f_up_stated.specs.declared.Answer.the-variants as Answer′
 use Rattle.u2f_up_stated.specs.History.{Call, Came, Event, foretold}
 use Rattle.u2f_up_stated.specs.Runs.{Caller, after, next, history}
 use Rattle.u2f_up_stated.specs.OneSide.{sideless, NamesOnly, OnlySide}
-use Rattle.u2f_up_stated.specs.Terms.{BadWindow, BadSide, BadMoment, NotRefused, HasPrompt, HasTouch, SettlesFirst}
+use Rattle.u2f_up_stated.specs.Terms.{BadWindow, BadSide, BadMoment, NotRefused, HasPrompt, HasTouch, SettlesFirst, LiveNumber}
 use Rattle.u2f_up_stated.specs.Claims
 use Rattle.u2f_up_stated.proofs.Ways.{bad-window, bad-side, bad-moment, has-touch, has-prompt}
+use Rattle.u2f_up_stated.proofs.OnNumbers.{live-number}
 
 pub MakesExactly : Determines Claims.MakesExactly
 MakesExactly f g F G w = by (bad-window w)
@@ -79,6 +81,72 @@ AsksExactly f g F G p t = settled (λ p. p .asker) f g (F .settles) (G .settles)
     by : NotRefused p (p .asker) t → Dec (HasPrompt p t) → f p t ≡ g p t
     by ok (yes h) = F .live p t ok h ∙ sym (G .live p t ok h)
     by ok (no h) = F .not-live p t ok h ∙ sym (G .not-live p t ok h)
+
+-- ---- the record lent as five numbers
+pub StandsExactly : (f g : List ℕ → Presence) → Claims.StandsExactly f → Claims.StandsExactly g
+    → (w prompt touch last asker : ℕ) → f (w ∷ prompt ∷ touch ∷ last ∷ asker ∷ []) ≡ g (w ∷ prompt ∷ touch ∷ last ∷ asker ∷ [])
+StandsExactly f g F G w prompt touch last asker =
+    λ d. record { w = (F .w w prompt touch last asker ∙ sym (G .w w prompt touch last asker)) d; prompt = asked prompt refl d; touch = touched touch refl d; last = (F .last w prompt touch last asker ∙ sym (G .last w prompt touch last asker)) d; asker = (F .asker w prompt touch last asker ∙ sym (G .asker w prompt touch last asker)) d }
+  where
+    asked : (n : ℕ) → prompt ≡ n → f (w ∷ prompt ∷ touch ∷ last ∷ asker ∷ []) .prompt ≡ g (w ∷ prompt ∷ touch ∷ last ∷ asker ∷ []) .prompt
+    asked zero e = F .prompt-closed w prompt touch last asker .1 e ∙ sym (G .prompt-closed w prompt touch last asker .1 e)
+    asked (suc m) e = F .prompt-opened w prompt touch last asker m .1 (omega (arith, e)) ∙ sym (G .prompt-opened w prompt touch last asker m .1 (omega (arith, e)))
+
+    touched : (n : ℕ) → touch ≡ n → f (w ∷ prompt ∷ touch ∷ last ∷ asker ∷ []) .touch ≡ g (w ∷ prompt ∷ touch ∷ last ∷ asker ∷ []) .touch
+    touched zero e = F .touch-closed w prompt touch last asker .1 e ∙ sym (G .touch-closed w prompt touch last asker .1 e)
+    touched (suc m) e = F .touch-opened w prompt touch last asker m .1 (omega (arith, e)) ∙ sym (G .touch-opened w prompt touch last asker m .1 (omega (arith, e)))
+
+pub NumbersExactly : Determines Claims.NumbersExactly
+NumbersExactly f g F G t = by (ℕ-discrete t 0xffffffffffffffff)
+  where
+    by : Dec (t ≡ 0xffffffffffffffff) → f t ≡ g t
+    by (yes e) = ap f e ∙ F .greatest ∙ sym (G .greatest) ∙ ap g (sym e)
+    by (no n) = F .next t n ∙ sym (G .next t n)
+
+pub MovesNumbers : (f g : List ℕ → ℕ → Presence) → Claims.MovesNumbers f → Claims.MovesNumbers g
+    → (w prompt touch last asker t : ℕ) → f (w ∷ prompt ∷ touch ∷ last ∷ asker ∷ []) t ≡ g (w ∷ prompt ∷ touch ∷ last ∷ asker ∷ []) t
+MovesNumbers f g F G w prompt touch last asker t = F w prompt touch last asker t ∙ sym (G w prompt touch last asker t)
+
+pub ChecksNumbers : (f g : List ℕ → (side t : ℕ) → Finding) → Claims.ChecksNumbers f → Claims.ChecksNumbers g
+    → (w prompt touch last asker s t : ℕ) → f (w ∷ prompt ∷ touch ∷ last ∷ asker ∷ []) s t ≡ g (w ∷ prompt ∷ touch ∷ last ∷ asker ∷ []) s t
+ChecksNumbers f g F G w prompt touch last asker s t = by (live-number touch w t) (ℕ-discrete asker s)
+  where
+    own : LiveNumber touch w t → (r : ℕ) → asker ≡ r → f (w ∷ prompt ∷ touch ∷ last ∷ asker ∷ []) r t ≡ g (w ∷ prompt ∷ touch ∷ last ∷ asker ∷ []) r t
+    own h r e =
+        ap (λ (x : ℕ). f (w ∷ prompt ∷ touch ∷ last ∷ asker ∷ []) x t) (sym e) ∙ F .finds w prompt touch last asker t h
+        ∙ sym (G .finds w prompt touch last asker t h) ∙ ap (λ (x : ℕ). g (w ∷ prompt ∷ touch ∷ last ∷ asker ∷ []) x t) e
+
+    by : Dec (LiveNumber touch w t) → Dec (asker ≡ s) → f (w ∷ prompt ∷ touch ∷ last ∷ asker ∷ []) s t ≡ g (w ∷ prompt ∷ touch ∷ last ∷ asker ∷ []) s t
+    by (yes h) (yes o) = own h s o
+    by (yes h) (no o) = F .other w prompt touch last asker s t h o ∙ sym (G .other w prompt touch last asker s t h o)
+    by (no h) o = F .prompts w prompt touch last asker s t h ∙ sym (G .prompts w prompt touch last asker s t h)
+
+pub TouchesNumbers : (f g : List ℕ → ℕ → Finding) → Claims.TouchesNumbers f → Claims.TouchesNumbers g
+    → (w prompt touch last asker t : ℕ) → f (w ∷ prompt ∷ touch ∷ last ∷ asker ∷ []) t ≡ g (w ∷ prompt ∷ touch ∷ last ∷ asker ∷ []) t
+TouchesNumbers f g F G w prompt touch last asker t = by (live-number prompt 10000 t)
+  where
+    by : Dec (LiveNumber prompt 10000 t) → f (w ∷ prompt ∷ touch ∷ last ∷ asker ∷ []) t ≡ g (w ∷ prompt ∷ touch ∷ last ∷ asker ∷ []) t
+    by (yes h) = F .accepts w prompt touch last asker t h ∙ sym (G .accepts w prompt touch last asker t h)
+    by (no h) = F .otherwise w prompt touch last asker t h ∙ sym (G .otherwise w prompt touch last asker t h)
+
+pub AsOnRecords : (f g : Presence → (side t : ℕ) → Finding) (h k : Presence → ℕ → Finding) → Claims.AsOnRecords f h → Claims.AsOnRecords g k
+    → (p : Presence) (s t : ℕ) → (f p s t ≡ g p s t) × (h p t ≡ k p t)
+AsOnRecords f g h k F G p s t = by (ℕ-discrete t 0xffffffffffffffff)
+  where
+    by : Dec (t ≡ 0xffffffffffffffff) → (f p s t ≡ g p s t) × (h p t ≡ k p t)
+    by (yes e) = (
+      ap (f p s) e ∙ checks (has-touch p 0xffffffffffffffff) ∙ ap (g p s) (sym e),
+      ap (h p) e ∙ touches (has-prompt p 0xffffffffffffffff) ∙ ap (k p) (sym e),
+    )
+      where
+        checks : Dec (HasTouch p 0xffffffffffffffff) → f p s 0xffffffffffffffff ≡ g p s 0xffffffffffffffff
+        checks (yes y) = F .check-live p s _ y ∙ sym (G .check-live p s _ y)
+        checks (no n) = F .check-greatest p s n ∙ sym (G .check-greatest p s n)
+
+        touches : Dec (HasPrompt p 0xffffffffffffffff) → h p 0xffffffffffffffff ≡ k p 0xffffffffffffffff
+        touches (yes y) = F .touch-greatest p y ∙ sym (G .touch-greatest p y)
+        touches (no n) = F .touch-not-live p _ n ∙ sym (G .touch-not-live p _ n)
+    by (no n) = (F .check p s t n ∙ sym (G .check p s t n), F .touch p t n ∙ sym (G .touch p t n))
 
 pub BaseExactly : (f g : Presence → ℕ → Outcome Presence) (h k : Presence → ℕ → Finding) → Claims.BaseExactly f h → Claims.BaseExactly g k
     → (p : Presence) (t : ℕ) → (f p t ≡ g p t) × (h p t ≡ k p t)

@@ -9,10 +9,11 @@ use Rattle.outcome.proofs.Laws.{r-gives, gives-same}
 use Rattle.outcome.specs.declared.Refusal.the-variants as Refusal′
 use Rattle.u2f_up_stated.specs.Words.{Outcome, R, Gives, Closed, Opened, Presence, Finding}
 use Rattle.u2f_up_stated.specs.Moments.{Told, fresh, settleOf, grantedOf, checkedOf, checkOf}
+use Rattle.u2f_up_stated.specs.Numbers.{checkedIn, grantedIn}
 use Rattle.u2f_up_stated.specs.History.{Touching, Checking, TooShort, RefusedBy, TouchAccepted, TouchIgnored, TouchFound, NoTouchFound, Call, lastMoment, latestPrompt, latestTouch, isPromptStanding, accepted, unspent, servers, foretold}
 use Rattle.u2f_up_stated.specs.Runs.{after, history, doneBy}
 use Rattle.u2f_up_stated.specs.OneSide.{base, baseBy, baseSettleOf, baseCheckedOf}
-use Rattle.u2f_up_stated.specs.Terms.{BadWindow, BadSide, BadMoment, NotRefused, HasTouch, HasPrompt, ServesOnce}
+use Rattle.u2f_up_stated.specs.Terms.{BadWindow, BadSide, BadMoment, NotRefused, HasTouch, HasPrompt, ServesOnce, LiveNumber}
 use Rattle.u2f_up_stated.specs.declared.Ready.the-variants as Ready′
 use Rattle.u2f_up_stated.specs.declared.Answer.the-variants as Answer′
 use Rattle.u2f_up_stated.specs.Claims
@@ -199,6 +200,58 @@ movesAgain d = let z : _≡_ {A = ℕ} 7 0 = ap (λ (f : Finding). f .presence .
 pub askMoves : Claims.AsksExactly Wrong.askMoves → ⊥
 unfolding settleOf
 askMoves d = let z : _≡_ {A = ℕ} 7 0 = ap (λ (s : Told). s .presence .last) (d .live asked 7 (passes asked 0 7 refl (omega arith) (omega arith) (omega arith) (omega arith)) (0, refl, omega arith)) in omega arith
+
+-- ---- the record lent as five numbers
+pub momentItself : Claims.StandsExactly Wrong.momentItself → ⊥
+momentItself d = let z = opened-same (d .prompt-opened 100 1 0 0 0 0 .1 refl) in omega arith
+
+pub askerOf8Bits : Claims.StandsExactly Wrong.askerOf8Bits → ⊥
+askerOf8Bits d = let z : _≡_ {A = ℕ} 0 256 = d .asker 100 0 0 0 256 in omega arith
+
+pub exchanged : Claims.StandsExactly Wrong.exchanged → ⊥
+exchanged d = closed-open 0 (d .prompt-opened 100 1 0 0 0 0 .1 refl)
+
+pub wraps : Claims.NumbersExactly Wrong.wraps → ⊥
+wraps d = omega (arith, d .greatest)
+
+pub noOneMore : Claims.NumbersExactly Wrong.noOneMore → ⊥
+noOneMore d = let z = d .next 0 (λ e. omega (arith, e)) in omega arith
+
+pub momentLeft : Claims.MovesNumbers Wrong.momentLeft → ⊥
+momentLeft d = let z : _≡_ {A = ℕ} 0 7 = ap (λ (p : Presence). p .last) (d 100 0 0 0 0 7) in omega arith
+
+no-number : (w t : ℕ) → LiveNumber 0 w t → ⊥
+no-number w t (m, e, h) = omega (arith, e)
+
+-- both windows closed, side 1 checks at 7
+pub opensNoPrompt : Claims.ChecksNumbers Wrong.opensNoPrompt → ⊥
+opensNoPrompt d = closed-open 7 (ap (λ (f : Finding). f .presence .prompt) (d .prompts 100 0 0 0 0 1 7 (no-number 100 7)))
+
+pub promptsForAsker : Claims.ChecksNumbers Wrong.promptsForAsker → ⊥
+unfolding checkedIn
+promptsForAsker d = let z : _≡_ {A = ℕ} 0 1 = ap (λ (f : Finding). f .presence .asker) (d .prompts 100 0 0 0 0 1 7 (no-number 100 7)) in omega arith
+
+-- beside a touch of side 0, accepted at 0
+pub spendsOthers : Claims.ChecksNumbers Wrong.spendsOthers → ⊥
+spendsOthers d = true≢false (ap (λ (f : Finding). f .yes) (d .other 100 0 1 0 0 1 7 (0, refl, omega arith) (λ e. omega (arith, e))))
+
+pub leavesOpen : Claims.ChecksNumbers Wrong.leavesOpen → ⊥
+leavesOpen d = closed-open 0 (sym (ap (λ (f : Finding). f .presence .touch) (d .finds 100 0 1 0 0 7 (0, refl, omega arith))))
+
+pub checkMovesNothing : Claims.ChecksNumbers Wrong.checkMovesNothing → ⊥
+unfolding checkedIn
+checkMovesNothing d = let z : _≡_ {A = ℕ} 0 7 = ap (λ (f : Finding). f .presence .last) (d .finds 100 0 1 0 0 7 (0, refl, omega arith)) in omega arith
+
+-- a prompt opened at 0, touched at 7
+pub leavesPrompt : Claims.TouchesNumbers Wrong.leavesPrompt → ⊥
+leavesPrompt d = closed-open 0 (sym (ap (λ (f : Finding). f .presence .prompt) (d .accepts 100 1 0 0 0 7 (0, refl, omega arith))))
+
+pub touchAtPrompt : Claims.TouchesNumbers Wrong.touchAtPrompt → ⊥
+touchAtPrompt d = let z = opened-same (ap (λ (f : Finding). f .presence .touch) (d .accepts 100 1 0 0 0 7 (0, refl, omega arith))) in omega arith
+
+pub neverBefore : Claims.AsOnRecords Wrong.neverBefore grantedIn → ⊥
+unfolding checkedOf
+neverBefore d = let z = opened-same (ap (λ (f : Finding). f .presence .prompt) (d .check-greatest (fresh 100) 0 (λ (m, e, h). closed-open m e))) in omega arith
 
 -- ---- runs, newest call first
 found-not : TouchFound ≡ NoTouchFound → ⊥

@@ -1,16 +1,18 @@
 -- What is promised of presence beyond the functions' own promises: open this file first. Proved in proofs/Theorems.antt under the
 -- same names; proofs/Only.antt shows that no other function meets them, proofs/Refuted.antt that wrong ones do not.
-use mathlib.Core.List.{List}
+use mathlib.Core.List.{List, [], _∷_}
+use lib.ListN.{length}
 use mathlib.Core.Logic.{_↔_}
-use Rattle.u2f_up_stated.specs.Words.{ℕ, _<_, _≤_, _≡_, Bool, true, false, R, Gives, AtMostOne, Closed, Opened, Outcome, Refusal, refusalNo, Presence, Finding}
-use Rattle.u2f_up_stated.specs.Moments.{Told}
+use Rattle.u2f_up_stated.specs.Words.{ℕ, _+_, _<_, _≤_, _≡_, Bool, true, false, R, Gives, AtMostOne, Closed, Opened, Outcome, Refusal, refusalNo, Presence, Finding}
+use Rattle.u2f_up_stated.specs.Moments.{Told, checkedOf, grantedOf}
+use Rattle.u2f_up_stated.specs.Numbers.{presenceIn, numberOf}
 use Rattle.u2f_up_stated.specs.Answers.{Ready, Answer, Step, readyOf, outcomeOf, toldOf, lentStep}
 use Rattle.u2f_up_stated.specs.declared.Ready.the-variants as Ready′
 use Rattle.u2f_up_stated.specs.declared.Answer.the-variants as Answer′
-use Rattle.u2f_up_stated.specs.Contracts.{New, Settle, TouchCheck, GrantUp, ConsumeUp, IsUpNeeded, GrantUpLent, ConsumeUpLent, IsUpNeededLent}
+use Rattle.u2f_up_stated.specs.Contracts.{New, Settle, TouchCheck, GrantUp, ConsumeUp, IsUpNeeded, GrantUpLent, ConsumeUpLent, IsUpNeededLent, RecordLent, Moved, TouchChecked, TouchGranted}
 use Rattle.u2f_up_stated.specs.Runs.{Caller, after, next}
 use Rattle.u2f_up_stated.specs.OneSide.{sideless, NamesOnly, OnlySide}
-use Rattle.u2f_up_stated.specs.Terms.{BadWindow, BadSide, BadMoment, NotRefused, HasPrompt, HasTouch, SettlesFirst}
+use Rattle.u2f_up_stated.specs.Terms.{BadWindow, BadSide, BadMoment, NotRefused, HasPrompt, HasTouch, SettlesFirst, LiveNumber}
 use Rattle.u2f_up_stated.specs.Demand.{RunOf}
 
 -- ---- each call, on any record
@@ -76,6 +78,65 @@ pub record AsksExactly (ask : Presence → ℕ → Told) : Type 0 where
   pub settles : SettlesFirst (λ p. p .asker) ask
   pub live : (p : Presence) (t : ℕ) → NotRefused p (p .asker) t → HasPrompt p t → ask p t ≡ record { outcome = Gives true; presence = p }
   pub not-live : (p : Presence) (t : ℕ) → NotRefused p (p .asker) t → (HasPrompt p t → ⊥) → ask p t ≡ record { outcome = Gives false; presence = p }
+
+-- ---- the record lent as five numbers
+
+-- Ours: which number is what. In this order W, prompt, touch, last moment, asker, each in full width; a window's number is 0 where it is closed and m + 1
+-- where it was opened at m. A window whose number is its moment (`momentItself`) fails it at 1, an asker cut to 8 bits (`askerOf8Bits`) at 256, and
+-- prompt and touch in each other's place (`exchanged`) where one is open.
+pub record StandsExactly (stands : List ℕ → Presence) : Type 0 where
+  pub w : (w prompt touch last asker : ℕ) → stands (w ∷ prompt ∷ touch ∷ last ∷ asker ∷ []) .w ≡ w
+  pub prompt-closed : (w prompt touch last asker : ℕ) → (stands (w ∷ prompt ∷ touch ∷ last ∷ asker ∷ []) .prompt ≡ Closed) ↔ (prompt ≡ 0)
+  pub prompt-opened : (w prompt touch last asker m : ℕ) → (stands (w ∷ prompt ∷ touch ∷ last ∷ asker ∷ []) .prompt ≡ Opened m) ↔ (prompt ≡ m + 1)
+  pub touch-closed : (w prompt touch last asker : ℕ) → (stands (w ∷ prompt ∷ touch ∷ last ∷ asker ∷ []) .touch ≡ Closed) ↔ (touch ≡ 0)
+  pub touch-opened : (w prompt touch last asker m : ℕ) → (stands (w ∷ prompt ∷ touch ∷ last ∷ asker ∷ []) .touch ≡ Opened m) ↔ (touch ≡ m + 1)
+  pub last : (w prompt touch last asker : ℕ) → stands (w ∷ prompt ∷ touch ∷ last ∷ asker ∷ []) .last ≡ last
+  pub asker : (w prompt touch last asker : ℕ) → stands (w ∷ prompt ∷ touch ∷ last ∷ asker ∷ []) .asker ≡ asker
+
+-- Ours: the number of a window that opens at t is t + 1; at 2^64 - 1, which has none after it in 64 bits, it is that itself, and says the moment before. No
+-- moment that settles comes near. A sum that wraps (`wraps`) fails it there: the window would be closed; the moment itself (`noOneMore`) fails it at 0.
+pub record NumbersExactly (number : ℕ → ℕ) : Type 0 where
+  pub next : (t : ℕ) → (t ≡ 0xffffffffffffffff → ⊥) → number t ≡ t + 1
+  pub greatest : number 0xffffffffffffffff ≡ 0xffffffffffffffff
+
+-- Moving the last moment. 01, Refusal numbers: "each touch, direct check and decision sets the last moment to t", and of five numbers the fourth alone. One that
+-- leaves it (`momentLeft`) fails it.
+abbrev pub MovesNumbers : (List ℕ → (t : ℕ) → Presence) → Type 0
+MovesNumbers moves = (w prompt touch last asker t : ℕ) → moves (w ∷ prompt ∷ touch ∷ last ∷ asker ∷ []) t ≡ presenceIn (w ∷ prompt ∷ touch ∷ t ∷ asker ∷ [])
+
+-- The touch check on five numbers, the moment settled: what it finds, and which numbers the record then is. 01, Moments and touches: "with a live touch, it is
+-- spent; without, a prompt window opens at t"; 02, E7, as in `ChecksExactly`. One that opens no prompt (`opensNoPrompt`) fails it at numbers with both windows
+-- closed; so do one that opens it for the record's own side (`promptsForAsker`), at another one's check, one that spends the other side's touch (`spendsOthers`),
+-- one that leaves the touch open (`leavesOpen`), and one that does not move the last moment (`checkMovesNothing`).
+pub record ChecksNumbers (check : List ℕ → (side t : ℕ) → Finding) : Type 0 where
+  pub finds : (w prompt touch last asker t : ℕ) → LiveNumber touch w t
+      → check (w ∷ prompt ∷ touch ∷ last ∷ asker ∷ []) asker t ≡ record { yes = true; presence = presenceIn (w ∷ prompt ∷ 0 ∷ t ∷ asker ∷ []) }
+  pub other : (w prompt touch last asker s t : ℕ) → LiveNumber touch w t → (asker ≡ s → ⊥)
+      → check (w ∷ prompt ∷ touch ∷ last ∷ asker ∷ []) s t ≡ record { yes = false; presence = presenceIn (w ∷ prompt ∷ touch ∷ t ∷ asker ∷ []) }
+  pub prompts : (w prompt touch last asker s t : ℕ) → (LiveNumber touch w t → ⊥)
+      → check (w ∷ prompt ∷ touch ∷ last ∷ asker ∷ []) s t ≡ record { yes = false; presence = presenceIn (w ∷ numberOf t ∷ touch ∷ t ∷ s ∷ []) }
+
+-- The touch on five numbers, the moment settled. 01, Moments and touches: "accepted when the prompt is live; then the prompt closes and a touch window opens.
+-- Otherwise nothing but the last moment moves." One that leaves the prompt open (`leavesPrompt`) fails it, and one whose touch window opens at the prompt's
+-- moment (`touchAtPrompt`), where the moments differ.
+pub record TouchesNumbers (touch : List ℕ → (t : ℕ) → Finding) : Type 0 where
+  pub accepts : (w prompt number last asker t : ℕ) → LiveNumber prompt 10000 t
+      → touch (w ∷ prompt ∷ number ∷ last ∷ asker ∷ []) t ≡ record { yes = true; presence = presenceIn (w ∷ 0 ∷ numberOf t ∷ t ∷ asker ∷ []) }
+  pub otherwise : (w prompt number last asker t : ℕ) → (LiveNumber prompt 10000 t → ⊥)
+      → touch (w ∷ prompt ∷ number ∷ last ∷ asker ∷ []) t ≡ record { yes = false; presence = presenceIn (w ∷ prompt ∷ number ∷ t ∷ asker ∷ []) }
+
+-- Ours: at every moment but 2^64 - 1 touch check and touch on numbers are those of the record. At that one, where a check without a live touch opens a prompt,
+-- and an accepted touch its window, the window says the moment before; every other answer is the record's. A check that is so at every moment (`neverBefore`)
+-- fails it there.
+pub record AsOnRecords (checked : Presence → (side t : ℕ) → Finding) (granted : Presence → (t : ℕ) → Finding) : Type 0 where
+  pub check : (p : Presence) (s t : ℕ) → (t ≡ 0xffffffffffffffff → ⊥) → checked p s t ≡ checkedOf p s t
+  pub check-live : (p : Presence) (s t : ℕ) → HasTouch p t → checked p s t ≡ checkedOf p s t
+  pub check-greatest : (p : Presence) (s : ℕ) → (HasTouch p 0xffffffffffffffff → ⊥)
+      → checked p s 0xffffffffffffffff ≡ record { yes = false; presence = record { w = p .w; prompt = Opened 0xfffffffffffffffe; touch = p .touch; last = p .last; asker = s } }
+  pub touch : (p : Presence) (t : ℕ) → (t ≡ 0xffffffffffffffff → ⊥) → granted p t ≡ grantedOf p t
+  pub touch-not-live : (p : Presence) (t : ℕ) → (HasPrompt p t → ⊥) → granted p t ≡ grantedOf p t
+  pub touch-greatest : (p : Presence) → HasPrompt p 0xffffffffffffffff
+      → granted p 0xffffffffffffffff ≡ record { yes = true; presence = record { w = p .w; prompt = Closed; touch = Opened 0xfffffffffffffffe; last = p .last; asker = p .asker } }
 
 -- ---- demand 3
 
@@ -150,6 +211,12 @@ pub record ContractsAsClaimed : Type 0 where
       → ChecksExactly (λ p s t. toldOf (lentStep (f p s t)))
   pub is-up-needed-lent : (f : Presence → ℕ → Answer × Presence) → ((p : Presence) (t : ℕ) → IsUpNeededLent p t (f p t .0) (f p t .1))
       → AsksExactly (λ p t. toldOf (lentStep (f p t)))
+  pub record-lent : (f : List ℕ → Presence) → ((n : List ℕ) → RecordLent n (f n)) → StandsExactly f
+  pub moved : (f : List ℕ → ℕ → List ℕ) → ((n : List ℕ) (t : ℕ) → Moved n t (f n t)) → MovesNumbers (λ n t. presenceIn (f n t))
+  pub touch-checked : (f : List ℕ → (side t : ℕ) → Bool × List ℕ) → ((n : List ℕ) (s t : ℕ) → TouchChecked n s t (f n s t .0) (f n s t .1))
+      → ChecksNumbers (λ n s t. record { yes = f n s t .0; presence = presenceIn (f n s t .1) })
+  pub touch-granted : (f : List ℕ → ℕ → Bool × List ℕ) → ((n : List ℕ) (t : ℕ) → TouchGranted n t (f n t .0) (f n t .1))
+      → TouchesNumbers (λ n t. record { yes = f n t .0; presence = presenceIn (f n t .1) })
 
 -- ---- two results that satisfy a contract are equal
 
@@ -175,3 +242,7 @@ pub record ResultsDetermined : Type 0 where
   pub grant-up-lent : (p : Presence) (t : ℕ) → AtMostOne (λ (o : Answer × Presence). GrantUpLent p t (o .0) (o .1))
   pub consume-up-lent : (p : Presence) (s t : ℕ) → AtMostOne (λ (o : Answer × Presence). ConsumeUpLent p s t (o .0) (o .1))
   pub is-up-needed-lent : (p : Presence) (t : ℕ) → AtMostOne (λ (o : Answer × Presence). IsUpNeededLent p t (o .0) (o .1))
+  pub record-lent : (n : List ℕ) → AtMostOne (RecordLent n)
+  pub moved : (n : List ℕ) (t : ℕ) → AtMostOne (λ (exit : List ℕ). (length exit ≡ 5) × Moved n t exit)
+  pub touch-checked : (n : List ℕ) (s t : ℕ) → AtMostOne (λ (o : Bool × List ℕ). (length (o .1) ≡ 5) × TouchChecked n s t (o .0) (o .1))
+  pub touch-granted : (n : List ℕ) (t : ℕ) → AtMostOne (λ (o : Bool × List ℕ). (length (o .1) ≡ 5) × TouchGranted n t (o .0) (o .1))

@@ -9,6 +9,10 @@ pub use Rattle.u2f_up_stated.specs.History.{RefusedAt, NamesBadSide, Ser
 abbrev pub HasPrompt : Presence → ℕ → Type 0
 HasPrompt p t = (m : ℕ) × (p .prompt ≡ Opened m) × (t < m + 10000)
 
+-- the same of a window that is lent as a number: it was opened at some m, whose number it is, and is live at t with length d
+abbrev pub LiveNumber : (number d t : ℕ) → Type 0
+LiveNumber number d t = (m : ℕ) × (number ≡ m + 1) × (t < m + d)
+
 -- 01, Moments and touches: "Touch, check and ask give R6, then R1, before all else."; 02, E7: R8 "after R6 and before R1". Refusal
 -- numbers: "An R refusal changes no buffer and no record." Of any call, which names a side, or the record's own.
 pub record SettlesFirst (named : Presence → ℕ) (call : Presence → ℕ → Told) : Type 0 where

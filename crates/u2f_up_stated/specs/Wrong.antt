@@ -1,7 +1,10 @@
 -- Wrong programs, each with one fault. proofs/Refuted.antt shows of each that a claim is false of it.
+use Prim.Native.Nat.{_%_}
 use mathlib.Core.List.{List, [], _∷_}
-use Rattle.u2f_up_stated.specs.Words.{ℕ, _+_, _^_, Bool, true, false, not, _&&_, _||_, eqb, ltb, leb, if_then_else_, Outcome, R, Gives, refusalNo, Window, Closed, Opened, Presence, Finding}
+use lib.ListN.{getD}
+use Rattle.u2f_up_stated.specs.Words.{ℕ, zero, suc, _+_, _^_, Bool, true, false, not, _&&_, _||_, eqb, ltb, leb, if_then_else_, Outcome, R, Gives, refusalNo, Window, Closed, Opened, Presence, Finding}
 use Rattle.u2f_up_stated.specs.Moments.{fresh, Told, isLive, isPrompting, isR6, isBadSide, isR8, isR1, movedTo, settleOf, gave, refused, touchOpened, touchClosed, promptOpened, onSettled, grantedOf, checkedOf}
+use Rattle.u2f_up_stated.specs.Numbers.{windowOf, presenceIn, numberOf, checkedIn, grantedIn}
 use Rattle.u2f_up_stated.specs.Answers.{Ready, Answer, Step, outcomeOf}
 use Rattle.u2f_up_stated.specs.declared.Ready.the-variants as Ready′
 use Rattle.u2f_up_stated.specs.declared.Answer.the-variants as Answer′
@@ -202,6 +205,73 @@ movesAgain p s t = checkedOf (movedTo p t) s t
 -- ---- asks: "changes nothing, not even the last moment": it moves
 abbrev pub askMoves : Presence → ℕ → Told
 askMoves p t = onSettled p (settleOf p (p .asker) t) (λ q. record { outcome = Gives (isPrompting p t); presence = q })
+
+-- ---- the record lent as five numbers. A window's number is the moment that it was opened at
+abbrev windowAt : ℕ → Window
+windowAt zero = Closed
+windowAt (suc m) = Opened (suc m)
+
+abbrev pub momentItself : List ℕ → Presence
+momentItself n = record { w = getD n 0 0; prompt = windowAt (getD n 1 0); touch = windowAt (getD n 2 0); last = getD n 3 0; asker = getD n 4 0 }
+
+-- the asker is cut to 8 bits
+abbrev pub askerOf8Bits : List ℕ → Presence
+askerOf8Bits n = record { w = getD n 0 0; prompt = windowOf (getD n 1 0); touch = windowOf (getD n 2 0); last = getD n 3 0; asker = getD n 4 0 % 256 }
+
+-- prompt and touch stand in each other's place
+abbrev pub exchanged : List ℕ → Presence
+exchanged n = record { w = getD n 0 0; prompt = windowOf (getD n 2 0); touch = windowOf (getD n 1 0); last = getD n 3 0; asker = getD n 4 0 }
+
+-- a moment's number: the sum wraps; the moment itself
+abbrev pub wraps : ℕ → ℕ
+wraps t = if eqb t 0xffffffffffffffff then 0 else t + 1
+
+abbrev pub noOneMore : ℕ → ℕ
+noOneMore t = t
+
+-- the last moment is left
+abbrev pub momentLeft : List ℕ → ℕ → Presence
+momentLeft n t = presenceIn n
+
+-- by what a check does with a live touch of the side that checks, and of the other one, and without one, on numbers; the last moment moves first
+abbrev onNumbers : (own other without : Presence → (side t : ℕ) → Finding) → List ℕ → (side t : ℕ) → Finding
+onNumbers own other without n s t = by own other without (movedTo (presenceIn n) t) s t
+
+-- "without, a prompt window opens at t": none does, and the side becomes the asker all the same
+abbrev pub opensNoPrompt : List ℕ → (side t : ℕ) → Finding
+opensNoPrompt = onNumbers spends leaves (λ p s t. record { yes = false; presence = record { w = p .w; prompt = p .prompt; touch = p .touch; last = p .last; asker = s } })
+
+-- 02, E7: "A prompting refusal makes its side the asker": the prompt is opened for the record's own side
+abbrev pub promptsForAsker : List ℕ → (side t : ℕ) → Finding
+promptsForAsker = onNumbers spends leaves (λ p s t. checkedIn p (p .asker) t)
+
+-- 02, E7: "nothing is opened or spent": the other side's touch is
+abbrev pub spendsOthers : List ℕ → (side t : ℕ) → Finding
+spendsOthers = onNumbers spends spends checkedIn
+
+-- "with a live touch, it is spent": it stays open
+abbrev pub leavesOpen : List ℕ → (side t : ℕ) → Finding
+leavesOpen = onNumbers (λ p s t. record { yes = true; presence = p }) leaves checkedIn
+
+-- the last moment is not moved by a check
+abbrev pub checkMovesNothing : List ℕ → (side t : ℕ) → Finding
+checkMovesNothing n s t = checkedIn (presenceIn n) s t
+
+-- "then the prompt closes": it stays open; the touch window opens at the prompt's moment
+abbrev acceptedBy : (Presence → ℕ → Presence) → List ℕ → ℕ → Finding
+acceptedBy opens n t =
+    let p = movedTo (presenceIn n) t in
+    if isPrompting p t then record { yes = true; presence = opens p t } else record { yes = false; presence = p }
+
+abbrev pub leavesPrompt : List ℕ → ℕ → Finding
+leavesPrompt = acceptedBy (λ p t. record { w = p .w; prompt = p .prompt; touch = windowOf (numberOf t); last = p .last; asker = p .asker })
+
+abbrev pub touchAtPrompt : List ℕ → ℕ → Finding
+touchAtPrompt = acceptedBy (λ p t. record { w = p .w; prompt = Closed; touch = p .prompt; last = p .last; asker = p .asker })
+
+-- the record's own check at every moment, the greatest of 64 bits too
+abbrev pub neverBefore : Presence → (side t : ℕ) → Finding
+neverBefore = checkedOf
 
 -- ---- ways of calling: the calls of this crate, but for what touch and check find on a settled record
 abbrev doing : (Presence → ℕ → Finding) → (Presence → (side t : ℕ) → Finding) → Role → Presence → ℕ → Told
