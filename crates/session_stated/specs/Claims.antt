@@ -3,9 +3,10 @@
 -- ones fail. That nothing but the definitions does these steps: ctap1_stated's and response_stated's proofs/Only.antt, step by step.
 use Prim.Native.Nat.{ℕ, _+_, _≤_, _<_}
 use mathlib.Core.Path.{_≡_}
+use mathlib.Core.Logic.{_↔_}
 use mathlib.Core.List.{List, [], _∷_, _++_}
 use lib.ListN.{length, take, replicate}
-use Rattle.outcome.specs.Outcome.{SW, Gives}
+use Rattle.outcome.specs.Outcome.{StatusWord, Outcome, R, Word, SW, Gives}
 use Rattle.octets.specs.Bytes.{AreBytes}
 use Rattle.apdu_stated.specs.Answers.{Says}
 use Rattle.apdu_stated.specs.Reading.{readOf}
@@ -15,8 +16,11 @@ use Rattle.response_stated.specs.Responses.{responseBodyOf}
 use Rattle.response_stated.specs.Terms.{Sender, sending, IsResponse, Tells}
 use Rattle.response_stated.specs.Fetching.{got, left, remaining, RoundsUp}
 use Rattle.u2f_up_stated.specs.declared.Presence.{Presence}
-use Rattle.ctap1_stated.specs.Words.{Inputs, Part}
+use Rattle.ctap1_stated.specs.Words.{HardwareSaid, Inputs, DecisionGives, Body, Ordered, Part}
 use Rattle.ctap1_stated.specs.Terms.{Decider, HasInsC0}
+use Rattle.signing_stated.specs.Finishing.{Finishing, Ended}
+use Rattle.session_stated.specs.Held.{Session}
+use Rattle.session_stated.specs.Terms.{NoShape, TakesAtATime, CanTake, FrameRoom, RoomWasAsked, Answered}
 use Rattle.session_stated.specs.Sessions.{Visit, Leaver, PartWriter, sentIn, leftIn, joinedOver, leftOver, partsOver, Each, IsFetch, Serves}
 
 -- 02, E2: "INS C0 .. fetches the next part under the same rule": the part that a decision sends is the one that `next` sends of the body in the reply
@@ -88,3 +92,62 @@ pub record SessionParts (decide : Decider) (limit : List ℕ → ℕ) (leaves : 
   pub exactly : (body : List ℕ) (n L k : ℕ) (frame buffer : List ℕ) (sent : Sent) (visits : List Visit) → n ≤ length body → 1 ≤ L → RoundsUp n L k
       → limit frame ≡ L → next body (rest 0 n) (limit frame) buffer .0 ≡ Gives sent → Each (Serves limit L) visits → k ≤ 1 + length visits
       → 1 + partsOver decide leaves write body (sent .remainder) visits ≡ k
+
+-- ---- what is lent as an array
+
+-- Ours: which number is what. A session's three are place and count of what remains, and the limit. Count and place in each other's place (`countFirst`) fails it, and a limit
+-- cut to 8 bits (`limitOf8Bits`), at 256.
+pub record SessionStands (remainder : List ℕ → Remainder) (session : List ℕ → Session) : Type 0 where
+  pub remains : (place count limit : ℕ) → remainder (place ∷ count ∷ limit ∷ []) ≡ rest place count
+  pub whole : (place count limit : ℕ) → session (place ∷ count ∷ limit ∷ []) ≡ record { remainder = rest place count; limit = limit }
+
+-- The hardware's six answers: whether CTAP1 is allowed, the attestation, whether the new handle was stored, whether the handle is good, whether a counter is offered, and
+-- which. `goodForStored` fails it.
+abbrev pub HardwareStands : (List ℕ → HardwareSaid) → Type 0
+HardwareStands said =
+    (allowed attestation stored good counted counter : ℕ)
+    → said (allowed ∷ attestation ∷ stored ∷ good ∷ counted ∷ counter ∷ [])
+    ≡ record { allowed = allowed; attestation = attestation; stored = stored; good = good; counted = counted; counter = counter }
+
+-- ---- what a transport goes on with
+
+-- After each answer, with what the frame was read as. 02, E2: "A frame with another INS or in no shape drops the remainder; a refused C0 or any R refusal keeps it"; after
+-- a part it is what that part left. The limit is the frame's (ours): Le in shapes 1 to 4, 256 where absent, and 0, none, in an extended shape or in no shape; an R refusal
+-- keeps it too. One where a refused C0 drops the remainder (`refusedDrops`) fails it, one where another INS keeps it (`otherKeeps`), one where an R refusal drops it
+-- (`refusalDrops`), one that keeps the earlier frame's limit (`limitKept`), and one whose R refusal takes the frame's (`refusalTakesLimit`).
+pub record GoesOnExactly (after : Outcome DecisionGives → (read : Outcome Says) → Session → Session) : Type 0 where
+  pub refused : (n : ℕ) (read : Outcome Says) (s : Session) → after (R n) read s ≡ s
+  pub part : (n : ℕ) (left : Remainder) (read : Outcome Says) (s : Session) → after (Gives (Part n left)) read s .remainder ≡ left
+  pub body : (n : ℕ) (read : Outcome Says) (s : Session) → after (Gives (Body n)) read s .remainder ≡ rest 0 0
+  pub order : (read : Outcome Says) (s : Session) → after (Gives Ordered) read s .remainder ≡ rest 0 0
+  pub kept : (w : StatusWord) (said : Says) (s : Session) → said .header .ins ≡ 0xC0 → after (Word w) (Gives said) s .remainder ≡ s .remainder
+  pub other-ins : (w : StatusWord) (said : Says) (s : Session) → (said .header .ins ≡ 0xC0 → ⊥) → after (Word w) (Gives said) s .remainder ≡ rest 0 0
+  pub no-shape : (w : StatusWord) (read : Outcome Says) (s : Session) → NoShape read → after (Word w) read s .remainder ≡ rest 0 0
+  pub limit : (answer : Outcome DecisionGives) (said : Says) (n : ℕ) (s : Session) → ((k : ℕ) → answer ≡ R k → ⊥) → TakesAtATime said n → after answer (Gives said) s .limit ≡ n
+  pub no-limit : (answer : Outcome DecisionGives) (said : Says) (s : Session) → ((k : ℕ) → answer ≡ R k → ⊥) → 5 ≤ said .shape → after answer (Gives said) s .limit ≡ 0
+  pub none : (answer : Outcome DecisionGives) (read : Outcome Says) (s : Session) → ((k : ℕ) → answer ≡ R k → ⊥) → NoShape read → after answer read s .limit ≡ 0
+
+-- ---- the room for a response, before the touch
+
+-- Ours: how many bytes a response to a frame can take, given the longest body: in shapes 1 to 4 the smaller of limit and longest body, and two; in an extended shape the
+-- longest body and two; for bytes in no shape two; R2 exactly where that is 2^64 or more. One that counts no status (`withoutStatus`) fails it, one that takes an extended
+-- shape's Le for a limit (`extendedByLe`), one that takes the limit whatever the body (`limitAlone`), and one that leaves room for a body where no shape is (`noShapeBody`).
+pub record FrameRoomExactly (room : FrameRoom) : Type 0 where
+  pub says : (frame : List ℕ) (longest n : ℕ) → (room frame longest ≡ Gives n) ↔ (CanTake frame longest n × (n < 0x10000000000000000))
+  pub r2 : (frame : List ℕ) (longest : ℕ) → (room frame longest ≡ R 2) ↔ ((n : ℕ) × CanTake frame longest n × (0x10000000000000000 ≤ n))
+
+-- Ours: with a buffer of that length the first part of no body of at most `longest` bytes is refused, and with one byte less that of a body of `longest` bytes is. The frame
+-- is one in a shape, and `limit` what it takes at a time. `withoutStatus` fails the first sentence at a body of none, `limitAlone` the second.
+pub record FrameRoomServes (room : FrameRoom) (limit : List ℕ → ℕ) (next : Sender) : Type 0 where
+  pub enough : (frame : List ℕ) (said : Says) (longest m n : ℕ) (body buffer : List ℕ) → readOf frame ≡ Gives said → room frame longest ≡ Gives m
+      → n ≤ longest → n ≤ length body → m ≤ length buffer → (k : ℕ) → next body (rest 0 n) (limit frame) buffer .0 ≡ R k → ⊥
+  pub needed : (frame : List ℕ) (said : Says) (longest m : ℕ) (body buffer : List ℕ) → readOf frame ≡ Gives said → room frame longest ≡ Gives m
+      → longest ≤ length body → length buffer < m → next body (rest 0 longest) (limit frame) buffer .0 ≡ R 2
+
+-- NO TOUCH IS LOST TO A LENGTH (ours). Where the room for the longest body was asked for, and the decision then gave an order: finishing that order, with a certificate of
+-- its length, a reply buffer no shorter than the decision's and any signature of at most 72 bytes, gives a body, or 6f00 where the signer failed; and the body's first part
+-- goes out in a buffer with that room, by the limit that the frame left. No R refusal comes after the touch is spent. `extendedByLe` fails it at an Authenticate in shape 7
+-- with Le 1, and so does `withoutStatus`.
+abbrev pub NoTouchIsLost : Decider → (Finishing → Ended) → FrameRoom → (limit : List ℕ → ℕ) → Sender → Type 0
+NoTouchIsLost decide finish room limit next =
+    (p : Presence) (t : ℕ) (a : Inputs) (i : Finishing) (buffer : List ℕ) → RoomWasAsked decide room p t a i buffer → Answered finish next i (limit (a .frame)) buffer
