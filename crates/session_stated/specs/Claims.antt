@@ -16,7 +16,8 @@ use Rattle.response_stated.specs.Responses.{responseBodyOf}
 use Rattle.response_stated.specs.Terms.{Sender, sending, IsResponse, Tells}
 use Rattle.response_stated.specs.Fetching.{got, left, remaining, RoundsUp}
 use Rattle.u2f_up_stated.specs.declared.Presence.{Presence}
-use Rattle.ctap1_stated.specs.Words.{HardwareSaid, Inputs, DecisionGives, Body, Ordered, Part}
+use Rattle.ctap1_stated.specs.declared.HardwareSaid.{HardwareSaid}
+use Rattle.ctap1_stated.specs.Words.{Inputs, DecisionGives, Body, Ordered, Part}
 use Rattle.ctap1_stated.specs.Terms.{Decider, HasInsC0}
 use Rattle.signing_stated.specs.Finishing.{Finishing, Ended}
 use Rattle.session_stated.specs.Held.{Session}
