@@ -30,7 +30,7 @@ use Rattle.u2f_up_stated.specs.Numbers.{presenceIn}
 use Rattle.u2f_up_stated.proofs.Laws.{five-apart}
 use Rattle.u2f_up_stated.proofs.Laws.{demand-3, r-apart, servers-next, named-later, named-counts, count, length-those}
 use Rattle.signing_stated.specs.Orders.{kindNo, certificateLength, blankOrder, isOfLayout}
-use Rattle.signing_stated.specs.Finishing.{roomNeeded}
+use Rattle.signing_stated.specs.Finishing.{roomNeeded, registerRoom, authenticateRoom}
 use Rattle.ctap1_stated.specs.Words.{Remainder, rest, Inputs, DecisionGives, Body, Ordered, Part, DecisionResult, Allowed, DecisionAlone, DecisionHanded, DecisionLeft, Decision, leftFrom, decisionAnswerOf}
 use Rattle.ctap1_stated.specs.Numbers.{allowedOf, attestationOf, isYes, hardwareOf}
 use Rattle.ctap1_stated.specs.Path.{limitOn, frameLimit, roleOf}
@@ -189,6 +189,24 @@ order-has-room p t a blocks _ (fetched c sent) x = absurd (part-order _ _ x)
 order-has-room p t a blocks _ (enrolled said y l h) x = rw (Commands.register-room a blocks said (y .1 .1) h) (y .2)
 order-has-room p t a blocks _ (signed-03 said m y l k) x = rw (Commands.room-is a 0x03 said true m (y .1 .1)) (y .3)
 order-has-room p t a blocks _ (signed-08 said m y k) x = rw (Commands.room-is a 0x08 said false m (y .1 .1)) (y .3)
+
+-- what an order was asked for with: its command, by which the room is known, and that the room was there
+pub data AskedWith (a : Inputs) : ℕ → Type 0 where
+  of-register : (said : Says) → commandOf (a .frame) ≡ Gives (Register said) → AskedWith a (registerRoom (length (a .newHandle)) (length (a .certificate)))
+  of-authenticate : (p1 : ℕ) (said : Says) → commandOf (a .frame) ≡ Gives (Authenticate p1 said) → AskedWith a authenticateRoom
+
+pub asked-with : (p : Presence) (t : ℕ) (a : Inputs) → AreBlocks a → decisionOf p t a .answer ≡ Gives Ordered
+    → AskedWith a (roomNeeded (decisionOf p t a .order)) × (roomNeeded (decisionOf p t a .order) ≤ a .room)
+asked-with p t a blocks e = (go (decisionOf p t a) (way p t a) e, order-has-room p t a blocks (decisionOf p t a) (way p t a) e)
+  where
+    go : (r : DecisionResult) → Way p t a r → r .answer ≡ Gives Ordered → AskedWith a (roomNeeded (r .order))
+    go _ (refused m) x = absurd (r-gives _ _ x)
+    go _ (stated m q w) x = absurd (word-gives _ _ x)
+    go _ (versioned c room) x = absurd (body-order _ x)
+    go _ (fetched c sent) x = absurd (part-order _ _ x)
+    go _ (enrolled said y l h) x = rw (Commands.register-room a blocks said (y .1 .1) h) (of-register said (y .1 .1))
+    go _ (signed-03 said m y l k) x = rw (Commands.room-is a 0x03 said true m (y .1 .1)) (of-authenticate 0x03 said (y .1 .1))
+    go _ (signed-08 said m y k) x = rw (Commands.room-is a 0x08 said false m (y .1 .1)) (of-authenticate 0x08 said (y .1 .1))
 
 pub OrderHasRoom : Claims.OrderHasRoom decisionOf
 OrderHasRoom p t a f blocks e same certificate room =

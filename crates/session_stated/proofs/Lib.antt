@@ -1,7 +1,8 @@
 pub mod OuterChecks
 pub mod Cases
 pub mod Steps
-pub mod Laws
+pub mod Rooms
 pub mod Counts
 pub mod Theorems
 pub mod Refuted
+pub mod Laws

@@ -28,8 +28,11 @@ use Rattle.ctap1_stated.specs.declared.Allowed.the-variants as Allowed′
 use Rattle.ctap1_stated.specs.declared.Attestation.the-variants as Attestation′
 use Rattle.ctap1_stated.specs.declared.Counter.the-variants as Counter′
 use Rattle.ctap1_stated.proofs.Laws.{takes, IsPart, is-a-part, limits-exactly}
+use Rattle.signing_stated.specs.Finishing.{endOf}
+use Rattle.session_stated.specs.Held.{remainderIn, sessionIn, hardwareIn, sessionAfter, frameRoomOf}
 use Rattle.session_stated.specs.Sessions.{Visit, sentIn, leftIn, joinedOver, leftOver, partsOver, Each, IsFetch, Serves}
 use Rattle.session_stated.specs.Claims
+use Rattle.session_stated.proofs.Rooms.{answered}
 use Rattle.session_stated.proofs.Steps.{fetch, Step, keeps, sends, step, within-over, joins-over, parts-over, refused-over}
 use Rattle.session_stated.proofs.Counts.{Need, exact, need-first}
 
@@ -190,3 +193,7 @@ SessionParts =
     within-first body n frame buffer sent h e =
         let a : Fetch = record { limit = frameLimit frame; buffer = buffer } in
         subst (λ (o : Outcome Sent). left (rest 0 n) o .place + left (rest 0 n) o .count ≤ length body) e (step-within body (rest 0 n) a (omega arith))
+
+-- ---- no touch is lost to a length
+pub NoTouchIsLost : Claims.NoTouchIsLost decisionOf endOf frameRoomOf frameLimit sendingOf
+NoTouchIsLost p t a i buffer x = answered p t a i buffer x

@@ -4,16 +4,17 @@ use mathlib.Core.Bool.{Bool, true, false, not, _&&_}
 use mathlib.Core.Path.{_≡_, refl, sym, ap, _∙_}
 use mathlib.Core.List.{List}
 use lib.Dec.{eqb, leb}
+use borrow.Author.Tests.{eq-eqb, le-ltb}
 use Rattle.outcome.specs.Notation.{if_then_else_}
 use native.Mathlib.Omega.{arith}
 use lib.ListN.{length}
-use Rattle.outcome.specs.Outcome.{R}
+use Rattle.outcome.specs.Outcome.{R, SW, Gives}
 use Rattle.signing_stated.specs.Layouts.{RegisterFields, AuthenticateFields, registerToSign, isRegisterFit, isAuthenticateFit}
 use Rattle.signing_stated.specs.Orders.{Register, Head, Order, headOf, toSign, certificateLength, block, blankOrder, registerOrderOf, authenticateOrderOf, isRegisterLayout, isOfLayout, registerFieldsOf, authenticateFieldsOf}
-use Rattle.signing_stated.specs.Finishing.{Finishing, finishOf, registerRoom, authenticateRoom, roomNeeded}
+use Rattle.signing_stated.specs.Finishing.{Finishing, finishOf, bodyOf, registerRoom, authenticateRoom, roomNeeded}
 use Rattle.signing_stated.proofs.FieldsKept.{register-kept, authenticate-kept, register-made-shape, authenticate-made-shape}
 use Rattle.signing_stated.proofs.Shapes.{shape-register, shape-authenticate}
-use Rattle.signing_stated.proofs.Ways.{comes-to-r7, way, told-r3}
+use Rattle.signing_stated.proofs.Ways.{comes-to-r7, way, told-r3, body-within}
 pub use Rattle.signing_stated.proofs.Fit.{RegisterLengths, AuthenticateLengths, register-fit, authenticate-fit, register-lengths, authenticate-lengths, register-order-fit, authenticate-order-fit}
 pub use Rattle.signing_stated.proofs.Numbers.{kind-one-to-one, finished-one-to-one}
 
@@ -86,3 +87,18 @@ head-by-lengths f g c k a d h x y e =
         → headOf (if not fit then blankOrder else record { kind = Register; «to_sign» = n; «certificate_length» = c; bytes = bytes }) ≡ headFor fit n c
     head-is true n c bytes = refl
     head-is false n c bytes = refl
+
+-- and then it gives 6f00 where the signer failed, and else, with a signature of at most 72 bytes, a body that is within the room
+module _ (i : Finishing) (ok : isOfLayout (i .order) ≡ true) (its : length (i .certificate) ≡ certificateLength (i .order)) (room : roomNeeded (i .order) ≤ length (i .reply)) where
+  pub finish-failed : i .signed ≡ false → finishOf i ≡ SW 0x6f00
+  unfolding finishOf
+  finish-failed f = rw (ok, eq-eqb (length (i .certificate)) (certificateLength (i .order)) its, le-ltb (length (i .reply)) (roomNeeded (i .order)) room, f)
+
+  pub finish-gives : i .signed ≡ true → length (i .signature) ≤ 72
+      → (finishOf i ≡ Gives (bodyOf (i .order .kind) (i .order) (i .certificate) (i .signature)))
+      × (length (bodyOf (i .order .kind) (i .order) (i .certificate) (i .signature)) ≤ roomNeeded (i .order))
+  unfolding finishOf
+  finish-gives s fits = (
+    rw (ok, eq-eqb (length (i .certificate)) (certificateLength (i .order)) its, le-ltb (length (i .reply)) (roomNeeded (i .order)) room, s, le-ltb 72 (length (i .signature)) fits),
+    body-within (i .order .kind) (i .order) (i .certificate) (i .signature) its fits,
+  )

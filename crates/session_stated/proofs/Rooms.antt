@@ -1,0 +1,111 @@
+-- The room for a response: what `frameRoomOf` says of a frame in each shape; and that, where it was asked for, an order is finished and its first part goes out.
+use Prim.Native.Nat.{ℕ, _+_, _-_, _<_, _≤_}
+use mathlib.Core.Path.{_≡_, refl, ap, ap₂, sym, subst, _∙_}
+use mathlib.Core.Bool.{true, false}
+use mathlib.Core.Logic.{_⊎_}
+use mathlib.Core.List.{List, _++_}
+use native.Mathlib.Omega.{arith}
+use native.Mathlib.Decide.{decLt, ℕ-discrete}
+use borrow.Author.Tests.{eq-eqb, ne-eqb}
+use lib.ListN.{length, take, drop}
+use Rattle.outcome.specs.Outcome.{Outcome, R, Word, SW, Gives}
+use Rattle.outcome.proofs.Laws.{gives-same, r-gives}
+use Rattle.octets.specs.Bytes.{laid}
+use Rattle.octets.proofs.Laws.{length-laid}
+use Rattle.apdu_stated.specs.Answers.{Says}
+use Rattle.apdu_stated.specs.Reading.{readOf}
+use Rattle.command_stated.specs.Command.{Command, Register, Authenticate, commandOf}
+use Rattle.command_stated.proofs.Laws.{RegisterExactly, AuthenticateExactly}
+use Rattle.signing_stated.specs.Orders.{isOfLayout, certificateLength}
+use Rattle.signing_stated.specs.Finishing.{Finishing, Ended, finishOf, endOf, lengthOf, replyOf, bodyOf, roomNeeded}
+use Rattle.signing_stated.proofs.Laws.{finish-failed, finish-gives}
+use Rattle.response_stated.specs.Words.{rest}
+use Rattle.response_stated.specs.Parts.{limitOf, partLength, leftStatus, restAfter, partBytes, partResponse, responseRoomOf}
+use Rattle.response_stated.specs.Terms.{Sender, sendingOf, sending}
+use Rattle.response_stated.proofs.Laws.{part-monotone, part-most, part-long, room-holds, sends-given, goes, tells}
+use Rattle.u2f_up_stated.specs.declared.Presence.{Presence}
+use Rattle.ctap1_stated.specs.Words.{Inputs, Ordered}
+use Rattle.ctap1_stated.specs.Terms.{AreBlocks}
+use Rattle.ctap1_stated.specs.Path.{limitOn, frameLimit}
+use Rattle.ctap1_stated.specs.Decision.{decisionOf}
+use Rattle.ctap1_stated.proofs.Laws.{AskedWith, of-register, of-authenticate, asked-with, orders-of-layout}
+use Rattle.session_stated.specs.Held.{roomOn, frameRoomOf}
+use Rattle.session_stated.specs.Terms.{LongestBody, register, authenticate, RoomWasAsked, FirstPart, Answered}
+
+-- ---- a frame in a shape
+pub room-in-shape : (frame : List ℕ) (said : Says) (longest : ℕ) → readOf frame ≡ Gives said → frameRoomOf frame longest ≡ responseRoomOf (frameLimit frame) longest
+unfolding frameRoomOf frameLimit
+room-in-shape frame said longest e = rw e
+
+-- a frame that is read as one of the two commands that come to an order is in a shape
+read-of-longest : (a : Inputs) (b : ℕ) → LongestBody a b → (said : Says) × (readOf (a .frame) ≡ Gives said)
+read-of-longest a _ (register said c) = (said, RegisterExactly (a .frame) said .0 c .0)
+read-of-longest a _ (authenticate p1 said c is) = (said, AuthenticateExactly (a .frame) p1 said .0 c .0)
+
+-- ---- the room that an order asks for is the longest body of its command
+register-not : (said other : Says) (p1 : ℕ) → _≡_ {A = Outcome Command} (Gives (Register said)) (Gives (Authenticate p1 other)) → ⊥
+register-not said other p1 e = let z : _≡_ {A = ℕ} 0 1 = cc in omega arith
+
+longest-is : (a : Inputs) (b n : ℕ) → LongestBody a b → AskedWith a n → n ≡ b
+longest-is a _ _ (register said c) (of-register other d) = refl
+longest-is a _ _ (register said c) (of-authenticate p1 other d) = absurd (register-not said other p1 (sym c ∙ d))
+longest-is a _ _ (authenticate p1 said c is) (of-register other d) = absurd (register-not other said p1 (sym d ∙ c))
+longest-is a _ _ (authenticate p1 said c is) (of-authenticate q other d) = refl
+
+-- ---- the first part
+pub first-part : (body : List ℕ) (n limit : ℕ) (buffer : List ℕ) → n ≤ length body → partLength limit n + 2 ≤ length buffer → FirstPart sendingOf body n limit buffer
+first-part body n limit buffer within room =
+    let given = sends-given body (rest 0 n) limit buffer (omega (arith, within)) room in
+    let long = part-long body (rest 0 n) limit (omega (arith, within)) in
+    let none : 0 + partLength limit n ≡ partLength limit n = omega arith in
+    record {
+      part = partLength limit n;
+      status = leftStatus (n - partLength limit n);
+      goes = goes limit n;
+      tells = tells (n - partLength limit n);
+      sends = record {
+        says = ap (λ (o : _). o .0) given ∙ ap₂ (λ (k place : ℕ). Gives (sending (k + 2) (rest place (n - partLength limit n)))) (sym long) none;
+        behind = drop (partLength limit n + 2) buffer;
+        holds = ap (λ (o : _). o .1) given;
+      };
+    }
+
+-- ---- no touch is lost
+module _ (p : Presence) (t : ℕ) (a : Inputs) (i : Finishing) (buffer : List ℕ) (x : RoomWasAsked decisionOf frameRoomOf p t a i buffer) where
+  asked : AskedWith a (roomNeeded (decisionOf p t a .order)) × (roomNeeded (decisionOf p t a .order) ≤ a .room)
+  asked = asked-with p t a (x .blocks) (x .ordered)
+
+  needs : roomNeeded (i .order) ≡ x .longest
+  needs = ap roomNeeded (x .order) ∙ longest-is a (x .longest) _ (x .is-longest) (asked .0)
+
+  layout : isOfLayout (i .order) ≡ true
+  layout = ap isOfLayout (x .order) ∙ orders-of-layout p t a (x .blocks) (x .ordered)
+
+  room : roomNeeded (i .order) ≤ length (i .reply)
+  room = omega (arith, ap roomNeeded (x .order), asked .1, x .reply)
+
+  -- what was asked for holds the longest first part
+  holds : partLength (frameLimit (a .frame)) (x .longest) + 2 ≤ length buffer
+  holds =
+      let read = read-of-longest a (x .longest) (x .is-longest) in
+      let said = room-holds (frameLimit (a .frame)) (x .longest) (x .bytes) (sym (room-in-shape (a .frame) (read .0) (x .longest) (read .1)) ∙ x .asked) in
+      omega (arith, said, x .had)
+
+  ends : (o : Outcome (List ℕ)) → finishOf i ≡ o → endOf i ≡ record { answer = lengthOf o; reply = replyOf o (i .reply) }
+  ends o e = ap (λ (y : Outcome (List ℕ)). record { answer = lengthOf y; reply = replyOf y (i .reply) }) e
+
+  pub answered : Answered endOf sendingOf i (frameLimit (a .frame)) buffer
+  answered = record {
+    failed = λ f. ends (SW 0x6f00) (finish-failed i layout (x .certificate) room f);
+    served = λ s.
+        let given = finish-gives i layout (x .certificate) room s (x .signature) in
+        let body = bodyOf (i .order .kind) (i .order) (i .certificate) (i .signature) in
+        let end = ends (Gives body) (given .0) in
+        (length body, ap (λ (e : Ended). e .answer) end, subst (λ (l : List ℕ). FirstPart sendingOf l (length body) (frameLimit (a .frame)) buffer) (ap (λ (e : Ended). e .reply) (sym end)) (sent body (given .1)));
+  }
+    where
+      sent : (body : List ℕ) → length body ≤ roomNeeded (i .order) → FirstPart sendingOf (laid body (i .reply)) (length body) (frameLimit (a .frame)) buffer
+      sent body within =
+          first-part (laid body (i .reply)) (length body) (frameLimit (a .frame)) buffer
+          (omega (arith, within, room, length-laid body (i .reply)))
+          (omega (arith, holds, part-monotone (frameLimit (a .frame)) (length body) (x .longest) (omega (arith, within, needs))))
