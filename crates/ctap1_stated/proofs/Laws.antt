@@ -16,12 +16,12 @@ use Rattle.ctap1_stated.specs.Table.{Answers}
 use Rattle.ctap1_stated.proofs.Ways.{row}
 pub use Rattle.ctap1_stated.proofs.Theorems.{RefusalChangesNothing, KeepsToItsRole, Demand3OfThePanel}
 pub use Rattle.ctap1_stated.proofs.Theorems.{LimitsExactly as limits-exactly, RemainderExactly as remainder-exactly, RepliesExactly as replies-exactly, SideRefusedExactly as side-refused-exactly}
-pub use Rattle.ctap1_stated.proofs.Theorems.{AskedWith, of-register, of-authenticate, asked-with, OrdersOfLayout as orders-of-layout, DecidesExactly as decides-exactly}
+pub use Rattle.ctap1_stated.proofs.Theorems.{AskedWith, of-register, of-authenticate, asked-with, OrdersOfLayout as orders-of-layout, DecidesExactly as decides-exactly, left-apart}
 pub use Rattle.ctap1_stated.proofs.RoleKept.{panel-keeps}
 pub use Rattle.ctap1_stated.proofs.Cases.{alone, leaves, beside, with-block, stays, handed, with-record, with-head}
 pub use Rattle.ctap1_stated.proofs.Ways.{sound}
 pub use Rattle.ctap1_stated.proofs.Ways.{row}
-pub use Rattle.ctap1_stated.proofs.Only.{LimitsExactly as limits-only}
+pub use Rattle.ctap1_stated.proofs.Only.{LimitsExactly as limits-only, DecidesExactly as decides-only}
 pub use Rattle.ctap1_stated.proofs.GetResponse.{takes, Asked, is-refused, is-word, is-part, asked, IsPart, is-a-part, served, nothing-left}
 pub use Rattle.ctap1_stated.proofs.Ruled.{nothingLeft, same-refused, same-given, same-word, same-unasked, fetched-decision}
 

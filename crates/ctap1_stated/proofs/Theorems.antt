@@ -561,7 +561,7 @@ pub DecidedOneToOne : Claims.DecidedOneToOne
 DecidedOneToOne = decided-apart
 
 -- a decision, the record's numbers and the block are determined together
-left-apart : (x y : Decision × (List ℕ × List ℕ)) (o : DecisionLeft) → length (x .1 .0) ≡ 5 → length (y .1 .0) ≡ 5
+pub left-apart : (x y : Decision × (List ℕ × List ℕ)) (o : DecisionLeft) → length (x .1 .0) ≡ 5 → length (y .1 .0) ≡ 5
     → leftFrom (x .0) (presenceIn (x .1 .0)) (x .1 .1) ≡ o → leftFrom (y .0) (presenceIn (y .1 .0)) (y .1 .1) ≡ o → x ≡ y
 left-apart x y o l m p q =
     let same = both-are _ _ p q in

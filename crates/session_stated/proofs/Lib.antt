@@ -3,6 +3,7 @@ pub mod Cases
 pub mod Steps
 pub mod Rooms
 pub mod Counts
+pub mod Only
 pub mod Theorems
 pub mod Refuted
 pub mod Laws

@@ -6,26 +6,29 @@ use mathlib.Core.Logic.{⊎-elim}
 use mathlib.Core.List.{List, [], _∷_, _++_}
 use native.Mathlib.Omega.{arith}
 use lib.ListN.{length, replicate}
-use Rattle.outcome.specs.Outcome.{Outcome, Gives}
-use Rattle.outcome.proofs.Laws.{gives-same}
+use Rattle.outcome.specs.Outcome.{Outcome, R, Gives, plainWord}
+use Rattle.outcome.proofs.Laws.{gives-same, r-gives, word-gives}
 use Rattle.octets.specs.Bytes.{byte}
 use Rattle.apdu_stated.specs.Answers.{Says}
-use Rattle.apdu_stated.specs.Reading.{readBy, sayOf, lengthsOf, shortOf, extendedOf, afterData}
+use Rattle.apdu_stated.specs.Reading.{readOf, readBy, sayOf, lengthsOf, shortOf, extendedOf, afterData}
 use Rattle.command_stated.specs.Command.{commandOf, onReading, byInstruction, getResponseOf}
 use Rattle.response_stated.specs.declared.Remainder.{Remainder}
 use Rattle.response_stated.specs.Words.{rest, Sent}
-use Rattle.response_stated.specs.Parts.{limitOf, partLength, leftStatus, nextPartOf}
+use Rattle.response_stated.specs.Parts.{limitOf, partLength, leftStatus, nextPartOf, responseRoomOf}
 use Rattle.response_stated.specs.Terms.{sendingOf, sending, Tells, nothing-left, some-left, more-left}
 use Rattle.response_stated.specs.Fetching.{up}
 use Rattle.u2f_up_stated.specs.Moments.{fresh, settleOf}
 use Rattle.u2f_up_stated.specs.Terms.{NotRefused}
-use Rattle.ctap1_stated.specs.Words.{Inputs, Part}
+use Rattle.ctap1_stated.specs.declared.HardwareSaid.{HardwareSaid}
+use Rattle.ctap1_stated.specs.Words.{Inputs, Body, Part}
 use Rattle.ctap1_stated.specs.Path.{frameLimit, fetchPath, commandPath, allowedPath, pathOf}
 use Rattle.ctap1_stated.specs.Decision.{decisionOf}
 use Rattle.ctap1_stated.specs.Session.{remainderLeft, partLeft}
 use Rattle.ctap1_stated.specs.declared.Allowed.the-variants as Allowed′
 use Rattle.ctap1_stated.specs.declared.Attestation.the-variants as Attestation′
 use Rattle.ctap1_stated.specs.declared.Counter.the-variants as Counter′
+use Rattle.session_stated.specs.Held.{Session}
+use Rattle.session_stated.specs.Terms.{given, absent, whole, extended, no-shape}
 use Rattle.session_stated.specs.Sessions.{Visit, none, also}
 use Rattle.session_stated.specs.Claims
 use Rattle.session_stated.specs.Wrong
@@ -120,4 +123,92 @@ refusesC0 c =
     let z : _≡_ {A = ℕ} 1 3 =
     c .exactly body 3 1 3 oneByte (replicate 4 0) (sending 3 (rest 1 2)) (visit ∷ visit ∷ []) (omega arith) (omega arith) (up 2 (omega arith) (omega arith)) refl refl
     (also (ok, (refl, refl), refl, omega arith) (also (ok, (refl, refl), refl, omega arith) none)) (omega arith) in
+    omega arith
+
+-- ---- what is lent as an array
+pub countFirst : Claims.RemainderStands Wrong.countFirst → ⊥
+countFirst c = let z : _≡_ {A = ℕ} 2 1 = ap (λ (r : Remainder). r .place) (c 1 2 0) in omega arith
+
+pub limitOf8Bits : Claims.SessionStands Wrong.limitOf8Bits → ⊥
+limitOf8Bits c = let z : _≡_ {A = ℕ} 0 256 = ap (λ (s : Session). s .limit) (c 0 0 256) in omega arith
+
+pub goodForStored : Claims.HardwareStands Wrong.goodForStored → ⊥
+goodForStored c = let z : _≡_ {A = ℕ} 0 1 = ap (λ (s : HardwareSaid). s .stored) (c 0 0 1 0 0 0) in omega arith
+
+-- ---- what a transport goes on with: two bytes remain, under limit 7
+abbrev before : Session
+before = record { remainder = rest 1 2; limit = 7 }
+
+-- a Version with Le 1
+abbrev other : Says
+other = record { header = record { cla = 0x00; ins = 0x03; p1 = 0x00; p2 = 0x00 }; shape = 2; lc = 0; le = 1; dataAt = 4 }
+
+pub refusedDrops : Claims.GoesOnExactly Wrong.refusedDrops → ⊥
+refusedDrops c = let z : _≡_ {A = ℕ} 0 2 = ap (λ (r : Remainder). r .count) (c .kept (plainWord 0x6985) said before refl) in omega arith
+
+pub otherKeeps : Claims.GoesOnExactly Wrong.otherKeeps → ⊥
+otherKeeps c = let z : _≡_ {A = ℕ} 2 0 = ap (λ (r : Remainder). r .count) (c .other-ins (plainWord 0x6985) other before (λ e. omega (arith, e))) in omega arith
+
+pub refusalDrops : Claims.GoesOnExactly Wrong.refusalDrops → ⊥
+refusalDrops c = let z : _≡_ {A = ℕ} 0 2 = ap (λ (s : Session). s .remainder .count) (c .refused 2 (Gives said) before) in omega arith
+
+pub refusalTakesLimit : Claims.GoesOnExactly Wrong.refusalTakesLimit → ⊥
+unfolding limitOf
+refusalTakesLimit c = let z : _≡_ {A = ℕ} 1 7 = ap (λ (s : Session). s .limit) (c .refused 2 (Gives said) before) in omega arith
+
+pub limitKept : Claims.GoesOnExactly Wrong.limitKept → ⊥
+limitKept c = let z : _≡_ {A = ℕ} 7 1 = c .limit (Gives (Body 6)) other 1 before (λ k e. r-gives k _ (sym e)) (given (omega arith) (omega arith)) in omega arith
+
+-- ---- the room for a response: a Version without Le, and one in an extended shape with Le 1
+abbrev plain : List ℕ
+plain = 0x00 ∷ 0x03 ∷ 0x00 ∷ 0x00 ∷ []
+
+abbrev plainSaid : Says
+plainSaid = record { header = record { cla = 0x00; ins = 0x03; p1 = 0x00; p2 = 0x00 }; shape = 1; lc = 0; le = 0; dataAt = 4 }
+
+abbrev wide : List ℕ
+wide = 0x00 ∷ 0x03 ∷ 0x00 ∷ 0x00 ∷ 0x00 ∷ 0x00 ∷ 0x01 ∷ []
+
+abbrev wideSaid : Says
+wideSaid = record { header = record { cla = 0x00; ins = 0x03; p1 = 0x00; p2 = 0x00 }; shape = 8; lc = 0; le = 1; dataAt = 4 }
+
+plain-read : readOf plain ≡ Gives plainSaid
+unfolding readBy sayOf lengthsOf shortOf extendedOf afterData
+plain-read = refl
+
+wide-read : readOf wide ≡ Gives wideSaid
+unfolding readBy sayOf lengthsOf shortOf extendedOf afterData
+wide-read = refl
+
+-- a body of none takes two bytes
+pub withoutStatus : Claims.FrameRoomExactly Wrong.withoutStatus → ⊥
+unfolding limitOf partLength readBy sayOf lengthsOf shortOf extendedOf afterData
+withoutStatus c =
+    let z : _≡_ {A = ℕ} 0 2 = gives-same _ _ (c .says plain 0 2 .1 (whole plainSaid 256 plain-read (absent (omega arith) refl) (omega arith), omega arith)) in
+    omega arith
+
+pub withoutStatusServes : Claims.FrameRoomServes Wrong.withoutStatus frameLimit sendingOf → ⊥
+unfolding limitOf partLength nextPartOf frameLimit readBy sayOf lengthsOf shortOf extendedOf afterData
+withoutStatusServes c = c .enough plain plainSaid 0 0 0 [] [] plain-read refl (omega arith) (omega arith) (omega arith) 2 refl
+
+-- a body of two bytes in an extended shape takes four
+pub extendedByLe : Claims.FrameRoomExactly Wrong.extendedByLe → ⊥
+unfolding responseRoomOf partLength readBy sayOf lengthsOf shortOf extendedOf afterData
+extendedByLe c =
+    let z : _≡_ {A = ℕ} 3 4 = gives-same _ _ (c .says wide 2 4 .1 (extended wideSaid wide-read (omega arith), omega arith)) in
+    omega arith
+
+-- a body of none goes out in two bytes
+sent-not : (n m : ℕ) (r : Remainder) → _≡_ {A = Outcome Sent} (Gives (sending n r)) (R m) → ⊥
+sent-not n m r e = r-gives m _ (sym e)
+
+pub limitAlone : Claims.FrameRoomServes Wrong.limitAlone frameLimit sendingOf → ⊥
+unfolding responseRoomOf limitOf partLength nextPartOf frameLimit readBy sayOf lengthsOf shortOf extendedOf afterData
+limitAlone c = sent-not 2 2 (rest 0 0) (c .needed plain plainSaid 0 258 [] (0 ∷ 0 ∷ []) plain-read refl (omega arith) (omega arith))
+
+-- no bytes at all
+pub noShapeBody : Claims.FrameRoomExactly Wrong.noShapeBody → ⊥
+unfolding responseRoomOf partLength readBy sayOf lengthsOf shortOf extendedOf afterData
+noShapeBody c =
+    let z : _≡_ {A = ℕ} 3 2 = gives-same _ _ (c .says [] 1 2 .1 (no-shape (λ said e. word-gives _ said e), omega arith)) in
     omega arith

@@ -6,10 +6,10 @@ use mathlib.Core.Logic.{_⊎_}
 use mathlib.Core.List.{List, _++_}
 use native.Mathlib.Omega.{arith}
 use native.Mathlib.Decide.{decLt, ℕ-discrete}
-use borrow.Author.Tests.{eq-eqb, ne-eqb}
+use borrow.Author.Tests.{eq-eqb, ne-eqb, lt-ltb, le-ltb, le-leb, lt-leb}
 use lib.ListN.{length, take, drop}
 use Rattle.outcome.specs.Outcome.{Outcome, R, Word, SW, Gives}
-use Rattle.outcome.proofs.Laws.{gives-same, r-gives}
+use Rattle.outcome.proofs.Laws.{gives-same, r-gives, word-gives}
 use Rattle.octets.specs.Bytes.{laid}
 use Rattle.octets.proofs.Laws.{length-laid}
 use Rattle.apdu_stated.specs.Answers.{Says}
@@ -22,7 +22,7 @@ use Rattle.signing_stated.proofs.Laws.{finish-failed, finish-gives}
 use Rattle.response_stated.specs.Words.{rest}
 use Rattle.response_stated.specs.Parts.{limitOf, partLength, leftStatus, restAfter, partBytes, partResponse, responseRoomOf}
 use Rattle.response_stated.specs.Terms.{Sender, sendingOf, sending}
-use Rattle.response_stated.proofs.Laws.{part-monotone, part-most, part-long, room-holds, sends-given, goes, tells}
+use Rattle.response_stated.proofs.Laws.{part-monotone, part-most, part-long, room-holds, room-said, room-unsaid, sends-given, goes, tells}
 use Rattle.u2f_up_stated.specs.declared.Presence.{Presence}
 use Rattle.ctap1_stated.specs.Words.{Inputs, Ordered}
 use Rattle.ctap1_stated.specs.Terms.{AreBlocks}
@@ -30,12 +30,68 @@ use Rattle.ctap1_stated.specs.Path.{limitOn, frameLimit}
 use Rattle.ctap1_stated.specs.Decision.{decisionOf}
 use Rattle.ctap1_stated.proofs.Laws.{AskedWith, of-register, of-authenticate, asked-with, orders-of-layout}
 use Rattle.session_stated.specs.Held.{roomOn, frameRoomOf}
-use Rattle.session_stated.specs.Terms.{LongestBody, register, authenticate, RoomWasAsked, FirstPart, Answered}
+use Rattle.session_stated.specs.Terms.{NoShape, TakesAtATime, given, absent, CanTake, whole, cut, extended, no-shape, LongestBody, register, authenticate, RoomWasAsked, FirstPart, Answered}
 
 -- ---- a frame in a shape
 pub room-in-shape : (frame : List ℕ) (said : Says) (longest : ℕ) → readOf frame ≡ Gives said → frameRoomOf frame longest ≡ responseRoomOf (frameLimit frame) longest
 unfolding frameRoomOf frameLimit
 room-in-shape frame said longest e = rw e
+
+limit-is : (said : Says) (limit : ℕ) → TakesAtATime said limit → (limitOf said ≡ limit) × (1 ≤ limit)
+unfolding limitOf
+limit-is said _ (given short some) = (rw (le-leb (said .shape) 4 short, ne-eqb (said .le) 0 (λ z. omega (arith, z, some))), some)
+limit-is said _ (absent short none) = (rw (le-leb (said .shape) 4 short, eq-eqb (said .le) 0 none), omega arith)
+
+pub limit-taken : (said : Says) (limit : ℕ) → TakesAtATime said limit → limitOf said ≡ limit
+limit-taken said limit x = limit-is said limit x .0
+
+pub no-limit : (said : Says) → 5 ≤ said .shape → limitOf said ≡ 0
+unfolding limitOf
+no-limit said long = rw (lt-leb (said .shape) 4 (omega (arith, long)))
+
+-- ---- what is said of each
+module _ (frame : List ℕ) (longest : ℕ) where
+  -- of a frame in a shape, whose first part has k bytes
+  by-part : (said : Says) (k : ℕ) → readOf frame ≡ Gives said → k ≡ partLength (limitOf said) longest
+      → (k + 2 < 0x10000000000000000 → frameRoomOf frame longest ≡ Gives (k + 2)) × (0x10000000000000000 ≤ k + 2 → frameRoomOf frame longest ≡ R 2)
+  unfolding frameRoomOf
+  by-part said k e is = (
+    λ h. rw e (sym (room-said (limitOf said) longest k is (omega (arith, h)))),
+    λ h. rw e (sym (room-unsaid (limitOf said) longest k is (omega (arith, h)))),
+  )
+
+  outside : (o : Outcome Says) → NoShape o → roomOn o longest ≡ Gives 2
+  outside (R n) none = refl
+  outside (Word w) none = refl
+  outside (Gives said) none = absurd (none said refl)
+
+  pub takes-so : (n : ℕ) → CanTake frame longest n → (n < 0x10000000000000000 → frameRoomOf frame longest ≡ Gives n) × (0x10000000000000000 ≤ n → frameRoomOf frame longest ≡ R 2)
+  unfolding frameRoomOf partLength
+  takes-so _ (whole said limit e x h) =
+      let l = limit-is said limit x in
+      by-part said longest e (rw (l .0, ne-eqb limit 0 (λ z. omega (arith, z, l .1)), le-ltb limit longest h))
+  takes-so _ (cut said limit e x h) =
+      let l = limit-is said limit x in
+      by-part said limit e (rw (l .0, ne-eqb limit 0 (λ z. omega (arith, z, l .1)), lt-ltb limit longest h))
+  takes-so _ (extended said e long) = by-part said longest e (rw (no-limit said long))
+  takes-so _ (no-shape none) = (λ h. outside (readOf frame) none, λ h. absurd (omega (arith, h)))
+
+  takes-some : (o : Outcome Says) → readOf frame ≡ o → (n : ℕ) × CanTake frame longest n
+  takes-some (R n) e = (2, no-shape (λ said x. r-gives n said (sym e ∙ x)))
+  takes-some (Word w) e = (2, no-shape (λ said x. word-gives w said (sym e ∙ x)))
+  takes-some (Gives said) e = by (decLt (said .shape) 5) (ℕ-discrete (said .le) 0)
+    where
+      under : (limit : ℕ) → TakesAtATime said limit → Dec (limit < longest) → (n : ℕ) × CanTake frame longest n
+      under limit x (yes h) = (limit + 2, cut said limit e x h)
+      under limit x (no h) = (longest + 2, whole said limit e x (omega (arith, h)))
+
+      by : Dec (said .shape < 5) → Dec (said .le ≡ 0) → (n : ℕ) × CanTake frame longest n
+      by (yes h) (yes z) = under 256 (absent (omega (arith, h)) z) (decLt 256 longest)
+      by (yes h) (no z) = under (said .le) (given (omega (arith, h)) (omega (arith, z))) (decLt (said .le) longest)
+      by (no h) z = (longest + 2, extended said e (omega (arith, h)))
+
+  pub some-take : (n : ℕ) × CanTake frame longest n
+  some-take = takes-some (readOf frame) refl
 
 -- a frame that is read as one of the two commands that come to an order is in a shape
 read-of-longest : (a : Inputs) (b : ℕ) → LongestBody a b → (said : Says) × (readOf (a .frame) ≡ Gives said)

@@ -1,12 +1,15 @@
 -- The claims of specs/Claims.antt, each under its own name.
 use Prim.Native.Nat.{ℕ, _+_, _-_, _*_, _/_, _%_, _<_, _≤_}
 use mathlib.Core.Path.{_≡_, refl, ap, ap₂, sym, subst, _∙_}
-use mathlib.Core.Bool.{true}
+use mathlib.Core.Bool.{Bool, true, false, false≢true}
+use mathlib.Core.Logic.{_↔_}
 use mathlib.Core.List.{List, [], _∷_, _++_, append-nil}
 use native.Mathlib.Omega.{arith}
-use lib.ListN.{length, take, drop, replicate}
+use native.Mathlib.Decide.{decLt}
+use borrow.Author.Tests.{eq-eqb, ne-eqb, eqb-true}
+use lib.ListN.{length, take, drop, replicate, getD}
 use Rattle.outcome.specs.Outcome.{Outcome, R, Word, Gives}
-use Rattle.outcome.proofs.Laws.{gives-same}
+use Rattle.outcome.proofs.Laws.{gives-same, r-gives, word-gives, both-are}
 use Rattle.octets.specs.Bytes.{laid}
 use Rattle.apdu_stated.specs.Answers.{Says}
 use Rattle.apdu_stated.specs.Reading.{readBy, readOf, sayOf, lengthsOf, shortOf, extendedOf, afterData}
@@ -17,22 +20,26 @@ use Rattle.response_stated.specs.Responses.{readResponseOf, responseBodyOf}
 use Rattle.response_stated.specs.Parts.{limitOf, partLength, leftStatus, restAfter, nextPartOf, partBytes, partResponse, partLaid}
 use Rattle.response_stated.specs.Terms.{sendingOf, sending, spelled, IsResponse, Tells, nothing-left, some-left, more-left}
 use Rattle.response_stated.specs.Fetching.{Fetch, got, left, remaining, called}
-use Rattle.response_stated.proofs.Laws.{PartWay, whole, cut, last, part-way, part-limit, part-some, part-most, part-long, part-joins, next-given, pair-is, long-two, cut-back, read-back, halves, front-of, laid-spelled, sends-given, step-within, step-joins, tells, limit-range, given-is}
+use Rattle.response_stated.proofs.Laws.{PartWay, whole, cut, last, part-way, part-limit, part-some, part-most, part-long, part-joins, next-given, pair-is, long-two, cut-back, read-back, halves, front-of, laid-spelled, sends-given, step-within, step-joins, tells, limit-range, given-is, room-serves, room-same}
 use Rattle.u2f_up_stated.specs.Moments.{fresh, settleOf}
 use Rattle.u2f_up_stated.specs.declared.Presence.{Presence}
-use Rattle.ctap1_stated.specs.Words.{Inputs, Part, DecisionGives}
-use Rattle.ctap1_stated.specs.Path.{frameLimit, fetchPath, commandPath, allowedPath, pathOf}
+use Rattle.u2f_up_stated.specs.Numbers.{presenceIn}
+use Rattle.ctap1_stated.specs.declared.Decision.{Decision}
+use Rattle.ctap1_stated.specs.Words.{Inputs, Body, Ordered, Part, DecisionGives, DecisionLeft, handedOf}
+use Rattle.ctap1_stated.specs.Path.{limitOn, frameLimit, fetchPath, commandPath, allowedPath, pathOf}
 use Rattle.ctap1_stated.specs.Decision.{decisionOf}
-use Rattle.ctap1_stated.specs.Session.{remainderLeft, partAfter, partLeft}
+use Rattle.ctap1_stated.specs.Session.{isGetResponse, remainderLeft, partAfter, partLeft}
 use Rattle.ctap1_stated.specs.declared.Allowed.the-variants as Allowed′
 use Rattle.ctap1_stated.specs.declared.Attestation.the-variants as Attestation′
 use Rattle.ctap1_stated.specs.declared.Counter.the-variants as Counter′
-use Rattle.ctap1_stated.proofs.Laws.{takes, IsPart, is-a-part, limits-exactly}
+use Rattle.ctap1_stated.proofs.Laws.{takes, IsPart, is-a-part, limits-exactly, limits-only, decides-exactly, decides-only, left-apart}
 use Rattle.signing_stated.specs.Finishing.{endOf}
-use Rattle.session_stated.specs.Held.{remainderIn, sessionIn, hardwareIn, sessionAfter, frameRoomOf}
+use Rattle.session_stated.specs.Held.{Session, remainderIn, sessionIn, hardwareIn, sessionAfter, frameRoomOf}
 use Rattle.session_stated.specs.Sessions.{Visit, sentIn, leftIn, joinedOver, leftOver, partsOver, Each, IsFetch, Serves}
 use Rattle.session_stated.specs.Claims
-use Rattle.session_stated.proofs.Rooms.{answered}
+use Rattle.session_stated.specs.Contracts.{Lent, inputsIn, Stated, Dropped, Left}
+use Rattle.session_stated.specs.Terms.{NoShape, CanTake, changedBy}
+use Rattle.session_stated.proofs.Rooms.{limit-taken, no-limit, takes-so, some-take, room-in-shape, answered}
 use Rattle.session_stated.proofs.Steps.{fetch, Step, keeps, sends, step, within-over, joins-over, parts-over, refused-over}
 use Rattle.session_stated.proofs.Counts.{Need, exact, need-first}
 
@@ -193,6 +200,132 @@ SessionParts =
     within-first body n frame buffer sent h e =
         let a : Fetch = record { limit = frameLimit frame; buffer = buffer } in
         subst (λ (o : Outcome Sent). left (rest 0 n) o .place + left (rest 0 n) o .count ≤ length body) e (step-within body (rest 0 n) a (omega arith))
+
+-- ---- what is lent as an array
+pub RemainderStands : Claims.RemainderStands remainderIn
+RemainderStands place count limit = refl
+
+pub SessionStands : Claims.SessionStands sessionIn
+SessionStands place count limit = refl
+
+pub HardwareStands : Claims.HardwareStands hardwareIn
+HardwareStands allowed attestation stored good counted counter = refl
+
+-- ---- what a transport goes on with
+limit-after : (answer : Outcome DecisionGives) (read : Outcome Says) (s : Session) → ((k : ℕ) → answer ≡ R k → ⊥) → sessionAfter answer read s .limit ≡ limitOn read
+limit-after (R n) read s other = absurd (other n refl)
+limit-after (Word w) read s other = refl
+limit-after (Gives g) read s other = refl
+
+unread : (read : Outcome Says) → NoShape read → (isGetResponse read ≡ false) × (limitOn read ≡ 0)
+unread (R n) none = (refl, refl)
+unread (Word w) none = (refl, refl)
+unread (Gives said) none = absurd (none said refl)
+
+pub GoesOnExactly : Claims.GoesOnExactly sessionAfter
+GoesOnExactly =
+    record {
+      refused = λ n read s. refl;
+      part = λ n left read s. refl;
+      body = λ n read s. refl;
+      order = λ read s. refl;
+      kept = λ w said s e. rw (eq-eqb (said .header .ins) 0xC0 e);
+      other-ins = λ w said s e. rw (ne-eqb (said .header .ins) 0xC0 e);
+      no-shape = λ w read s none. rw (unread read none .0);
+      limit = λ answer said n s other x. limit-after answer (Gives said) s other ∙ limit-taken said n x;
+      no-limit = λ answer said s other long. limit-after answer (Gives said) s other ∙ no-limit said long;
+      none = λ answer read s other out. limit-after answer read s other ∙ unread read out .1;
+    }
+
+-- ---- the room for a response
+pub FrameRoomExactly : Claims.FrameRoomExactly frameRoomOf
+FrameRoomExactly = record { says = λ frame longest n. (said frame longest n, λ x. takes-so frame longest n (x .0) .0 (x .1)); r2 = λ frame longest. (unsaid frame longest, λ x. takes-so frame longest (x .0) (x .1) .1 (x .2)) }
+  where
+    said : (frame : List ℕ) (longest n : ℕ) → frameRoomOf frame longest ≡ Gives n → CanTake frame longest n × (n < 0x10000000000000000)
+    said frame longest n e = by (some-take frame longest)
+      where
+        by : (k : ℕ) × CanTake frame longest k → CanTake frame longest n × (n < 0x10000000000000000)
+        by (k, x) = which (decLt k 0x10000000000000000)
+          where
+            which : Dec (k < 0x10000000000000000) → CanTake frame longest n × (n < 0x10000000000000000)
+            which (yes h) = let same : k ≡ n = gives-same _ _ (sym (takes-so frame longest k x .0 h) ∙ e) in (subst (CanTake frame longest) same x, omega (arith, same, h))
+            which (no h) = absurd (r-gives 2 n (sym (takes-so frame longest k x .1 (omega (arith, h))) ∙ e))
+
+    unsaid : (frame : List ℕ) (longest : ℕ) → frameRoomOf frame longest ≡ R 2 → (n : ℕ) × CanTake frame longest n × (0x10000000000000000 ≤ n)
+    unsaid frame longest e = by (some-take frame longest)
+      where
+        by : (k : ℕ) × CanTake frame longest k → (n : ℕ) × CanTake frame longest n × (0x10000000000000000 ≤ n)
+        by (k, x) = which (decLt k 0x10000000000000000)
+          where
+            which : Dec (k < 0x10000000000000000) → (n : ℕ) × CanTake frame longest n × (0x10000000000000000 ≤ n)
+            which (yes h) = absurd (r-gives 2 k (sym e ∙ takes-so frame longest k x .0 h))
+            which (no h) = (k, x, omega (arith, h))
+
+pub FrameRoomServes : Claims.FrameRoomServes frameRoomOf frameLimit sendingOf
+FrameRoomServes =
+    record {
+      enough = λ frame said longest m n body buffer e asked less within room k. room-serves .enough (frameLimit frame) longest m n body buffer (sym (room-in-shape frame said longest e) ∙ asked) less within room k;
+      needed = λ frame said longest m body buffer e asked within short. room-serves .needed (frameLimit frame) longest m body buffer (sym (room-in-shape frame said longest e) ∙ asked) within short;
+    }
+
+-- ---- the contracts
+module _ (stated : Bool → (limit : ℕ) → List ℕ → List ℕ) (dropped : (limit : ℕ) → List ℕ → List ℕ) (left : Remainder → (limit : ℕ) → List ℕ → List ℕ)
+    (S : (fetches : Bool) (limit : ℕ) (n : List ℕ) → Stated fetches limit n (stated fetches limit n)) (D : (limit : ℕ) (n : List ℕ) → Dropped limit (dropped limit n))
+    (L : (r : Remainder) (limit : ℕ) (n : List ℕ) → Left r limit (left r limit n)) where
+  goes-on-as : (answer : Outcome DecisionGives) (read : Outcome Says) (s : Session)
+      → sessionAfter answer read s ≡ sessionIn (changedBy stated dropped left answer read (s .remainder .place ∷ s .remainder .count ∷ s .limit ∷ []))
+  goes-on-as (R n) read s = refl
+  goes-on-as (Word w) read s = sym (S (isGetResponse read) (limitOn read) _)
+  goes-on-as (Gives (Body n)) read s = sym (D (limitOn read) _)
+  goes-on-as (Gives Ordered) read s = sym (D (limitOn read) _)
+  goes-on-as (Gives (Part n after)) read s = sym (L after (limitOn read) _)
+
+asks-c0 : (read : Outcome Says) → (isGetResponse read ≡ true) ↔ ((said : Says) × (read ≡ Gives said) × (said .header .ins ≡ 0xC0))
+asks-c0 (R n) = (λ e. absurd (false≢true e), λ x. absurd (r-gives n (x .0) (x .1)))
+asks-c0 (Word w) = (λ e. absurd (false≢true e), λ x. absurd (word-gives w (x .0) (x .1)))
+asks-c0 (Gives said) = (λ e. (said, refl, eqb-true (said .header .ins) 0xC0 e), λ x. eq-eqb (said .header .ins) 0xC0 (ap (λ (o : Says). o .header .ins) (gives-same _ _ (x .1)) ∙ x .2))
+
+pub ContractsAsClaimed : Claims.ContractsAsClaimed
+ContractsAsClaimed =
+    record {
+      remainder-lent = λ f is. subst Claims.RemainderStands (λ d n. sym (is n) d) RemainderStands;
+      goes-on = λ stated dropped left S D L. subst Claims.GoesOnExactly (λ d answer read s. goes-on-as stated dropped left S D L answer read s d) GoesOnExactly;
+      room-for-response = λ f is. subst Claims.FrameRoomExactly (λ d frame longest. sym (is frame longest) d) FrameRoomExactly;
+      decide = λ g G limit is i r presence reply block part h. (
+        ap (λ (w : DecisionLeft). w .said) (h .0 .0) ∙ ap handedOf (decides-only decisionOf g decides-exactly G (presenceIn (i .presence)) (i .moment) (inputsIn i)),
+        h .1 ∙ limits-only frameLimit limit limits-exactly is (i .frame),
+        (λ e. asks-c0 (readOf (i .frame)) .0 (sym (h .2) ∙ e), λ x. h .2 ∙ asks-c0 (readOf (i .frame)) .1 x),
+      );
+    }
+
+-- ---- two results are equal
+three : (a : List ℕ) → length a ≡ 3 → a ≡ getD a 0 0 ∷ getD a 1 0 ∷ getD a 2 0 ∷ []
+three [] e = absurd (omega (arith, e))
+three (v ∷ []) e = absurd (omega (arith, e))
+three (v ∷ w ∷ []) e = absurd (omega (arith, e))
+three (v ∷ w ∷ x ∷ []) e = refl
+three (v ∷ w ∷ x ∷ y ∷ more) e = absurd (omega (arith, e))
+
+three-apart : (a b : List ℕ) → length a ≡ 3 → length b ≡ 3 → sessionIn a ≡ sessionIn b → a ≡ b
+three-apart a b m n e = three a m ∙ ap (λ (s : Session). s .remainder .place ∷ s .remainder .count ∷ s .limit ∷ []) e ∙ sym (three b n)
+
+pub ResultsDetermined : Claims.ResultsDetermined
+ResultsDetermined =
+    record {
+      remainder-lent = λ n a b. both-are a b;
+      decide = λ i a b p q.
+          let lefts : _≡_ {A = Decision × (List ℕ × List ℕ)} (a .0 .decision, (a .1 .0, a .1 .1 .1 .0)) (b .0 .decision, (b .1 .0, b .1 .1 .1 .0)) =
+          left-apart _ _ _ (p .0) (q .0) (p .1 .0 .0) (q .1 .0 .0) in
+          let limits : a .0 .limit ≡ b .0 .limit = both-are _ _ (p .1 .1) (q .1 .1) in
+          let fetches : a .0 .fetches ≡ b .0 .fetches = both-are _ _ (p .1 .2) (q .1 .2) in
+          let replies : a .1 .1 .0 ≡ b .1 .1 .0 = both-are _ _ (p .1 .0 .1) (q .1 .0 .1) in
+          let parts : a .1 .1 .1 .1 ≡ b .1 .1 .1 .1 = both-are _ _ (p .1 .0 .2) (q .1 .0 .2) in
+          λ d. (record { decision = lefts d .0; limit = limits d; fetches = fetches d }, (lefts d .1 .0, (replies d, (lefts d .1 .1, parts d))));
+      stated = λ fetches limit n a b p q. three-apart a b (p .0) (q .0) (both-are _ _ (p .1) (q .1));
+      dropped = λ limit a b p q. three-apart a b (p .0) (q .0) (both-are _ _ (p .1) (q .1));
+      left = λ r limit a b p q. three-apart a b (p .0) (q .0) (both-are _ _ (p .1) (q .1));
+      room-for-response = λ frame longest a b p q. room-same a b (both-are _ _ p q);
+    }
 
 -- ---- no touch is lost to a length
 pub NoTouchIsLost : Claims.NoTouchIsLost decisionOf endOf frameRoomOf frameLimit sendingOf

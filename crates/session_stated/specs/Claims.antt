@@ -4,24 +4,31 @@
 use Prim.Native.Nat.{ℕ, _+_, _≤_, _<_}
 use mathlib.Core.Path.{_≡_}
 use mathlib.Core.Logic.{_↔_}
+use mathlib.Core.Bool.{Bool, true}
 use mathlib.Core.List.{List, [], _∷_, _++_}
 use lib.ListN.{length, take, replicate}
+use Rattle.outcome.specs.Notation.{AtMostOne}
 use Rattle.outcome.specs.Outcome.{StatusWord, Outcome, R, Word, SW, Gives}
 use Rattle.octets.specs.Bytes.{AreBytes}
 use Rattle.apdu_stated.specs.Answers.{Says}
 use Rattle.apdu_stated.specs.Reading.{readOf}
 use Rattle.response_stated.specs.declared.Remainder.{Remainder}
-use Rattle.response_stated.specs.Words.{rest, Sent}
+use Rattle.response_stated.specs.Words.{rest, Sent, roomSaid}
 use Rattle.response_stated.specs.Responses.{responseBodyOf}
 use Rattle.response_stated.specs.Terms.{Sender, sending, IsResponse, Tells}
 use Rattle.response_stated.specs.Fetching.{got, left, remaining, RoundsUp}
 use Rattle.u2f_up_stated.specs.declared.Presence.{Presence}
 use Rattle.ctap1_stated.specs.declared.HardwareSaid.{HardwareSaid}
-use Rattle.ctap1_stated.specs.Words.{Inputs, DecisionGives, Body, Ordered, Part}
+use Rattle.ctap1_stated.specs.Words.{Inputs, DecisionGives, Body, Ordered, Part, handedOf, handedFrom}
+use Rattle.ctap1_stated.specs.Claims.{LimitsExactly, DecidesExactly}
+use Rattle.u2f_up_stated.specs.Numbers.{presenceIn}
+use Rattle.response_stated.specs.declared.ResponseRoom.{ResponseRoom}
 use Rattle.ctap1_stated.specs.Terms.{Decider, HasInsC0}
 use Rattle.signing_stated.specs.Finishing.{Finishing, Ended}
-use Rattle.session_stated.specs.Held.{Session}
-use Rattle.session_stated.specs.Terms.{NoShape, TakesAtATime, CanTake, FrameRoom, RoomWasAsked, Answered}
+use Rattle.session_stated.specs.declared.SessionDecision.{SessionDecision}
+use Rattle.session_stated.specs.Contracts.{Lent, inputsIn, Decide, RemainderLent, Stated, Dropped, Left, RoomForResponse}
+use Rattle.session_stated.specs.Held.{Session, sessionIn}
+use Rattle.session_stated.specs.Terms.{NoShape, changedBy, TakesAtATime, CanTake, FrameRoom, RoomWasAsked, Answered}
 use Rattle.session_stated.specs.Sessions.{Visit, Leaver, PartWriter, sentIn, leftIn, joinedOver, leftOver, partsOver, Each, IsFetch, Serves}
 
 -- 02, E2: "INS C0 .. fetches the next part under the same rule": the part that a decision sends is the one that `next` sends of the body in the reply
@@ -96,11 +103,13 @@ pub record SessionParts (decide : Decider) (limit : List ℕ → ℕ) (leaves : 
 
 -- ---- what is lent as an array
 
--- Ours: which number is what. A session's three are place and count of what remains, and the limit. Count and place in each other's place (`countFirst`) fails it, and a limit
--- cut to 8 bits (`limitOf8Bits`), at 256.
-pub record SessionStands (remainder : List ℕ → Remainder) (session : List ℕ → Session) : Type 0 where
-  pub remains : (place count limit : ℕ) → remainder (place ∷ count ∷ limit ∷ []) ≡ rest place count
-  pub whole : (place count limit : ℕ) → session (place ∷ count ∷ limit ∷ []) ≡ record { remainder = rest place count; limit = limit }
+-- Ours: which number is what. A session's three are place and count of what remains, and the limit. Count and place in each other's place (`countFirst`) fails the first,
+-- and a limit cut to 8 bits (`limitOf8Bits`) the second, at 256.
+abbrev pub RemainderStands : (List ℕ → Remainder) → Type 0
+RemainderStands stands = (place count limit : ℕ) → stands (place ∷ count ∷ limit ∷ []) ≡ rest place count
+
+abbrev pub SessionStands : (List ℕ → Session) → Type 0
+SessionStands stands = (place count limit : ℕ) → stands (place ∷ count ∷ limit ∷ []) ≡ record { remainder = rest place count; limit = limit }
 
 -- The hardware's six answers: whether CTAP1 is allowed, the attestation, whether the new handle was stored, whether the handle is good, whether a counter is offered, and
 -- which. `goodForStored` fails it.
@@ -152,3 +161,31 @@ pub record FrameRoomServes (room : FrameRoom) (limit : List ℕ → ℕ) (next :
 abbrev pub NoTouchIsLost : Decider → (Finishing → Ended) → FrameRoom → (limit : List ℕ → ℕ) → Sender → Type 0
 NoTouchIsLost decide finish room limit next =
     (p : Presence) (t : ℕ) (a : Inputs) (i : Finishing) (buffer : List ℕ) → RoomWasAsked decide room p t a i buffer → Answered finish next i (limit (a .frame)) buffer
+
+-- ---- the contracts
+
+-- Whatever meets a function's contract meets the claim on it. Of `stated`, `dropped` and `left` together: a transport that uses each after its answers, and leaves its numbers
+-- after an R refusal, goes on as it should. Of a decision: what it hands back is what whatever meets `DecidesExactly` gives, its limit is the frame's, and `fetches` says INS C0. A contract of
+-- `dropped` that keeps the limit fails it, with code to match.
+pub record ContractsAsClaimed : Type 0 where
+  pub remainder-lent : (f : List ℕ → Remainder) → ((n : List ℕ) → RemainderLent n (f n)) → RemainderStands f
+  pub goes-on : (stated : Bool → (limit : ℕ) → List ℕ → List ℕ) (dropped : (limit : ℕ) → List ℕ → List ℕ) (left : Remainder → (limit : ℕ) → List ℕ → List ℕ)
+      → ((fetches : Bool) (limit : ℕ) (n : List ℕ) → Stated fetches limit n (stated fetches limit n)) → ((limit : ℕ) (n : List ℕ) → Dropped limit (dropped limit n))
+      → ((r : Remainder) (limit : ℕ) (n : List ℕ) → Left r limit (left r limit n))
+      → GoesOnExactly (λ answer read s. sessionIn (changedBy stated dropped left answer read (s .remainder .place ∷ s .remainder .count ∷ s .limit ∷ [])))
+  pub room-for-response : (f : (frame : List ℕ) (longest : ℕ) → ResponseRoom) → ((frame : List ℕ) (longest : ℕ) → RoomForResponse frame longest (f frame longest))
+      → FrameRoomExactly (λ frame longest. roomSaid (f frame longest))
+  pub decide : (g : Decider) → DecidesExactly g → (limit : List ℕ → ℕ) → LimitsExactly limit → (i : Lent) (r : SessionDecision) (presence reply block part : List ℕ) → Decide i r presence reply block part
+      → (handedFrom (r .decision) (presenceIn presence) ≡ handedOf (g (presenceIn (i .presence)) (i .moment) (inputsIn i)))
+      × (r .limit ≡ limit (i .frame))
+      × ((r .fetches ≡ true) ↔ HasInsC0 (inputsIn i))
+
+-- 01, What each statement has to say: "two results satisfying it are equal", on every input; what is lent for writing counts, five numbers of a record and three of a session.
+-- A promise that is silent on the limit after a part fails it.
+pub record ResultsDetermined : Type 0 where
+  pub remainder-lent : (n : List ℕ) → AtMostOne (RemainderLent n)
+  pub decide : (i : Lent) → AtMostOne (λ (o : SessionDecision × (List ℕ × (List ℕ × (List ℕ × List ℕ)))). (length (o .1 .0) ≡ 5) × Decide i (o .0) (o .1 .0) (o .1 .1 .0) (o .1 .1 .1 .0) (o .1 .1 .1 .1))
+  pub stated : (fetches : Bool) (limit : ℕ) (n : List ℕ) → AtMostOne (λ (exit : List ℕ). (length exit ≡ 3) × Stated fetches limit n exit)
+  pub dropped : (limit : ℕ) → AtMostOne (λ (exit : List ℕ). (length exit ≡ 3) × Dropped limit exit)
+  pub left : (r : Remainder) (limit : ℕ) → AtMostOne (λ (exit : List ℕ). (length exit ≡ 3) × Left r limit exit)
+  pub room-for-response : (frame : List ℕ) (longest : ℕ) → AtMostOne (RoomForResponse frame longest)

@@ -3,20 +3,23 @@
 use mathlib.Core.Logic.{_⊎_}
 use Prim.Native.Nat.{ℕ, _+_, _-_, _<_, _≤_}
 use mathlib.Core.Path.{_≡_}
-use mathlib.Core.Bool.{true, false}
+use mathlib.Core.Bool.{Bool, true, false}
 use mathlib.Core.List.{List}
 use lib.ListN.{length, take}
-use Rattle.outcome.specs.Outcome.{Outcome, SW, Gives}
+use Rattle.outcome.specs.Outcome.{Outcome, R, Word, SW, Gives}
 use Rattle.apdu_stated.specs.Answers.{Says}
 use Rattle.apdu_stated.specs.Reading.{readOf}
 use Rattle.command_stated.specs.Command.{Register, Authenticate, commandOf}
 use Rattle.signing_stated.specs.Terms.{keeping}
 use Rattle.signing_stated.specs.Orders.{certificateLength}
 use Rattle.signing_stated.specs.Finishing.{Finishing, Ended}
+use Rattle.response_stated.specs.declared.Remainder.{Remainder}
 use Rattle.response_stated.specs.Words.{rest}
 use Rattle.response_stated.specs.Terms.{Sender, Goes, Tells, Sends}
 use Rattle.u2f_up_stated.specs.declared.Presence.{Presence}
-use Rattle.ctap1_stated.specs.Words.{Inputs, Ordered}
+use Rattle.ctap1_stated.specs.Words.{Inputs, DecisionGives, Body, Ordered, Part}
+use Rattle.ctap1_stated.specs.Path.{limitOn}
+use Rattle.ctap1_stated.specs.Session.{isGetResponse}
 use Rattle.ctap1_stated.specs.Terms.{Decider, AreBlocks, roomOfRegister}
 
 -- ---- a frame
@@ -74,3 +77,12 @@ pub record FirstPart (next : Sender) (body : List ℕ) (n limit : ℕ) (buffer :
 pub record Answered (finish : Finishing → Ended) (next : Sender) (i : Finishing) (limit : ℕ) (buffer : List ℕ) : Type 0 where
   pub failed : i .signed ≡ false → finish i ≡ keeping (SW 0x6f00) i
   pub served : i .signed ≡ true → (n : ℕ) × (finish i .answer ≡ Gives n) × FirstPart next (finish i .reply) n limit buffer
+
+-- ---- the session's numbers after each answer, changed by these three functions; an R refusal leaves them
+abbrev pub changedBy : (stated : Bool → (limit : ℕ) → List ℕ → List ℕ) (dropped : (limit : ℕ) → List ℕ → List ℕ) (left : Remainder → (limit : ℕ) → List ℕ → List ℕ)
+    → Outcome DecisionGives → (read : Outcome Says) → List ℕ → List ℕ
+changedBy stated dropped left (R n) read s = s
+changedBy stated dropped left (Word w) read s = stated (isGetResponse read) (limitOn read) s
+changedBy stated dropped left (Gives (Body n)) read s = dropped (limitOn read) s
+changedBy stated dropped left (Gives Ordered) read s = dropped (limitOn read) s
+changedBy stated dropped left (Gives (Part n after)) read s = left after (limitOn read) s
