@@ -1,34 +1,37 @@
 -- Each wrong program of specs/Wrong.antt, and the claim that is false of it: a body of the bytes 7 8 9, fetched one byte at a time.
-use Prim.Native.Nat.{ℕ, _+_, _≤_}
+use Prim.Native.Nat.{ℕ, _+_, _<_, _≤_}
 use mathlib.Core.Path.{_≡_, refl, ap, sym, _∙_}
 use mathlib.Core.Bool.{true}
-use mathlib.Core.Logic.{⊎-elim}
+use mathlib.Core.Logic.{inr, ⊎-elim}
 use mathlib.Core.List.{List, [], _∷_, _++_}
 use native.Mathlib.Omega.{arith}
-use lib.ListN.{length, replicate}
+use lib.ListN.{length, replicate, length-replicate}
 use Rattle.outcome.specs.Outcome.{Outcome, R, Gives, plainWord}
 use Rattle.outcome.proofs.Laws.{gives-same, r-gives, word-gives}
-use Rattle.octets.specs.Bytes.{byte}
+use Rattle.octets.specs.Bytes.{byte, partOf}
 use Rattle.apdu_stated.specs.Answers.{Says}
-use Rattle.apdu_stated.specs.Reading.{readOf, readBy, sayOf, lengthsOf, shortOf, extendedOf, afterData}
-use Rattle.command_stated.specs.Command.{commandOf, onReading, byInstruction, getResponseOf}
+use Rattle.apdu_stated.specs.Reading.{readOf, readBy, sayOf, lengthsOf, shortOf, extendedOf, afterData, dataOf}
+use Rattle.command_stated.specs.Command.{Authenticate, commandOf, onReading, byInstruction, getResponseOf, authenticateOf, challengeOf, applicationOf}
+use Rattle.signing_stated.specs.Orders.{certificateLength, block, authenticateOrderOf, isAuthenticateLayout}
+use Rattle.signing_stated.specs.Finishing.{Finishing, finishOf, endOf}
 use Rattle.response_stated.specs.declared.Remainder.{Remainder}
 use Rattle.response_stated.specs.Words.{rest, Sent}
 use Rattle.response_stated.specs.Parts.{limitOf, partLength, leftStatus, nextPartOf, responseRoomOf}
-use Rattle.response_stated.specs.Terms.{sendingOf, sending, Tells, nothing-left, some-left, more-left}
+use Rattle.response_stated.specs.Terms.{sendingOf, sending, Goes, Tells, nothing-left, some-left, more-left}
 use Rattle.response_stated.specs.Fetching.{up}
+use Rattle.response_stated.proofs.Laws.{next-exactly}
 use Rattle.u2f_up_stated.specs.Moments.{fresh, settleOf}
 use Rattle.u2f_up_stated.specs.Terms.{NotRefused}
 use Rattle.ctap1_stated.specs.declared.HardwareSaid.{HardwareSaid}
-use Rattle.ctap1_stated.specs.Words.{Inputs, Body, Part}
-use Rattle.ctap1_stated.specs.Path.{frameLimit, fetchPath, commandPath, allowedPath, pathOf}
+use Rattle.ctap1_stated.specs.Words.{Inputs, Body, Ordered, Part}
+use Rattle.ctap1_stated.specs.Path.{frameLimit, fetchPath, loginPath, countedEnding, commandPath, allowedPath, pathOf}
 use Rattle.ctap1_stated.specs.Decision.{decisionOf}
 use Rattle.ctap1_stated.specs.Session.{remainderLeft, partLeft}
 use Rattle.ctap1_stated.specs.declared.Allowed.the-variants as Allowed′
 use Rattle.ctap1_stated.specs.declared.Attestation.the-variants as Attestation′
 use Rattle.ctap1_stated.specs.declared.Counter.the-variants as Counter′
 use Rattle.session_stated.specs.Held.{Session}
-use Rattle.session_stated.specs.Terms.{given, absent, whole, extended, no-shape}
+use Rattle.session_stated.specs.Terms.{given, absent, whole, extended, no-shape, authenticate, FrameRoom, RoomWasAsked, FirstPart}
 use Rattle.session_stated.specs.Sessions.{Visit, none, also}
 use Rattle.session_stated.specs.Claims
 use Rattle.session_stated.specs.Wrong
@@ -212,3 +215,84 @@ unfolding responseRoomOf partLength readBy sayOf lengthsOf shortOf extendedOf af
 noShapeBody c =
     let z : _≡_ {A = ℕ} 3 2 = gives-same _ _ (c .says [] 1 2 .1 (no-shape (λ said e. word-gives _ said e), omega arith)) in
     omega arith
+
+-- ---- a response that does not fit: an Authenticate with P1 08 in shape 7 with Le 1, and a signature of 72 bytes: 77 bytes, and two for the status
+abbrev login : Inputs
+login =
+    record {
+      side = 0;
+      frame = 0x00 ∷ 0x02 ∷ 0x08 ∷ 0x00 ∷ 0x00 ∷ 0x00 ∷ 0x41 ∷ replicate 65 0 ++ (0x00 ∷ 0x01 ∷ []);
+      hardware = record { allowed = Allowed′.Yes; stored = true; attestation = Attestation′.Present; good = true; counter = Counter′.Offered 1 };
+      newHandle = [];
+      certificate = [];
+      x = replicate 32 0;
+      y = replicate 32 0;
+      room = 77;
+      remainder = rest 0 0;
+      partRoom = 0;
+    }
+
+abbrev loginSaid : Says
+loginSaid = record { header = record { cla = 0x00; ins = 0x02; p1 = 0x08; p2 = 0x00 }; shape = 7; lc = 65; le = 1; dataAt = 7 }
+
+login-read : readOf (login .frame) ≡ Gives loginSaid
+unfolding readBy sayOf lengthsOf shortOf extendedOf afterData
+login-read = refl
+
+login-comes : commandOf (login .frame) ≡ Gives (Authenticate 0x08 loginSaid)
+unfolding commandOf onReading byInstruction authenticateOf dataOf partOf readBy sayOf lengthsOf shortOf extendedOf afterData
+login-comes = refl
+
+abbrev logsIn : Finishing
+logsIn = record { order = decisionOf (fresh 1000) 0 login .order; certificate = []; signed = true; signature = replicate 72 0; reply = replicate 77 0 }
+
+logs-in : decisionOf (fresh 1000) 0 login .answer ≡ Gives Ordered
+unfolding decisionOf pathOf allowedPath commandPath loginPath countedEnding settleOf
+logs-in = rw login-comes refl
+
+logs-in-77 : endOf logsIn .answer ≡ Gives 77
+unfolding finishOf isAuthenticateLayout decisionOf pathOf allowedPath commandPath loginPath countedEnding settleOf authenticateOrderOf block challengeOf applicationOf dataOf partOf commandOf onReading byInstruction authenticateOf readBy sayOf lengthsOf shortOf extendedOf afterData
+logs-in-77 = refl
+
+logs-in-bare : 0 ≡ certificateLength (decisionOf (fresh 1000) 0 login .order)
+unfolding decisionOf pathOf allowedPath commandPath loginPath countedEnding settleOf authenticateOrderOf block challengeOf applicationOf dataOf partOf commandOf onReading byInstruction authenticateOf readBy sayOf lengthsOf shortOf extendedOf afterData
+logs-in-bare = refl
+
+login-whole : frameLimit (login .frame) ≡ 0
+unfolding frameLimit limitOf
+login-whole = rw login-read refl
+
+lost : (held : List ℕ) (n limit : ℕ) (buffer : List ℕ) → n ≡ 77 → limit ≡ 0 → length buffer < 79 → FirstPart sendingOf held n limit buffer → ⊥
+lost held n limit buffer is unlimited short f =
+    let all : Goes limit n n = rw unlimited Goes.whole in
+    r-gives 2 _ (sym (next-exactly .r2 held (rest 0 n) limit buffer .1 (inr (n, all, omega (arith, is, short)))) ∙ f .sends .says)
+
+asked : (room : FrameRoom) (m : ℕ) → room (login .frame) 77 ≡ Gives m → RoomWasAsked decisionOf room (fresh 1000) 0 login logsIn (replicate m 0)
+asked room m e =
+    record {
+      blocks = (refl, refl);
+      longest = 77;
+      is-longest = authenticate 0x08 loginSaid login-comes (inr refl);
+      bytes = m;
+      asked = e;
+      had = omega (arith, length-replicate {A = ℕ} m 0);
+      ordered = logs-in;
+      order = refl;
+      certificate = logs-in-bare;
+      reply = omega arith;
+      signature = omega arith;
+    }
+
+-- three bytes, which its Le would come to
+pub extendedByLeLoses : Claims.NoTouchIsLost decisionOf endOf Wrong.extendedByLe frameLimit sendingOf → ⊥
+unfolding responseRoomOf partLength
+extendedByLeLoses c =
+    let x = c (fresh 1000) 0 login logsIn (replicate 3 0) (asked Wrong.extendedByLe 3 (rw login-read refl)) .served refl in
+    lost _ (x .0) _ (replicate 3 0) (gives-same _ _ (sym (x .1) ∙ logs-in-77)) login-whole (omega arith) (x .2)
+
+-- 77 bytes
+pub withoutStatusLoses : Claims.NoTouchIsLost decisionOf endOf Wrong.withoutStatus frameLimit sendingOf → ⊥
+unfolding limitOf partLength
+withoutStatusLoses c =
+    let x = c (fresh 1000) 0 login logsIn (replicate 77 0) (asked Wrong.withoutStatus 77 (rw login-read refl)) .served refl in
+    lost _ (x .0) _ (replicate 77 0) (gives-same _ _ (sym (x .1) ∙ logs-in-77)) login-whole (omega arith) (x .2)
