@@ -27,13 +27,13 @@ use Rattle.u2f_up_stated.specs.Runs.{after, comesTo, cameOf, history}
 use Rattle.u2f_up_stated.specs.Terms.{BadWindow, BadSide, NotRefused, HasTouch}
 use Rattle.u2f_up_stated.specs.declared.Presence.{Presence}
 use Rattle.u2f_up_stated.specs.Numbers.{presenceIn}
-use Rattle.u2f_up_stated.proofs.Laws.{five-apart}
-use Rattle.u2f_up_stated.proofs.Laws.{demand-3, r-apart, servers-next, named-later, named-counts, count, length-those}
+use Rattle.signing_stated.proofs.Laws.{made-whole}
+use Rattle.u2f_up_stated.proofs.Laws.{five-apart, demand-3, r-apart, servers-next, named-later, named-counts, count, length-those}
 use Rattle.signing_stated.specs.Orders.{kindNo, certificateLength, blankOrder, isOfLayout}
 use Rattle.signing_stated.specs.Finishing.{roomNeeded, registerRoom, authenticateRoom}
 use Rattle.ctap1_stated.specs.Words.{Remainder, rest, Inputs, DecisionGives, Body, Ordered, Part, DecisionResult, Allowed, DecisionAlone, DecisionHanded, DecisionLeft, Decision, leftFrom, decisionAnswerOf}
 use Rattle.ctap1_stated.specs.Numbers.{allowedOf, attestationOf, isYes, hardwareOf}
-use Rattle.ctap1_stated.specs.Path.{limitOn, frameLimit, roleOf}
+use Rattle.ctap1_stated.specs.Path.{limitOn, frameLimit, roleOf, enrolmentOrder, registerOrdered}
 use Rattle.ctap1_stated.specs.Decision.{statusResult, versionBytes, decisionOf, replyLeft}
 use Rattle.ctap1_stated.specs.Session.{isGetResponse, remainderLeft, partAfter, partLeft}
 use Rattle.ctap1_stated.specs.Calls.{PanelCall, DecideAt, panelCalls, seen}
@@ -207,6 +207,22 @@ asked-with p t a blocks e = (go (decisionOf p t a) (way p t a) e, order-has-room
     go _ (enrolled said y l h) x = rw (Commands.register-room a blocks said (y .1 .1) h) (of-register said (y .1 .1))
     go _ (signed-03 said m y l k) x = rw (Commands.room-is a 0x03 said true m (y .1 .1)) (of-authenticate 0x03 said (y .1 .1))
     go _ (signed-08 said m y k) x = rw (Commands.room-is a 0x08 said false m (y .1 .1)) (of-authenticate 0x08 said (y .1 .1))
+
+enrolment-whole : (a : Inputs) (said : Says) → length (registerOrdered a said .bytes) ≡ 385
+unfolding enrolmentOrder
+enrolment-whole a said = made-whole .0 _ _
+
+pub order-whole : (p : Presence) (t : ℕ) (a : Inputs) → decisionOf p t a .answer ≡ Gives Ordered → length (decisionOf p t a .order .bytes) ≡ 385
+order-whole p t a e = go (decisionOf p t a) (way p t a) e
+  where
+    go : (r : DecisionResult) → Way p t a r → r .answer ≡ Gives Ordered → length (r .order .bytes) ≡ 385
+    go _ (refused m) x = absurd (r-gives _ _ x)
+    go _ (stated m q w) x = absurd (word-gives _ _ x)
+    go _ (versioned c room) x = absurd (body-order _ x)
+    go _ (fetched c sent) x = absurd (part-order _ _ x)
+    go _ (enrolled said y l h) x = enrolment-whole a said
+    go _ (signed-03 said m y l k) x = made-whole .1 _
+    go _ (signed-08 said m y k) x = made-whole .1 _
 
 pub OrderHasRoom : Claims.OrderHasRoom decisionOf
 OrderHasRoom p t a f blocks e same certificate room =

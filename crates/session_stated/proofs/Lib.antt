@@ -5,5 +5,6 @@ pub mod Rooms
 pub mod Counts
 pub mod Only
 pub mod Theorems
+pub mod Follows
 pub mod Refuted
 pub mod Laws

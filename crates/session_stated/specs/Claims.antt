@@ -156,8 +156,8 @@ pub record FrameRoomServes (room : FrameRoom) (limit : List ℕ → ℕ) (next :
 
 -- NO TOUCH IS LOST TO A LENGTH (ours). Where the room for the longest body was asked for, and the decision then gave an order: finishing that order, with a certificate of
 -- its length, a reply buffer no shorter than the decision's and any signature of at most 72 bytes, gives a body, or 6f00 where the signer failed; and the body's first part
--- goes out in a buffer with that room, by the limit that the frame left. No R refusal comes after the touch is spent. `extendedByLe` fails it at an Authenticate in shape 7
--- with Le 1, and so does `withoutStatus`.
+-- goes out in a buffer with that room, by the limit that the frame left. No R refusal comes after the touch is spent. By proofs/Follows.antt it is so of
+-- whatever meets the claims on deciding, finishing, the room, the limit and sending. `extendedByLe` fails it at an Authenticate in shape 7 with Le 1, and so does `withoutStatus`.
 abbrev pub NoTouchIsLost : Decider → (Finishing → Ended) → FrameRoom → (limit : List ℕ → ℕ) → Sender → Type 0
 NoTouchIsLost decide finish room limit next =
     (p : Presence) (t : ℕ) (a : Inputs) (i : Finishing) (buffer : List ℕ) → RoomWasAsked decide room p t a i buffer → Answered finish next i (limit (a .frame)) buffer

@@ -6,7 +6,8 @@ pub mod FieldsKept
 pub mod Messages
 pub mod Numbers
 pub mod Spelled
-pub mod Laws
+pub mod Made
 pub mod Theorems
 pub mod Only
 pub mod Refuted
+pub mod Laws

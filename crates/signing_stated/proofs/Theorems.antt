@@ -26,8 +26,8 @@ use Rattle.signing_stated.proofs.Ways.{comes-to-r7, comes-to-r4, comes-
 use Rattle.signing_stated.proofs.Messages.{key-is, is-key, counter-is, presence-same, bit-small, registration-signed, registered-order, registration-response, authentication-signed, signed-order, authentication-response}
 use Rattle.signing_stated.proofs.Numbers.{kind-one-to-one, finished-one-to-one}
 use Rattle.signing_stated.proofs.Spelled.{four-at, register-spelled, authenticate-spelled}
-use Rattle.signing_stated.proofs.Laws
-use Rattle.signing_stated.proofs.Laws.{made-of-layout, blank-refused, room-of-made, fields-kept}
+use Rattle.signing_stated.proofs.Made
+use Rattle.signing_stated.proofs.Made.{made-of-layout, blank-refused, room-of-made, fields-kept}
 
 -- ---- numbers and results
 pub KindNumbers : Claims.KindNumbers kindNo
@@ -192,7 +192,7 @@ BytesToSign = (for-register, for-authenticate)
         (refl, block-front (authenticateToSign f) 69 (authenticate-to-sign-length f l) (omega arith), authenticate-made-shape f l .rest)
 
 pub FieldsKept : Claims.FieldsKept registerFieldsOf authenticateFieldsOf
-FieldsKept = Laws.fields-kept
+FieldsKept = Made.fields-kept
 
 pub LayoutExactly : Claims.LayoutExactly isOfLayout
 LayoutExactly o whole = (is-made (o .kind) refl, is-judged)
@@ -215,8 +215,8 @@ LayoutExactly o whole = (is-made (o .kind) refl, is-judged)
         )
 
     is-judged : IsRegisterOrder o ⊎ IsAuthenticateOrder o → isOfLayout o ≡ true
-    is-judged (inl m) = ap isOfLayout (m .3) ∙ Laws.made-of-layout .0 (m .0) (m .1) (m .2)
-    is-judged (inr m) = ap isOfLayout (m .2) ∙ Laws.made-of-layout .1 (m .0) (m .1)
+    is-judged (inl m) = ap isOfLayout (m .3) ∙ Made.made-of-layout .0 (m .0) (m .1) (m .2)
+    is-judged (inr m) = ap isOfLayout (m .2) ∙ Made.made-of-layout .1 (m .0) (m .1)
 
 -- ---- room
 pub RegisterRoomExactly : Claims.RegisterRoomExactly (λ room h c. leb (registerRoom h c) room)
@@ -326,8 +326,8 @@ FinishesExactly =
 
 pub BlankRefused : Claims.BlankRefused blankOrder endOf
 BlankRefused = (
-  of-no-layout blankOrder (Laws.blank-refused .0),
-  λ i e. ended i (R 7) (Laws.blank-refused .1 i e),
+  of-no-layout blankOrder (Made.blank-refused .0),
+  λ i e. ended i (R 7) (Made.blank-refused .1 i e),
 )
 
 -- a made order, with the certificate and the room that it was made for, passes the first three checks
@@ -336,8 +336,8 @@ register-ready : (i : Finishing) (f : RegisterFields) → isRegisterFit f ≡ tr
     → (isOfLayout (i .order) ≡ true) × (length (i .certificate) ≡ certificateLength (i .order)) × (roomNeeded (i .order) ≤ length (i .reply))
 register-ready i f fit e room =
     let c : ℕ = length (i .certificate) in
-    let asked = ap roomNeeded e ∙ Laws.room-of-made .0 f c fit in (
-      ap isOfLayout e ∙ Laws.made-of-layout .0 f c fit,
+    let asked = ap roomNeeded e ∙ Made.room-of-made .0 f c fit in (
+      ap isOfLayout e ∙ Made.made-of-layout .0 f c fit,
       sym (ap certificateLength (e ∙ register-order-fit f c (register-lengths f fit))),
       rw asked room,
     )
@@ -346,8 +346,8 @@ authenticate-ready : (i : Finishing) (f : AuthenticateFields) → isAuthenticate
     → length (i .certificate) ≡ 0 → authenticateRoom ≤ length (i .reply)
     → (isOfLayout (i .order) ≡ true) × (length (i .certificate) ≡ certificateLength (i .order)) × (roomNeeded (i .order) ≤ length (i .reply))
 authenticate-ready i f fit e none room =
-    let asked = ap roomNeeded e ∙ Laws.room-of-made .1 f fit in (
-      ap isOfLayout e ∙ Laws.made-of-layout .1 f fit,
+    let asked = ap roomNeeded e ∙ Made.room-of-made .1 f fit in (
+      ap isOfLayout e ∙ Made.made-of-layout .1 f fit,
       none ∙ sym (ap certificateLength (e ∙ authenticate-order-fit f (authenticate-lengths f fit))),
       rw asked room,
     )
@@ -372,7 +372,7 @@ register-back i f fit e room done short =
   where
     kept-of : (f : RegisterFields) → RegisterLengths f → registerFieldsOf (130 + length (f .handle)) (block (registerToSign f)) ≡ f
     kept-of f l =
-        ap (λ (o : Order). registerFieldsOf (toSign o) (o .bytes)) (sym (register-order-fit f 0 l)) ∙ Laws.fields-kept .0 f 0 (register-fit f l)
+        ap (λ (o : Order). registerFieldsOf (toSign o) (o .bytes)) (sym (register-order-fit f 0 l)) ∙ Made.fields-kept .0 f 0 (register-fit f l)
 
 authenticate-back : (i : Finishing) (f : AuthenticateFields) → isAuthenticateFit f ≡ true → i .order ≡ authenticateOrderOf f → length (i .certificate) ≡ 0
     → 77 ≤ length (i .reply) → i .signed ≡ true → length (i .signature) ≤ 72 → finishOf i ≡ Gives (authenticateBody f (i .signature))
@@ -385,7 +385,7 @@ authenticate-back i f fit e none room done short =
   where
     kept-of : (f : AuthenticateFields) → AuthenticateLengths f → authenticateFieldsOf (block (authenticateToSign f)) ≡ f
     kept-of f l =
-        ap (λ (o : Order). authenticateFieldsOf (o .bytes)) (sym (authenticate-order-fit f l)) ∙ Laws.fields-kept .1 f (authenticate-fit f l)
+        ap (λ (o : Order). authenticateFieldsOf (o .bytes)) (sym (authenticate-order-fit f l)) ∙ Made.fields-kept .1 f (authenticate-fit f l)
 
 -- ---- FIDO's messages
 pub SignsFido : Claims.SignsFido registerOrderOf authenticateOrderFor
