@@ -37,7 +37,7 @@ use Rattle.signing_stated.specs.Finishing.{endOf}
 use Rattle.session_stated.specs.Held.{Session, remainderIn, sessionIn, hardwareIn, sessionAfter, frameRoomOf}
 use Rattle.session_stated.specs.Sessions.{Visit, sentIn, leftIn, joinedOver, leftOver, partsOver, Each, IsFetch, Serves}
 use Rattle.session_stated.specs.Claims
-use Rattle.session_stated.specs.Contracts.{Lent, inputsIn, Stated, Dropped, Left}
+use Rattle.session_stated.specs.Contracts.{ToDecide, inputsIn, Stated, Dropped, Left}
 use Rattle.session_stated.specs.Terms.{NoShape, CanTake, changedBy}
 use Rattle.session_stated.proofs.Rooms.{limit-taken, no-limit, takes-so, some-take, room-in-shape, answered}
 use Rattle.session_stated.proofs.Steps.{fetch, Step, keeps, sends, step, within-over, joins-over, parts-over, refused-over}

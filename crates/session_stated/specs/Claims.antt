@@ -26,7 +26,7 @@ use Rattle.response_stated.specs.declared.ResponseRoom.{ResponseRoom}
 use Rattle.ctap1_stated.specs.Terms.{Decider, HasInsC0}
 use Rattle.signing_stated.specs.Finishing.{Finishing, Ended}
 use Rattle.session_stated.specs.declared.SessionDecision.{SessionDecision}
-use Rattle.session_stated.specs.Contracts.{Lent, inputsIn, Decide, RemainderLent, Stated, Dropped, Left, RoomForResponse}
+use Rattle.session_stated.specs.Contracts.{ToDecide, inputsIn, Decide, RemainderLent, Stated, Dropped, Left, RoomForResponse}
 use Rattle.session_stated.specs.Held.{Session, sessionIn}
 use Rattle.session_stated.specs.Terms.{NoShape, changedBy, TakesAtATime, CanTake, FrameRoom, RoomWasAsked, Answered}
 use Rattle.session_stated.specs.Sessions.{Visit, Leaver, PartWriter, sentIn, leftIn, joinedOver, leftOver, partsOver, Each, IsFetch, Serves}
@@ -175,7 +175,7 @@ pub record ContractsAsClaimed : Type 0 where
       → GoesOnExactly (λ answer read s. sessionIn (changedBy stated dropped left answer read (s .remainder .place ∷ s .remainder .count ∷ s .limit ∷ [])))
   pub room-for-response : (f : (frame : List ℕ) (longest : ℕ) → ResponseRoom) → ((frame : List ℕ) (longest : ℕ) → RoomForResponse frame longest (f frame longest))
       → FrameRoomExactly (λ frame longest. roomSaid (f frame longest))
-  pub decide : (g : Decider) → DecidesExactly g → (limit : List ℕ → ℕ) → LimitsExactly limit → (i : Lent) (r : SessionDecision) (presence reply block part : List ℕ) → Decide i r presence reply block part
+  pub decide : (g : Decider) → DecidesExactly g → (limit : List ℕ → ℕ) → LimitsExactly limit → (i : ToDecide) (r : SessionDecision) (presence reply block part : List ℕ) → Decide i r presence reply block part
       → (handedFrom (r .decision) (presenceIn presence) ≡ handedOf (g (presenceIn (i .presence)) (i .moment) (inputsIn i)))
       × (r .limit ≡ limit (i .frame))
       × ((r .fetches ≡ true) ↔ HasInsC0 (inputsIn i))
@@ -184,7 +184,7 @@ pub record ContractsAsClaimed : Type 0 where
 -- A promise that is silent on the limit after a part fails it.
 pub record ResultsDetermined : Type 0 where
   pub remainder-lent : (n : List ℕ) → AtMostOne (RemainderLent n)
-  pub decide : (i : Lent) → AtMostOne (λ (o : SessionDecision × (List ℕ × (List ℕ × (List ℕ × List ℕ)))). (length (o .1 .0) ≡ 5) × Decide i (o .0) (o .1 .0) (o .1 .1 .0) (o .1 .1 .1 .0) (o .1 .1 .1 .1))
+  pub decide : (i : ToDecide) → AtMostOne (λ (o : SessionDecision × (List ℕ × (List ℕ × (List ℕ × List ℕ)))). (length (o .1 .0) ≡ 5) × Decide i (o .0) (o .1 .0) (o .1 .1 .0) (o .1 .1 .1 .0) (o .1 .1 .1 .1))
   pub stated : (fetches : Bool) (limit : ℕ) (n : List ℕ) → AtMostOne (λ (exit : List ℕ). (length exit ≡ 3) × Stated fetches limit n exit)
   pub dropped : (limit : ℕ) → AtMostOne (λ (exit : List ℕ). (length exit ≡ 3) × Dropped limit exit)
   pub left : (r : Remainder) (limit : ℕ) → AtMostOne (λ (exit : List ℕ). (length exit ≡ 3) × Left r limit exit)
