@@ -5,8 +5,9 @@
 //!     driver SIDE ROW COUNT       makes the call COUNT times on the side
 //!     driver time SIDE ROW COUNT  the same, several times over, and prints nanoseconds a call, the least of them
 //!
-//! Sides: `core` and `rust`; of a reading `strict`, `table` and `strict-table` too; `decide` and `finish`, the two parts of `core`; `lent`, what the upstream's stand-ins allocate
-//! to hand over the hardware's answers; `nothing`, the loop alone.
+//! Sides: `core` and `rust`; of a reading `strict`, `table` and `strict-table` too; of touch, check and ask `watched`, the Rust with the
+//! core's three checks beside it; `decide` and `finish`, the two parts of `core`; `lent`, what the upstream's stand-ins allocate to hand
+//! over the hardware's answers; `nothing`, the loop alone, in which what a call changes is put back before each.
 
 #[macro_use]
 extern crate arrayref;
@@ -19,6 +20,7 @@ mod lent;
 mod panel;
 #[path = "../../oracle/src/standins.rs"]
 mod standins;
+mod watched;
 mod world;
 use standins::{api, env};
 
@@ -32,6 +34,7 @@ fn repeat(side: Side, world: &mut World, count: usize) {
     let place = heap::place();
     for _ in 0..count {
         heap::start_at(place);
+        world.put_back();
         side(world);
     }
 }

@@ -31,20 +31,15 @@ pub struct Presence {
     pub prompt: u64,
     pub touch: u64,
     pub last: u64,
-    pub asker: u32,
+    pub asker: u64,
 }
 
 #[repr(C)]
-pub struct Made {
-    pub answer: u16,
-    pub presence: Presence,
-}
-
-#[repr(C)]
-pub struct Touch {
-    pub answer: u16,
-    pub yes: bool,
-    pub presence: Presence,
+#[derive(Clone, Copy)]
+pub struct Session {
+    pub place: u64,
+    pub count: u64,
+    pub limit: u64,
 }
 
 #[repr(C)]
@@ -73,30 +68,19 @@ pub struct Order {
 }
 
 #[repr(C)]
-#[derive(Clone, Copy)]
-pub struct Remainder {
-    pub place: usize,
-    pub count: usize,
-}
-
-#[repr(C)]
-pub struct Part {
-    pub answer: u16,
-    pub length: usize,
-    pub remainder: Remainder,
-}
-
-#[repr(C)]
 pub struct Decision {
     pub answer: u16,
     pub fault: u16,
     pub taken: bool,
     pub length: usize,
     pub order: Order,
-    pub presence: Presence,
     pub place: usize,
-    pub remainder: Remainder,
-    pub limit: u32,
+}
+
+#[repr(C)]
+pub struct Room {
+    pub answer: u16,
+    pub length: usize,
 }
 
 /// Each of the four readings.
@@ -126,24 +110,24 @@ extern "C" {
         out: *mut u8,
         out_length: usize,
     ) -> Wrote;
-    pub fn brinecandle_new(w: u64) -> Made;
-    pub fn brinecandle_grant_up(presence: Presence, t: u64) -> Touch;
-    pub fn brinecandle_consume_up(presence: Presence, side: u32, t: u64) -> Touch;
-    pub fn brinecandle_is_up_needed(presence: Presence, t: u64) -> Asked;
+    pub fn brinecandle_new(presence: *mut Presence, w: u64) -> u16;
+    pub fn brinecandle_grant_up(presence: *mut Presence, t: u64) -> Asked;
+    pub fn brinecandle_consume_up(presence: *mut Presence, side: u64, t: u64) -> Asked;
+    pub fn brinecandle_is_up_needed(presence: *const Presence, t: u64) -> Asked;
     pub fn brinecandle_decide(
+        presence: *mut Presence,
+        session: *mut Session,
         frame: *const u8,
         frame_length: usize,
-        side: u32,
+        side: u64,
         t: u64,
-        presence: Presence,
-        hardware: Hardware,
+        hardware: *const Hardware,
         handle: *const u8,
         handle_length: usize,
         certificate: *const u8,
         certificate_length: usize,
         x: *const [u8; 32],
         y: *const [u8; 32],
-        remainder: Remainder,
         reply: *mut u8,
         reply_length: usize,
         block: *mut [u8; BLOCK],
@@ -162,11 +146,11 @@ extern "C" {
         reply_length: usize,
     ) -> Wrote;
     pub fn brinecandle_next_part(
+        session: *mut Session,
         body: *const u8,
         body_length: usize,
-        remainder: Remainder,
-        limit: u32,
         part: *mut u8,
         part_length: usize,
-    ) -> Part;
+    ) -> Wrote;
+    pub fn brinecandle_response_room(frame: *const u8, frame_length: usize, longest: usize) -> Room;
 }

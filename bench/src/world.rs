@@ -5,9 +5,8 @@ use crate::ctap::ctap1::Ctap1Command;
 use crate::ctap::u2f_up::U2fUserPresenceState;
 use crate::ctap::{CtapState, TOUCH_TIMEOUT_MS};
 use crate::lent::{self, Lent, CERTIFICATE, COUNTER, HANDLE, SIGNATURE, X, Y};
-use crate::panel::{
-    self, Asked, Decision, Frame, Hardware, Order, Part, Presence, Reader, Remainder, Touch, Wrote, BLOCK,
-};
+use crate::panel::{self, Asked, Decision, Frame, Hardware, Order, Presence, Reader, Room, Session, Wrote, BLOCK};
+use crate::watched::{Refusal, Watched};
 
 /// The room that the panel's firmware has for a reply.
 const ROOM: usize = 1024;
@@ -15,8 +14,8 @@ const ROOM: usize = 1024;
 const TOUCH: u64 = 500;
 const NOW: u64 = 1000;
 /// The side that asked for the touch, and the other one. The Rust knows no sides.
-const ASKER: u32 = 0;
-const OTHER: u32 = 1;
+const ASKER: u64 = 0;
+const OTHER: u64 = 1;
 
 #[derive(Clone, Copy, PartialEq)]
 enum Kind {
@@ -29,6 +28,8 @@ enum Kind {
     Next(usize),
     /// The same, asked for by a frame: a GET RESPONSE that fetches the last part of what the reply buffer holds.
     Fetch,
+    /// How many bytes a response can take. The Rust does not ask.
+    Room,
     Touch,
     Check,
     Ask,
@@ -84,7 +85,8 @@ const PARTS: [usize; 3] = [1, 32, 256];
 const BODIES: [usize; 3] = [256, 1024, 60000];
 /// What a short frame without an Le takes.
 const FETCHED: usize = 256;
-const NOTHING: Remainder = Remainder { place: 0, count: 0 };
+/// The longest body that the room of a response is asked for: an enrolment's.
+const LONGEST: usize = 139 + HANDLE.len() + CERTIFICATE.len();
 
 impl Row {
     fn new(name: &str, kind: Kind, before: Before, frame: Vec<u8>) -> Row {
@@ -103,6 +105,7 @@ impl Row {
             Row::touches(),
             Row::writings(),
             Row::parts(),
+            Row::rooms(),
         ]
         .into_iter()
         .flatten()
@@ -219,9 +222,30 @@ impl Row {
         ));
         rows
     }
+
+    /// A frame that cuts the longest body, and one that does not.
+    fn rooms() -> Vec<Row> {
+        let row = |name, shape| Row::new(name, Kind::Room, Before::Nothing, frame(shape, [0, 1, 3, 0], &data(64)));
+        vec![row("room-short", 3), row("room-extended", 7)]
+    }
 }
 
 pub type Side = fn(&mut World);
+
+/// What a call changes on the one side or the other.
+struct Held {
+    presence: Presence,
+    session: Session,
+    state: CtapState<Lent>,
+    watched: Watched,
+}
+
+impl Held {
+    /// The upstream's states are numbers alone, but say not that they can be copied.
+    fn copy(&self) -> Held {
+        unsafe { std::ptr::read(self) }
+    }
+}
 
 type Presences = U2fUserPresenceState<Lent>;
 
@@ -229,59 +253,82 @@ type Presences = U2fUserPresenceState<Lent>;
 pub struct World {
     row: Row,
     /// That the measured call names.
-    side: u32,
-    presence: Presence,
+    side: u64,
+    held: Held,
+    /// As it was before the measured call.
+    before: Held,
     hardware: Hardware,
     order: Order,
     block: [u8; BLOCK],
     reply: [u8; ROOM],
     env: Lent,
-    state: CtapState<Lent>,
     /// What is to be written, and where to.
     said: Frame,
     out: Vec<u8>,
-    /// What remains of a body, and where its parts are written to.
-    remainder: Remainder,
+    /// Where the parts of a body are written to.
     part: Vec<u8>,
     grant: fn(&mut Presences, &mut Lent),
     consume: fn(&mut Presences, &mut Lent) -> bool,
     needed: fn(&mut Presences, &mut Lent) -> bool,
+    watched_grant: fn(&mut Watched, &mut Lent) -> Result<(), Refusal>,
+    watched_consume: fn(&mut Watched, u64, &mut Lent) -> Result<bool, Refusal>,
+    watched_needed: fn(&mut Watched, &mut Lent) -> Result<bool, Refusal>,
     read: fn(&'static [u8]) -> Result<Apdu, ApduStatusCode>,
     process: fn(&mut Lent, &[u8], &mut CtapState<Lent>) -> Result<Vec<u8>, ApduStatusCode>,
 }
 
 impl World {
     pub fn new(row: Row) -> World {
-        let mut presence = unsafe { panel::brinecandle_new(TOUCH_TIMEOUT_MS as u64) }.presence;
+        let mut presence = Presence {
+            w: 0,
+            prompt: 0,
+            touch: 0,
+            last: 0,
+            asker: 0,
+        };
         let mut env = Lent { now: 0 };
         let mut state = CtapState::new();
+        unsafe { panel::brinecandle_new(&mut presence, TOUCH_TIMEOUT_MS as u64) };
         if row.before != Before::Nothing {
-            presence = unsafe { panel::brinecandle_consume_up(presence, ASKER, 0) }.presence;
+            unsafe { panel::brinecandle_consume_up(&mut presence, ASKER, 0) };
             state.u2f_up_state.consume_up(&mut env);
         }
         if row.before == Before::Touch {
-            presence = unsafe { panel::brinecandle_grant_up(presence, TOUCH) }.presence;
+            unsafe { panel::brinecandle_grant_up(&mut presence, TOUCH) };
             env.now = TOUCH;
             state.u2f_up_state.grant_up(&mut env);
         }
         env.now = NOW;
-        let last = |n: usize, of: usize| Remainder {
-            place: of - n,
-            count: n,
+        let last = |n: usize, of: usize| Session {
+            place: (of - n) as u64,
+            count: n as u64,
+            limit: n as u64,
         };
-        let remainder = match row.kind {
+        let session = match row.kind {
             Kind::Next(part) => last(part, row.frame.len()),
             Kind::Fetch => last(FETCHED, ROOM),
-            _ => NOTHING,
+            _ => last(0, 0),
+        };
+        let watched = Watched {
+            w: presence.w,
+            last: presence.last,
+            asker: presence.asker,
+            state: unsafe { std::ptr::read(&state.u2f_up_state) },
+        };
+        let before = Held {
+            presence,
+            session,
+            state,
+            watched,
         };
         let mut world = World {
-            part: vec![0; remainder.count + 2],
-            remainder,
+            part: vec![0; session.count as usize + 2],
             said: unsafe { panel::brinecandle_read(row.frame.as_ptr(), row.frame.len()) },
             out: vec![0; row.frame.len()],
             side: if row.kind == Kind::KeptOut { OTHER } else { ASKER },
             row,
-            presence,
+            held: before.copy(),
+            before,
             hardware: Hardware {
                 allowed: 1,
                 attestation: 1,
@@ -298,15 +345,24 @@ impl World {
             block: [0; BLOCK],
             reply: [0; ROOM],
             env,
-            state,
             grant: Presences::grant_up,
             consume: Presences::consume_up,
             needed: Presences::is_up_needed,
+            watched_grant: Watched::grant_up,
+            watched_consume: Watched::consume_up,
+            watched_needed: Watched::is_up_needed,
             read: Apdu::try_from,
             process: Ctap1Command::process_command::<Lent>,
         };
         world.order = world.decided().order;
+        world.put_back();
         world
+    }
+
+    /// What the call before has changed, on either side. The loop does so before each call, with `nothing` too: its cost falls out.
+    #[inline(always)]
+    pub fn put_back(&mut self) {
+        self.held = self.before.copy();
     }
 
     pub fn side(&mut self, name: &str) -> Option<Side> {
@@ -322,14 +378,20 @@ impl World {
             ("core", Kind::Write) => Some(|w| drop(w.wrote())),
             ("core", Kind::Next(_)) => Some(|w| drop(w.next())),
             ("core", Kind::Fetch) => Some(|w| drop(w.decided())),
+            ("core", Kind::Room) => Some(|w| drop(w.room())),
             ("core", Kind::Touch) => Some(|w| drop(w.touched())),
-            ("rust", Kind::Touch) => Some(|w| drop(w.granted())),
+            ("rust", Kind::Touch) => Some(|w| w.granted()),
+            ("watched", Kind::Touch) => Some(|w| drop(w.watched_granted())),
             ("core", Kind::Check) => Some(|w| drop(w.checked())),
-            ("rust", Kind::Check) => Some(|w| drop(w.consumed())),
+            ("rust", Kind::Check) => Some(|w| {
+                w.consumed();
+            }),
+            ("watched", Kind::Check) => Some(|w| drop(w.watched_consumed())),
             ("core", Kind::Ask) => Some(|w| drop(w.asked())),
             ("rust", Kind::Ask) => Some(|w| {
-                (w.needed)(&mut w.state.u2f_up_state, &mut w.env);
+                w.is_needed();
             }),
+            ("watched", Kind::Ask) => Some(|w| drop(w.watched_is_needed())),
             ("core" | "decide", Kind::Answered | Kind::KeptOut) => Some(|w| drop(w.decided())),
             ("core", Kind::Register | Kind::Authenticate) => Some(|w| {
                 w.order = w.decided().order;
@@ -375,13 +437,12 @@ impl World {
     }
 
     #[inline(always)]
-    fn next(&mut self) -> Part {
+    fn next(&mut self) -> Wrote {
         unsafe {
             panel::brinecandle_next_part(
+                &mut self.held.session,
                 self.row.frame.as_ptr(),
                 self.row.frame.len(),
-                self.remainder,
-                self.remainder.count as u32,
                 self.part.as_mut_ptr(),
                 self.part.len(),
             )
@@ -389,51 +450,72 @@ impl World {
     }
 
     #[inline(always)]
-    fn touched(&self) -> Touch {
-        unsafe { panel::brinecandle_grant_up(self.presence, NOW) }
+    fn room(&self) -> Room {
+        unsafe { panel::brinecandle_response_room(self.row.frame.as_ptr(), self.row.frame.len(), LONGEST) }
     }
 
     #[inline(always)]
-    fn checked(&self) -> Touch {
-        unsafe { panel::brinecandle_consume_up(self.presence, self.side, NOW) }
+    fn touched(&mut self) -> Asked {
+        unsafe { panel::brinecandle_grant_up(&mut self.held.presence, NOW) }
+    }
+
+    #[inline(always)]
+    fn checked(&mut self) -> Asked {
+        unsafe { panel::brinecandle_consume_up(&mut self.held.presence, self.side, NOW) }
     }
 
     #[inline(always)]
     fn asked(&self) -> Asked {
-        unsafe { panel::brinecandle_is_up_needed(self.presence, NOW) }
-    }
-
-    /// The state after it; a copy, as in `processed`.
-    #[inline(always)]
-    fn granted(&mut self) -> Presences {
-        let mut state: Presences = unsafe { std::ptr::read(&self.state.u2f_up_state) };
-        (self.grant)(&mut state, &mut self.env);
-        state
+        unsafe { panel::brinecandle_is_up_needed(&self.held.presence, NOW) }
     }
 
     #[inline(always)]
-    fn consumed(&mut self) -> (bool, Presences) {
-        let mut state: Presences = unsafe { std::ptr::read(&self.state.u2f_up_state) };
-        ((self.consume)(&mut state, &mut self.env), state)
+    fn granted(&mut self) {
+        (self.grant)(&mut self.held.state.u2f_up_state, &mut self.env)
+    }
+
+    #[inline(always)]
+    fn consumed(&mut self) -> bool {
+        (self.consume)(&mut self.held.state.u2f_up_state, &mut self.env)
+    }
+
+    #[inline(always)]
+    fn is_needed(&mut self) -> bool {
+        (self.needed)(&mut self.held.state.u2f_up_state, &mut self.env)
+    }
+
+    #[inline(always)]
+    fn watched_granted(&mut self) -> Result<(), Refusal> {
+        (self.watched_grant)(&mut self.held.watched, &mut self.env)
+    }
+
+    #[inline(always)]
+    fn watched_consumed(&mut self) -> Result<bool, Refusal> {
+        (self.watched_consume)(&mut self.held.watched, self.side, &mut self.env)
+    }
+
+    #[inline(always)]
+    fn watched_is_needed(&mut self) -> Result<bool, Refusal> {
+        (self.watched_needed)(&mut self.held.watched, &mut self.env)
     }
 
     #[inline(always)]
     fn decided(&mut self) -> Decision {
         unsafe {
             panel::brinecandle_decide(
+                &mut self.held.presence,
+                &mut self.held.session,
                 self.row.frame.as_ptr(),
                 self.row.frame.len(),
                 self.side,
                 NOW,
-                self.presence,
-                self.hardware,
+                &self.hardware,
                 HANDLE.as_ptr(),
                 HANDLE.len(),
                 CERTIFICATE.as_ptr(),
                 CERTIFICATE.len(),
                 &X,
                 &Y,
-                self.remainder,
                 self.reply.as_mut_ptr(),
                 self.reply.len(),
                 &mut self.block,
@@ -464,11 +546,9 @@ impl World {
         }
     }
 
-    /// The touch is spent by each call, so each has a copy of the state, as the core has of its record.
     #[inline(always)]
     fn processed(&mut self) -> Result<Vec<u8>, ApduStatusCode> {
-        let mut state: CtapState<Lent> = unsafe { std::ptr::read(&self.state) };
-        (self.process)(&mut self.env, self.row.frame, &mut state)
+        (self.process)(&mut self.env, self.row.frame, &mut self.held.state)
     }
 
     /// Core and Rust say the same of the row's frame, but for the old form, where the core has to say 6700, and for what the Rust has not; the
@@ -479,7 +559,11 @@ impl World {
             Kind::ReadOld => (self.core_reading(), (panel::WRONG_LENGTH, Vec::new(), [0, 0])),
             Kind::Write => (self.core_writing(), (panel::OK, self.row.frame.to_vec(), [0, 0])),
             Kind::Next(_) | Kind::Fetch => (self.core_part(), self.whole_part()),
-            Kind::Touch | Kind::Check | Kind::Ask => (self.core_presence(), self.rust_presence()),
+            Kind::Room => (self.core_room(), self.whole_room()),
+            Kind::Touch | Kind::Check | Kind::Ask => {
+                self.same_watched();
+                (self.core_presence(), self.rust_presence())
+            }
             Kind::KeptOut => (
                 self.core_kept_out(),
                 (panel::COND_USE_NOT_SATISFIED, Vec::new(), [0, 1]),
@@ -521,17 +605,18 @@ impl World {
     }
 
     fn core_part(&mut self) -> (u16, Vec<u8>, [u32; 2]) {
-        let (answer, length, after) = match self.row.kind {
+        let (answer, length) = match self.row.kind {
             Kind::Next(_) => {
-                let part = self.next();
-                (part.answer, part.length, part.remainder)
+                let wrote = self.next();
+                (wrote.answer, wrote.length)
             }
             _ => {
                 let decision = self.decided();
                 assert!(decision.answer == panel::PART, "{}: no part", self.row.name);
-                (panel::OK, decision.length, decision.remainder)
+                (panel::OK, decision.length)
             }
         };
+        let after = self.held.session;
         (
             answer,
             self.part[..length].to_vec(),
@@ -546,47 +631,121 @@ impl World {
         } else {
             self.row.frame
         };
-        let last = &body[self.remainder.place..];
+        let last = &body[self.before.session.place as usize..];
         (panel::OK, [last, &[0x90, 0x00]].concat(), [body.len() as u32, 0])
+    }
+
+    fn core_room(&self) -> (u16, Vec<u8>, [u32; 2]) {
+        let room = self.room();
+        (room.answer, Vec::new(), [room.length as u32, 0])
+    }
+
+    /// The body, cut by a short frame without an Le, and the status.
+    fn whole_room(&self) -> (u16, Vec<u8>, [u32; 2]) {
+        let body = if self.said.shape < 5 { FETCHED } else { LONGEST };
+        (panel::OK, Vec::new(), [body as u32 + 2, 0])
+    }
+
+    /// Whether a prompt is live now, and a touch for the side that asked.
+    fn core_live(&mut self) -> [u32; 2] {
+        let presence = &mut self.held.presence;
+        let is_prompted = unsafe { panel::brinecandle_is_up_needed(presence, NOW) }.yes;
+        let is_touched = unsafe { panel::brinecandle_consume_up(presence, ASKER, NOW) }.yes;
+        [is_prompted, is_touched].map(u32::from)
     }
 
     /// What the call says, and whether a prompt and a touch are live after it. The Rust's touch says nothing: that it was
     /// accepted shows in the prompt, which is gone.
     fn core_presence(&mut self) -> (u16, Vec<u8>, [u32; 2]) {
-        let (answer, yes, after) = match self.row.kind {
-            Kind::Touch => (self.touched().answer, self.touched().yes, self.touched().presence),
-            Kind::Check => (self.checked().answer, self.checked().yes, self.checked().presence),
-            _ => (self.asked().answer, self.asked().yes, self.presence),
+        let said = match self.row.kind {
+            Kind::Touch => self.touched(),
+            Kind::Check => self.checked(),
+            _ => self.asked(),
         };
-        let is_live = [
-            unsafe { panel::brinecandle_is_up_needed(after, NOW) }.yes,
-            unsafe { panel::brinecandle_consume_up(after, ASKER, NOW) }.yes,
-        ];
-        (answer, vec![yes.into()], is_live.map(u32::from))
+        (said.answer, vec![said.yes.into()], self.core_live())
     }
 
     /// What the decision says, and whether a prompt and the touch are live after it, for the side that asked.
     fn core_kept_out(&mut self) -> (u16, Vec<u8>, [u32; 2]) {
         let decision = self.decided();
-        let is_live = [
-            unsafe { panel::brinecandle_is_up_needed(decision.presence, NOW) }.yes,
-            unsafe { panel::brinecandle_consume_up(decision.presence, ASKER, NOW) }.yes,
-        ];
-        (decision.answer, Vec::new(), is_live.map(u32::from))
+        (decision.answer, Vec::new(), self.core_live())
     }
 
     fn rust_presence(&mut self) -> (u16, Vec<u8>, [u32; 2]) {
-        let needed = self.state.u2f_up_state.is_up_needed(&mut self.env);
-        let (yes, mut after) = match self.row.kind {
+        let needed = self.is_needed();
+        let yes = match self.row.kind {
             Kind::Touch => {
-                let mut after = self.granted();
-                (needed && !after.is_up_needed(&mut self.env), after)
+                self.granted();
+                needed && !self.is_needed()
             }
             Kind::Check => self.consumed(),
-            _ => (needed, unsafe { std::ptr::read(&self.state.u2f_up_state) }),
+            _ => needed,
         };
-        let is_live = [after.is_up_needed(&mut self.env), after.consume_up(&mut self.env)];
+        let is_live = [self.is_needed(), self.consumed()];
         (panel::OK, vec![yes.into()], is_live.map(u32::from))
+    }
+
+    /// With the three checks beside it the Rust says the same, and refuses what the core refuses.
+    fn same_watched(&mut self) {
+        let rust = self.rust_presence();
+        self.put_back();
+        let needed = self.watched_is_needed() == Ok(true);
+        let yes = match self.row.kind {
+            Kind::Touch => {
+                assert!(self.watched_granted() == Ok(()));
+                needed && self.watched_is_needed() == Ok(false)
+            }
+            Kind::Check => self.watched_consumed() == Ok(true),
+            _ => needed,
+        };
+        let is_live = [self.watched_is_needed() == Ok(true), self.watched_consumed() == Ok(true)];
+        let watched = (panel::OK, vec![yes.into()], is_live.map(u32::from));
+        assert!(watched == rust, "{}: with the checks {watched:x?}", self.row.name);
+        self.put_back();
+        for (w, asker, side, last, now) in [
+            (0, 0, 0, 0, NOW),
+            (60_000, 0, 0, 0, NOW),
+            (60_001, 2, 2, NOW, 0),
+            (1, 2, 0, NOW, 0),
+            (1, 0, 2, NOW, 0),
+            (1, 1, 1, NOW, 0),
+            (1, 1, 1, NOW, NOW),
+            (1, 0, 1, 0, 1 << 48),
+            (1, 0, 1, 0, (1 << 48) - 1),
+        ] {
+            self.same_refusal(w, asker, side, last, now);
+        }
+    }
+
+    fn same_refusal(&mut self, w: u64, asker: u64, side: u64, last: u64, now: u64) {
+        let presence = &mut self.held.presence;
+        (presence.w, presence.asker, presence.last) = (w, asker, last);
+        let watched = &mut self.held.watched;
+        (watched.w, watched.asker, watched.last) = (w, asker, last);
+        let env = &mut Lent { now };
+        let (core, rust) = unsafe {
+            match self.row.kind {
+                Kind::Touch => (panel::brinecandle_grant_up(presence, now), watched.grant_up(env).err()),
+                Kind::Check => (
+                    panel::brinecandle_consume_up(presence, side, now),
+                    watched.consume_up(side, env).err(),
+                ),
+                _ => (panel::brinecandle_is_up_needed(presence, now), watched.is_up_needed(env).err()),
+            }
+        };
+        let rust = match rust {
+            None => panel::OK,
+            Some(Refusal::R1) => 1,
+            Some(Refusal::R6) => 6,
+            Some(Refusal::R8) => 8,
+        };
+        assert!(
+            core.answer == rust && presence.last == watched.last,
+            "{}: W {w}, asker {asker}, side {side}, last {last}, at {now}: the core {}, the Rust with the checks {rust}",
+            self.row.name,
+            core.answer
+        );
+        self.put_back();
     }
 
     fn rust_reading(&self) -> (u16, Vec<u8>, [u32; 2]) {
