@@ -10,9 +10,11 @@ use crate::watched::{Refusal, Watched};
 
 /// The room that the panel's firmware has for a reply.
 const ROOM: usize = 1024;
-/// A prompt opens at 0, the finger comes at TOUCH, and the measured call at NOW.
-const TOUCH: u64 = 500;
-const NOW: u64 = 1000;
+/// A prompt opens at PROMPT, the finger comes at TOUCH, and the measured call at NOW: a day after the start, so that no window reaches back
+/// to it.
+const PROMPT: u64 = 86_400_000;
+const TOUCH: u64 = PROMPT + 500;
+const NOW: u64 = PROMPT + 1000;
 /// The side that asked for the touch, and the other one. The Rust knows no sides.
 const ASKER: u64 = 0;
 const OTHER: u64 = 1;
@@ -286,11 +288,11 @@ impl World {
             last: 0,
             asker: 0,
         };
-        let mut env = Lent { now: 0 };
+        let mut env = Lent { now: PROMPT };
         let mut state = CtapState::new();
         unsafe { panel::brinecandle_new(&mut presence, TOUCH_TIMEOUT_MS as u64) };
         if row.before != Before::Nothing {
-            unsafe { panel::brinecandle_consume_up(&mut presence, ASKER, 0) };
+            unsafe { panel::brinecandle_consume_up(&mut presence, ASKER, PROMPT) };
             state.u2f_up_state.consume_up(&mut env);
         }
         if row.before == Before::Touch {
@@ -698,7 +700,10 @@ impl World {
             Kind::Check => self.watched_consumed() == Ok(true),
             _ => needed,
         };
-        let is_live = [self.watched_is_needed() == Ok(true), self.watched_consumed() == Ok(true)];
+        let is_live = [
+            self.watched_is_needed() == Ok(true),
+            self.watched_consumed() == Ok(true),
+        ];
         let watched = (panel::OK, vec![yes.into()], is_live.map(u32::from));
         assert!(watched == rust, "{}: with the checks {watched:x?}", self.row.name);
         self.put_back();
@@ -730,7 +735,10 @@ impl World {
                     panel::brinecandle_consume_up(presence, side, now),
                     watched.consume_up(side, env).err(),
                 ),
-                _ => (panel::brinecandle_is_up_needed(presence, now), watched.is_up_needed(env).err()),
+                _ => (
+                    panel::brinecandle_is_up_needed(presence, now),
+                    watched.is_up_needed(env).err(),
+                ),
             }
         };
         let rust = match rust {
