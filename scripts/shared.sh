@@ -1,4 +1,4 @@
-# For the scripts of .ci/, bench/, firmware/, oracle/ and peers/, which stand at the repository's root when they use it. Sourced, by sh or bash.
+# For the scripts of .ci/, bench/, firmware/, oracle/, peers/ and scripts/, which stand at the repository's root when they use it. Sourced, by sh or bash.
 
 # `--help` prints the script's first comment; an option that it does not have, or a word too many, ends it with a line and 2.
 options() { # SCRIPT MOST-WORDS WORD..
@@ -58,13 +58,38 @@ quietly() { # LOG COMMAND..
     }
 }
 
-# Makes the archive, target/staticlib/libpanel.a. It is written only once its crate is proved: not twice for the same text.
+# The version, as the header has it.
+version() {
+    sed -n 's/^#define BRINECANDLE_VERSION "\(.*\)"$/\1/p' include/brinecandle.h
+}
+
+# The symbol that says which version an archive is. The header refers to it: with another version's archive a program does not link.
+version_symbol() {
+    echo "brinecandle_is_$(version | tr . _)"
+}
+
+# Makes the archive, target/staticlib/libpanel.a. Its code is written only once its crate is proved: not twice for the same text.
 proved_archive() { # LOG
     made=target/staticlib/libpanel.a
-    [ ! -f "$made" ] || [ -n "$(find crates crates.txt -type f -newer "$made")" ] || return 0
-    needs_rt
-    echo "Proving the panel's core, which takes some minutes ($1 says how far it is)" >&2
-    quietly "$1" rt staticlib panel
+    if [ ! -f "$made" ] || [ -n "$(find crates crates.txt -type f -newer "$made")" ]; then
+        needs_rt
+        echo "Proving the panel's core, which takes some minutes ($1 says how far it is)" >&2
+        quietly "$1" rt staticlib panel
+    fi
+    mark "$made"
+}
+
+# Gives the archive its second member, version.o: one byte, under the version's symbol. The same bytes each time.
+mark() { # ARCHIVE
+    symbol=$(version_symbol)
+    [ "$(LC_ALL=C grep -aoE 'brinecandle_is_[0-9]+_[0-9]+' "$1" | sort -u)" != "$symbol" ] || return 0
+    tools=$(kit)/on/$(uname -m)/toolchain/bin
+    echo "const char $symbol = 1;" |
+        "$tools/clang" --target=x86_64-unknown-linux-gnu -x c -c -o "$(dirname "$1")/version.o" - &&
+        "$tools/llvm-ar" rcsD "$1" "$(dirname "$1")/version.o" || {
+        echo "${script:-$0}: $1 could not be given its version" >&2
+        exit 1
+    }
 }
 
 # What Debian's qemu-x86_64 takes to run a program on another machine, with the libraries of the package libc6-amd64-cross. Where
