@@ -92,6 +92,30 @@ mark() { # ARCHIVE
     }
 }
 
+# Puts headers, library and the files of package/ into a folder, as one that will stand at the prefix.
+installed() { # FOLDER PREFIX
+    umask 022
+    version=$(version)
+    mkdir -p "$1/include" "$1/lib/pkgconfig" "$1/lib/cmake/Brinecandle" "$1/share/doc/brinecandle"
+    install -m 644 include/brinecandle.h include/brinecandle_panel.h "$1/include"
+    install -m 644 target/staticlib/libpanel.a "$1/lib/libbrinecandle.a"
+    install -m 644 package/BrinecandleConfig.cmake "$1/lib/cmake/Brinecandle"
+    install -m 644 LICENSE NOTICE "$1/share/doc/brinecandle"
+    filled "$2" package/brinecandle.pc.in "$1/lib/pkgconfig/brinecandle.pc"
+    filled "$2" package/BrinecandleConfigVersion.cmake.in "$1/lib/cmake/Brinecandle/BrinecandleConfigVersion.cmake"
+}
+
+# Fills in prefix and version, each at most once in a line. Any character may stand in a prefix.
+filled() { # PREFIX TEMPLATE FILE
+    PREFIX=$1 VERSION=$version awk '
+        function put(word, value,    at) {
+            if ((at = index($0, word)) > 0) $0 = substr($0, 1, at - 1) value substr($0, at + length(word))
+        }
+        { put("@PREFIX@", ENVIRON["PREFIX"]); put("@VERSION@", ENVIRON["VERSION"]); print }
+    ' "$2" >"$3"
+    chmod 644 "$3"
+}
+
 # What Debian's qemu-x86_64 takes to run a program on another machine, with the libraries of the package libc6-amd64-cross. Where
 # libc6:amd64 is installed beside it, the loader of the one would find the library of the other, and the program die: so it is told.
 # shellcheck disable=SC2034
