@@ -1,4 +1,4 @@
-# find_package(Brinecandle 0.11 REQUIRED)
+# find_package(Brinecandle VERSION REQUIRED)
 # target_link_libraries(firmware PRIVATE Brinecandle::brinecandle)
 get_filename_component(Brinecandle_ROOT_DIR "${CMAKE_CURRENT_LIST_DIR}/../../.." ABSOLUTE)
 if(NOT TARGET Brinecandle::brinecandle)
