@@ -1,13 +1,14 @@
 /* A whole panel on a pipe: the firmware that links the proved core, with its peer in the place of finger, clock, key store,
- * counter and signer. It holds the presence record, one order and one remainder (include/brinecandle_panel.h), the reply buffer and
+ * counter and signer. It holds the presence record, sessions and one order (include/brinecandle_panel.h), reply buffers and
  * the one for part and status; there is no heap.
  *
  * A call is a line of words between single spaces, and each is answered by one line, in its order. Numbers are decimal, a
  * header's four bytes and all byte strings are in hex, `-` is the empty byte string. Moments T are in milliseconds.
  *
  *   new W                                  ok                     a fresh record with touch window W; a refusal keeps the old
- *   side N                                 ok                     check, decide and try come from this side from now on, of 32 bits (0 at
+ *   side N                                 ok                     check, decide and try come from this side from now on, of 64 bits (0 at
  *                                                                 first); it stays across `new`. Sides are 0 and 1: every other is R8
+ *   wrapper 0 | wrapper 1                  ok                     whether decide, try, finish and cut are the wrapper's (0 at first): see below
  *   touch T   check T   ask T              yes | no
  *   record                                 W PROMPT TOUCH LAST ASKER
  *                                                                 the record as it stands; a closed window is `-`; before the first
@@ -29,7 +30,7 @@
  * and, to look closer and to come to any state:
  *
  *   resume W PROMPT TOUCH LAST ASKER       ok                     the record from now on, of any values; a closed window is `-`, and
- *                                                                 ASKER has 32 bits
+ *                                                                 ASKER has 64 bits
  *   hold KIND TOSIGN CERTIFICATELENGTH BLOCK   ok                 the order from now on, of any numbers, with a block of 385 bytes
  *   fill BYTE                              ok                     every byte of the reply buffer, beyond its room too
  *   reply                                  ok BYTES               what stands in the room of the reply buffer
@@ -46,11 +47,17 @@
  *   remain PLACE COUNT                     ok                     the remainder from now on, of any numbers
  *   limit                                  LIMIT                  of the last decision that was not refused; 0 is none
  *   cut N                                  9000 RESPONSE          the first part of the N bytes at the reply buffer's front, at that limit
- *   next LIMIT                             9000 RESPONSE          the next part of the remainder, at a limit of 32 bits
+ *   next LIMIT                             9000 RESPONSE          the next part of the remainder, at a limit of 64 bits
+ *   space LONGEST FRAME                    9000 LENGTH            the most bytes that a response to it can take, no body being longer
  *   respond STATUS BODY                    9000 RESPONSE          body and status, of 16 bits
  *   response RESPONSE                      STATUS LENGTH          of a response that was read
  *
  *   help                                   calls NAME..           what it is called with, and where that is said
+ *
+ * With `wrapper 0` decide, try, finish and cut are the core's calls, on one session and one reply buffer whatever the side: what documents 01
+ * and 02 say of them. With `wrapper 1` they are those of include/brinecandle_panel.h: each side has a session and a reply buffer of its own,
+ * which room, fill, ramp, reply, remainder, remain, limit and next are about then; the order is the side's that it came from; and where the
+ * buffer for part and status is shorter than `space` has it, decide and try are R2.
  *
  * Any of them may be refused, `R1` to `R8`, or answered with a status word, as `6985`. A 6700 (read, strict, table, tablestrict,
  * command, decide and try answer it) goes on with what is wrong with the length, and where, counted from the frame's start:
@@ -83,11 +90,29 @@ enum { ROOM = 1024, ROOM_MOST = 131072, LINE_MOST = 1048576, WORDS_MOST = 13, PI
 /* ---- the panel's state */
 
 static struct brinecandle_panel panel;
-static uint32_t side; /* that check, decide and try come from */
-static uint8_t reply[ROOM_MOST];
+static uint64_t side; /* that check, decide and try come from */
+static bool is_wrapped;
+static uint8_t bodies[BRINECANDLE_SIDES][ROOM_MOST];
 static size_t room = ROOM;
 static uint8_t out[ROOM_MOST]; /* part and status */
 static size_t out_room = ROOM;
+
+/* What the calls are about: the side's own where they are the wrapper's, and else the first throughout. */
+static struct brinecandle_transport *own(void)
+{
+    return &panel.transport[is_wrapped && side < BRINECANDLE_SIDES ? side : 0];
+}
+
+static uint8_t *reply(void)
+{
+    return own()->buffers.reply;
+}
+
+static void lend_buffers(void)
+{
+    for (size_t i = 0; i < BRINECANDLE_SIDES; i++)
+        panel.transport[i].buffers = (struct brinecandle_buffers){bodies[i], room, out, out_room};
+}
 
 /* ---- lines in and out */
 
@@ -165,7 +190,7 @@ static void then_bytes(const uint8_t *bytes, size_t length)
         put_hex(bytes[i], 2);
 }
 
-static void put_answer(uint16_t answer)
+static void put_answer(enum brinecandle_answer answer)
 {
     if (brinecandle_is_refusal(answer)) {
         put('R');
@@ -176,7 +201,7 @@ static void put_answer(uint16_t answer)
 }
 
 /* A refusal or a status word, and of a 6700 where the length went wrong. */
-static void put_status(uint16_t answer, uint16_t fault, size_t place)
+static void put_status(enum brinecandle_answer answer, enum brinecandle_fault fault, size_t place)
 {
     put_answer(answer);
     switch (fault) {
@@ -291,7 +316,7 @@ static bool call_new(char **word)
     uint64_t w;
     if (!number(word[0], UINT64_MAX, &w))
         return false;
-    uint16_t answer = brinecandle_panel_new(&panel, w);
+    enum brinecandle_answer answer = brinecandle_panel_new(&panel, w);
     if (answer == BRINECANDLE_OK)
         put_text("ok");
     else
@@ -301,10 +326,20 @@ static bool call_new(char **word)
 
 static bool call_side(char **word)
 {
-    uint32_t named;
-    if (!number32(word[0], &named))
+    uint64_t named;
+    if (!number(word[0], UINT64_MAX, &named))
         return false;
     side = named;
+    put_text("ok");
+    return true;
+}
+
+static bool call_wrapper(char **word)
+{
+    uint64_t is;
+    if (!number(word[0], 1, &is))
+        return false;
+    is_wrapped = is;
     put_text("ok");
     return true;
 }
@@ -374,6 +409,7 @@ static bool call_room(char **word)
     if (!number(word[0], ROOM_MOST, &n))
         return false;
     room = (size_t)n;
+    lend_buffers();
     put_text("ok");
     return true;
 }
@@ -422,11 +458,11 @@ static bool call_tablestrict(char **word)
 }
 
 /* What was written at the front of the reply buffer. */
-static void put_wrote(uint16_t answer, size_t length)
+static void put_wrote(enum brinecandle_answer answer, size_t length)
 {
     put_answer(answer);
     if (answer == BRINECANDLE_OK)
-        then_bytes(reply, length);
+        then_bytes(reply(), length);
 }
 
 static bool write_frame(char **word, bool strictly)
@@ -439,9 +475,9 @@ static bool write_frame(char **word, bool strictly)
         return false;
     struct brinecandle_wrote wrote;
     if (strictly)
-        wrote = brinecandle_write_strict(cla, ins, p1, p2, shape, content.at, content.length, le, reply, room);
+        wrote = brinecandle_write_strict(cla, ins, p1, p2, shape, content.at, content.length, le, reply(), room);
     else
-        wrote = brinecandle_write(cla, ins, p1, p2, shape, content.at, content.length, le, reply, room);
+        wrote = brinecandle_write(cla, ins, p1, p2, shape, content.at, content.length, le, reply(), room);
     put_wrote(wrote.answer, wrote.length);
     return true;
 }
@@ -481,15 +517,23 @@ static bool call_command(char **word)
     return true;
 }
 
+static bool yes(const char *word, enum brinecandle_yes *to)
+{
+    uint32_t n;
+    bool is = number32(word, &n);
+    *to = (enum brinecandle_yes)n;
+    return is;
+}
+
 /* The words of decide and try. */
 static bool lent(char **word, struct brinecandle_lent *to)
 {
     struct bytes frame, handle, certificate, x, y;
-    if (!number(word[0], UINT64_MAX, &to->t) || !number32(word[1], &to->hardware.allowed) || !bytes(word[2], &frame)
-        || !bytes(word[3], &handle) || !number32(word[4], &to->hardware.stored) || !bytes(word[5], &certificate)
-        || !number32(word[6], &to->hardware.attestation) || !bytes(word[7], &x) || !bytes(word[8], &y) || x.length != 32
-        || y.length != 32 || !number32(word[9], &to->hardware.good) || !number32(word[10], &to->hardware.counter)
-        || !number32(word[11], &to->hardware.counted))
+    if (!number(word[0], UINT64_MAX, &to->t) || !yes(word[1], &to->hardware.allowed) || !bytes(word[2], &frame)
+        || !bytes(word[3], &handle) || !yes(word[4], &to->hardware.stored) || !bytes(word[5], &certificate)
+        || !yes(word[6], &to->hardware.attestation) || !bytes(word[7], &x) || !bytes(word[8], &y) || x.length != 32
+        || y.length != 32 || !yes(word[9], &to->hardware.good) || !number32(word[10], &to->hardware.counter)
+        || !yes(word[11], &to->hardware.counted))
         return false;
     to->frame = frame.at;
     to->frame_length = frame.length;
@@ -499,11 +543,17 @@ static bool lent(char **word, struct brinecandle_lent *to)
     to->certificate_length = certificate.length;
     to->x = x.at;
     to->y = y.at;
-    to->reply = reply;
-    to->reply_length = room;
-    to->part = out;
-    to->part_length = out_room;
     return true;
+}
+
+/* The core's decision, and what is kept of it. */
+static struct brinecandle_outcome decided_by_core(struct brinecandle_lent with)
+{
+    struct brinecandle_decision said =
+        brinecandle_decide_lent(side, &panel.presence, &own()->session, with, own()->buffers, panel.block);
+    if (!brinecandle_is_refusal(said.answer))
+        panel.order = said.order;
+    return (struct brinecandle_outcome){said.answer, said.fault, said.taken, said.length, said.place, side};
 }
 
 static bool call_decide(char **word)
@@ -511,7 +561,7 @@ static bool call_decide(char **word)
     struct brinecandle_lent with;
     if (!lent(word, &with))
         return false;
-    struct brinecandle_decided decided = brinecandle_panel_decide(&panel, side, with);
+    struct brinecandle_outcome decided = is_wrapped ? brinecandle_panel_decide(&panel, side, with) : decided_by_core(with);
     if (decided.answer == BRINECANDLE_PART) {
         put_text("part");
         then_bytes(out, decided.length);
@@ -520,7 +570,7 @@ static bool call_decide(char **word)
     if (decided.answer != BRINECANDLE_ORDER) {
         put_status(decided.answer, decided.fault, decided.place);
         if (decided.answer == BRINECANDLE_OK)
-            then_bytes(reply, decided.length);
+            then_bytes(reply(), decided.length);
         return true;
     }
     put_text("order");
@@ -531,43 +581,72 @@ static bool call_decide(char **word)
     return true;
 }
 
+/* As the header has it: on copies, with scratch for block and part, and for the body where the frame does not read it. */
+static struct brinecandle_tried tried_by_core(struct brinecandle_lent with, uint8_t *scratch)
+{
+    static uint8_t body[ROOM_MOST];
+    uint8_t block[BRINECANDLE_BLOCK];
+    struct brinecandle_presence presence = panel.presence;
+    struct brinecandle_session session = own()->session;
+    struct brinecandle_frame frame = brinecandle_read(with.frame, with.frame_length);
+    bool is_fetching = frame.answer == BRINECANDLE_OK && frame.ins == BRINECANDLE_GET_RESPONSE;
+    struct brinecandle_buffers to = {is_fetching ? reply() : body, room, scratch, out_room};
+    struct brinecandle_decision said = brinecandle_decide_lent(side, &presence, &session, with, to, block);
+    return (struct brinecandle_tried){said.answer, said.fault, said.taken, said.place};
+}
+
+static struct brinecandle_tried tried_by_wrapper(struct brinecandle_lent with, uint8_t *scratch)
+{
+    struct brinecandle_panel same = panel;
+    for (size_t i = 0; i < BRINECANDLE_SIDES; i++)
+        same.transport[i].buffers.part = scratch;
+    return brinecandle_panel_try(&same, side, with);
+}
+
 static bool call_try(char **word)
 {
     static uint8_t scratch[ROOM_MOST];
     struct brinecandle_lent with;
     if (!lent(word, &with))
         return false;
-    with.part = scratch;
-    struct brinecandle_decided decided = brinecandle_panel_try(&panel, side, with);
-    if (decided.answer == BRINECANDLE_PART) {
+    struct brinecandle_tried tried = is_wrapped ? tried_by_wrapper(with, scratch) : tried_by_core(with, scratch);
+    if (tried.answer == BRINECANDLE_PART) {
         put_text("part");
         return true;
     }
-    if (decided.answer != BRINECANDLE_ORDER) {
-        put_status(decided.answer, decided.fault, decided.place);
+    if (tried.answer != BRINECANDLE_ORDER) {
+        put_status(tried.answer, tried.fault, tried.place);
         return true;
     }
     put_text("order");
-    then_number(decided.taken);
+    then_number(tried.taken);
     return true;
+}
+
+/* The core's finishing; an order that is answered is over. */
+static struct brinecandle_outcome finished_by_core(struct brinecandle_signed with)
+{
+    struct brinecandle_wrote said = brinecandle_finish_signed(panel.order, panel.block, with, own()->buffers);
+    if (!brinecandle_is_refusal(said.answer))
+        panel.order = (struct brinecandle_order){BRINECANDLE_NO_KIND, 0, 0};
+    return (struct brinecandle_outcome){.answer = said.answer, .length = said.length, .side = side};
 }
 
 static bool call_finish(char **word)
 {
     struct bytes certificate, signature;
-    uint32_t is_signed;
-    if (!bytes(word[0], &certificate) || !number32(word[1], &is_signed) || !bytes(word[2], &signature))
+    enum brinecandle_yes is_signed;
+    if (!bytes(word[0], &certificate) || !yes(word[1], &is_signed) || !bytes(word[2], &signature))
         return false;
-    struct brinecandle_wrote wrote = brinecandle_panel_finish(&panel, (struct brinecandle_signed){
+    struct brinecandle_signed with = {
         .certificate = certificate.at,
         .certificate_length = certificate.length,
         .is_signed = is_signed,
         .signature = signature.at,
         .signature_length = signature.length,
-        .reply = reply,
-        .reply_length = room,
-    });
-    put_wrote(wrote.answer, wrote.length);
+    };
+    struct brinecandle_outcome said = is_wrapped ? brinecandle_panel_finish(&panel, side, with) : finished_by_core(with);
+    put_wrote(said.answer, said.length);
     return true;
 }
 
@@ -596,7 +675,7 @@ static bool call_resume(char **word)
 {
     struct brinecandle_presence kept;
     if (!number(word[0], UINT64_MAX, &kept.w) || !window(word[1], &kept.prompt) || !window(word[2], &kept.touch)
-        || !number(word[3], UINT64_MAX, &kept.last) || !number32(word[4], &kept.asker))
+        || !number(word[3], UINT64_MAX, &kept.last) || !number(word[4], UINT64_MAX, &kept.asker))
         return false;
     panel.presence = kept;
     put_text("ok");
@@ -611,7 +690,8 @@ static bool call_hold(char **word)
     if (!number32(word[0], &kind) || !number(word[1], UINT64_MAX, &to_sign)
         || !number(word[2], UINT64_MAX, &certificate_length) || !bytes(word[3], &bits) || bits.length != BRINECANDLE_BLOCK)
         return false;
-    panel.order = (struct brinecandle_order){kind, (size_t)to_sign, (size_t)certificate_length};
+    panel.order = (struct brinecandle_order){(enum brinecandle_kind)kind, (size_t)to_sign, (size_t)certificate_length};
+    panel.order_side = side;
     for (size_t i = 0; i < BRINECANDLE_BLOCK; i++)
         panel.block[i] = bits.at[i];
     put_text("ok");
@@ -624,7 +704,7 @@ static bool call_fill(char **word)
     if (!byte(word[0], &b))
         return false;
     for (size_t i = 0; i < ROOM_MOST; i++)
-        reply[i] = b;
+        reply()[i] = b;
     put_text("ok");
     return true;
 }
@@ -633,7 +713,7 @@ static bool call_reply(char **word)
 {
     (void)word;
     put_text("ok");
-    then_bytes(reply, room);
+    then_bytes(reply(), room);
     return true;
 }
 
@@ -678,6 +758,7 @@ static bool call_outroom(char **word)
     if (!number(word[0], ROOM_MOST, &n))
         return false;
     out_room = (size_t)n;
+    lend_buffers();
     put_text("ok");
     return true;
 }
@@ -707,7 +788,7 @@ static bool call_ramp(char **word)
     if (!byte(word[0], &b))
         return false;
     for (size_t i = 0; i < ROOM_MOST; i++)
-        reply[i] = (uint8_t)((b + i) % 251);
+        reply()[i] = (uint8_t)((b + i) % 251);
     put_text("ok");
     return true;
 }
@@ -715,8 +796,8 @@ static bool call_ramp(char **word)
 static bool call_remainder(char **word)
 {
     (void)word;
-    put_number(panel.remainder.place);
-    then_number(panel.remainder.count);
+    put_number(own()->session.place);
+    then_number(own()->session.count);
     return true;
 }
 
@@ -725,7 +806,8 @@ static bool call_remain(char **word)
     uint64_t place, count;
     if (!number(word[0], UINT64_MAX, &place) || !number(word[1], UINT64_MAX, &count))
         return false;
-    panel.remainder = (struct brinecandle_remainder){(size_t)place, (size_t)count};
+    own()->session.place = place;
+    own()->session.count = count;
     put_text("ok");
     return true;
 }
@@ -733,16 +815,28 @@ static bool call_remain(char **word)
 static bool call_limit(char **word)
 {
     (void)word;
-    put_number(panel.limit);
+    put_number(own()->session.limit);
     return true;
 }
 
 /* A response at the front of the buffer for part and status. */
-static void put_response(uint16_t answer, size_t length)
+static void put_response(enum brinecandle_answer answer, size_t length)
 {
     put_answer(answer);
     if (answer == BRINECANDLE_OK)
         then_bytes(out, length);
+}
+
+/* The next part of a session with these numbers, by the core: place and count are kept. */
+static struct brinecandle_wrote next_by_core(uint64_t place, uint64_t count, uint64_t limit)
+{
+    struct brinecandle_session session = {place, count, limit};
+    struct brinecandle_wrote wrote = brinecandle_next_part(&session, reply(), room, out, out_room);
+    if (wrote.answer == BRINECANDLE_OK) {
+        own()->session.place = session.place;
+        own()->session.count = session.count;
+    }
+    return wrote;
 }
 
 static bool call_cut(char **word)
@@ -750,26 +844,33 @@ static bool call_cut(char **word)
     uint64_t n;
     if (!number(word[0], UINT64_MAX, &n))
         return false;
-    struct brinecandle_wrote wrote = brinecandle_panel_respond(&panel, (struct brinecandle_answered){
-        .answer = BRINECANDLE_OK,
-        .length = (size_t)n,
-        .reply = reply,
-        .reply_length = room,
-        .part = out,
-        .part_length = out_room,
-    });
+    struct brinecandle_outcome body = {.answer = BRINECANDLE_OK, .length = (size_t)n, .side = side};
+    struct brinecandle_wrote wrote =
+        is_wrapped ? brinecandle_panel_respond(&panel, body) : next_by_core(0, n, own()->session.limit);
     put_response(wrote.answer, wrote.length);
     return true;
 }
 
 static bool call_next(char **word)
 {
-    uint32_t limit;
-    if (!number32(word[0], &limit))
+    uint64_t limit;
+    if (!number(word[0], UINT64_MAX, &limit))
         return false;
-    struct brinecandle_part part = brinecandle_next_part(reply, room, panel.remainder, limit, out, out_room);
-    panel.remainder = part.remainder;
-    put_response(part.answer, part.length);
+    struct brinecandle_wrote wrote = next_by_core(own()->session.place, own()->session.count, limit);
+    put_response(wrote.answer, wrote.length);
+    return true;
+}
+
+static bool call_space(char **word)
+{
+    uint64_t longest;
+    struct bytes frame;
+    if (!number(word[0], SIZE_MAX, &longest) || !bytes(word[1], &frame))
+        return false;
+    struct brinecandle_room said = brinecandle_response_room(frame.at, frame.length, (size_t)longest);
+    put_answer(said.answer);
+    if (said.answer == BRINECANDLE_OK)
+        then_number(said.length);
     return true;
 }
 
@@ -815,6 +916,7 @@ static const struct call {
     {"remain", 2, call_remain},   {"limit", 0, call_limit},    {"cut", 1, call_cut},       {"next", 1, call_next},
     {"respond", 2, call_respond}, {"response", 1, call_response}, {"writestrict", 7, call_writestrict},
     {"table", 1, call_table},     {"tablestrict", 1, call_tablestrict}, {"side", 1, call_side}, {"help", 0, call_help},
+    {"space", 2, call_space},     {"wrapper", 1, call_wrapper},
 };
 
 static bool call_help(char **word)
@@ -865,6 +967,7 @@ static void answer_line(char *line)
 int main(void)
 {
     static char line[LINE_MOST];
+    lend_buffers();
     for (;;) {
         size_t length = 0;
         bool has_nul = false;

@@ -1,17 +1,22 @@
 /* Brinecandle: the proved U2F core of a sign-in panel, for C.
  *
  * Link target/staticlib/libpanel.a (x86-64; it needs memcpy and memset, no heap, no other library). brinecandle_panel.h has a
- * thin wrapper that keeps record, order and remainder; docs/FIRMWARE.md says what a firmware does with all this, step by step.
+ * thin wrapper, tried and not proved, that keeps the order and a session for each side and asks for the response's room before a touch is
+ * spent; docs/FIRMWARE.md says what a firmware does with all this, step by step.
  *
  * Every function may be called with any numbers and any bytes. A pointer must point to as many bytes as the length after it
- * says or its array has, to be read (const) or written, and what is lent for writing must overlap nothing else that is lent.
- * With length 0 the pointer may be null. No call keeps a pointer, and none has a state of its own: the record, the orders and
- * what remains of a body are the caller's. A frame stays in the caller's buffer, and places in it are handed back: it must not change between its
- * reading and its decision, so copy it first out of a buffer that DMA or another core writes to.
+ * says or its array has, or to one struct, to be read (const) or written, and what is lent for writing must overlap nothing else that is
+ * lent; what is lent to be read may. With length 0 the pointer may be null. No call keeps a pointer, and none has a state of its own: the
+ * record, the sessions and the orders are the caller's. A frame stays in the caller's buffer, and places in it are handed back: it must
+ * not change between its reading and its decision, so copy it first out of a buffer that DMA or another core writes to.
+ *
+ * What the caller keeps between calls is lent and changed in place, so that there is nothing to take over:
+ *   the presence record   belongs to the pad: one, whatever the number of transports. Zeros are a closed record, R6
+ *   a session             belongs to a transport: one for each. Zeros are nothing to fetch
  *
  * Every call is pure: what it answers and writes depends on what it is lent and on nothing else. So a decision can be tried
- * beforehand, on the same record and with scratch for what it writes, to learn whether a touch will be found before a key is made
- * or stored: lend handle and certificate of the lengths that they will have. See brinecandle_decide, 'dry run'.
+ * beforehand, on copies of record and session and with scratch for what it writes, to learn whether a touch will be found before a key is
+ * made or stored: lend handle and certificate of the lengths that they will have. See brinecandle_decide, 'dry run'.
  *
  * An answer is one number:
  *   0             none: no call answers it, so memory of zeros is no answer
@@ -33,12 +38,14 @@
  * tell the host 0x6f00. What the host gets is a response, a body and the status word's two bytes, the high one first: see
  * 'responses'. A body goes there cut by what the frame takes; every other status goes out with no body.
  *
- * Whatever a function's own text does not name stays as it was: after R1 to R8 every buffer, the record and the remainder, after an
- * order or a status word other than 0x9000 every buffer but an order's block. The status 61 XX is no call's answer: it goes out with
+ * Whatever a function's own text does not name stays as it was: after R1 to R8 every buffer and every number of record and session, after
+ * an order or a status word other than 0x9000 every buffer but an order's block. The status 61 XX is no call's answer: it goes out with
  * its part, inside the response, and changes the buffer for part and status, never the uncut body. Numbers that an answer has no use
  * for are 0.
  *
- * Not told apart by the compiler: handle and certificate, x and y, two lengths, side and moment. Take the wrapper, where they have names; of a
+ * Answers, faults, commands, an Authenticate's P1, kinds of orders, and yes and no are enums of their own, each as wide as its number in
+ * the archive: gcc and clang tell where one is compared with another, or put in its place (-Wall -Wextra; C++ refuses the latter). Not told
+ * apart by the compiler: handle and certificate, x and y, two lengths, side and moment. Take the wrapper, where they have names; of a
  * decision and a finishing it also has the bare calls with names (brinecandle_decide_lent, brinecandle_finish_signed).
  */
 #ifndef BRINECANDLE_H
@@ -46,21 +53,40 @@
 
 /* docs/CHANGES.md says when these move */
 #define BRINECANDLE_VERSION_MAJOR 0
-#define BRINECANDLE_VERSION_MINOR 10
-#define BRINECANDLE_VERSION "0.10"
+#define BRINECANDLE_VERSION_MINOR 11
+#define BRINECANDLE_VERSION "0.11"
 
 #include <stdbool.h>
 #include <stddef.h>
 #include <stdint.h>
 
-#if !(SIZE_MAX == 0xffffffffffffffff)
-#error "brinecandle: the archive is for x86-64, where size_t has 8 bytes"
+#if !defined(__x86_64__) || defined(__ILP32__) || !defined(__ELF__)
+#error "brinecandle: the archive is for x86-64 with pointers of 8 bytes and ELF, and this machine is another"
 #endif
 
 #if defined(__GNUC__)
 #define BRINECANDLE_TAKE_IT __attribute__((warn_unused_result))
 #else
 #define BRINECANDLE_TAKE_IT
+#endif
+
+/* `retain` is for linkers that drop sections which nothing refers to */
+#if defined(__has_attribute)
+#if __has_attribute(retain)
+#define BRINECANDLE_KEPT __attribute__((used, retain))
+#endif
+#endif
+#if !defined(BRINECANDLE_KEPT)
+#define BRINECANDLE_KEPT __attribute__((used))
+#endif
+
+/* numbers of one kind, as wide as in the archive */
+#if defined(__cplusplus) || (defined(__STDC_VERSION__) && 202311L <= __STDC_VERSION__)
+#define BRINECANDLE_NUMBERS(name, bits, mode_of_as_many) enum brinecandle_##name : uint##bits##_t
+#elif defined(__clang__)
+#define BRINECANDLE_NUMBERS(name, bits, mode_of_as_many) __extension__ enum brinecandle_##name : uint##bits##_t
+#else
+#define BRINECANDLE_NUMBERS(name, bits, mode_of_as_many) enum __attribute__((mode(mode_of_as_many))) brinecandle_##name
 #endif
 
 #if defined(__cplusplus)
@@ -70,12 +96,18 @@
 #endif
 #define BRINECANDLE_AT(name, field, offset) BRINECANDLE_IS(offsetof(struct brinecandle_##name, field) == offset)
 #define BRINECANDLE_SIZE(name, size) BRINECANDLE_IS(sizeof(struct brinecandle_##name) == size)
+#define BRINECANDLE_WIDTH(name, size) BRINECANDLE_IS(sizeof(enum brinecandle_##name) == size)
 
 #if defined(__cplusplus)
 extern "C" {
 #endif
 
-enum {
+/* An archive of another version has another symbol here: it does not link with this header. */
+extern const char brinecandle_is_0_11;
+static const char *const brinecandle_meets BRINECANDLE_KEPT = &brinecandle_is_0_11;
+
+BRINECANDLE_NUMBERS(answer, 16, HI) {
+    BRINECANDLE_NO_ANSWER = 0,
     BRINECANDLE_R1 = 1, /* the moment */
     BRINECANDLE_R2 = 2, /* the room */
     BRINECANDLE_R3 = 3, /* the signature */
@@ -95,23 +127,46 @@ enum {
     BRINECANDLE_INS_INVALID = 0x6d00,
     BRINECANDLE_CLA_INVALID = 0x6e00,
     BRINECANDLE_INTERNAL_EXCEPTION = 0x6f00,
-    BRINECANDLE_OK = 0x9000,
+    BRINECANDLE_OK = 0x9000
+};
 
-    BRINECANDLE_NO_FAULT = 0, /* fault: none. The next three: what is wrong with a 0x6700's length, see 'frames' */
+/* What is wrong with a 0x6700's length, see 'frames'. */
+BRINECANDLE_NUMBERS(fault, 16, HI) {
+    BRINECANDLE_NO_FAULT = 0,
     BRINECANDLE_MISSING = 1,
     BRINECANDLE_SURPLUS = 2,
-    BRINECANDLE_LC_AGAINST_INS = 3,
-    BRINECANDLE_U2F_REGISTER = 1, /* commands, as their INS */
+    BRINECANDLE_LC_AGAINST_INS = 3
+};
+
+/* Commands, as their INS. */
+BRINECANDLE_NUMBERS(instruction, 8, QI) {
+    BRINECANDLE_U2F_REGISTER = 1,
     BRINECANDLE_U2F_AUTHENTICATE = 2,
     BRINECANDLE_U2F_VERSION = 3,
-    BRINECANDLE_GET_RESPONSE = 0xc0,
-    BRINECANDLE_ENFORCE_UP_AND_SIGN = 3, /* an Authenticate's P1 */
+    BRINECANDLE_GET_RESPONSE = 0xc0
+};
+
+/* An Authenticate's P1. */
+BRINECANDLE_NUMBERS(flag, 8, QI) {
+    BRINECANDLE_ENFORCE_UP_AND_SIGN = 3,
     BRINECANDLE_CHECK_ONLY = 7,
-    BRINECANDLE_DONT_ENFORCE_UP_AND_SIGN = 8,
-    BRINECANDLE_NO_KIND = 0, /* kinds of orders, as their command's INS */
+    BRINECANDLE_DONT_ENFORCE_UP_AND_SIGN = 8
+};
+
+/* Kinds of orders, as their command's INS. */
+BRINECANDLE_NUMBERS(kind, 32, SI) {
+    BRINECANDLE_NO_KIND = 0,
     BRINECANDLE_KIND_REGISTER = 1,
-    BRINECANDLE_KIND_AUTHENTICATE = 2,
-    BRINECANDLE_YES = 1, /* of the hardware and the signer; any other number is not yes */
+    BRINECANDLE_KIND_AUTHENTICATE = 2
+};
+
+/* Answers of the hardware and the signer. Any number may be lent; what one that is neither comes to stands where it is lent. */
+BRINECANDLE_NUMBERS(yes, 32, SI) {
+    BRINECANDLE_NO = 0,
+    BRINECANDLE_YES = 1
+};
+
+enum {
     BRINECANDLE_NO_LIMIT = 0, /* a body goes out whole */
     BRINECANDLE_BLOCK = 385 /* bytes of an order's block */
 };
@@ -122,17 +177,18 @@ enum {
  *   BRINECANDLE_NO_FAULT         with every other answer, and never with 0x6700; place is 0
  *   BRINECANDLE_MISSING          the frame ends before its Lc field or its data does, a payload of `00 x` too; place is the frame's length
  *   BRINECANDLE_SURPLUS          there are bytes that no field can claim; place is the first of them: 6 + Lc after a short Lc, 9 + Lc after
- *                                an extended one. One byte alone behind the data of an extended Lc is one too, at 7 + Lc: shape 6 took it for an
- *                                Le, and is retired. In the strict reading every byte behind an extended Lc of 0 is one, from 7 on
+ *                                an extended one. One byte alone behind the data of an extended Lc is one too, at 7 + Lc: shape 6 took it
+ *                                for an Le, and is retired. In the strict reading every byte behind an extended Lc of 0 is one, from 7 on
  *   BRINECANDLE_LC_AGAINST_INS   the frame is read, but this command does not have such an Lc: another than 64 for Register, than 0 for
- *                                Version and GET RESPONSE; for Authenticate under 65, or another than 65 and the handle's length. place is 4, where the
- *                                Lc field stands or would stand: in shapes 1, 2 and 8 there is none, and the 4 bytes of shape 1 end there
+ *                                Version and GET RESPONSE; for Authenticate under 65, or another than 65 and the handle's length. place
+ *                                is 4, where the Lc field stands or would stand: in shapes 1, 2 and 8 there is none, and the 4 bytes of
+ *                                shape 1 end there
  * So a place need not lie inside the frame. A reading never says the last kind, a command and a decision say all three. */
 
 /* What a frame says. `shape` is 1 to 5, 7 or 8; an absent Le is 0; the data is frame[start] up to and without frame[end]. */
 struct brinecandle_frame {
-    uint16_t answer; /* 0x9000; 0x6a80 under 4 bytes; 0x6700 in no shape */
-    uint16_t fault;  /* with 0x6700 what is wrong, as above; else 0 */
+    enum brinecandle_answer answer; /* 0x9000; 0x6a80 under 4 bytes; 0x6700 in no shape */
+    enum brinecandle_fault fault;   /* with 0x6700 what is wrong, as above; else 0 */
     uint8_t cla;
     uint8_t ins;
     uint8_t p1;
@@ -166,7 +222,7 @@ struct brinecandle_frame brinecandle_read_strict_by_table(const uint8_t *frame, 
 
 /* How many bytes were written at the front of a buffer. */
 struct brinecandle_wrote {
-    uint16_t answer;
+    enum brinecandle_answer answer;
     size_t length;
 };
 
@@ -187,10 +243,10 @@ struct brinecandle_wrote brinecandle_write_strict(uint8_t cla, uint8_t ins, uint
  * the application 32 bytes from frame[application], both 0 for Version and GET RESPONSE. Authenticate alone has p1 (3, 7 or 8) and a
  * key handle, frame[handle] up to and without frame[handle_end]; otherwise these are 0. */
 struct brinecandle_command {
-    uint16_t answer; /* 0x9000, or the frame's status: 0x6a80, 0x6700, 0x6e00, 0x6d00, 0x6a86 */
-    uint16_t fault;  /* with 0x6700 what is wrong; else 0 */
-    uint8_t command;
-    uint8_t p1;
+    enum brinecandle_answer answer; /* 0x9000, or the frame's status: 0x6a80, 0x6700, 0x6e00, 0x6d00, 0x6a86 */
+    enum brinecandle_fault fault;   /* with 0x6700 what is wrong; else 0 */
+    enum brinecandle_instruction command;
+    enum brinecandle_flag p1;
     size_t challenge;
     size_t application;
     size_t handle;
@@ -210,76 +266,77 @@ struct brinecandle_command brinecandle_read_command(const uint8_t *frame, size_t
  * Two sides may share the pad, as USB and wireless do, and a touch that the one asked for does not serve the other. So every decision and
  * every check names the side that it comes from, 0 or 1. Which of the two is which is the firmware's to say, once and for all; with one
  * transport name 0 throughout. A touch and an ask name none. Every other number is R8, named or in the record, after R6 and before R1. A
- * side has 32 bits for that: 256, or -1, is not cut down to one of the two on its way.
+ * side has 64 bits, and all of them are looked at: 256, 2^32 or -1 is not cut down to one of the two on its way.
  *   the asker         the side of the latest 0x6985 or check that opened a prompt, in place of any earlier; 0 in a fresh record
  *   a touch           is accepted for the asker, and is its own: it serves that side and no other
  *   the other side    gets 0x6985 while the touch is live, or `no` at a check. Nothing is opened or spent and the asker stays: only the
  *                     last moment moves. Once the touch is spent or has lapsed it opens a prompt like any other, and is the asker then */
 
 /* The presence record: touch window W, the prompt and the touch window, the last moment, the asker's side. A window is 0 where it is
- * closed, and otherwise the moment at which it was opened and one more: a record of zeros with w set is a fresh one. */
+ * closed, and otherwise the moment at which it was opened and one more: a record of zeros with w set is a fresh one. Every number that a
+ * record can hold has its meaning here: none is undetermined. */
 struct brinecandle_presence {
     uint64_t w;
     uint64_t prompt;
     uint64_t touch;
     uint64_t last;
-    uint32_t asker; /* 0 or 1: the prompt is for this side, and the touch is its own */
+    uint64_t asker; /* 0 or 1: the prompt is for this side, and the touch is its own */
 };
 
-struct brinecandle_made {
-    uint16_t answer; /* 0x9000, R6 */
-    struct brinecandle_presence presence;
-};
+/* A fresh record with the touch window `w`, both windows closed, last moment 0, asker 0, and 0x9000; R6 leaves the numbers as they were. */
+enum brinecandle_answer brinecandle_new(struct brinecandle_presence *presence, uint64_t w);
 
-/* A fresh record with the touch window `w`, both windows closed, last moment 0, asker 0; after R6 five zeros, which every call
- * answers with R6. */
-BRINECANDLE_TAKE_IT
-struct brinecandle_made brinecandle_new(uint64_t w);
-
-/* `presence` is the record to go on with; after a refusal it is the one that came in. Take it over from every call: a touch
- * serves again in a record that was spent and not taken over. */
-struct brinecandle_touch {
-    uint16_t answer; /* 0x9000, R6, R8, R1 */
+struct brinecandle_asked {
+    enum brinecandle_answer answer; /* 0x9000, R6, R8, R1 */
     bool yes;
-    struct brinecandle_presence presence;
 };
 
 /* A finger touches at t: `yes` where it is accepted, that is where a prompt is live. It is the asker's then. R8 is for the record's
  * asker alone. */
-BRINECANDLE_TAKE_IT
-struct brinecandle_touch brinecandle_grant_up(struct brinecandle_presence presence, uint64_t t);
+struct brinecandle_asked brinecandle_grant_up(struct brinecandle_presence *presence, uint64_t t);
 
 /* The touch check at t, for the side that checks: `yes` where there was a live touch of its own, which is spent now. At a live touch of
  * the other side `no`, and the touch stays; with no live touch `no`, and a prompt opens for the side that checks. */
 BRINECANDLE_TAKE_IT
-struct brinecandle_touch brinecandle_consume_up(struct brinecandle_presence presence, uint32_t side, uint64_t t);
-
-struct brinecandle_asked {
-    uint16_t answer; /* 0x9000, R6, R8, R1 */
-    bool yes;
-};
+struct brinecandle_asked brinecandle_consume_up(struct brinecandle_presence *presence, uint64_t side, uint64_t t);
 
 /* `yes` where a prompt is live at t: the panel's light should blink, for the asker. It changes nothing, not even the last moment. R8 is
  * for the record's asker alone. */
 BRINECANDLE_TAKE_IT
-struct brinecandle_asked brinecandle_is_up_needed(struct brinecandle_presence presence, uint64_t t);
+struct brinecandle_asked brinecandle_is_up_needed(const struct brinecandle_presence *presence, uint64_t t);
 
 /* ---- responses. What a host gets is a body, which may be empty, and two status bytes. A frame in shape 1 to 4 takes no more body at a
  * time than its Le, and 256 bytes where it has none; in shapes 5, 7 and 8 it takes all. That number is the frame's limit: 1 to 256, or 0 for
- * none. brinecandle_decide hands it out, since a body may be made only after it, by brinecandle_finish.
+ * none. brinecandle_decide leaves it in the session, since a body may be made only after it, by brinecandle_finish.
  *
- * So a body goes out in parts. The first is made by brinecandle_next_part from (0, n), n being the body's length; each GET RESPONSE
+ * So a body goes out in parts. The first is made by brinecandle_next_part from {0, n, limit}, n being the body's length; each GET RESPONSE
  * that the host sends then gets the next one, by brinecandle_decide, out of the same bytes: they must stay as they are, and where they
  * are, until nothing remains. A part's status is 0x9000 where nothing is left after it, and else 0x61 and how many bytes are left, 00
  * for 256 and more. Every other status goes out by brinecandle_write_response, not as a first part. */
 
-/* What of a body was not yet sent: from which place on, and how many bytes. Nothing where `count` is 0: a GET RESPONSE then gets
- * 0x6985 whatever `place` is, and zeros say so best. It belongs to no side: it is lent, and a GET RESPONSE of either side fetches from the
- * one that it is lent. Firmware with USB and wireless holds one for each, with a body for each, and lends a frame its own side's. */
-struct brinecandle_remainder {
-    size_t place;
-    size_t count;
+/* A transport's session: what of a body was not yet sent, from which place on and how many bytes, and the limit of the latest frame.
+ * Nothing remains where `count` is 0: a GET RESPONSE then gets 0x6985 whatever `place` is, and zeros say so best. It belongs to no side: it
+ * is lent, and a GET RESPONSE of either side fetches from the one that it is lent. Firmware with USB and wireless holds one for each, with
+ * a body for each, and lends a frame its own side's; the wrapper does. */
+struct brinecandle_session {
+    uint64_t place;
+    uint64_t count;
+    uint64_t limit;
 };
+
+/* How many bytes a response can take. */
+struct brinecandle_room {
+    enum brinecandle_answer answer; /* 0x9000, R2 */
+    size_t length;
+};
+
+/* How many bytes a response to this frame can take, where no body to it is longer than `longest`: in shapes 1 to 4 the smaller of its
+ * limit and `longest`, and two; in shapes 5, 7 and 8 `longest` and two; of bytes in no shape two. R2 where no size_t can say it. With a
+ * buffer for part and status of that length no first part of a body of at most `longest` bytes is refused; with one byte less that of a body
+ * of `longest` bytes is. Ask before you decide, since after the decision the touch is spent: `longest` is 139 and the lengths of handle and
+ * certificate for Register, 77 for Authenticate, 6 for Version, the session's count for GET RESPONSE, 0 for every other frame. */
+BRINECANDLE_TAKE_IT
+struct brinecandle_room brinecandle_response_room(const uint8_t *frame, size_t frame_length, size_t longest);
 
 /* Writes body and status at the front of `out` and leaves the rest of it: 0x9000 and the response's length, two more than the body's.
  * R2 where `out` is shorter than that. The status may be any number. */
@@ -289,7 +346,7 @@ struct brinecandle_wrote brinecandle_write_response(const uint8_t *body, size_t 
 
 /* A response that was read: its body is the first `length` bytes of it. */
 struct brinecandle_response {
-    uint16_t answer; /* 0x9000; R2 under two bytes */
+    enum brinecandle_answer answer; /* 0x9000; R2 under two bytes */
     uint16_t status;
     size_t length;
 };
@@ -298,39 +355,31 @@ struct brinecandle_response {
 BRINECANDLE_TAKE_IT
 struct brinecandle_response brinecandle_read_response(const uint8_t *response, size_t response_length);
 
-/* A part: `length` bytes at the front of the buffer are its response. `remainder` is what remains after it; after R2 what came in. */
-struct brinecandle_part {
-    uint16_t answer; /* 0x9000, R2 */
-    size_t length;
-    struct brinecandle_remainder remainder;
-};
-
-/* Writes the next part of what remains of a body, and its status, at the front of `part`; the rest of it is left, and the body is only
- * read. With (0, n) it is the first part, and what it hands back takes the place of any older remainder. The part has `limit` bytes, or
- * all that remain where these are fewer or `limit` is 0; a limit above 256, which no frame has, is taken as it stands. R2 where the
- * lent body ends before the remainder does, then R2 where `part` is shorter than the part and two bytes. Of nothing the next part is
- * empty, with 0x9000; its place is looked at all the same, and one behind the body's end is R2. */
+/* Writes the next part of what remains of a body, and its status, at the front of `part`: 0x9000 and the length of this response; the rest
+ * of `part` is left, and the body is only read. Of the session place and count go on, and the limit stays. With {0, n, limit} it is the first
+ * part. It has `limit` bytes, or all that remain where these are fewer or `limit` is 0; a limit above 256, which no frame has, is taken as it
+ * stands. R2 where the lent body ends before the remainder does, then R2 where `part` is shorter than the part and two bytes. Of nothing the
+ * next part is empty, with 0x9000; its place is looked at all the same, and one behind the body's end is R2. */
 BRINECANDLE_TAKE_IT
-struct brinecandle_part brinecandle_next_part(const uint8_t *body, size_t body_length,
-                                              struct brinecandle_remainder remainder, uint32_t limit,
-                                              uint8_t *part, size_t part_length);
+struct brinecandle_wrote brinecandle_next_part(struct brinecandle_session *session, const uint8_t *body, size_t body_length,
+                                               uint8_t *part, size_t part_length);
 
 /* ---- decision and finishing */
 
 /* The hardware's answers. One that a command does not need is not looked at. */
 struct brinecandle_hardware {
-    uint32_t allowed;     /* CTAP1: 0 not allowed, 1 allowed, other: could not be found out */
-    uint32_t attestation; /* 0 missing, 1 present, other: failed */
-    uint32_t stored;      /* 1: the new handle was stored; other: it was not */
-    uint32_t good;        /* 1: the given handle is one of ours, and for this application; other: it is not */
-    uint32_t counted;     /* 1: the counter could be read; other: it failed */
+    enum brinecandle_yes allowed;     /* CTAP1: 0 not allowed, 1 allowed, other: could not be found out */
+    enum brinecandle_yes attestation; /* 0 missing, 1 present, other: failed */
+    enum brinecandle_yes stored;      /* 1: the new handle was stored; other: it was not */
+    enum brinecandle_yes good;        /* 1: the given handle is one of ours, and for this application; other: it is not */
+    enum brinecandle_yes counted;     /* 1: the counter could be read; other: it failed */
     uint32_t counter;
 };
 
 /* An order to sign: the first to_sign bytes of the block beside it. The signature is ECDSA over P-256 of their SHA-256, in DER,
  * with the attestation key for a Register, and with the key that the frame's handle stands for for an Authenticate. */
 struct brinecandle_order {
-    uint32_t kind; /* 1 Register, 2 Authenticate; 0 where there is no order */
+    enum brinecandle_kind kind; /* 1 Register, 2 Authenticate; 0 where there is no order */
     size_t to_sign;
     size_t certificate_length; /* 0 for Authenticate */
 };
@@ -338,26 +387,25 @@ struct brinecandle_order {
 /* `taken` asks of the firmware: write down that this number of the counter is used up, before anything is signed and whatever
  * becomes of the order, so that it is never offered again. */
 struct brinecandle_decision {
-    uint16_t answer; /* 0x0100 order; 0x0200 part; 0x9000 Version's body; R6, R8, R1, R2; status word */
-    uint16_t fault;  /* with 0x6700 what brinecandle_read_command says of this frame; else 0 */
-    bool taken;      /* the offered counter stands in the order */
-    size_t length;   /* of the body; with 0x0200 of the part's response */
+    enum brinecandle_answer answer; /* 0x0100 order; 0x0200 part; 0x9000 Version's body; R6, R8, R1, R2; status word */
+    enum brinecandle_fault fault;   /* with 0x6700 what brinecandle_read_command says of this frame; else 0 */
+    bool taken;                     /* the offered counter stands in the order */
+    size_t length;                  /* of the body; with 0x0200 of the part's response */
     struct brinecandle_order order;
-    struct brinecandle_presence presence;   /* the record to go on with, as above */
-    size_t place;                           /* of the fault; else 0 */
-    struct brinecandle_remainder remainder; /* to go on with: take it over from every decision, too */
-    uint32_t limit;                         /* the frame's, whatever the answer is; 0 for bytes in no shape */
+    size_t place; /* of the fault; else 0 */
 };
 
 /* Decides what a frame that came from `side` is answered at moment t. Where no check before it answers, a Register and an Authenticate
  * with P1 03 come to the touch check for that side, as brinecandle_consume_up has it: 0x6985 for its `no`. R8 is asked at every frame,
- * Version, check only and GET RESPONSE too.
+ * Version, check only and GET RESPONSE too. Every answer but a refusal moves the record's last moment to t.
  *
  * `handle` and `certificate` are the new handle and the attestation certificate that a Register would use, x and y its public key. `block`
  * is written, all of it, where the answer is BRINECANDLE_ORDER, and stays as it was otherwise. With 0x9000 the body is at the front of
  * `reply` and the rest of it is left.
  * R2 where `reply` is too short for the longest reply to this command: 6 for Version, 139 and the lengths of handle and
- * certificate for Register, 77 for Authenticate. It comes before a touch is spent or the counter is taken.
+ * certificate for Register, 77 for Authenticate. It comes before a touch is spent or the counter is taken. Whether `part` can carry the
+ * response is not looked at here but for a GET RESPONSE: ask brinecandle_response_room first, or the touch is spent on a response that
+ * does not fit.
  *
  * `reply` is the buffer of uncut bodies: a Version writes it, brinecandle_finish writes it, and a GET RESPONSE reads it, all of its
  * reply_length bytes being the lent body. `part` is the buffer for part and status: a GET RESPONSE alone writes it, and with
@@ -367,25 +415,25 @@ struct brinecandle_decision {
  *
  * GET RESPONSE is a decision like any other: R6, R8, R1, `allowed` and the frame's shape come first, and it moves the last moment. Then
  * 0x6e00 for CLA, 0x6a86 for P1 or P2 not 0, 0x6700 for Lc not 0, 0x6985 where nothing remains, which opens no prompt, and R2 as
- * brinecandle_next_part has it. What it gets is the next part of `remainder` at the limit of its own frame.
+ * brinecandle_next_part has it. What it gets is the next part of the session's remainder, at the limit of its own frame.
  *
- * The remainder handed back is the one that came in after R6, R8, R1 and R2 to any frame, and after a status word to a GET RESPONSE in any
- * shape; after a part it is what that left. Any other frame, in a shape with another INS or in no shape, leaves nothing, (0, 0),
- * whatever status word, body or order it is answered with. Touches, checks and finishing have nothing to do with it.
+ * The session's place and count are kept after R6, R8, R1 and R2 to any frame, and after a status word to a GET RESPONSE in any shape; after
+ * a part they are what that left. Any other frame, in a shape with another INS or in no shape, leaves nothing, 0 and 0, whatever status
+ * word, body or order it is answered with. The limit is the frame's after every answer but a refusal, 0 for bytes in no shape. Touches,
+ * checks and finishing have nothing to do with the session.
  *
- * Whether there is an order depends on the handle and the certificate by their lengths alone. So for a dry run lend any bytes in
- * their place, `stored` 1, and scratch as block and part; as reply too, as long as the real one, where the frame is no GET RESPONSE, which
- * reads it. Where the answer is an order, throw the result away, record and remainder with it, make and store the key, and decide again
- * on the old record at the same moment. Where it is 0x9000 or a part, it stands in scratch: decide again on the buffers themselves. Any
- * other answer is the answer: take over its record and remainder. */
+ * Whether there is an order depends on the handle and the certificate by their lengths alone. So for a dry run lend copies of record and
+ * session, any bytes in the place of handle and certificate, `stored` 1, and scratch as block and part; as reply too, as long as the real
+ * one, where the frame is no GET RESPONSE, which reads it. Where the answer is an order, throw the copies away, make and store the key, and
+ * decide on record and session themselves, at the same moment. Where it is 0x9000 or a part, it stands in scratch: decide on the buffers
+ * themselves. Any other answer is the answer, and the copies are the record and session to go on with. */
 BRINECANDLE_TAKE_IT
-struct brinecandle_decision brinecandle_decide(const uint8_t *frame, size_t frame_length, uint32_t side, uint64_t t,
-                                               struct brinecandle_presence presence,
-                                               struct brinecandle_hardware hardware,
+struct brinecandle_decision brinecandle_decide(struct brinecandle_presence *presence, struct brinecandle_session *session,
+                                               const uint8_t *frame, size_t frame_length, uint64_t side, uint64_t t,
+                                               const struct brinecandle_hardware *hardware,
                                                const uint8_t *handle, size_t handle_length,
                                                const uint8_t *certificate, size_t certificate_length,
                                                const uint8_t x[32], const uint8_t y[32],
-                                               struct brinecandle_remainder remainder,
                                                uint8_t *reply, size_t reply_length,
                                                uint8_t block[385],
                                                uint8_t *part, size_t part_length);
@@ -399,12 +447,19 @@ struct brinecandle_decision brinecandle_decide(const uint8_t *frame, size_t fram
 BRINECANDLE_TAKE_IT
 struct brinecandle_wrote brinecandle_finish(struct brinecandle_order order, const uint8_t block[385],
                                             const uint8_t *certificate, size_t certificate_length,
-                                            uint32_t is_signed,
+                                            enum brinecandle_yes is_signed,
                                             const uint8_t *signature, size_t signature_length,
                                             uint8_t *reply, size_t reply_length);
 
-/* ---- every struct is laid out as in the archive */
+/* ---- every number is as wide as in the archive, and every struct laid out as there; record, session and hardware's answers are as many
+ * numbers of 64 and 32 bits in a row */
 
+BRINECANDLE_WIDTH(answer, 2);
+BRINECANDLE_WIDTH(fault, 2);
+BRINECANDLE_WIDTH(instruction, 1);
+BRINECANDLE_WIDTH(flag, 1);
+BRINECANDLE_WIDTH(kind, 4);
+BRINECANDLE_WIDTH(yes, 4);
 BRINECANDLE_AT(frame, answer, 0);
 BRINECANDLE_AT(frame, fault, 2);
 BRINECANDLE_AT(frame, cla, 4);
@@ -437,27 +492,20 @@ BRINECANDLE_AT(presence, touch, 16);
 BRINECANDLE_AT(presence, last, 24);
 BRINECANDLE_AT(presence, asker, 32);
 BRINECANDLE_SIZE(presence, 40);
-BRINECANDLE_AT(made, answer, 0);
-BRINECANDLE_AT(made, presence, 8);
-BRINECANDLE_SIZE(made, 48);
-BRINECANDLE_AT(touch, answer, 0);
-BRINECANDLE_AT(touch, yes, 2);
-BRINECANDLE_AT(touch, presence, 8);
-BRINECANDLE_SIZE(touch, 48);
 BRINECANDLE_AT(asked, answer, 0);
 BRINECANDLE_AT(asked, yes, 2);
 BRINECANDLE_SIZE(asked, 4);
-BRINECANDLE_AT(remainder, place, 0);
-BRINECANDLE_AT(remainder, count, 8);
-BRINECANDLE_SIZE(remainder, 16);
+BRINECANDLE_AT(session, place, 0);
+BRINECANDLE_AT(session, count, 8);
+BRINECANDLE_AT(session, limit, 16);
+BRINECANDLE_SIZE(session, 24);
+BRINECANDLE_AT(room, answer, 0);
+BRINECANDLE_AT(room, length, 8);
+BRINECANDLE_SIZE(room, 16);
 BRINECANDLE_AT(response, answer, 0);
 BRINECANDLE_AT(response, status, 2);
 BRINECANDLE_AT(response, length, 8);
 BRINECANDLE_SIZE(response, 16);
-BRINECANDLE_AT(part, answer, 0);
-BRINECANDLE_AT(part, length, 8);
-BRINECANDLE_AT(part, remainder, 16);
-BRINECANDLE_SIZE(part, 32);
 BRINECANDLE_AT(hardware, allowed, 0);
 BRINECANDLE_AT(hardware, attestation, 4);
 BRINECANDLE_AT(hardware, stored, 8);
@@ -474,11 +522,8 @@ BRINECANDLE_AT(decision, fault, 2);
 BRINECANDLE_AT(decision, taken, 4);
 BRINECANDLE_AT(decision, length, 8);
 BRINECANDLE_AT(decision, order, 16);
-BRINECANDLE_AT(decision, presence, 40);
-BRINECANDLE_AT(decision, place, 80);
-BRINECANDLE_AT(decision, remainder, 88);
-BRINECANDLE_AT(decision, limit, 104);
-BRINECANDLE_SIZE(decision, 112);
+BRINECANDLE_AT(decision, place, 40);
+BRINECANDLE_SIZE(decision, 48);
 
 #if defined(__cplusplus)
 }
