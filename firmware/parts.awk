@@ -185,7 +185,7 @@ BEGIN {
     ask("decide 0 1 " frame("c0", ABSENT) " - 0 - 0 " x " " y " 0 0 0", "R1")
     ask("decide 0 1 " frame("03", 7) " - 0 - 0 " x " " y " 0 0 0", "R1")
     # E7's R8 is one of them, at C0 as at every frame
-    for (i = split("2 4294967295", no_side, " "); i > 0; i--) {
+    for (i = split("2 4294967295 4294967296 18446744073709551615", no_side, " "); i > 0; i--) {
         ask("side " no_side[i], "ok")
         decided(frame("c0", ABSENT), "R8")
         decided(frame("03", 7), "R8")
@@ -206,7 +206,7 @@ BEGIN {
     ask("finish - 1 30", "R7")
     kept()
     fetch(ABSENT)
-    # what remains belongs to no side: the other one, lent it, fetches the rest
+    # to the core what remains belongs to no side: the other one, lent it, fetches the rest. With the wrapper it does not: firmware/wrapper.awk
     ask("side 1", "ok")
     fetch(ABSENT)
     nothing_left()
@@ -322,7 +322,7 @@ BEGIN {
     ask("remain 0 600", "ok")
     ask("next 300", "9000 " bytes(0, 300) "6100")
     ask("next 299", "9000 " bytes(300, 299) "6101")
-    ask("next 4294967295", "9000 " bytes(599, 1) "9000")
+    ask("next 18446744073709551615", "9000 " bytes(599, 1) "9000")
     ask("remain 3 512", "ok")
     ask("next 256", "9000 " bytes(3, 256) "6100")
     ask("next 1", "9000 " bytes(259, 1) "61ff")

@@ -1,10 +1,10 @@
 /* A token as small as a microcontroller's: what it keeps is one struct of static memory, well under 4 KiB, and there is no heap. It
- * shares its core part with the panel on a pipe: include/brinecandle_panel.h keeps record, order, block and remainder for both.
+ * shares its core part with the panel on a pipe: include/brinecandle_panel.h keeps record, order and block, and a session for each side.
  *
  * Above the line `the board` stands what a firmware needs: the clock widened, the press handed in once, the dry run, the counter
- * written down before anything is signed, and what the host is told, in parts where its frame takes no more. USB and a wireless reader,
- * whose applet selection firmware/reader.h answers, share its button: each frame is decided on for the side that it came from, and each
- * side has a body of its own. Below it stands in for the hardware, over a pipe, so that it can be tried on any machine: for each message
+ * written down before anything is signed, and what the host is told, in parts where its frame takes no more, and 6f00 where a response has
+ * no room. USB and a wireless reader, whose applet selection firmware/reader.h answers, share its button: each frame is decided on for the
+ * side that it came from, and each side has a body of its own. Below it stands in for the hardware, over a pipe, so that it can be tried on any machine: for each message
  * it gets a tick, whether the button was pressed, and a frame with its side,
  *
  *   TICK (4, big-endian)  PRESSED (1)  SIDE (1: 0 USB, 1 wireless)  LENGTH (2, big-endian; 0: no frame)  FRAME
@@ -22,7 +22,12 @@
 #include "reader.h"
 
 /* The sides, by the numbers that the core has for them: what a driver hands in is its own side's. */
-enum { USB = 0, WIRELESS = 1, SIDES = 2 };
+enum { USB = 0, WIRELESS = 1 };
+
+/* What the reader's driver carries at a time: a short frame's 256 bytes and the status word. */
+#ifndef READER_CARRIES
+#define READER_CARRIES 258
+#endif
 
 enum {
     WINDOW = 5000,  /* a touch is good for so many milliseconds */
@@ -30,20 +35,21 @@ enum {
     HANDLE = 64,    /* our handles: the application, and what our key store wants to know */
     SIGNATURE = 72, /* DER over P-256 */
     CERTIFICATE = 24,
-    REPLY = 139 + HANDLE + CERTIFICATE
+    REPLY = 139 + HANDLE + CERTIFICATE,
+    PART = REPLY + 2 /* a frame may take the whole body, and its status word */
 };
 
 /* ---- what a board has */
 
 static uint32_t board_tick(void); /* milliseconds, of 32 bits: wraps after 49.7 days */
 static bool board_pressed(void);  /* a press, once */
-static void board_light(bool blinks, uint32_t side); /* for whom it blinks */
+static void board_light(bool blinks, uint64_t side); /* for whom it blinks */
 static void board_send(const uint8_t *bytes, size_t length);
 static bool board_goes_on(void);
 
 /* A frame as it came: its side, one of the two, and its length, which may be more than is received; 0: none. */
 struct received {
-    uint32_t side;
+    uint64_t side;
     size_t length;
 };
 
@@ -63,7 +69,7 @@ static bool board_is_ours(const uint8_t application[32], const uint8_t *handle, 
 
 /* What is signed, and with which key: for a Register the attestation key, for an Authenticate the one that the frame's handle stands for. */
 struct signing {
-    uint32_t kind;
+    enum brinecandle_kind kind;
     const uint8_t *handle;
     size_t handle_length;
     const uint8_t *bytes;
@@ -87,9 +93,8 @@ static struct {
     uint8_t frame[FRAME];
     struct new_key key;
     uint8_t signature[SIGNATURE];
-    uint8_t reply[SIDES][REPLY];                   /* bodies, uncut: one stays until all of it is fetched, and */
-    struct brinecandle_remainder remainder[SIDES]; /* what the other side does drops nothing of it */
-    uint8_t part[REPLY + 2];                       /* what goes out: a frame may take the whole body, and its status word */
+    uint8_t reply[BRINECANDLE_SIDES][REPLY]; /* bodies, uncut: one stays until all of it is fetched */
+    uint8_t part[PART];                      /* what goes out, to either side */
 } token;
 
 _Static_assert(sizeof token < 4096, "the token is meant to be small");
@@ -104,29 +109,19 @@ static uint64_t now(void)
     return token.turns + tick;
 }
 
-/* What a decision or a finishing came to, as the host of that side gets it. A refusal is not for the host. */
-static void tell(uint32_t side, uint16_t answer, size_t length)
+/* What a decision or a finishing came to, as the host of that side gets it. A refusal is not for the host, and what does not fit goes to
+ * nobody: it gets 6f00 then. */
+static void tell(struct brinecandle_outcome said)
 {
-    struct brinecandle_wrote wrote = brinecandle_panel_respond(&token.panel, (struct brinecandle_answered){
-        .answer = brinecandle_is_refusal(answer) ? BRINECANDLE_INTERNAL_EXCEPTION : answer,
-        .length = length,
-        .reply = token.reply[side],
-        .reply_length = REPLY,
-        .part = token.part,
-        .part_length = sizeof token.part,
-    });
-    board_send(token.part, wrote.length);
-}
-
-/* Nothing is left to fetch, though the core has not seen the frame. */
-static void drop_rest(void)
-{
-    struct brinecandle_remainder nothing = {0, 0};
-    token.panel.remainder = nothing;
+    struct brinecandle_wrote wrote = brinecandle_panel_respond(&token.panel, said);
+    if (wrote.answer != BRINECANDLE_OK)
+        wrote = brinecandle_panel_give_up(&token.panel, said.side);
+    if (wrote.answer == BRINECANDLE_OK)
+        board_send(token.part, wrote.length);
 }
 
 /* The frame still stands where it was decided on, and its handle with it. */
-static void sign_and_tell(uint32_t side, struct brinecandle_decided decided, struct brinecandle_command command, uint32_t counter)
+static void sign_and_tell(struct brinecandle_outcome decided, struct brinecandle_command command, uint32_t counter)
 {
     bool is_register = token.panel.order.kind == BRINECANDLE_KIND_REGISTER;
     size_t signed_length = 0;
@@ -139,16 +134,13 @@ static void sign_and_tell(uint32_t side, struct brinecandle_decided decided, str
             .bytes = token.panel.block,
             .length = token.panel.order.to_sign,
         }, token.signature);
-    struct brinecandle_wrote wrote = brinecandle_panel_finish(&token.panel, (struct brinecandle_signed){
+    tell(brinecandle_panel_finish(&token.panel, decided.side, (struct brinecandle_signed){
         .certificate = certificate,
         .certificate_length = is_register ? CERTIFICATE : 0,
-        .is_signed = signed_length ? BRINECANDLE_YES : 0,
+        .is_signed = signed_length ? BRINECANDLE_YES : BRINECANDLE_NO,
         .signature = token.signature,
         .signature_length = signed_length,
-        .reply = token.reply[side],
-        .reply_length = REPLY,
-    });
-    tell(side, wrote.answer, wrote.length);
+    }));
 }
 
 /* Answers token.frame, which nothing writes to while this runs. */
@@ -165,10 +157,6 @@ static void answer(struct received got, uint64_t t)
         .certificate_length = CERTIFICATE,
         .x = token.key.x,
         .y = token.key.y,
-        .reply = token.reply[got.side],
-        .reply_length = REPLY,
-        .part = token.part,
-        .part_length = sizeof token.part,
     };
     struct brinecandle_command command = brinecandle_read_command(token.frame, got.length);
     const uint8_t *application = token.frame + command.application;
@@ -183,13 +171,13 @@ static void answer(struct received got, uint64_t t)
         lent.hardware.stored = BRINECANDLE_YES;
         if (brinecandle_panel_try(&token.panel, got.side, lent).answer == BRINECANDLE_ORDER
             && !board_make_key(application, &token.key))
-            lent.hardware.stored = 0;
+            lent.hardware.stored = BRINECANDLE_NO;
     }
-    struct brinecandle_decided decided = brinecandle_panel_decide(&token.panel, got.side, lent);
+    struct brinecandle_outcome decided = brinecandle_panel_decide(&token.panel, got.side, lent);
     if (decided.answer == BRINECANDLE_ORDER)
-        sign_and_tell(got.side, decided, command, lent.hardware.counter);
+        sign_and_tell(decided, command, lent.hardware.counter);
     else
-        tell(got.side, decided.answer, decided.length);
+        tell(decided);
 }
 
 /* Applet selection is the reader's: nobody selects on USB. */
@@ -200,27 +188,38 @@ static bool selects(struct received got)
     struct brinecandle_wrote selected = reader_selected(token.frame, got.length, token.part, sizeof token.part);
     if (selected.answer != BRINECANDLE_OK)
         return false;
-    drop_rest();
+    brinecandle_panel_drop(&token.panel, got.side);
     board_send(token.part, selected.length);
     return true;
 }
 
-/* A frame as it was received. The panel keeps one remainder: while a frame is served it is that of the frame's side. */
+/* A frame as it was received. */
 static void serve(struct received got, uint64_t t)
 {
-    token.panel.remainder = token.remainder[got.side];
     if (FRAME < got.length) { /* no command, and more than there is room for */
-        drop_rest();
-        tell(got.side, BRINECANDLE_WRONG_LENGTH, 0);
+        struct brinecandle_wrote wrote = brinecandle_panel_too_long(&token.panel, got.side);
+        if (wrote.answer == BRINECANDLE_OK)
+            board_send(token.part, wrote.length);
     } else if (!selects(got)) {
         answer(got, t);
     }
-    token.remainder[got.side] = token.panel.remainder;
+}
+
+static bool start(void)
+{
+    for (size_t side = 0; side < BRINECANDLE_SIDES; side++)
+        token.panel.transport[side].buffers = (struct brinecandle_buffers){
+            .reply = token.reply[side],
+            .reply_length = REPLY,
+            .part = token.part,
+            .part_length = side == WIRELESS && READER_CARRIES < PART ? READER_CARRIES : PART,
+        };
+    return brinecandle_panel_new(&token.panel, WINDOW) == BRINECANDLE_OK;
 }
 
 int main(void)
 {
-    if (brinecandle_panel_new(&token.panel, WINDOW) != BRINECANDLE_OK)
+    if (!start())
         return 1;
     while (board_goes_on()) {
         uint64_t t = now();
@@ -230,7 +229,7 @@ int main(void)
             return 1;
         /* once for each press; whether it is accepted shows in what the host is told next */
         if (board_pressed())
-            said = brinecandle_panel_touch(&token.panel, t);
+            brinecandle_panel_touch(&token.panel, t);
         struct received got = board_receive(token.frame, FRAME);
         if (got.length)
             serve(got, t);
@@ -244,7 +243,7 @@ int main(void)
 
 static struct {
     uint8_t message[8];
-    uint8_t sent[REPLY + 2];
+    uint8_t sent[PART];
     size_t sent_length;
     uint32_t counter;
     uint32_t keys;
@@ -299,7 +298,7 @@ static struct received board_receive(uint8_t *to, size_t most)
 {
     struct received got = {board.message[5], (size_t)board.message[6] << 8 | board.message[7]};
     uint8_t lost;
-    if (SIDES <= got.side) /* this board has no such driver */
+    if (BRINECANDLE_SIDES <= got.side) /* this board has no such driver */
         _exit(1);
     for (size_t i = 0; i < got.length; i++)
         if (!board_get(i < most ? to + i : &lost, 1))
@@ -315,7 +314,7 @@ static void board_send(const uint8_t *bytes, size_t length)
 }
 
 /* the last that happens to a message: what was sent goes out with the light, 0 where it is dark, 1 for side 0, 2 for side 1 */
-static void board_light(bool blinks, uint32_t side)
+static void board_light(bool blinks, uint64_t side)
 {
     uint8_t front[3] = {blinks ? (uint8_t)(1 + side) : 0, (uint8_t)(board.sent_length >> 8), (uint8_t)board.sent_length};
     board_put(front, sizeof front);

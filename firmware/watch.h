@@ -1,6 +1,6 @@
 /* For firmware/test: every call of the panel is looked at as a whole. What a case file does not see, since the panel does not say
- * it, is held to the header here: fields that an answer has no use for are 0, a refusal hands back the record and the remainder that
- * were lent, and buffers and block hold what they held wherever the header does not say that they are written. Of the record every number
+ * it, is held to the header here: fields that an answer has no use for are 0, a refusal leaves every number of the record and the session
+ * that were lent, and buffers and block hold what they held wherever the header does not say that they are written. Of the record every number
  * is held to what the header says of touches and sides. A call that does otherwise ends the panel, so that its answers are missing.
  */
 #ifndef WATCH_H
@@ -37,9 +37,9 @@ static bool same_from(size_t start, const uint8_t *a, const uint8_t *b, size_t l
     return true;
 }
 
-static bool is_refused(uint16_t answer)
+static bool is_refused(enum brinecandle_answer answer)
 {
-    return 0 < answer && answer <= BRINECANDLE_LAST_REFUSAL;
+    return BRINECANDLE_NO_ANSWER < answer && answer <= BRINECANDLE_LAST_REFUSAL;
 }
 
 static bool no_order(struct brinecandle_order order)
@@ -62,7 +62,8 @@ static bool is_old_form(const uint8_t *frame, size_t length)
 
 /* With 6700 a kind, and the place that goes with it: cut there, a frame with bytes too many is one that is read; in the old form it is
  * the last byte. With any other answer neither. */
-static void watched_fault(uint16_t answer, uint16_t fault, size_t place, const uint8_t *frame, size_t length, reading *by)
+static void watched_fault(enum brinecandle_answer answer, enum brinecandle_fault fault, size_t place, const uint8_t *frame, size_t length,
+                          reading *by)
 {
     if (answer != BRINECANDLE_WRONG_LENGTH) {
         held(fault == BRINECANDLE_NO_FAULT && !place, "fault: beside another answer");
@@ -186,17 +187,19 @@ static struct brinecandle_command watched_read_command(const uint8_t *frame, siz
     return said;
 }
 
-static struct brinecandle_made watched_new(uint64_t w)
+static enum brinecandle_answer watched_new(struct brinecandle_presence *presence, uint64_t w)
 {
-    struct brinecandle_made said = brinecandle_new(w);
-    held(said.presence.w == (said.answer == BRINECANDLE_OK ? w : 0), "new: another window");
-    held(!said.presence.prompt && !said.presence.touch && !said.presence.last && !said.presence.asker, "new: not a closed record");
+    struct brinecandle_presence before = *presence;
+    enum brinecandle_answer said = brinecandle_new(presence, w);
+    struct brinecandle_presence fresh = {.w = w};
+    held(said == (!w || 60000 < w ? BRINECANDLE_R6 : BRINECANDLE_OK), "new: the answer");
+    held(same_record(*presence, said == BRINECANDLE_OK ? fresh : before), "new: the record");
     return said;
 }
 
 /* What a call on this record is refused with, R6 before R8 before R1; 0x9000 where it is not. A call that names no side names the
  * record's own. */
-static uint16_t before_all(struct brinecandle_presence presence, uint32_t side, uint64_t t)
+static enum brinecandle_answer before_all(struct brinecandle_presence presence, uint64_t side, uint64_t t)
 {
     if (!presence.w || 60000 < presence.w)
         return BRINECANDLE_R6;
@@ -223,7 +226,7 @@ static struct brinecandle_presence after_touch(struct brinecandle_presence prese
     return presence;
 }
 
-static struct brinecandle_presence after_check(struct brinecandle_presence presence, uint32_t side, uint64_t t, bool *yes)
+static struct brinecandle_presence after_check(struct brinecandle_presence presence, uint64_t side, uint64_t t, bool *yes)
 {
     bool is_touched = is_live(presence.touch, presence.w, t);
     presence.last = t;
@@ -237,67 +240,91 @@ static struct brinecandle_presence after_check(struct brinecandle_presence prese
     return presence;
 }
 
-static struct brinecandle_touch watched_grant_up(struct brinecandle_presence presence, uint64_t t)
+static struct brinecandle_asked watched_grant_up(struct brinecandle_presence *presence, uint64_t t)
 {
-    struct brinecandle_touch said = brinecandle_grant_up(presence, t);
+    struct brinecandle_presence before = *presence;
+    struct brinecandle_asked said = brinecandle_grant_up(presence, t);
     bool yes = false;
-    held(said.answer == before_all(presence, presence.asker, t), "touch: the answer");
-    held(same_record(said.presence, said.answer == BRINECANDLE_OK ? after_touch(presence, t, &yes) : presence), "touch: the record");
+    held(said.answer == before_all(before, before.asker, t), "touch: the answer");
+    held(same_record(*presence, said.answer == BRINECANDLE_OK ? after_touch(before, t, &yes) : before), "touch: the record");
     held(said.yes == yes, "touch: yes or no");
     return said;
 }
 
-static struct brinecandle_touch watched_consume_up(struct brinecandle_presence presence, uint32_t side, uint64_t t)
+static struct brinecandle_asked watched_consume_up(struct brinecandle_presence *presence, uint64_t side, uint64_t t)
 {
-    struct brinecandle_touch said = brinecandle_consume_up(presence, side, t);
+    struct brinecandle_presence before = *presence;
+    struct brinecandle_asked said = brinecandle_consume_up(presence, side, t);
     bool yes = false;
-    held(said.answer == before_all(presence, side, t), "check: the answer");
-    held(same_record(said.presence, said.answer == BRINECANDLE_OK ? after_check(presence, side, t, &yes) : presence), "check: the record");
+    held(said.answer == before_all(before, side, t), "check: the answer");
+    held(same_record(*presence, said.answer == BRINECANDLE_OK ? after_check(before, side, t, &yes) : before), "check: the record");
     held(said.yes == yes, "check: yes or no");
     return said;
 }
 
-static struct brinecandle_asked watched_is_up_needed(struct brinecandle_presence presence, uint64_t t)
+static struct brinecandle_asked watched_is_up_needed(const struct brinecandle_presence *presence, uint64_t t)
 {
+    struct brinecandle_presence before = *presence;
     struct brinecandle_asked said = brinecandle_is_up_needed(presence, t);
-    held(said.answer == before_all(presence, presence.asker, t), "ask: the answer");
-    held(said.yes == (said.answer == BRINECANDLE_OK && is_live(presence.prompt, 10000, t)), "ask: yes or no");
+    held(said.answer == before_all(before, before.asker, t), "ask: the answer");
+    held(said.yes == (said.answer == BRINECANDLE_OK && is_live(before.prompt, 10000, t)), "ask: yes or no");
+    held(same_record(*presence, before), "ask: the record");
     return said;
 }
 
-static bool same_remainder(struct brinecandle_remainder a, struct brinecandle_remainder b)
+static bool same_session(struct brinecandle_session a, struct brinecandle_session b)
 {
-    return a.place == b.place && a.count == b.count;
+    return a.place == b.place && a.count == b.count && a.limit == b.limit;
 }
 
 /* The bytes of a part's response, out of the body; `part` before the call is in watched_part. */
-static void watched_response(const uint8_t *body, struct brinecandle_remainder before, struct brinecandle_remainder after, uint32_t limit,
+static void watched_response(const uint8_t *body, struct brinecandle_session before, struct brinecandle_session after, uint64_t limit,
                              const uint8_t *part, size_t length, size_t room)
 {
     held(2 <= length && length <= room, "part: its length");
     size_t n = length - 2;
     held(n <= before.count && (!limit || n <= limit), "part: more than it may have");
     held(n == before.count || n == limit, "part: less than it may have");
-    held(after.place == before.place + n && after.count == before.count - n, "part: what remains");
+    held(after.place == before.place + n && after.count == before.count - n && after.limit == limit, "part: what remains");
     held(same_from(0, part, body + before.place, n), "part: other bytes");
     held(after.count ? part[n] == 0x61 && part[n + 1] == (after.count < 256 ? after.count : 0) : part[n] == 0x90 && !part[n + 1],
          "part: its status");
     held(same_from(length, part, watched_part, room), "part: more than was said");
 }
 
-static struct brinecandle_part watched_next_part(const uint8_t *body, size_t body_length, struct brinecandle_remainder remainder,
-                                                 uint32_t limit, uint8_t *part, size_t room)
+static struct brinecandle_wrote watched_next_part(struct brinecandle_session *session, const uint8_t *body, size_t body_length,
+                                                  uint8_t *part, size_t room)
 {
+    struct brinecandle_session before = *session;
     keep(watched_buffer, body, body_length);
     keep(watched_part, part, room);
-    struct brinecandle_part said = brinecandle_next_part(body, body_length, remainder, limit, part, room);
+    struct brinecandle_wrote said = brinecandle_next_part(session, body, body_length, part, room);
     held(same_from(0, body, watched_buffer, body_length), "part: the body");
     if (said.answer == BRINECANDLE_OK) {
-        watched_response(body, remainder, said.remainder, limit, part, said.length, room);
+        watched_response(body, before, *session, before.limit, part, said.length, room);
         return said;
     }
-    held(said.answer == BRINECANDLE_R2 && !said.length && same_remainder(said.remainder, remainder), "part: R2 and more");
+    held(said.answer == BRINECANDLE_R2 && !said.length && same_session(*session, before), "part: R2 and more");
     held(same_from(0, part, watched_part, room), "part: R2, and written");
+    return said;
+}
+
+/* The limit of the frame's shape and Le; of bytes in no shape it is 0, and such a frame gets no body. */
+static uint64_t limit_of(struct brinecandle_frame read)
+{
+    return read.answer != BRINECANDLE_OK || 4 < read.shape ? BRINECANDLE_NO_LIMIT : read.le ? read.le : 256;
+}
+
+static struct brinecandle_room watched_response_room(const uint8_t *frame, size_t length, size_t longest)
+{
+    struct brinecandle_room said = brinecandle_response_room(frame, length, longest);
+    struct brinecandle_frame read = brinecandle_read(frame, length);
+    uint64_t limit = limit_of(read);
+    size_t most = read.answer != BRINECANDLE_OK ? 0 : limit && limit < longest ? (size_t)limit : longest;
+    if (SIZE_MAX - 2 < most)
+        held(said.answer == BRINECANDLE_R2 && !said.length, "room: more than a number holds");
+    else
+        held(said.answer == BRINECANDLE_OK && said.length == most + 2, "room: its length");
     return said;
 }
 
@@ -327,78 +354,60 @@ static struct brinecandle_response watched_read_response(const uint8_t *response
 }
 
 /* Of the decision, what has to do with parts. A frame that is read and has INS C0 keeps what it is not given. */
-static void watched_session(struct brinecandle_decision said, const uint8_t *frame, size_t frame_length, struct brinecandle_remainder before,
-                            const uint8_t *reply, const uint8_t *part, size_t room)
+static void watched_session(struct brinecandle_decision said, const uint8_t *frame, size_t frame_length, struct brinecandle_session before,
+                            struct brinecandle_session after, const uint8_t *reply, const uint8_t *part, size_t room)
 {
-    static const struct brinecandle_remainder nothing;
     struct brinecandle_frame read = brinecandle_read(frame, frame_length);
-    bool is_read = read.answer == BRINECANDLE_OK;
-    bool is_get_response = is_read && read.ins == BRINECANDLE_GET_RESPONSE;
-    uint32_t limit = !is_read || 4 < read.shape ? BRINECANDLE_NO_LIMIT : read.le ? read.le : 256;
-    held(said.limit == limit, "decide: the limit");
+    bool is_get_response = read.answer == BRINECANDLE_OK && read.ins == BRINECANDLE_GET_RESPONSE;
     if (said.answer == BRINECANDLE_PART) {
         held(is_get_response && before.count, "decide: a part that was not asked for");
-        watched_response(reply, before, said.remainder, limit, part, said.length, room);
+        watched_response(reply, before, after, limit_of(read), part, said.length, room);
         return;
     }
     held(same_from(0, part, watched_part, room), "decide: the buffer for a part");
-    held(same_remainder(said.remainder, is_get_response || is_refused(said.answer) ? before : nothing), "decide: what remains");
+    if (is_refused(said.answer)) {
+        held(same_session(after, before), "decide: a refusal and another session");
+        return;
+    }
+    held(after.limit == limit_of(read), "decide: the limit");
+    held(after.place == (is_get_response ? before.place : 0) && after.count == (is_get_response ? before.count : 0), "decide: what remains");
 }
 
 /* Of the decision, what has to do with the record. An order of a Register, or of a login with P1 03, has spent a touch of its side's. A
  * 0x6985 to either has come to the check, and found none. Every other answer moves the last moment alone, but where counter, store or
  * attestation failed after the check: the touch is spent then. */
-static void watched_presence(struct brinecandle_decision said, const uint8_t *frame, size_t frame_length, uint32_t side, uint64_t t,
-                             struct brinecandle_presence before)
+static void watched_presence(struct brinecandle_decision said, const uint8_t *frame, size_t frame_length, uint64_t side, uint64_t t,
+                             struct brinecandle_presence before, struct brinecandle_presence after)
 {
     struct brinecandle_command command = brinecandle_read_command(frame, frame_length);
     bool is_for_touch = command.command == BRINECANDLE_U2F_REGISTER
         || (command.command == BRINECANDLE_U2F_AUTHENTICATE && command.p1 == BRINECANDLE_ENFORCE_UP_AND_SIGN);
-    uint16_t first = before_all(before, side, t);
+    enum brinecandle_answer first = before_all(before, side, t);
     bool yes = false;
     held(first == BRINECANDLE_OK ? said.answer != BRINECANDLE_R6 && said.answer != BRINECANDLE_R8 && said.answer != BRINECANDLE_R1
                                  : said.answer == first,
          "decide: R6, R8 or R1");
     if (is_refused(said.answer)) {
-        held(same_record(said.presence, before), "decide: a refusal and another record");
+        held(same_record(after, before), "decide: a refusal and another record");
         return;
     }
     struct brinecandle_presence checked = after_check(before, side, t, &yes);
     before.last = t;
     if (is_for_touch && said.answer == BRINECANDLE_ORDER)
-        held(yes && same_record(said.presence, checked), "decide: an order without a touch of its side's");
+        held(yes && same_record(after, checked), "decide: an order without a touch of its side's");
     else if (is_for_touch && said.answer == BRINECANDLE_COND_USE_NOT_SATISFIED)
-        held(!yes && same_record(said.presence, checked), "decide: 6985, and the record");
+        held(!yes && same_record(after, checked), "decide: 6985, and the record");
     else
-        held(same_record(said.presence, before) || (is_for_touch && yes && same_record(said.presence, checked)), "decide: the record");
+        held(same_record(after, before) || (is_for_touch && yes && same_record(after, checked)), "decide: the record");
 }
 
-static struct brinecandle_decision watched_decide(const uint8_t *frame, size_t frame_length, uint32_t side, uint64_t t,
-                                                  struct brinecandle_presence presence, struct brinecandle_hardware hardware,
-                                                  const uint8_t *handle, size_t handle_length, const uint8_t *certificate,
-                                                  size_t certificate_length, const uint8_t *x, const uint8_t *y,
-                                                  struct brinecandle_remainder remainder, uint8_t *reply, size_t room, uint8_t *block,
-                                                  uint8_t *part, size_t part_room)
+/* Of the decision, what has to do with the order. */
+static void watched_order(struct brinecandle_decision said, size_t handle_length, size_t certificate_length, const uint8_t *block)
 {
-    keep(watched_buffer, reply, room);
-    keep(watched_part, part, part_room);
-    keep(watched_block, block, BRINECANDLE_BLOCK);
-    struct brinecandle_decision said = brinecandle_decide(frame, frame_length, side, t, presence, hardware, handle, handle_length,
-                                                          certificate, certificate_length, x, y, remainder, reply, room, block,
-                                                          part, part_room);
-    size_t written = said.answer == BRINECANDLE_OK ? 6 : 0;
-    held(said.answer, "decide: 0");
-    watched_fault(said.answer, said.fault, said.place, frame, frame_length, brinecandle_read);
-    if (is_old_form(frame, frame_length))
-        held(said.answer != BRINECANDLE_OK && said.answer != BRINECANDLE_ORDER && said.answer != BRINECANDLE_PART, "decide: the old form");
-    held(said.answer == BRINECANDLE_PART || said.length == written, "decide: a length");
-    held(written <= room && same_from(written, reply, watched_buffer, room), "decide: the reply");
-    watched_session(said, frame, frame_length, remainder, reply, part, part_room);
-    watched_presence(said, frame, frame_length, side, t, presence);
     if (said.answer != BRINECANDLE_ORDER) {
         held(!said.taken && no_order(said.order), "decide: an order beside another answer");
         held(same_from(0, block, watched_block, BRINECANDLE_BLOCK), "decide: the block");
-        return said;
+        return;
     }
     bool is_register = said.order.kind == BRINECANDLE_KIND_REGISTER;
     held(is_register || said.order.kind == BRINECANDLE_KIND_AUTHENTICATE, "decide: kind");
@@ -407,11 +416,37 @@ static struct brinecandle_decision watched_decide(const uint8_t *frame, size_t f
     held(said.order.certificate_length == (is_register ? certificate_length : 0), "decide: certificate length");
     for (size_t i = said.order.to_sign; i < BRINECANDLE_BLOCK; i++)
         held(!block[i], "decide: the block's tail");
+}
+
+static struct brinecandle_decision watched_decide(struct brinecandle_presence *presence, struct brinecandle_session *session,
+                                                  const uint8_t *frame, size_t frame_length, uint64_t side, uint64_t t,
+                                                  const struct brinecandle_hardware *hardware, const uint8_t *handle,
+                                                  size_t handle_length, const uint8_t *certificate, size_t certificate_length,
+                                                  const uint8_t *x, const uint8_t *y, uint8_t *reply, size_t room, uint8_t *block,
+                                                  uint8_t *part, size_t part_room)
+{
+    struct brinecandle_presence record = *presence;
+    struct brinecandle_session before = *session;
+    keep(watched_buffer, reply, room);
+    keep(watched_part, part, part_room);
+    keep(watched_block, block, BRINECANDLE_BLOCK);
+    struct brinecandle_decision said = brinecandle_decide(presence, session, frame, frame_length, side, t, hardware, handle, handle_length,
+                                                          certificate, certificate_length, x, y, reply, room, block, part, part_room);
+    size_t written = said.answer == BRINECANDLE_OK ? 6 : 0;
+    held(said.answer, "decide: 0");
+    watched_fault(said.answer, said.fault, said.place, frame, frame_length, brinecandle_read);
+    if (is_old_form(frame, frame_length))
+        held(said.answer != BRINECANDLE_OK && said.answer != BRINECANDLE_ORDER && said.answer != BRINECANDLE_PART, "decide: the old form");
+    held(said.answer == BRINECANDLE_PART || said.length == written, "decide: a length");
+    held(written <= room && same_from(written, reply, watched_buffer, room), "decide: the reply");
+    watched_session(said, frame, frame_length, before, *session, reply, part, part_room);
+    watched_presence(said, frame, frame_length, side, t, record, *presence);
+    watched_order(said, handle_length, certificate_length, block);
     return said;
 }
 
 static struct brinecandle_wrote watched_finish(struct brinecandle_order order, const uint8_t *block, const uint8_t *certificate,
-                                               size_t certificate_length, uint32_t is_signed, const uint8_t *signature,
+                                               size_t certificate_length, enum brinecandle_yes is_signed, const uint8_t *signature,
                                                size_t signature_length, uint8_t *reply, size_t room)
 {
     keep(watched_buffer, reply, room);
@@ -439,5 +474,6 @@ static struct brinecandle_wrote watched_finish(struct brinecandle_order order, c
 #define brinecandle_write_response watched_write_response
 #define brinecandle_read_response watched_read_response
 #define brinecandle_next_part watched_next_part
+#define brinecandle_response_room watched_response_room
 
 #endif
