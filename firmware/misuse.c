@@ -225,6 +225,14 @@ static void the_other_sides_order(void)
     then_answer(brinecandle_panel_decide(panel, WIRELESS, lent(version_by_twos, sizeof version_by_twos, 14)).answer);
     then_answer(brinecandle_panel_finish(panel, WIRELESS, with_signature).answer);
     end();
+    begin("an order after a frame that the driver answered, of the other side and of its own");
+    then_answer(ordered(USB, 15).answer);
+    brinecandle_panel_drop(panel, WIRELESS);
+    then_answer(brinecandle_panel_finish(panel, USB, with_signature).answer);
+    then_answer(ordered(USB, 18).answer);
+    brinecandle_panel_drop(panel, USB);
+    then_answer(brinecandle_panel_finish(panel, USB, with_signature).answer);
+    end();
     begin("an order after an order of the other side");
     then_answer(ordered(USB, 21).answer);
     then_answer(ordered(WIRELESS, 24).answer);

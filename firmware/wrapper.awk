@@ -183,6 +183,14 @@ function two_bodies() {
     decide("decide", 8, "00c00000", "part 329000")
     decide("decide", 9, "00c00000", "6985")
     ask("side 0", "ok")
+    # a dry run writes nothing in the end, a Version's body neither
+    ask("fill ee", "ok")
+    ask("room 8", "ok")
+    decide("try", 10, "00030000", "9000")
+    ask("reply", "ok " repeated("ee", 8))
+    decide("decide", 10, "00030000", "9000 5532465f5632")
+    ask("reply", "ok 5532465f5632eeee")
+    ask("room 1024", "ok")
     # a 9000 with no body comes from no call
     ask("outfill ee", "ok")
     ask("outroom 4", "ok")
