@@ -3,12 +3,14 @@
 //! held to document 02 instead, and counted apart; what the call leaves is compared with upstream's there too. So it is with the old
 //! form, which upstream reads as shape 6 and serves: the panel is held to document 02's E13, 6700 with its pair. Were upstream to decide
 //! on such a frame it could spend a touch or count where the panel does not, so in a history it gets that frame with two bytes more,
-//! which it refuses for the length as well, and at the same point: both stay in step. Every history names side 0 (document 02, E7).
+//! which it refuses for the length as well, and at the same point: both stay in step. Every history names side 0 (document 02, E7). Half of
+//! them go through the wrapper, with room for every response.
 
 use crate::device::{amended, old_form, read, reading_name, yes_name, Answer, Call, Device, Outcome, Touch, ANSWERS};
-use crate::generate::{all, all_count, boundary, damaged, Aimed, Dice, History, ALL_UP_TO};
+use crate::generate::{all, all_count, boundary, damaged, Aimed, Dice, History, ALL_UP_TO, ROOM};
 use crate::lent::Hardware;
-use crate::panel::{decided, finished, next_line, put_call, put_finish, put_side, put_table, without_pair, Panel, Record, SIDE};
+use crate::panel::{decided, finished, next_line, put_call, put_finish, put_outroom, put_side, put_table, put_wrapper};
+use crate::panel::{without_pair, Panel, Record, SIDE};
 use std::collections::BTreeMap;
 use std::io::Write;
 use std::sync::mpsc::sync_channel;
@@ -26,6 +28,8 @@ const ENOUGH_CALLS: usize = 1_000;
 const RECORD: &str = "record";
 const FRESH: &str = "new";
 const NAMED: &str = "side";
+const ROOMY: &str = "outroom";
+const WRAPPED: &str = "wrapper";
 
 /// Answers that are held to document 02.
 const FETCHED: &str = "INS C0, where the Rust says 6d00";
@@ -141,9 +145,13 @@ impl Block {
         }
     }
 
-    fn side(&mut self) {
+    fn begin(&mut self, is_wrapped: bool) {
         put_side(&mut self.lines, SIDE);
-        self.words(NAMED.into(), |said| said.extend_from_slice(b"ok"));
+        put_outroom(&mut self.lines, ROOM + 2);
+        put_wrapper(&mut self.lines, is_wrapped);
+        for key in [NAMED, ROOMY, WRAPPED] {
+            self.words(key.into(), |said| said.extend_from_slice(b"ok"));
+        }
     }
 
     fn call(&mut self, device: &mut Device, record: &mut Record, call: &Call) {
@@ -308,7 +316,7 @@ impl Plan {
         block
     }
 
-    /// Every second history goes for a touch; the others wander.
+    /// Every second history goes for a touch; the others wander. Of either every second one goes through the wrapper.
     fn calls_of(&self, dice: &mut Dice, first: usize) -> Block {
         let mut block = Block::default();
         let mut device = Device::new();
@@ -317,7 +325,7 @@ impl Plan {
         let mut aimed = Aimed::new(dice);
         for at in 0..BLOCK.min(self.calls - first) {
             if at % HISTORY_CALLS == 0 {
-                block.side();
+                block.begin(at / HISTORY_CALLS / 2 % 2 == 1);
                 block.call(&mut device, &mut record, &Call::New);
                 wandering = History::new(dice);
                 aimed = Aimed::new(dice);

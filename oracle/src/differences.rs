@@ -15,7 +15,7 @@ struct Difference {
     /// The last one shows the difference; the others lead up to it.
     calls: Vec<Call>,
     /// The side that the panel gets the last one from; the others are of side 0.
-    side: u32,
+    side: u64,
     /// Lines that the panel alone gets after it. All differences are shown on one panel: after another side they name side 0 again.
     more: &'static str,
     rust: &'static str,
@@ -98,7 +98,7 @@ fn then(more: &'static str, difference: Difference) -> Difference {
     Difference { more, ..difference }
 }
 
-fn from(side: u32, difference: Difference) -> Difference {
+fn from(side: u64, difference: Difference) -> Difference {
     Difference { side, ..difference }
 }
 

@@ -8,7 +8,7 @@ use std::io::{BufRead, BufReader, BufWriter, Write};
 use std::process::{Child, ChildStdin, ChildStdout, Command, Stdio};
 
 /// The side that every history names (document 02, E7: "demand 2 compares runs with one side only"), so that it is the asker throughout.
-pub const SIDE: u32 = 0;
+pub const SIDE: u64 = 0;
 
 pub struct Panel {
     child: Child,
@@ -126,9 +126,23 @@ pub fn put_call(out: &mut Vec<u8>, call: &Call) {
 }
 
 /// The line that names a side, which upstream has not.
-pub fn put_side(out: &mut Vec<u8>, side: u32) {
+pub fn put_side(out: &mut Vec<u8>, side: u64) {
     out.extend_from_slice(b"side");
     then(out, side);
+    out.push(b'\n');
+}
+
+/// The line that makes the calls after it the wrapper's (include/brinecandle_panel.h), or the core's: upstream's answers are both's.
+pub fn put_wrapper(out: &mut Vec<u8>, is_wrapped: bool) {
+    out.extend_from_slice(b"wrapper");
+    then(out, is_wrapped as u8);
+    out.push(b'\n');
+}
+
+/// The line that gives the buffer for part and status its length. The wrapper asks for it; upstream has none.
+pub fn put_outroom(out: &mut Vec<u8>, room: usize) {
+    out.extend_from_slice(b"outroom");
+    then(out, room);
     out.push(b'\n');
 }
 
