@@ -90,7 +90,7 @@ class Device(CtapDevice):
         self.now = 0
         self.side = USB  # the panel's own at first
         self.panel = Panel()
-        self.panel.call("new", TOUCH_WINDOW)
+        self.panel.as_firmware(TOUCH_WINDOW)
 
     def close(self):
         self.panel.close()
@@ -120,11 +120,10 @@ class Device(CtapDevice):
         return self.answer(data, USB)
 
     def comes_from(self, side):
-        """The next frame does. The panel has one buffer for bodies: what is left there for the other side is not for this one."""
+        """The next frame does."""
         if side != self.side:
             self.side = side
             self.panel.call("side", side)
-            self.panel.call("remain", 0, 0)
 
     def answer(self, frame, side):
         self.comes_from(side)

@@ -11,6 +11,8 @@ PANEL = os.environ.get("PANEL") or str(ROOT / "firmware" / "run")
 USB = 0
 WIRELESS = 1
 
+ROOM = 1024  # of the panel's reply buffers at first
+
 
 class Refusal(Exception):
     """R1 to R8: the core decided nothing and changed nothing. It is for the firmware; a host never sees it."""
@@ -26,6 +28,12 @@ class Panel:
             self.process = subprocess.Popen([PANEL], stdin=subprocess.PIPE, stdout=subprocess.PIPE, encoding="ascii", errors="replace")
         except OSError as error:
             raise Trouble(f"the panel {PANEL} cannot be started: {error.strerror}") from None
+
+    def as_firmware(self, window):
+        """With a fresh record, and by the wrapper that a firmware uses: each side has a body of its own, and room for a whole one."""
+        self.call("wrapper", 1)
+        self.call("outroom", ROOM + 2)
+        self.call("new", window)
 
     def __enter__(self):
         return self

@@ -350,6 +350,34 @@ def two_sides(wireless):
     say("by the reader 6985, a touch, five seconds: on USB 6985, and the light asks; a touch, 9000")
 
 
+def two_bodies(wireless):
+    """on USB and by the reader, on one pad: what is left to fetch for the one is not fetched or dropped by the other"""
+    usb, register = wireless.device, "0001000040" + os.urandom(32).hex() + APPLICATION.hex() + "00"
+    assert wireless.exchange(register).hex() == "6985" and usb.touch()
+    first = wireless.exchange(register)
+    assert len(first) == 258 and first[256] == 0x61
+    assert usb.answer(bytes.fromhex("00c00000"), USB).hex() == "6985"
+    assert Ctap1(usb).get_version() == "U2F_V2" and usb.answer(bytes.fromhex("0003000002"), USB)[2:].hex() == "6104"
+    rest = wireless.exchange("00c00000" + f"{first[257]:02x}")
+    assert len(rest) == first[257] + 2 and rest[-2:].hex() == "9000"
+    assert usb.answer(bytes.fromhex("00c00000"), USB) == b"F_V2" + bytes.fromhex("9000")
+    say("by the reader an enrolment's first part; on USB nothing to fetch, and a version of its own: each side gets its rest")
+
+
+def narrow_reader(wireless):
+    """by a reader that carries 256 bytes and a status word: no touch is spent on a reply that it cannot carry"""
+    challenge = os.urandom(32)
+    extended = "00010000000040" + challenge.hex() + APPLICATION.hex() + "0000"
+    wireless.panel.call("outroom", 258)
+    assert status(lambda: Ctap1(wireless).register(challenge, APPLICATION)) == 0x6985 and wireless.touch()
+    held = wireless.record()
+    assert wireless.exchange(extended).hex() == "6f00" and wireless.card.refusals == ["R2"]
+    assert wireless.record() == held and held[2] != "-" and wireless.keys.made == 0
+    say("an extended enrolment: R2, so the host is told 6f00; no key is made, and the touch is still there")
+    assert_enrolment(wireless, Ctap1(wireless).register(challenge, APPLICATION), challenge)
+    say("in a short frame on the same touch: 9000")
+
+
 CASES = [
     (version, 300),
     (enrolment_and_logins, 300),
@@ -375,6 +403,8 @@ BY_READER = [
     (wireless_changed_replies, 600),
     (wireless_fetching, 300),
     (two_sides, 300),
+    (two_bodies, 300),
+    (narrow_reader, 600),
 ]
 
 

@@ -12,7 +12,7 @@ from contextlib import contextmanager
 from fido2.ctap import CtapDevice
 from fido2.pcsc import AID_FIDO, CtapPcscDevice
 
-from panel import WIRELESS, given
+from panel import WIRELESS, Refusal, given
 
 DAEMON = "/usr/sbin/pcscd"
 CONFIG = "/etc/reader.conf.d/vpcd"  # Debian's own: it names reader, driver and port
@@ -84,6 +84,7 @@ class Card(threading.Thread):
         super().__init__(daemon=True)
         self.device = device
         self.frames = []
+        self.refusals = []
         self.trouble = None  # what went wrong on this side
         self.line = socket.create_connection(("127.0.0.1", PORT), 5)
         self.line.settimeout(None)
@@ -117,7 +118,13 @@ class Card(threading.Thread):
 
     def response(self, frame):
         selected = self.selected(frame)
-        return self.device.answer(frame, WIRELESS) if selected is None else selected
+        if selected is not None:
+            return selected
+        try:
+            return self.device.answer(frame, WIRELESS)
+        except Refusal as refusal:  # that is for the firmware: its host is told of a failure inside
+            self.refusals.append(str(refusal))
+            return bytes.fromhex("6f00")
 
     def selected(self, frame):
         """What firmware/reader.h does: applet selection is not the core's. After it nothing is left to fetch."""
@@ -125,6 +132,7 @@ class Card(threading.Thread):
         if len(shape) > 1 or frame[:2] != b"\x00\xa4":  # a status word, or not a SELECT
             return None
         _lc, _le, start, end = map(int, numbers)
+        self.device.comes_from(WIRELESS)
         self.device.panel.call("remain", 0, 0)
         status, body = (0x9000, b"U2F_V2") if frame[start:end] == AID_FIDO else (0x6A82, b"")
         return given(self.device.panel.call("respond", status, body)[1])
