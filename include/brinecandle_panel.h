@@ -162,7 +162,7 @@ static inline size_t brinecandle_longest(struct brinecandle_lent lent, uint64_t 
     }
     if (said.command == BRINECANDLE_U2F_AUTHENTICATE)
         return said.p1 == BRINECANDLE_CHECK_ONLY ? 0 : 77;
-    return said.command == BRINECANDLE_U2F_VERSION ? 6 : (size_t)left;
+    return said.command == BRINECANDLE_U2F_VERSION ? 6 : left;
 }
 
 /* Decides where the buffer for part and status has the room that a response to this frame can take, and answers R2 where it has not, with
