@@ -350,7 +350,7 @@ BEGIN {
     lapses()
     no_asking(7000)
     # 8 bits, 32 or all but the highest of 32 would be a side, of most of these
-    for (n = split("2 256 257 2147483648 2147483649 4294967295 4294967296 4294967297 18446744073709551615", number, " "); n > 0; n--)
+    for (n = split("2 256 257 65536 65537 2147483648 2147483649 4294967295 4294967296 4294967297 18446744073709551615", number, " "); n > 0; n--)
         no_side(number[n])
     for (n = 0; n <= 1; n++) {
         ends(n, 1)

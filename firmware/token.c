@@ -4,8 +4,8 @@
  * Above the line `the board` stands what a firmware needs: the clock widened, the press handed in once, the dry run, the counter
  * written down before anything is signed, and what the host is told, in parts where its frame takes no more, and 6f00 where a response has
  * no room. USB and a wireless reader, whose applet selection firmware/reader.h answers, share its button: each frame is decided on for the
- * side that it came from, and each side has a body of its own. Below it stands in for the hardware, over a pipe, so that it can be tried on any machine: for each message
- * it gets a tick, whether the button was pressed, and a frame with its side,
+ * side that it came from, and each side has a body of its own. Below it stands in for the hardware, over a pipe, so that it can be tried on
+ * any machine: for each message it gets a tick, whether the button was pressed, and a frame with its side,
  *
  *   TICK (4, big-endian)  PRESSED (1)  SIDE (1: 0 USB, 1 wireless)  LENGTH (2, big-endian; 0: no frame)  FRAME
  *

@@ -111,9 +111,11 @@ function rooms_asked(    shape, k, le, of, limit) {
                 roomed(frame("00c00001", "", shape, le), 0, limit, "6a86", "6a86")
                 continue
             }
-            carried(frame("00010000", challenge application, shape, le), 139 + 64 + 300, limit, "order 1 0 " enrolling " 300", "order 0", certificate, enrolment)
-            carried(frame("00020300", login, shape, le), 77, limit, "order 2 1 " application "0100000007" challenge " 0", "order 1", "-", "0100000007" signature)
-            carried(frame("00020800", login, shape, le), 77, limit, "order 2 1 " application "0000000007" challenge " 0", "order 1", "-", "0000000007" signature)
+            carried(frame("00010000", challenge application, shape, le), 139 + 64 + 300, limit, "order 1 0 " enrolling " 300", "order 0",
+                certificate, enrolment)
+            carried(frame("00020300", login, shape, le), 77, limit, "order 2 1 " application "0100000007" challenge " 0", "order 1", "-",
+                "0100000007" signature)
+            carried(frame("00020800", login, shape, le), 77, limit, ordered, "order 1", "-", "0000000007" signature)
             roomed(frame("00020700", login, shape, le), 0, limit, "6985", "6985")
             roomed(frame("00020500", login, shape, le), 0, limit, "6a80", "6a80")
             roomed(frame("00010000", challenge, shape, le), 0, limit, "6700 lc 4", "6700 lc 4")

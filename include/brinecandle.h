@@ -44,9 +44,9 @@
  * for are 0.
  *
  * Answers, faults, commands, an Authenticate's P1, kinds of orders, and yes and no are enums of their own, each as wide as its number in
- * the archive: gcc and clang tell where one is compared with another, or put in its place (-Wall -Wextra; C++ refuses the latter). Not told
- * apart by the compiler: handle and certificate, x and y, two lengths, side and moment. Take the wrapper, where they have names; of a
- * decision and a finishing it also has the bare calls with names (brinecandle_decide_lent, brinecandle_finish_signed).
+ * the archive: compilers tell where one is put in the place of another (gcc with -Wextra; C++ refuses it), and most where two are compared
+ * (-Wall; not clang 14 in C). Not told apart: handle and certificate, x and y, two lengths, side and moment. Take the wrapper, where they
+ * have names; of a decision and a finishing it also has the bare calls with names (brinecandle_decide_lent, brinecandle_finish_signed).
  */
 #ifndef BRINECANDLE_H
 #define BRINECANDLE_H
