@@ -196,6 +196,26 @@ static void the_other_sides_body(void)
     end();
 }
 
+/* One buffer for the bodies of both: what the other wrote there is not fetched. */
+static void one_reply_for_both(void)
+{
+    fresh(REPLY + 2);
+    panel->transport[WIRELESS].buffers.reply = reply[USB];
+    struct brinecandle_wrote first =
+        brinecandle_panel_respond(panel, brinecandle_panel_decide(panel, WIRELESS, lent(version_by_twos, sizeof version_by_twos, 1)));
+    begin("one reply for both sides, and a version of each");
+    then_answer(first.answer);
+    then_answer(brinecandle_panel_decide(panel, USB, lent(version_by_twos, sizeof version_by_twos, 2)).answer);
+    then_answer(brinecandle_panel_decide(panel, WIRELESS, lent(fetch, sizeof fetch, 3)).answer);
+    end();
+    begin("one reply for both sides, and an order finished");
+    then_answer(ordered(USB, 4).answer);
+    panel->transport[WIRELESS].session = (struct brinecandle_session){2, 4, 2};
+    then_answer(brinecandle_panel_finish(panel, USB, with_signature).answer);
+    then_answer(brinecandle_panel_decide(panel, WIRELESS, lent(fetch, sizeof fetch, 7)).answer);
+    end();
+}
+
 static void two_finishes(void)
 {
     fresh(REPLY + 2);
@@ -354,6 +374,7 @@ int main(void)
     record_of("a record of 0xff but for W and asker", 0xff, 5000, true);
     forgotten_sessions();
     the_other_sides_body();
+    one_reply_for_both();
     two_finishes();
     the_other_sides_order();
     const int minus = -1;

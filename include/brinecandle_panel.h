@@ -29,8 +29,9 @@
 
 enum { BRINECANDLE_SIDES = 2 };
 
-/* A side's buffers. They stay the panel's, `reply` as the core leaves it: a body stands there until all of it is fetched. So each side has a
- * `reply` of its own; one buffer for part and status may serve both. */
+/* A side's buffers. They stay the panel's, `reply` as the core leaves it: a body stands there until all of it is fetched. So give each side a
+ * `reply` of its own; where both have the same one, a body of the one side ends what is left for the other. One buffer for part and status may
+ * serve both. */
 struct brinecandle_buffers {
     uint8_t *reply; /* uncut bodies */
     size_t reply_length;
@@ -166,7 +167,7 @@ static inline size_t brinecandle_longest(struct brinecandle_lent lent, uint64_t 
 }
 
 /* Decides where the buffer for part and status has the room that a response to this frame can take, and answers R2 where it has not, with
- * nothing changed. R6, R8 and R1 come before that, as in brinecandle_decide: they are found on a copy, with no frame. */
+ * nothing changed, whatever else it would have been answered. R6, R8 and R1 come before that, as in brinecandle_decide: they are found on a copy, with no frame. */
 BRINECANDLE_TAKE_IT
 static inline struct brinecandle_decision brinecandle_decide_in_room(uint64_t side, struct brinecandle_presence *presence,
                                                                      struct brinecandle_session *session,
@@ -217,6 +218,15 @@ static inline struct brinecandle_tried brinecandle_panel_try(const struct brinec
     return said;
 }
 
+/* A body was written for this side: in a `reply` that is the other's too, nothing is left of the other's. */
+static inline void brinecandle_panel_overwrote(struct brinecandle_panel *panel, uint64_t side)
+{
+    const struct brinecandle_session nothing = {0, 0, 0};
+    for (uint64_t other = 0; other < BRINECANDLE_SIDES; other++)
+        if (other != side && panel->transport[other].buffers.reply == panel->transport[side].buffers.reply)
+            panel->transport[other].session = nothing;
+}
+
 /* Decides, for the side that the frame came from. With BRINECANDLE_ORDER sign the first panel->order.to_sign bytes of panel->block. A
  * refusal keeps everything: the touch, what is left to fetch, and the order that waits for its signature. R2 is for either buffer: where
  * it is the one for part and status, which carries less than this frame may take, tell the host 0x6f00 (brinecandle_panel_give_up). */
@@ -229,6 +239,8 @@ static inline struct brinecandle_outcome brinecandle_panel_decide(struct brineca
         brinecandle_decide_in_room(side, &panel->presence, &own.session, lent, own.buffers, panel->block);
     if (side < BRINECANDLE_SIDES && !brinecandle_is_refusal(decision.answer)) {
         panel->transport[side].session = own.session;
+        if (decision.answer == BRINECANDLE_OK)
+            brinecandle_panel_overwrote(panel, side);
         if (decision.answer == BRINECANDLE_ORDER || panel->order_side == side) {
             panel->order = decision.order;
             panel->order_side = side;
@@ -251,6 +263,8 @@ static inline struct brinecandle_outcome brinecandle_panel_finish(struct brineca
                                           panel->transport[side].buffers);
     if (!brinecandle_is_refusal(wrote.answer))
         panel->order = none;
+    if (wrote.answer == BRINECANDLE_OK)
+        brinecandle_panel_overwrote(panel, side);
     struct brinecandle_outcome said = {wrote.answer, BRINECANDLE_NO_FAULT, false, wrote.length, 0, side};
     return said;
 }
