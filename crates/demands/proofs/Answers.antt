@@ -20,7 +20,7 @@ use Rattle.signing_stated.specs.Finishing.{Finishing, Ended, finishOf, endOf, l
 use Rattle.signing_stated.specs.Claims as Signing
 use Rattle.signing_stated.proofs.Only as SigningOnly
 use Rattle.signing_stated.proofs.Theorems as SigningProved
-use Rattle.ctap1_stated.specs.Words.{DecisionGives, Ordered}
+use Rattle.ctap1_stated.specs.Words.{DecisionGives, Ordered, DecisionResult}
 use Rattle.ctap1_stated.specs.Decision.{decisionOf, blockAfter}
 use Rattle.ctap1_stated.proofs.Theorems as Decision
 use Rattle.u2f_up_stated.specs.Moments.{Told, touchOf, checkOf, askOf}
@@ -31,12 +31,16 @@ use Rattle.panel_stated.specs.declared.Wrote.{Wrote}
 use Rattle.panel_stated.specs.declared.Kinded.{Kinded}
 use Rattle.panel_stated.specs.declared.OrderNumbers.{OrderNumbers}
 use Rattle.panel_stated.specs.declared.DecisionSaid.{DecisionSaid}
-use Rattle.panel_stated.specs.Numbers.{answerNo, presenceOf}
-use Rattle.panel_stated.specs.Exports.{ToDecide, ToFinish, inputsOf, commandNumbers, responseNumbers, lengthNumbers, finishAs, finishNumbered, orderAfter, orderFrom, stepNumbers, askedNumbers}
+use Rattle.u2f_up_stated.specs.Numbers.{presenceIn}
+use Rattle.session_stated.specs.Contracts.{inputsIn}
+use Rattle.panel_stated.specs.Numbers.{answerNo}
+use Rattle.panel_stated.specs.Exports.{ToDecide, ToFinish, commandNumbers, responseNumbers, lengthNumbers, finishAs, finishNumbered, orderAfter, orderFrom, askedNumbers, touchesOf, checksOf, decidedBy, decidesOf}
+use Rattle.panel_stated.proofs.Lists.{record-back, same-record, same-session}
 use Rattle.panel_stated.proofs.Cases as Cases
 use Rattle.panel_stated.proofs.Outcomes as Outcomes
 use Rattle.panel_stated.proofs.Theorems as Panel′
 use Rattle.demands.specs.Panel.{Panel, Meets}
+use Rattle.demands.specs.Demands.{ToFinishOf}
 use Rattle.demands.specs.Answers.{CommandExported, ResponseReadExported, FinishExported, PresenceExported, toEnd}
 
 module _ (P : Panel) (M : Meets P) where
@@ -106,47 +110,71 @@ module _ (P : Panel) (M : Meets P) where
   ordered-back : (k : Kind) (o : Order) → k ≡ o .kind → orderFrom k (orderAfter (Gives Ordered) o) (o .bytes) ≡ o
   ordered-back k o e = rw e refl
 
-  pub finishes : (i : ToDecide) (f : ToFinish) → (length (i .x) ≡ 32) × (length (i .y) ≡ 32) → P .decide i .said .answer ≡ 0x0100
-      → f .order ≡ P .decide i .said .order → f .block ≡ P .decide i .block
-      → length (f .certificate) ≡ f .order .«certificate_length» → length (i .reply) ≤ length (f .reply) → f .signed ≡ 1 → length (f .signature) ≤ 72
-      → P .finish f .said .answer ≡ 0x9000
-  finishes i f blocks e order block certificate room signed fits =
-      let p = presenceOf (i .presence) in
-      let t = i .moment in
-      let a = inputsOf i in
-      let m = M .decide i in
-      let r = decisionOf p t a in
-      let ordered : r .answer ≡ Gives Ordered = Panel′.DecisionTells .ordered (r .answer) (Outcomes.decision-said p t a) .0 (ap (λ (s : DecisionSaid). s .answer) (sym (m .0)) ∙ e) in
-      let k = r .order .kind in
-      let numbers : f .order ≡ orderAfter (Gives Ordered) (r .order) = order ∙ ap (λ (s : DecisionSaid). s .order) (m .0) ∙ ap (λ (o : Outcome DecisionGives). orderAfter o (r .order)) ordered in
-      let bytes : f .block ≡ r .order .bytes = block ∙ m .2 ∙ ap (λ (o : Outcome DecisionGives). blockAfter o (r .order .bytes) (i .block)) ordered in
-      let is : orderFrom k (f .order) (f .block) ≡ r .order = ap₂ (λ (n : OrderNumbers) (l : List ℕ). orderFrom k n l) numbers bytes ∙ ordered-back k (r .order) refl in
-      let kind : f .order .kind ≡ kindNo k = ap (λ (n : OrderNumbers). n .kind) numbers in
-      let long : length (f .certificate) ≡ certificateLength (r .order) = certificate ∙ ap (λ (n : OrderNumbers). n .«certificate_length») numbers in
-      let asked = Decision.OrderHasRoom p t a (toEnd k f) blocks ordered is long room in
-      ap (λ (s : Wrote). s .answer) (M .finish f .0)
-      ∙ ap (λ (x : Outcome (List ℕ)). answerNo (lengthOf x)) (ends f k kind)
-      ∙ gives (toEnd k f) (eq-eqb (f .signed) 1 signed) fits (asked .0) (asked .1) (asked .2)
+  module _ (i : ToDecide) (f : ToFinish) (lent : ToFinishOf P i f) where
+    abbrev decided : DecisionResult
+    decided = decisionOf (presenceIn (i .presence)) (i .moment) (inputsIn i)
+
+    pub is-order : decided .answer ≡ Gives Ordered
+    is-order =
+        Panel′.DecisionTells .ordered (decided .answer) (Outcomes.decision-said (presenceIn (i .presence)) (i .moment) (inputsIn i)) .0
+        (ap (λ (s : DecisionSaid). s .answer) (sym (M .decide i .0)) ∙ lent .ordered)
+
+    numbers : f .order ≡ orderAfter (Gives Ordered) (decided .order)
+    numbers = lent .order ∙ ap (λ (s : DecisionSaid). s .order) (M .decide i .0) ∙ ap (λ (o : Outcome DecisionGives). orderAfter o (decided .order)) is-order
+
+    bytes : f .block ≡ decided .order .bytes
+    bytes = lent .block ∙ M .decide i .4 ∙ ap (λ (o : Outcome DecisionGives). blockAfter o (decided .order .bytes) (i .block)) is-order
+
+    -- what is finished is the decision's order, with its certificate's length
+    pub the-order : orderFrom (decided .order .kind) (f .order) (f .block) ≡ decided .order
+    the-order = ap₂ (λ (n : OrderNumbers) (l : List ℕ). orderFrom (decided .order .kind) n l) numbers bytes ∙ ordered-back (decided .order .kind) (decided .order) refl
+
+    pub the-kind : f .order .kind ≡ kindNo (decided .order .kind)
+    the-kind = ap (λ (n : OrderNumbers). n .kind) numbers
+
+    pub the-length : length (f .certificate) ≡ certificateLength (decided .order)
+    the-length = lent .certificate ∙ ap (λ (n : OrderNumbers). n .«certificate_length») numbers
+
+    pub finishes : f .signed ≡ 1 → P .finish f .said .answer ≡ 0x9000
+    finishes signed =
+        let k = decided .order .kind in
+        let asked = Decision.OrderHasRoom (presenceIn (i .presence)) (i .moment) (inputsIn i) (toEnd k f) (lent .blocks) is-order the-order the-length (lent .room) in
+        ap (λ (s : Wrote). s .answer) (M .finish f .0)
+        ∙ ap (λ (x : Outcome (List ℕ)). answerNo (lengthOf x)) (ends f k the-kind)
+        ∙ gives (toEnd k f) (eq-eqb (f .signed) 1 signed) (lent .signature) (asked .0) (asked .1) (asked .2)
 
   -- ---- on any record
   pub presences : PresenceExported (P .grant-up) (P .consume-up) (P .is-up-needed)
   presences = record {
-    touched = λ touch is n t. M .grant-up n t ∙ ap stepNumbers (UpOnly.TouchesExactly touchOf touch UpProved.TouchesExactly is (presenceOf n) t);
-    checked = λ check is n s t. M .consume-up n s t ∙ ap stepNumbers (UpOnly.ChecksExactly checkOf check UpProved.ChecksExactly is (presenceOf n) s t);
-    asked = λ ask is n t. M .is-up-needed n t ∙ ap (λ (o : Told). askedNumbers (o .outcome)) (UpOnly.AsksExactly askOf ask UpProved.AsksExactly is (presenceOf n) t);
+    touched = λ touch is n t.
+        let same = UpOnly.TouchesExactly touchOf touch UpProved.TouchesExactly is (presenceIn n) t in
+        (M .grant-up n t .0 ∙ ap (λ (o : Told). askedNumbers (o .outcome)) same, M .grant-up n t .1 ∙ ap (λ (o : Told). o .presence) same);
+    checked = λ check is n s t.
+        let same = UpOnly.ChecksExactly checkOf check UpProved.ChecksExactly is (presenceIn n) s t in
+        (M .consume-up n s t .0 ∙ ap (λ (o : Told). askedNumbers (o .outcome)) same, M .consume-up n s t .1 ∙ ap (λ (o : Told). o .presence) same);
+    asked = λ ask is n t. M .is-up-needed n t ∙ ap (λ (o : Told). askedNumbers (o .outcome)) (UpOnly.AsksExactly askOf ask UpProved.AsksExactly is (presenceIn n) t);
   }
 
   pub sides : Exports.SideCrosses (P .grant-up) (P .is-up-needed) (P .consume-up) (P .decide)
   sides = record {
-    touched = λ n t. rw (M .grant-up n t) (Panel′.SideCrosses .touched n t);
+    touched = λ n t. rw (M .grant-up n t .0) (Panel′.SideCrosses .touched n t);
     asked = λ n t. rw (M .is-up-needed n t) (Panel′.SideCrosses .asked n t);
-    checked = λ n s t. rw (M .consume-up n s t) (Panel′.SideCrosses .checked n s t);
+    checked = λ n s t. rw (M .consume-up n s t .0) (Panel′.SideCrosses .checked n s t);
     decided = λ i. rw (M .decide i .0) (Panel′.SideCrosses .decided i);
   }
 
-  pub hands-back : Exports.RefusalHandsBack (P .grant-up) (P .consume-up) (λ i. P .decide i .said)
-  hands-back = record {
-    grant-up = λ n t. rw (M .grant-up n t) (Panel′.RefusalHandsBack .grant-up n t);
-    consume-up = λ n s t. rw (M .consume-up n s t) (Panel′.RefusalHandsBack .consume-up n s t);
-    decided = λ i. rw (M .decide i .0) (Panel′.RefusalHandsBack .decided i);
+  -- lists that stand for the same have the same numbers
+  pub keeps : Exports.RefusalKeeps (P .grant-up) (P .consume-up) (P .decide)
+  keeps = record {
+    grant-up = λ n t low k h.
+        same-record (P .grant-up n t .presence) (touchesOf n t .presence) (M .grant-up n t .1 ∙ sym (record-back (touchOf (presenceIn n) t .presence))) k h
+        ∙ Panel′.RefusalKeeps .grant-up n t (rw (M .grant-up n t .0) at low) k h;
+    consume-up = λ n s t low k h.
+        same-record (P .consume-up n s t .presence) (checksOf n s t .presence) (M .consume-up n s t .1 ∙ sym (record-back (checkOf (presenceIn n) s t .presence))) k h
+        ∙ Panel′.RefusalKeeps .consume-up n s t (rw (M .consume-up n s t .0) at low) k h;
+    decided = λ i low.
+        let x = Panel′.RefusalKeeps .decided i (rw (M .decide i .0) at low) in (
+          λ k h. same-record (P .decide i .presence) (decidesOf i .presence) (M .decide i .1 ∙ sym (record-back (decidedBy i .presence))) k h ∙ x .0 k h,
+          λ k h. same-session (P .decide i .session) (decidesOf i .session) (M .decide i .2) k h ∙ x .1 k h,
+        );
   }

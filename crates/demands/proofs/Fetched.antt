@@ -7,7 +7,8 @@ use mathlib.Core.Logic.{_⊎_, ⊎-elim}
 use native.Mathlib.Omega.{arith}
 use native.Mathlib.Decide.{ℕ-discrete}
 use borrow.Author.Tests.{ne-eqb}
-use lib.Dec.{eqb}
+use mathlib.Core.Bool.{Bool, true, false}
+use lib.Dec.{eqb, ltb}
 use lib.ListN.{length, take, drop, length-take, length-drop, length-append}
 use Rattle.outcome.specs.Notation.{if_then_else_}
 use Rattle.outcome.specs.Outcome.{StatusWord, Outcome, R, Word, Gives, lastRefusal}
@@ -19,10 +20,10 @@ use Rattle.command_stated.specs.Command.{Command, Register, Authenticate, Versi
 use Rattle.response_stated.specs.declared.Remainder.{Remainder}
 use Rattle.response_stated.specs.Words.{rest, Sent}
 use Rattle.response_stated.specs.Responses.{responseBodyOf}
-use Rattle.response_stated.specs.Parts.{partLength, restAfter, nextPartOf}
+use Rattle.response_stated.specs.Parts.{limitOf, partLength, restAfter, nextPartOf, responseRoomOf}
 use Rattle.response_stated.specs.Terms.{sendingOf}
 use Rattle.response_stated.specs.Fetching.{Fetch, got, left, remaining, called}
-use Rattle.response_stated.proofs.Laws.{part-some, part-most, part-limit, rest-end, rest-less, step-joins, NextWay, short-body, short-buffer, given, next-way}
+use Rattle.response_stated.proofs.Laws.{part-some, part-most, part-monotone, rest-end, rest-less, step-joins, NextWay, short-body, short-buffer, given, next-way}
 use Rattle.u2f_up_stated.specs.declared.Presence.{Presence}
 use Rattle.u2f_up_stated.specs.Moments.{settleOf}
 use Rattle.u2f_up_stated.specs.Terms.{NotRefused}
@@ -40,10 +41,15 @@ use Rattle.session_stated.proofs.Laws.{joins-over}
 use Rattle.panel_stated.specs.declared.CommandSaid.{CommandSaid}
 use Rattle.panel_stated.specs.declared.FrameSaid.{FrameSaid}
 use Rattle.panel_stated.specs.declared.DecisionSaid.{DecisionSaid}
-use Rattle.panel_stated.specs.declared.PartSaid.{PartSaid}
-use Rattle.panel_stated.specs.Numbers.{decidedNo, presenceOf}
+use Rattle.panel_stated.specs.declared.Wrote.{Wrote}
+use Rattle.panel_stated.specs.declared.RoomSaid.{RoomSaid}
+use Rattle.u2f_up_stated.specs.Numbers.{presenceIn}
+use Rattle.session_stated.specs.declared.Session.{Session}
+use Rattle.session_stated.specs.Held.{remainderIn, sessionIn, sessionAfter, frameRoomOf}
+use Rattle.session_stated.specs.Contracts.{inputsIn}
+use Rattle.panel_stated.specs.Numbers.{decidedNo}
 use Rattle.panel_stated.specs.Terms.{IsNumbered}
-use Rattle.panel_stated.specs.Exports.{ToDecide, inputsOf, bodyLength, frameNumbers, commandNumbers, partNumbers}
+use Rattle.panel_stated.specs.Exports.{ToDecide, bodyLength, frameNumbers, commandNumbers, sentNumbers, sentOver, roomNumbers, roomsOf}
 use Rattle.panel_stated.proofs.Outcomes as Outcomes
 use Rattle.demands.specs.Panel.{Panel, Meets}
 use Rattle.demands.specs.Sessions.{fetching, IsC0, IsGetResponse, Unhindered, Each, none, also, bytesOf, firstBytes, fetch, fetched, leftAfter}
@@ -71,31 +77,50 @@ sent-same (Gives (Body n)) after h = refl
 sent-same (Gives Ordered) after h = refl
 sent-same (Gives (Part n r)) after h = refl
 
-first-same : (o : Outcome Sent) (after : List ℕ) (r : Remainder) → IsNumbered o
-    → (if eqb (partNumbers o r .answer) 0x9000 then responseBodyOf (take (partNumbers o r .length) after) else []) ≡ responseBodyOf (got (o, after))
-first-same (R n) after r h = rw (ne-eqb n 0x9000 (λ e. omega arith))
-first-same (Word s) after r h = rw (ne-eqb (s .number) 0x9000 (λ e. omega arith))
-first-same (Gives sent) after r h = refl
+first-same : (o : Outcome Sent) (after : List ℕ) → IsNumbered o
+    → (if eqb (sentNumbers o .answer) 0x9000 then responseBodyOf (take (sentNumbers o .length) after) else []) ≡ responseBodyOf (got (o, after))
+first-same (R n) after h = rw (ne-eqb n 0x9000 (λ e. omega arith))
+first-same (Word s) after h = rw (ne-eqb (s .number) 0x9000 (λ e. omega arith))
+first-same (Gives sent) after h = refl
 
-first-left : (o : Outcome Sent) (r : Remainder) → partNumbers o r .remainder ≡ left r o
-first-left (R n) r = refl
-first-left (Word s) r = refl
-first-left (Gives sent) r = refl
+first-left : (o : Outcome Sent) (s : Session) → sentOver o s .remainder ≡ left (s .remainder) o
+first-left (R n) s = refl
+first-left (Word w) s = refl
+first-left (Gives sent) s = refl
+
+-- what remains of a session after a decision
+remains : (o : Outcome DecisionGives) (read : Outcome Says) (s : Session) → sessionAfter o read s .remainder ≡ remainderAfter o (isGetResponse read) (s .remainder)
+remains (R n) read s = refl
+remains (Word w) read s = refl
+remains (Gives g) read s = refl
+
+-- the room that is said for a frame
+room-by : (limit longest : ℕ) → roomNumbers (responseRoomOf limit longest) .answer ≡ 0x9000 → roomNumbers (responseRoomOf limit longest) .length ≡ partLength limit longest + 2
+unfolding responseRoomOf
+room-by limit longest e = by (ltb (partLength limit longest) 0xfffffffffffffffe) e
+  where
+    by : (b : Bool) → roomNumbers (if b then Gives (partLength limit longest + 2) else R 2) .answer ≡ 0x9000 → roomNumbers (if b then Gives (partLength limit longest + 2) else R 2) .length ≡ partLength limit longest + 2
+    by true x = refl
+    by false x = absurd (omega (arith, x))
+
+pub room-is : (frame : List ℕ) (said : Says) (longest : ℕ) → readOf frame ≡ Gives said → roomsOf frame longest .answer ≡ 0x9000 → roomsOf frame longest .length ≡ partLength (frameLimit frame) longest + 2
+unfolding frameRoomOf frameLimit
+room-is frame said longest r e = rw r (room-by (limitOf said) longest (rw r at e))
 
 abbrev visitOf : ToDecide → S.Visit
-visitOf i = record { presence = presenceOf (i .presence); moment = i .moment; lent = inputsOf i; buffer = i .part }
+visitOf i = record { presence = presenceIn (i .presence); moment = i .moment; lent = inputsIn i; buffer = i .part }
 
 abbrev visits : List ToDecide → List S.Visit
 visits [] = []
 visits (i ∷ is) = visitOf i ∷ visits is
 
 module _ (P : Panel) (M : Meets P) where
-  is-c0 : (i : ToDecide) → IsC0 P i → HasInsC0 (inputsOf i)
+  is-c0 : (i : ToDecide) → IsC0 P i → HasInsC0 (inputsIn i)
   is-c0 i (e, f) =
       has-c0 (readOf (i .frame)) (Outcomes.read-said (i .frame))
       (ap (λ (s : FrameSaid). s .answer) (sym (M .read (i .frame))) ∙ e) (ap (λ (s : FrameSaid). s .ins) (sym (M .read (i .frame))) ∙ f)
 
-  comes : (i : ToDecide) → IsGetResponse P i → Comes (inputsOf i) GetResponse
+  comes : (i : ToDecide) → IsGetResponse P i → Comes (inputsIn i) GetResponse
   comes i (e, f, g) = (
     ap allowedOf g ∙ AllowedNumbers .granted,
     get-response (commandOf (i .frame)) (Outcomes.command-said (i .frame))
@@ -106,12 +131,14 @@ module _ (P : Panel) (M : Meets P) where
     bytes-same : (r : Remainder) (i : ToDecide) → bytesOf (fetch P body r i) ≡ responseBodyOf (S.sentIn decisionOf remainderLeft partLeft body r (visitOf i))
     bytes-same r i =
         let m = M .decide (fetching body r i) in
-        ap₂ (λ (s : DecisionSaid) (after : List ℕ). if eqb (s .answer) 0x0200 then responseBodyOf (take (s .length) after) else []) (m .0) (m .3)
-        ∙ sent-same (decisionOf (presenceOf (i .presence)) (i .moment) (inputsOf (fetching body r i)) .answer) _
-        (Outcomes.decision-said (presenceOf (i .presence)) (i .moment) (inputsOf (fetching body r i)))
+        ap₂ (λ (s : DecisionSaid) (after : List ℕ). if eqb (s .answer) 0x0200 then responseBodyOf (take (s .length) after) else []) (m .0) (m .5)
+        ∙ sent-same (decisionOf (presenceIn (i .presence)) (i .moment) (inputsIn (fetching body r i)) .answer) _
+        (Outcomes.decision-said (presenceIn (i .presence)) (i .moment) (inputsIn (fetching body r i)))
 
-    left-same : (r : Remainder) (i : ToDecide) → fetch P body r i .said .remainder ≡ S.leftIn decisionOf remainderLeft partLeft body r (visitOf i)
-    left-same r i = ap (λ (s : DecisionSaid). s .remainder) (M .decide (fetching body r i) .0)
+    pub left-same : (r : Remainder) (i : ToDecide) → remainderIn (fetch P body r i .session) ≡ S.leftIn decisionOf remainderLeft partLeft body r (visitOf i)
+    left-same r i =
+        ap (λ (s : Session). s .remainder) (M .decide (fetching body r i) .2)
+        ∙ remains (decisionOf (presenceIn (i .presence)) (i .moment) (inputsIn (fetching body r i)) .answer) (readOf (i .frame)) (sessionIn (fetching body r i .session))
 
     pub fetched-same : (r : Remainder) (is : List ToDecide) → fetched P body r is ≡ S.joinedOver decisionOf remainderLeft partLeft body r (visits is)
     unfolding fetched
@@ -134,20 +161,20 @@ module _ (P : Panel) (M : Meets P) where
     joins r is e = rw (fetched-same r is, after-same r is) (joins-over body r (visits is) e)
 
     pub so-far : (buffer : List ℕ) (n limit : ℕ) (is : List ToDecide) → n ≤ length body → Each (IsC0 P) is
-        → firstBytes (P .next-part body (rest 0 n) limit buffer)
-        ++ (fetched P body (P .next-part body (rest 0 n) limit buffer .said .remainder) is
-        ++ remaining body (leftAfter P body (P .next-part body (rest 0 n) limit buffer .said .remainder) is))
+        → firstBytes (P .next-part (0 ∷ n ∷ limit ∷ []) body buffer)
+        ++ (fetched P body (remainderIn (P .next-part (0 ∷ n ∷ limit ∷ []) body buffer .session)) is
+        ++ remaining body (leftAfter P body (remainderIn (P .next-part (0 ∷ n ∷ limit ∷ []) body buffer .session)) is))
         ≡ take n body
     so-far buffer n limit is h e =
-        let m = M .next-part body (rest 0 n) limit buffer in
+        let m = M .next-part (0 ∷ n ∷ limit ∷ []) body buffer in
         let o = nextPartOf (length body) (rest 0 n) limit (length buffer) in
         let a : Fetch = record { limit = limit; buffer = buffer } in
-        let p = P .next-part body (rest 0 n) limit buffer in
+        let p = P .next-part (0 ∷ n ∷ limit ∷ []) body buffer in
         let bytes : firstBytes p ≡ responseBodyOf (got (called sendingOf body (rest 0 n) a)) =
-        ap₂ (λ (s : PartSaid) (after : List ℕ). if eqb (s .answer) 0x9000 then responseBodyOf (take (s .length) after) else []) (m .0) (m .1)
-        ∙ first-same o _ (rest 0 n) (Outcomes.next-said (length body) (rest 0 n) limit (length buffer)) in
-        let lefts : p .said .remainder ≡ left (rest 0 n) o = ap (λ (s : PartSaid). s .remainder) (m .0) ∙ first-left o (rest 0 n) in
-        ap₂ (λ (x y : List ℕ). x ++ y) bytes (joins (p .said .remainder) is (each-fetches e) ∙ ap (remaining body) lefts)
+        ap₂ (λ (s : Wrote) (after : List ℕ). if eqb (s .answer) 0x9000 then responseBodyOf (take (s .length) after) else []) (m .0) (m .2)
+        ∙ first-same o _ (Outcomes.next-said (length body) (rest 0 n) limit (length buffer)) in
+        let lefts : remainderIn (p .session) ≡ left (rest 0 n) o = ap (λ (s : Session). s .remainder) (m .1) ∙ first-left o (record { remainder = rest 0 n; limit = limit }) in
+        ap₂ (λ (x y : List ℕ). x ++ y) bytes (joins (remainderIn (p .session)) is (each-fetches e) ∙ ap (remaining body) lefts)
         ∙ step-joins body (rest 0 n) a (omega arith)
 
 -- ---- progress
@@ -187,43 +214,39 @@ decided-part p t a c some e =
 remaining-long : (body : List ℕ) (r : Remainder) → r .place + r .count ≤ length body → length (remaining body r) ≡ r .count
 remaining-long body r h = simp (length-take, length-drop) (omega arith)
 
-part-fits : (n limit count long : ℕ) → count ≤ n → (n + 2 ≤ long) ⊎ ((1 ≤ limit) × (limit + 2 ≤ long)) → partLength limit count + 2 ≤ long
-part-fits n limit count long h room =
-    ⊎-elim (λ (z : n + 2 ≤ long). omega (arith, part-most limit count)) (λ (z : (1 ≤ limit) × (limit + 2 ≤ long)). omega (arith, part-limit limit count (z .0), z .1)) room
-
 module _ (P : Panel) (M : Meets P) (body : List ℕ) where
   -- the two sides' words for a C0
   gets-fetches : (i : ToDecide) → IsGetResponse P i → S.IsFetch (visitOf i)
   gets-fetches i g = let f = GetResponseExactly (i .frame) .0 (comes P M i g .1) in (f .0, f .1, f .3)
 
-  one-joins : (r : Remainder) (i : ToDecide) → IsGetResponse P i → bytesOf (fetch P body r i) ++ remaining body (fetch P body r i .said .remainder) ≡ remaining body r
+  one-joins : (r : Remainder) (i : ToDecide) → IsGetResponse P i → bytesOf (fetch P body r i) ++ remaining body (remainderIn (fetch P body r i .session)) ≡ remaining body r
   unfolding fetched leftAfter
   one-joins r i g =
-      ap (λ (l : List ℕ). l ++ remaining body (fetch P body r i .said .remainder)) (sym (append-nil (bytesOf (fetch P body r i))))
+      ap (λ (l : List ℕ). l ++ remaining body (remainderIn (fetch P body r i .session))) (sym (append-nil (bytesOf (fetch P body r i))))
       ∙ joins P M body r (i ∷ []) (S.also (gets-fetches i g) S.none)
 
   pub takes : (r : Remainder) (i : ToDecide) → IsGetResponse P i → 0 < r .count → lastRefusal < fetch P body r i .said .answer
       → (fetch P body r i .said .answer ≡ 0x0200)
       × (1 ≤ length (bytesOf (fetch P body r i)))
-      × (length (bytesOf (fetch P body r i)) + fetch P body r i .said .remainder .count ≡ r .count)
+      × (length (bytesOf (fetch P body r i)) + remainderIn (fetch P body r i .session) .count ≡ r .count)
   takes r i g some e =
-      let p = presenceOf (i .presence) in
-      let a = inputsOf (fetching body r i) in
+      let p = presenceIn (i .presence) in
+      let a = inputsIn (fetching body r i) in
       let m = M .decide (fetching body r i) .0 in
       let number : fetch P body r i .said .answer ≡ decidedNo (decisionOf p (i .moment) a .answer) = ap (λ (s : DecisionSaid). s .answer) m in
       let x = decided-part p (i .moment) a (comes P M i g) some (omega (arith, number, e)) in
       let f = is-a-part p (i .moment) a (x .0) (x .1) (x .2) in
       let limit = frameLimit (i .frame) in
-      let lefts : fetch P body r i .said .remainder ≡ restAfter r limit = ap (λ (s : DecisionSaid). s .remainder) m ∙ ap (λ (o : Outcome DecisionGives). remainderAfter o (isGetResponse (readOf (i .frame))) r) (x .2) ∙ f .left in
+      let lefts : remainderIn (fetch P body r i .session) ≡ restAfter r limit = left-same P M body r i ∙ ap (λ (o : Outcome DecisionGives). remainderAfter o (isGetResponse (readOf (i .frame))) r) (x .2) ∙ f .left in
       let joined = simp length-append at (ap length (one-joins r i g)) in
       let before = remaining-long body r (f .within) in
       let after = remaining-long body (restAfter r limit) (omega (arith, rest-end r limit, f .within)) in
-      let count : fetch P body r i .said .remainder .count ≡ restAfter r limit .count = ap (λ (k : Remainder). k .count) lefts in
-      let long : length (remaining body (fetch P body r i .said .remainder)) ≡ restAfter r limit .count = ap (λ (k : Remainder). length (remaining body k)) lefts ∙ after in
+      let count : remainderIn (fetch P body r i .session) .count ≡ restAfter r limit .count = ap (λ (k : Remainder). k .count) lefts in
+      let long : length (remaining body (remainderIn (fetch P body r i .session))) ≡ restAfter r limit .count = ap (λ (k : Remainder). length (remaining body k)) lefts ∙ after in
       (number ∙ ap decidedNo (x .2), omega (arith, joined, before, long, part-some limit (r .count) some, part-most limit (r .count)), omega (arith, joined, before, long, count))
 
   -- nothing stands against it
-  passes : (n : ℕ) (i : ToDecide) → Unhindered P n i → NotRefused (presenceOf (i .presence)) (i .side) (i .moment)
+  passes : (n : ℕ) (i : ToDecide) → Unhindered P n i → NotRefused (presenceIn (i .presence)) (i .side) (i .moment)
   passes n i u = (
     λ b. ⊎-elim (λ z. omega (arith, u .window .0)) (λ z. omega (arith, u .window .1)) b,
     λ b. ⊎-elim (λ z. omega (arith, u .sides .0)) (λ z. omega (arith, u .sides .1)) b,
@@ -231,21 +254,27 @@ module _ (P : Panel) (M : Meets P) (body : List ℕ) where
   )
 
   -- one of them: nothing was left, or the next part goes out
-  kept : (n : ℕ) (r : Remainder) (i : ToDecide) → Unhindered P n i → r .count ≡ 0 → fetch P body r i .said .remainder ≡ r
+  kept : (n : ℕ) (r : Remainder) (i : ToDecide) → Unhindered P n i → r .count ≡ 0 → remainderIn (fetch P body r i .session) ≡ r
   kept n r i u z =
       let c = comes P M i (u .get-response) in
-      ap (λ (s : DecisionSaid). s .remainder) (M .decide (fetching body r i) .0)
-      ∙ ap (λ (x : DecisionResult). remainderLeft (inputsOf (fetching body r i)) x) (nothing-left (presenceOf (i .presence)) (i .moment) (inputsOf (fetching body r i)) (passes n i u) c z)
-      ∙ rw (comes-c0 (inputsOf i) c)
+      left-same P M body r i
+      ∙ ap (λ (x : DecisionResult). remainderLeft (inputsIn (fetching body r i)) x) (nothing-left (presenceIn (i .presence)) (i .moment) (inputsIn (fetching body r i)) (passes n i u) c z)
+      ∙ rw (comes-c0 (inputsIn i) c)
+
+  fits : (n count : ℕ) (i : ToDecide) → Unhindered P n i → count ≤ n → partLength (frameLimit (i .frame)) count + 2 ≤ length (i .part)
+  fits n count i u most =
+      let f = GetResponseExactly (i .frame) .0 (comes P M i (u .get-response) .1) in
+      let m = M .response-room (i .frame) n in
+      let long = room-is (i .frame) (f .0) n (f .1) (ap (λ (s : RoomSaid). s .answer) (sym m) ∙ u .room .0) in
+      omega (arith, part-monotone (frameLimit (i .frame)) count n most, long, ap (λ (s : RoomSaid). s .length) m, u .room .1)
 
   moved : (n : ℕ) (r : Remainder) (i : ToDecide) → Unhindered P n i → 0 < r .count → r .count ≤ n → r .place + r .count ≤ length body
-      → fetch P body r i .said .remainder ≡ restAfter r (frameLimit (i .frame))
+      → remainderIn (fetch P body r i .session) ≡ restAfter r (frameLimit (i .frame))
   moved n r i u some most within =
       let c = comes P M i (u .get-response) in
-      let limit : P .decide i .said .limit ≡ frameLimit (i .frame) = ap (λ (s : DecisionSaid). s .limit) (M .decide i .0) in
-      let fits = part-fits n (frameLimit (i .frame)) (r .count) (length (i .part)) most (rw limit at (u .room)) in
-      ap (λ (s : DecisionSaid). s .remainder) (M .decide (fetching body r i) .0)
-      ∙ ap (λ (x : DecisionResult). remainderLeft (inputsOf (fetching body r i)) x) (served (presenceOf (i .presence)) (i .moment) (inputsOf (fetching body r i)) (passes n i u, c, some) within fits)
+      left-same P M body r i
+      ∙ ap (λ (x : DecisionResult). remainderLeft (inputsIn (fetching body r i)) x)
+      (served (presenceIn (i .presence)) (i .moment) (inputsIn (fetching body r i)) (passes n i u, c, some) within (fits n (r .count) i u most))
 
   all-left : (n : ℕ) (r : Remainder) (is : List ToDecide) → r .place + r .count ≤ length body → r .count ≤ n → Each (Unhindered P n) is → r .count ≤ length is
       → leftAfter P body r is .count ≡ 0
@@ -255,7 +284,7 @@ module _ (P : Panel) (M : Meets P) (body : List ℕ) where
       by (λ (k : Remainder) (h : k .place + k .count ≤ length body) (m : k .count ≤ n) (l : k .count ≤ length is). all-left n k is h m e l) (ℕ-discrete (r .count) 0)
     where
       by : ((k : Remainder) → k .place + k .count ≤ length body → k .count ≤ n → k .count ≤ length is → leftAfter P body k is .count ≡ 0)
-          → Dec (r .count ≡ 0) → leftAfter P body (fetch P body r i .said .remainder) is .count ≡ 0
+          → Dec (r .count ≡ 0) → leftAfter P body (remainderIn (fetch P body r i .session)) is .count ≡ 0
       by go (yes z) = rw (kept n r i u z) (go r within most (omega arith))
       by go (no z) =
           let limit = frameLimit (i .frame) in

@@ -22,6 +22,7 @@ use Rattle.panel_stated.specs.declared.CommandSaid.{CommandSaid}
 use Rattle.panel_stated.specs.Terms.{IsNumbered}
 use Rattle.panel_stated.specs.Exports.{commandNumbers}
 use Rattle.panel_stated.proofs.Outcomes as Outcomes
+use Rattle.session_stated.specs.Held.{hardwareIn}
 use Rattle.demands.specs.Panel.{Panel, Meets}
 use Rattle.demands.specs.Calls.{Lent, Reaches, lentOf, asCall, Decide}
 
@@ -125,14 +126,14 @@ module _ (P : Panel) (M : Meets P) (i : Lent) where
   reached =
       let a = lentOf i in
       let on = goes (i .side) (pathOf a) in
-      let allowed = by-allowed (i .hardware .allowed) a in
+      let allowed = by-allowed (hardwareIn (i .hardware) .allowed) a in
       let command = by-command a (commandOf (i .frame)) (Outcomes.command-said (i .frame)) in (
         λ e.
             let x = allowed .0 (on .0 e) in
             let y = command .0 (x .1) in
-            (x .0, rw (M .read-command (i .frame)) (y .0), rw (M .read-command (i .frame)) (⊎-elim (λ z. inl z) (λ z. inr (z .0, z .1, eqb-true (i .hardware .good) 1 (z .2), z .3)) (y .1))),
+            (x .0, rw (M .read-command (i .frame)) (y .0), rw (M .read-command (i .frame)) (⊎-elim (λ z. inl z) (λ z. inr (z .0, z .1, eqb-true (hardwareIn (i .hardware) .good) 1 (z .2), z .3)) (y .1))),
         λ r.
             let y = rw (M .read-command (i .frame)) at (r .1) in
             let z = rw (M .read-command (i .frame)) at (r .2) in
-            on .1 (allowed .1 (r .0, command .1 (y, ⊎-elim (λ z. inl z) (λ z. inr (z .0, z .1, eq-eqb (i .hardware .good) 1 (z .2), z .3)) z))),
+            on .1 (allowed .1 (r .0, command .1 (y, ⊎-elim (λ z. inl z) (λ z. inr (z .0, z .1, eq-eqb (hardwareIn (i .hardware) .good) 1 (z .2), z .3)) z))),
       )

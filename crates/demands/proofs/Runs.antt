@@ -16,17 +16,13 @@ use Rattle.ctap1_stated.specs.Words.{DecisionGives, Body, Ordered, Part}
 use Rattle.ctap1_stated.specs.Path.{DecisionPath, NoRoom, Ends, SixBytes, Fetches, Signs, Touch, pathOf, roleOf, roleOfPath}
 use Rattle.ctap1_stated.specs.Decision.{decisionOf}
 use Rattle.ctap1_stated.specs.Calls.{PanelCall, TouchAt, CheckAt, AskAt, DecideAt, seen, panelCalls}
-use Rattle.ctap1_stated.proofs.Laws.{panel-keeps}
-use Rattle.panel_stated.specs.declared.PresenceRecord.{PresenceRecord}
-use Rattle.panel_stated.specs.declared.Made.{Made}
-use Rattle.panel_stated.specs.declared.Stepped.{Stepped}
 use Rattle.panel_stated.specs.declared.Asked.{Asked}
 use Rattle.panel_stated.specs.declared.DecisionSaid.{DecisionSaid}
-use Rattle.panel_stated.specs.Numbers.{answerNo, decidedNo, presenceOf, presenceNumbers}
-use Rattle.panel_stated.specs.Terms.{IsNumbered, numbersAfter}
-use Rattle.panel_stated.specs.Exports.{yesIn, madeNumbers}
+use Rattle.panel_stated.specs.Numbers.{answerNo, decidedNo}
+use Rattle.panel_stated.specs.Terms.{IsNumbered}
+use Rattle.panel_stated.specs.Exports.{yesIn, madeOver}
 use Rattle.panel_stated.proofs.Outcomes as Outcomes
-use Rattle.panel_stated.proofs.Theorems.{RunsOverNumbers}
+use Rattle.u2f_up_stated.specs.Numbers.{presenceIn}
 use Rattle.demands.specs.Panel.{Panel, Meets}
 use Rattle.demands.specs.Calls.{CCall, Touch as CTouch, Check, Ask, Decide, on, lentOf, asCall, cameOfYes, cameOfAnswer, recordAfter, cameNext, historyOf}
 
@@ -88,67 +84,41 @@ ask-keeps : (p : Presence) (t : ℕ) → askOf p t .presence ≡ p
 unfolding askOf
 ask-keeps p t = ask-by p t (settleOf p (p .asker) t) _ (λ q. refl)
 
-new-record : (w : ℕ) → 0 < w → w ≤ 60000 → madeNumbers (newOf w) .presence ≡ presenceNumbers (fresh w)
+new-is : (w : ℕ) → 0 < w → w ≤ 60000 → newOf w ≡ Gives (fresh w)
 unfolding newOf
-new-record w low high = rw (ne-eqb w 0 (λ e. omega arith), le-ltb 60000 w high)
+new-is w low high = rw (ne-eqb w 0 (λ e. omega arith), le-ltb 60000 w high)
 
-module _ (P : Panel) (M : Meets P) (w : ℕ) (low : 0 < w) (high : w ≤ 60000) where
+module _ (P : Panel) (M : Meets P) (old : List ℕ) (w : ℕ) (low : 0 < w) (high : w ≤ 60000) where
   -- the record of the definitions' run
   abbrev pub there : List CCall → Presence
   there cs = after panelCalls w (allAs cs)
 
-  abbrev numbers : List PanelCall → PresenceRecord
-  numbers ds = numbersAfter (λ v. madeNumbers (newOf v)) presenceOf presenceNumbers panelCalls w ds
-
-  lent : (ds : List PanelCall) → presenceOf (numbers ds) ≡ after panelCalls w ds
-  lent ds = RunsOverNumbers .records PanelCall panelCalls panel-keeps w low high ds
-
-  out : (ds : List PanelCall) → numbers ds ≡ presenceNumbers (after panelCalls w ds)
-  unfolding numbersAfter after
-  out [] = new-record w low high
-  out (d ∷ ds) = ap (λ (p : Presence). presenceNumbers (panelCalls .does p d .presence)) (lent ds)
-
-  back : (ds : List PanelCall) → presenceOf (presenceNumbers (after panelCalls w ds)) ≡ after panelCalls w ds
-  back ds = ap presenceOf (sym (out ds)) ∙ lent ds
-
-  lent-from : (cs : List CCall) (n : PresenceRecord) → n ≡ presenceNumbers (there cs) → presenceOf n ≡ there cs
-  lent-from cs n e = ap presenceOf e ∙ back (allAs cs)
-
-  pub record-out : (cs : List CCall) → recordAfter P w cs ≡ presenceNumbers (there cs)
-  unfolding recordAfter after
-  record-out [] = ap (λ (m : Made). m .presence) (M .new w) ∙ new-record w low high
-  record-out (CTouch t ∷ cs) =
-      ap (λ (r : Stepped). r .presence) (M .grant-up (recordAfter P w cs) t)
-      ∙ ap (λ (p : Presence). presenceNumbers (touchOf p t .presence)) (lent-from cs _ (record-out cs))
-  record-out (Check s t ∷ cs) =
-      ap (λ (r : Stepped). r .presence) (M .consume-up (recordAfter P w cs) s t)
-      ∙ ap (λ (p : Presence). presenceNumbers (checkOf p s t .presence)) (lent-from cs _ (record-out cs))
-  record-out (Ask t ∷ cs) = record-out cs ∙ ap presenceNumbers (sym (ask-keeps (there cs) t))
-  record-out (Decide i ∷ cs) =
-      ap (λ (r : DecisionSaid). r .presence) (M .decide (on (recordAfter P w cs) i) .0)
-      ∙ ap (λ (p : Presence). presenceNumbers (decisionOf p (i .moment) (lentOf i) .presence)) (lent-from cs _ (record-out cs))
-
   -- the numbers in hand stand for the record there
-  pub record-in : (cs : List CCall) → presenceOf (recordAfter P w cs) ≡ there cs
-  record-in cs = lent-from cs _ (record-out cs)
+  pub record-in : (cs : List CCall) → presenceIn (recordAfter P old w cs) ≡ there cs
+  unfolding recordAfter after
+  record-in [] = M .new old w .1 ∙ ap (λ (o : Outcome Presence). madeOver o (presenceIn old)) (new-is w low high)
+  record-in (CTouch t ∷ cs) = M .grant-up (recordAfter P old w cs) t .1 ∙ ap (λ (p : Presence). touchOf p t .presence) (record-in cs)
+  record-in (Check s t ∷ cs) = M .consume-up (recordAfter P old w cs) s t .1 ∙ ap (λ (p : Presence). checkOf p s t .presence) (record-in cs)
+  record-in (Ask t ∷ cs) = record-in cs ∙ sym (ask-keeps (there cs) t)
+  record-in (Decide i ∷ cs) = M .decide (on (recordAfter P old w cs) i) .1 ∙ ap (λ (p : Presence). decisionOf p (i .moment) (lentOf i) .presence) (record-in cs)
 
   -- what C sees of the next call is what comes of it there
-  pub came-same : (cs : List CCall) (c : CCall) → cameNext P w cs c ≡ comesTo panelCalls w (allAs cs) (asPanel c)
+  pub came-same : (cs : List CCall) (c : CCall) → cameNext P old w cs c ≡ comesTo panelCalls w (allAs cs) (asPanel c)
   unfolding cameNext
   came-same cs (CTouch t) =
-      ap (λ (r : Stepped). cameOfYes Touching (r .answer) (r .yes)) (M .grant-up (recordAfter P w cs) t)
+      ap (λ (r : Asked). cameOfYes Touching (r .answer) (r .yes)) (M .grant-up (recordAfter P old w cs) t .0)
       ∙ ap (λ (p : Presence). cameOfYes Touching (answerNo (touchOf p t .outcome)) (yesIn (touchOf p t .outcome))) (record-in cs)
       ∙ came-yes Touching (touchOf (there cs) t .outcome) (Outcomes.touch-said (there cs) t)
   came-same cs (Check s t) =
-      ap (λ (r : Stepped). cameOfYes (Checking s) (r .answer) (r .yes)) (M .consume-up (recordAfter P w cs) s t)
+      ap (λ (r : Asked). cameOfYes (Checking s) (r .answer) (r .yes)) (M .consume-up (recordAfter P old w cs) s t .0)
       ∙ ap (λ (p : Presence). cameOfYes (Checking s) (answerNo (checkOf p s t .outcome)) (yesIn (checkOf p s t .outcome))) (record-in cs)
       ∙ came-yes (Checking s) (checkOf (there cs) s t .outcome) (Outcomes.check-said (there cs) t s)
   came-same cs (Ask t) =
-      ap (λ (r : Asked). cameOfYes Asking (r .answer) (r .yes)) (M .is-up-needed (recordAfter P w cs) t)
+      ap (λ (r : Asked). cameOfYes Asking (r .answer) (r .yes)) (M .is-up-needed (recordAfter P old w cs) t)
       ∙ ap (λ (p : Presence). cameOfYes Asking (answerNo (askOf p t .outcome)) (yesIn (askOf p t .outcome))) (record-in cs)
       ∙ came-yes Asking (askOf (there cs) t .outcome) (Outcomes.ask-said (there cs) t)
   came-same cs (Decide i) =
-      ap (λ (r : DecisionSaid). cameOfAnswer (roleOf (lentOf i)) (r .answer)) (M .decide (on (recordAfter P w cs) i) .0)
+      ap (λ (r : DecisionSaid). cameOfAnswer (roleOf (lentOf i)) (r .answer)) (M .decide (on (recordAfter P old w cs) i) .0)
       ∙ ap (λ (p : Presence). cameOfAnswer (roleOf (lentOf i)) (decidedNo (decisionOf p (i .moment) (lentOf i) .answer))) (record-in cs)
       ∙ came-path (i .side) (pathOf (lentOf i)) (decisionOf (there cs) (i .moment) (lentOf i) .answer) (Outcomes.decision-said (there cs) (i .moment) (lentOf i))
 
@@ -160,7 +130,7 @@ module _ (P : Panel) (M : Meets P) (w : ℕ) (low : 0 < w) (high : w ≤ 60000) 
   call-same (Decide i) = refl
 
   -- the two histories are one
-  pub history-same : (cs : List CCall) → historyOf P w cs ≡ history panelCalls w (allAs cs)
+  pub history-same : (cs : List CCall) → historyOf P old w cs ≡ history panelCalls w (allAs cs)
   unfolding historyOf history
   history-same [] = refl
   history-same (c ∷ cs) =

@@ -20,19 +20,20 @@ use Rattle.ctap1_stated.specs.Decision.{decisionOf, blockAfter}
 use Rattle.ctap1_stated.specs.Calls.{panelCalls}
 use Rattle.ctap1_stated.specs.Terms as Terms
 use Rattle.ctap1_stated.proofs.Theorems as Decision
-use Rattle.panel_stated.specs.declared.Made.{Made}
 use Rattle.panel_stated.specs.declared.DecisionSaid.{DecisionSaid}
-use Rattle.panel_stated.specs.Numbers.{answerNo, decidedNo, windowOf, presenceOf}
+use Rattle.u2f_up_stated.specs.Numbers.{windowOf, presenceIn}
+use Rattle.panel_stated.specs.Numbers.{answerNo, decidedNo}
 use Rattle.panel_stated.specs.Exports.{AfterDeciding, orderAfter}
 use Rattle.panel_stated.proofs.Outcomes as Outcomes
 use Rattle.panel_stated.proofs.Theorems as Panel′
 use Rattle.demands.specs.Panel.{Panel, Meets}
-use Rattle.demands.specs.Calls.{Lent, CCall, Decide, on, lentOf, asCall, recordAfter, cameNext, historyOf}
+use Rattle.demands.specs.Calls.{Lent, CCall, Decide, on, lentOf, asCall, touchNumber, askerNumber, recordAfter, cameNext, historyOf}
 use Rattle.demands.specs.Demands as Claims
 use Rattle.demands.specs.Demands.{Demand3, OrdersPresent, OrdersNext, OrdersHaveTheirTouch}
 use Rattle.demands.proofs.Fetched.{so-far, takes, enough}
 use Rattle.demands.proofs.Reached.{reached}
-use Rattle.demands.proofs.Answers.{commands, responses, finishing, finishes, presences, sides, hands-back}
+use Rattle.demands.proofs.Answers.{commands, responses, finishing, finishes, presences, sides, keeps}
+use Rattle.demands.proofs.Lost.{none-lost}
 use Rattle.demands.proofs.Runs.{asPanel, allAs, all-append, all-length, there, record-in, came-same, call-same, history-same}
 
 -- a window's number, opened
@@ -58,40 +59,40 @@ made-exactly w = by (bad-window w)
         not-above z = n (inr z)
 
 -- ---- demand 3
-module _ (P : Panel) (M : Meets P) (w : ℕ) (low : 0 < w) (high : w ≤ 60000) (calls : List CCall) where
+module _ (P : Panel) (M : Meets P) (old : List ℕ) (w : ℕ) (low : 0 < w) (high : w ≤ 60000) (calls : List CCall) where
   meets : RunOf panelCalls w (allAs calls)
   meets = Decision.Demand3OfThePanel w low high (allAs calls)
 
   -- what a call is there is what it is here
   same-calls : _≡_ {A = CCall → Call} (λ c. panelCalls .asCall (asPanel c)) asCall
-  same-calls = λ i c. sym (call-same P M w low high c) i
+  same-calls = λ i c. sym (call-same P M old w low high c) i
 
   abbrev Met : (CCall → Call) → Type 0
-  Met call = RunMeets w call calls (historyOf P w calls) (cameNext P w calls) (λ earlier m. recordAfter P w earlier .touch ≡ m + 1) (recordAfter P w calls .asker)
+  Met call = RunMeets w call calls (historyOf P old w calls) (cameNext P old w calls) (λ earlier m. touchNumber (recordAfter P old w earlier) ≡ m + 1) (askerNumber (recordAfter P old w calls))
 
   run-there : Met (λ c. panelCalls .asCall (asPanel c))
   run-there = record {
-    foretells = λ c. rw (came-same P M w low high calls c, history-same P M w low high calls) (meets .foretells (asPanel c));
-    refuses-side = λ c. rw (came-same P M w low high calls c) (meets .refuses-side (asPanel c));
-    refuses = λ c. rw (came-same P M w low high calls c, history-same P M w low high calls) (meets .refuses (asPanel c));
-    refuses-no-window = λ c. rw (came-same P M w low high calls c) (meets .refuses-no-window (asPanel c));
-    accepts = λ c. rw (came-same P M w low high calls c, history-same P M w low high calls) (meets .accepts (asPanel c));
-    finds = λ c s. rw (came-same P M w low high calls c, history-same P M w low high calls) (meets .finds (asPanel c) s);
-    serves = λ c. rw (came-same P M w low high calls c, history-same P M w low high calls) (meets .serves (asPanel c));
-    once = rw (history-same P M w low high calls) (meets .once);
+    foretells = λ c. rw (came-same P M old w low high calls c, history-same P M old w low high calls) (meets .foretells (asPanel c));
+    refuses-side = λ c. rw (came-same P M old w low high calls c) (meets .refuses-side (asPanel c));
+    refuses = λ c. rw (came-same P M old w low high calls c, history-same P M old w low high calls) (meets .refuses (asPanel c));
+    refuses-no-window = λ c. rw (came-same P M old w low high calls c) (meets .refuses-no-window (asPanel c));
+    accepts = λ c. rw (came-same P M old w low high calls c, history-same P M old w low high calls) (meets .accepts (asPanel c));
+    finds = λ c s. rw (came-same P M old w low high calls c, history-same P M old w low high calls) (meets .finds (asPanel c) s);
+    serves = λ c. rw (came-same P M old w low high calls c, history-same P M old w low high calls) (meets .serves (asPanel c));
+    once = rw (history-same P M old w low high calls) (meets .once);
     holds = λ k t late held later earlier split long.
         opened-no _ _
-        (ap (λ (p : Presence). p .touch) (record-in P M w low high earlier)
-        ∙ meets .holds k t (rw (← history-same P M w low high calls) late) (rw (← history-same P M w low high calls) held) (allAs later) (allAs earlier)
+        (ap (λ (p : Presence). p .touch) (record-in P M old w low high earlier)
+        ∙ meets .holds k t (rw (← history-same P M old w low high calls) late) (rw (← history-same P M old w low high calls) held) (allAs later) (allAs earlier)
         (ap allAs split ∙ all-append later earlier) (omega (arith, all-length earlier, long)));
-    asker = rw (history-same P M w low high calls) (ap (λ (p : Presence). p .asker) (record-in P M w low high calls) ∙ meets .asker);
-    side-totals = λ s. rw (history-same P M w low high calls) (meets .side-totals s);
-    totals = rw (history-same P M w low high calls) (meets .totals);
-    one-held = rw (history-same P M w low high calls) (meets .one-held);
-    two-sides = rw (history-same P M w low high calls) (meets .two-sides);
+    asker = rw (history-same P M old w low high calls) (ap (λ (p : Presence). p .asker) (record-in P M old w low high calls) ∙ meets .asker);
+    side-totals = λ s. rw (history-same P M old w low high calls) (meets .side-totals s);
+    totals = rw (history-same P M old w low high calls) (meets .totals);
+    one-held = rw (history-same P M old w low high calls) (meets .one-held);
+    two-sides = rw (history-same P M old w low high calls) (meets .two-sides);
   }
 
-  demand3 : Demand3 P w calls
+  demand3 : Demand3 P old w calls
   demand3 = subst Met same-calls run-there
 
 -- ---- orders
@@ -109,31 +110,31 @@ orders-there p t a old r answer order block (e, h) =
     let ordered = Panel′.DecisionTells .ordered (decisionOf p t a .answer) (Outcomes.decision-said p t a) .0 (sym answer ∙ e) in
     (ordered, says-present (decisionOf p t a .answer) (decisionOf p t a .order) old ordered (rw (← order, ← block) h))
 
-module _ (P : Panel) (M : Meets P) (w : ℕ) (low : 0 < w) (high : w ≤ 60000) where
-  ordered-in : (earlier : List CCall) (i : Lent) → OrdersNext P w earlier i → Terms.OrdersPresent (decisionOf (there P M w low high earlier) (i .moment) (lentOf i))
+module _ (P : Panel) (M : Meets P) (old : List ℕ) (w : ℕ) (low : 0 < w) (high : w ≤ 60000) where
+  ordered-in : (earlier : List CCall) (i : Lent) → OrdersNext P old w earlier i → Terms.OrdersPresent (decisionOf (there P M old w low high earlier) (i .moment) (lentOf i))
   ordered-in earlier i o =
-      let n = recordAfter P w earlier in
+      let n = recordAfter P old w earlier in
       let m = M .decide (on n i) in
-      subst (λ (p : Presence). Terms.OrdersPresent (decisionOf p (i .moment) (lentOf i))) (record-in P M w low high earlier)
-      (orders-there (presenceOf n) (i .moment) (lentOf i) (i .block) (P .decide (on n i)) (ap (λ (r : DecisionSaid). r .answer) (m .0)) (ap (λ (r : DecisionSaid). r .order) (m .0)) (m .2) o)
+      subst (λ (p : Presence). Terms.OrdersPresent (decisionOf p (i .moment) (lentOf i))) (record-in P M old w low high earlier)
+      (orders-there (presenceIn n) (i .moment) (lentOf i) (i .block) (P .decide (on n i)) (ap (λ (r : DecisionSaid). r .answer) (m .0)) (ap (λ (r : DecisionSaid). r .order) (m .0)) (m .4) o)
 
-  orders : OrdersHaveTheirTouch P w
+  orders : OrdersHaveTheirTouch P old w
   orders = record {
-    own = λ earlier i o. rw (history-same P M w low high earlier) (Decision.OrdersHaveTheirTouch .own w low high (allAs earlier) (i .moment) (lentOf i) (ordered-in earlier i o));
+    own = λ earlier i o. rw (history-same P M old w low high earlier) (Decision.OrdersHaveTheirTouch .own w low high (allAs earlier) (i .moment) (lentOf i) (ordered-in earlier i o));
     apart = λ earlier later i j k l o e q f.
         Decision.OrdersHaveTheirTouch .apart w low high (allAs earlier) (allAs later) (i .moment) (j .moment) (lentOf i) (lentOf j) k l
         (ordered-in earlier i o)
-        (rw (← history-same P M w low high earlier) e)
+        (rw (← history-same P M old w low high earlier) e)
         (rw (← all-append later (Decide i ∷ earlier)) (ordered-in (later ++ Decide i ∷ earlier) j q))
-        (rw (← all-append later (Decide i ∷ earlier), ← history-same P M w low high (later ++ Decide i ∷ earlier)) f);
+        (rw (← all-append later (Decide i ∷ earlier), ← history-same P M old w low high (later ++ Decide i ∷ earlier)) f);
   }
 
 -- ---- the theorem
 pub OnTop : Claims.OnTop
 OnTop P M = record {
-  makes = λ w. rw (M .new w) (made-exactly w);
-  touches = λ w made calls. let h = made-exactly w .0 (from w made) in demand3 P M w (h .0) (h .1) calls;
-  orders = λ w made. let h = made-exactly w .0 (from w made) in orders P M w (h .0) (h .1);
+  makes = λ old w. rw (M .new old w .0) (made-exactly w);
+  touches = λ old w made calls. let h = made-exactly w .0 (from old w made) in demand3 P M old w (h .0) (h .1) calls;
+  orders = λ old w made. let h = made-exactly w .0 (from old w made) in orders P M old w (h .0) (h .1);
   bodies = record {
     so-far = λ body buffer n limit fetches. so-far P M body buffer n limit fetches;
     takes = λ body r i. takes P M body r i;
@@ -141,10 +142,12 @@ OnTop P M = record {
   };
   reaches = λ i. reached P M i;
   finished = finishes P M;
+  none-lost = none-lost P M;
   answers = record {
+    makes = Panel′.ContractsAsClaimed .new (P .new) (M .new);
     presences = presences P M;
     sides = sides P M;
-    hands-back = hands-back P M;
+    keeps = keeps P M;
     reads = Panel′.ContractsAsClaimed .read (P .read) (M .read);
     reads-strictly = Panel′.ContractsAsClaimed .read-strict (P .read-strict) (M .read-strict);
     reads-by-table = Panel′.ContractsAsClaimed .read-by-table (P .read-by-table) (M .read-by-table);
@@ -157,8 +160,9 @@ OnTop P M = record {
     responds = Panel′.ContractsAsClaimed .write-response (P .write-response) (M .write-response);
     responses = responses P M;
     parts = Panel′.ContractsAsClaimed .next-part (P .next-part) (M .next-part);
+    rooms = Panel′.ContractsAsClaimed .response-room (P .response-room) (M .response-room);
   };
 }
   where
-    from : (w : ℕ) → P .new w .answer ≡ 0x9000 → answerNo (newOf w) ≡ 0x9000
-    from w made = ap (λ (m : Made). m .answer) (sym (M .new w)) ∙ made
+    from : (old : List ℕ) (w : ℕ) → P .new old w .said ≡ 0x9000 → answerNo (newOf w) ≡ 0x9000
+    from old w made = sym (M .new old w .0) ∙ made

@@ -1,31 +1,32 @@
--- Calls as C makes them: from brinecandle_new on, each lent the record, five numbers, that the last one gave back; and what C sees of each: the answer's
+-- Calls as C makes them: from brinecandle_new on, each lent the record, five numbers, as the last one left it; and what C sees of each: the answer's
 -- number, `yes`, the record. Lists are NEWEST FIRST.
 mod Words
 use Words.*
 
 -- all that is lent to a decision but the record
 pub record Lent : Type 0 where
+  pub session : List ℕ
   pub frame : List ℕ
   pub side : ℕ
   pub moment : ℕ
-  pub hardware : HardwareSaid
+  pub hardware : List ℕ
   pub newHandle : List ℕ
   pub certificate : List ℕ
   pub x : List ℕ
   pub y : List ℕ
   pub reply : List ℕ
   pub block : List ℕ
-  pub remainder : Remainder
   pub part : List ℕ
 
 -- with the record in hand
-abbrev pub on : PresenceRecord → Lent → ToDecide
+abbrev pub on : (presence : List ℕ) → Lent → ToDecide
 on n i =
     record {
+      presence = n;
+      session = i .session;
       frame = i .frame;
       side = i .side;
       moment = i .moment;
-      presence = n;
       hardware = i .hardware;
       newHandle = i .newHandle;
       certificate = i .certificate;
@@ -33,13 +34,12 @@ on n i =
       y = i .y;
       reply = i .reply;
       block = i .block;
-      remainder = i .remainder;
       part = i .part;
     }
 
--- what its numbers stand for (panel_stated's Exports.antt), which no record changes
+-- what its numbers stand for (session_stated's Contracts.antt, `inputsIn`), which no record changes
 abbrev pub lentOf : Lent → Inputs
-lentOf i = inputsOf (on noRecord i)
+lentOf i = inputsIn (on [] i)
 
 -- a call on the record in hand
 pub data CCall : Type 0 where
@@ -74,28 +74,36 @@ cameOfAnswer role answer =
 -- 03, a good handle and room
 abbrev pub Reaches : Panel → Lent → Type 0
 Reaches P i =
-    (i .hardware .allowed ≡ 1) × (P .read-command (i .frame) .answer ≡ 0x9000)
+    (hardwareIn (i .hardware) .allowed ≡ 1) × (P .read-command (i .frame) .answer ≡ 0x9000)
     × (((P .read-command (i .frame) .command ≡ 1) × (139 + length (i .newHandle) + length (i .certificate) ≤ length (i .reply)))
-    ⊎ ((P .read-command (i .frame) .command ≡ 2) × (P .read-command (i .frame) .p1 ≡ 0x03) × (i .hardware .good ≡ 1) × (77 ≤ length (i .reply))))
+    ⊎ ((P .read-command (i .frame) .command ≡ 2) × (P .read-command (i .frame) .p1 ≡ 0x03) × (hardwareIn (i .hardware) .good ≡ 1) × (77 ≤ length (i .reply))))
+
+-- of a record's numbers, the touch window's, 0 closed and m + 1 opened at m, and the asker's
+abbrev pub touchNumber : (presence : List ℕ) → ℕ
+touchNumber n = getD n 2 0
+
+abbrev pub askerNumber : (presence : List ℕ) → ℕ
+askerNumber n = getD n 4 0
 
 module _ (P : Panel) where
-  -- the record after one more call, and what C saw of it; an ask hands back no record: the one in hand stays
-  abbrev pub recordBy : PresenceRecord → CCall → PresenceRecord
+  -- the record after one more call, and what C saw of it; an ask is lent the record to be read: it stays
+  abbrev pub recordBy : (presence : List ℕ) → CCall → List ℕ
   recordBy n (Touch t) = P .grant-up n t .presence
   recordBy n (Check s t) = P .consume-up n s t .presence
   recordBy n (Ask t) = n
-  recordBy n (Decide i) = P .decide (on n i) .said .presence
+  recordBy n (Decide i) = P .decide (on n i) .presence
 
-  abbrev pub cameBy : PresenceRecord → CCall → Came
-  cameBy n (Touch t) = cameOfYes Touching (P .grant-up n t .answer) (P .grant-up n t .yes)
-  cameBy n (Check s t) = cameOfYes (Checking s) (P .consume-up n s t .answer) (P .consume-up n s t .yes)
+  abbrev pub cameBy : (presence : List ℕ) → CCall → Came
+  cameBy n (Touch t) = cameOfYes Touching (P .grant-up n t .said .answer) (P .grant-up n t .said .yes)
+  cameBy n (Check s t) = cameOfYes (Checking s) (P .consume-up n s t .said .answer) (P .consume-up n s t .said .yes)
   cameBy n (Ask t) = cameOfYes Asking (P .is-up-needed n t .answer) (P .is-up-needed n t .yes)
   cameBy n (Decide i) = cameOfAnswer (roleOf (lentOf i)) (P .decide (on n i) .said .answer)
 
-  module _ (w : ℕ) where
+  -- from `brinecandle_new w` on, over whatever the numbers were
+  module _ (old : List ℕ) (w : ℕ) where
     -- the record in hand after the calls
-    unfoldable pub recordAfter : List CCall → PresenceRecord
-    recordAfter [] = P .new w .presence
+    unfoldable pub recordAfter : List CCall → List ℕ
+    recordAfter [] = P .new old w .presence
     recordAfter (c ∷ earlier) = recordBy (recordAfter earlier) c
 
     -- what comes of one more call

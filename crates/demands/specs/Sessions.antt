@@ -1,4 +1,4 @@
--- A body in parts, as C sends it: the first by brinecandle_next_part, each further one by brinecandle_decide on a GET RESPONSE, lent what the last one left.
+-- A body in parts, as C sends it: the first by brinecandle_next_part, each further one by brinecandle_decide on a GET RESPONSE, lent a session with what the last one left.
 -- The body stands in the reply buffer; whatever else is lent may differ from call to call. Lists run from left to right.
 mod Words
 use Words.*
@@ -7,10 +7,11 @@ use Words.*
 abbrev pub fetching : (body : List ℕ) → Remainder → ToDecide → ToDecide
 fetching body r i =
     record {
+      presence = i .presence;
+      session = r .place ∷ r .count ∷ sessionIn (i .session) .limit ∷ [];
       frame = i .frame;
       side = i .side;
       moment = i .moment;
-      presence = i .presence;
       hardware = i .hardware;
       newHandle = i .newHandle;
       certificate = i .certificate;
@@ -18,7 +19,6 @@ fetching body r i =
       y = i .y;
       reply = body;
       block = i .block;
-      remainder = r;
       part = i .part;
     }
 
@@ -28,16 +28,16 @@ IsC0 P i = (P .read (i .frame) .answer ≡ 0x9000) × (P .read (i .frame) .ins �
 
 -- one that brinecandle_read_command takes, too (CLA, P1, P2 and Lc are 0), where CTAP1 is allowed
 abbrev pub IsGetResponse : Panel → ToDecide → Type 0
-IsGetResponse P i = (P .read-command (i .frame) .answer ≡ 0x9000) × (P .read-command (i .frame) .command ≡ 0xC0) × (i .hardware .allowed ≡ 1)
+IsGetResponse P i = (P .read-command (i .frame) .answer ≡ 0x9000) × (P .read-command (i .frame) .command ≡ 0xC0) × (hardwareIn (i .hardware) .allowed ≡ 1)
 
 -- one that nothing stands against, where n bytes or fewer remain
 pub record Unhindered (P : Panel) (n : ℕ) (i : ToDecide) : Type 0 where
   pub get-response : IsGetResponse P i
-  pub window : (1 ≤ i .presence .w) × (i .presence .w ≤ 60000)  -- not R6
-  pub sides : (i .side ≤ 1) × (i .presence .asker ≤ 1)  -- nor R8
-  pub moments : (i .presence .last ≤ i .moment) × (i .moment < 2 ^ 48)  -- nor R1
-  -- nor R2: room for all that remains, or for as much as the frame takes at a time (`limit`; 0 is all); two bytes more for the status
-  pub room : (n + 2 ≤ length (i .part)) ⊎ ((1 ≤ P .decide i .said .limit) × (P .decide i .said .limit + 2 ≤ length (i .part)))
+  pub window : (1 ≤ presenceIn (i .presence) .w) × (presenceIn (i .presence) .w ≤ 60000)  -- not R6
+  pub sides : (i .side ≤ 1) × (presenceIn (i .presence) .asker ≤ 1)  -- nor R8
+  pub moments : (presenceIn (i .presence) .last ≤ i .moment) × (i .moment < 2 ^ 48)  -- nor R1
+  -- nor R2: as much room for part and status as a response of n bytes to this frame can take
+  pub room : (P .response-room (i .frame) n .answer ≡ 0x9000) × (P .response-room (i .frame) n .length ≤ length (i .part))
 
 -- each of them is so
 pub data Each (Is : ToDecide → Type 0) : List ToDecide → Type 0 where
@@ -50,7 +50,7 @@ abbrev pub bytesOf : AfterDeciding → List ℕ
 bytesOf d = if eqb (d .said .answer) 0x0200 then responseBodyOf (take (d .said .length) (d .part)) else []
 
 abbrev pub firstBytes : AfterPart → List ℕ
-firstBytes p = if eqb (p .said .answer) 0x9000 then responseBodyOf (take (p .said .length) (p .buffer)) else []
+firstBytes p = if eqb (p .said .answer) 0x9000 then responseBodyOf (take (p .said .length) (p .part)) else []
 
 module _ (P : Panel) (body : List ℕ) where
   -- one GET RESPONSE
@@ -60,8 +60,8 @@ module _ (P : Panel) (body : List ℕ) where
   -- one after the other: what went out, joined; what is left
   unfoldable pub fetched : Remainder → List ToDecide → List ℕ
   fetched r [] = []
-  fetched r (i ∷ later) = bytesOf (fetch r i) ++ fetched (fetch r i .said .remainder) later
+  fetched r (i ∷ later) = bytesOf (fetch r i) ++ fetched (remainderIn (fetch r i .session)) later
 
   unfoldable pub leftAfter : Remainder → List ToDecide → Remainder
   leftAfter r [] = r
-  leftAfter r (i ∷ later) = leftAfter (fetch r i .said .remainder) later
+  leftAfter r (i ∷ later) = leftAfter (remainderIn (fetch r i .session)) later

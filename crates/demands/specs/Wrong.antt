@@ -1,7 +1,7 @@
 -- The panel of the definitions, and wrong ones, each with one fault. proofs/Refuted.antt shows that the first meets every contract, and of each other that it
 -- does not meet the demands.
 use Prim.Native.Nat.{ℕ, _+_, _-_, _%_}
-use mathlib.Core.List.{List}
+use mathlib.Core.List.{List, [], _∷_}
 use mathlib.Core.Bool.{Bool, false, not}
 use lib.Dec.{eqb}
 use Rattle.outcome.specs.Notation.{if_then_else_}
@@ -12,17 +12,20 @@ use Rattle.response_stated.specs.declared.Remainder.{Remainder}
 use Rattle.response_stated.specs.Words.{rest}
 use Rattle.response_stated.specs.Responses.{readResponseOf}
 use Rattle.ctap1_stated.specs.Path.{frameLimit}
-use Rattle.u2f_up_stated.specs.Moments.{newOf, touchOf, checkOf, askOf}
+use Rattle.session_stated.specs.declared.Session.{Session}
+use Rattle.session_stated.specs.Held.{remainderIn, sessionIn}
+use Rattle.u2f_up_stated.specs.declared.Presence.{Presence}
+use Rattle.u2f_up_stated.specs.declared.Window.the-variants.{Opened}
+use Rattle.u2f_up_stated.specs.Numbers.{presenceIn}
+use Rattle.u2f_up_stated.specs.Moments.{askOf}
 use Rattle.signing_stated.specs.Finishing.{lengthOf, replyOf}
-use Rattle.panel_stated.specs.declared.PresenceRecord.{PresenceRecord}
 use Rattle.panel_stated.specs.declared.FrameSaid.{FrameSaid}
 use Rattle.panel_stated.specs.declared.CommandSaid.{CommandSaid}
 use Rattle.panel_stated.specs.declared.ResponseSaid.{ResponseSaid}
-use Rattle.panel_stated.specs.declared.Made.{Made}
-use Rattle.panel_stated.specs.declared.Stepped.{Stepped}
+use Rattle.panel_stated.specs.declared.RoomSaid.{RoomSaid}
 use Rattle.panel_stated.specs.declared.Asked.{Asked}
-use Rattle.panel_stated.specs.Numbers.{presenceOf}
-use Rattle.panel_stated.specs.Exports.{ToWrite, ToDecide, ToFinish, AfterDeciding, AfterWriting, AfterPart, madeNumbers, stepNumbers, askedNumbers, decidesOf, finishNumbered, lengthNumbers, readsOf, writesOf, commandNumbers, respondsOf, responseNumbers, nextsOf}
+use Rattle.panel_stated.specs.Numbers.{presenceNumbers, sessionNumbers}
+use Rattle.panel_stated.specs.Exports.{ToWrite, ToDecide, ToFinish, AfterMaking, AfterStep, AfterDeciding, AfterWriting, AfterPart, makesOf, stepNumbers, touchesOf, checksOf, asksOf, decidesOf, finishNumbered, lengthNumbers, readsOf, writesOf, commandNumbers, respondsOf, responseNumbers, nextsOf, roomsOf}
 use Rattle.panel_stated.specs.Wrong as Exports
 use Rattle.demands.specs.Panel.{Panel}
 
@@ -33,7 +36,7 @@ abbrev pub rightResponse : List ℕ → ResponseSaid
 rightResponse response = responseNumbers (readResponseOf response)
 
 -- with any functions on the record and any decision and finishing, so that wrong ones can be tried
-abbrev pub panelWith : (ℕ → Made) → (PresenceRecord → ℕ → Stepped) → (PresenceRecord → ℕ → ℕ → Stepped) → (PresenceRecord → ℕ → Asked) → (ToDecide → AfterDeciding) → (ToFinish → AfterWriting) → Panel
+abbrev pub panelWith : ((presence : List ℕ) (w : ℕ) → AfterMaking) → ((presence : List ℕ) (t : ℕ) → AfterStep) → ((presence : List ℕ) (side t : ℕ) → AfterStep) → ((presence : List ℕ) (t : ℕ) → Asked) → (ToDecide → AfterDeciding) → (ToFinish → AfterWriting) → Panel
 panelWith new touch check ask decide finish =
     record {
       new = new;
@@ -52,35 +55,24 @@ panelWith new touch check ask decide finish =
       write-response = respondsOf;
       read-response = rightResponse;
       next-part = nextsOf;
+      response-room = roomsOf;
     }
-
-abbrev pub rightNew : ℕ → Made
-rightNew w = madeNumbers (newOf w)
-
-abbrev pub rightTouch : PresenceRecord → ℕ → Stepped
-rightTouch n t = stepNumbers (touchOf (presenceOf n) t)
-
-abbrev pub rightCheck : PresenceRecord → (side t : ℕ) → Stepped
-rightCheck n s t = stepNumbers (checkOf (presenceOf n) s t)
-
-abbrev pub rightAsk : PresenceRecord → ℕ → Asked
-rightAsk n t = askedNumbers (askOf (presenceOf n) t .outcome)
 
 abbrev pub rightFinish : ToFinish → AfterWriting
 rightFinish i = record { said = lengthNumbers (lengthOf (finishNumbered i)); buffer = replyOf (finishNumbered i) (i .reply) }
 
 abbrev pub defined : Panel
-defined = panelWith rightNew rightTouch rightCheck rightAsk decidesOf rightFinish
+defined = panelWith makesOf touchesOf checksOf asksOf decidesOf rightFinish
 
 -- and with any functions on frames and responses
 abbrev pub framesWith : (read readTable readStrict readStrictTable : List ℕ → FrameSaid) (write writeStrict : ToWrite → AfterWriting) → (List ℕ → CommandSaid)
-    → ((body : List ℕ) (status : ℕ) (old : List ℕ) → AfterWriting) → (List ℕ → ResponseSaid) → ((body : List ℕ) → Remainder → (limit : ℕ) (old : List ℕ) → AfterPart) → Panel
+    → ((body : List ℕ) (status : ℕ) (old : List ℕ) → AfterWriting) → (List ℕ → ResponseSaid) → ((session body part : List ℕ) → AfterPart) → Panel
 framesWith read readTable readStrict readStrictTable write writeStrict command respond response next =
     record {
-      new = rightNew;
-      grant-up = rightTouch;
-      consume-up = rightCheck;
-      is-up-needed = rightAsk;
+      new = makesOf;
+      grant-up = touchesOf;
+      consume-up = checksOf;
+      is-up-needed = asksOf;
       decide = decidesOf;
       finish = rightFinish;
       read = read;
@@ -93,7 +85,38 @@ framesWith read readTable readStrict readStrictTable write writeStrict command r
       write-response = respond;
       read-response = response;
       next-part = next;
+      response-room = roomsOf;
     }
+
+-- and with any room for a response
+abbrev roomsWith : ((frame : List ℕ) (longest : ℕ) → RoomSaid) → Panel
+roomsWith room =
+    record {
+      new = makesOf;
+      grant-up = touchesOf;
+      consume-up = checksOf;
+      is-up-needed = asksOf;
+      decide = decidesOf;
+      finish = rightFinish;
+      read = readsOf Ordinary;
+      read-strict = readsOf Strict;
+      read-by-table = readsOf Ordinary;
+      read-strict-by-table = readsOf Strict;
+      write = writesOf Ordinary;
+      write-strict = writesOf Strict;
+      read-command = rightCommand;
+      write-response = respondsOf;
+      read-response = rightResponse;
+      next-part = nextsOf;
+      response-room = room;
+    }
+
+-- the room is the whole body's, whatever the frame; and, in any shape, no more than a short frame's 258
+abbrev pub roomUncut : Panel
+roomUncut = roomsWith Exports.roomUncut
+
+abbrev pub room258 : Panel
+room258 = roomsWith (λ frame longest. record { answer = 0x9000; length = 258 })
 
 -- ---- frames and responses: panel_stated's wrong functions, one at a time
 abbrev pub readPlaceless : Panel
@@ -141,87 +164,86 @@ nextForgets =
 -- ---- presence, decision and finishing
 -- W is cut to 16 bits
 abbrev pub newCut : Panel
-newCut = panelWith (λ w. rightNew (w % 65536)) rightTouch rightCheck rightAsk decidesOf rightFinish
+newCut = panelWith (λ n w. makesOf n (w % 65536)) touchesOf checksOf asksOf decidesOf rightFinish
 
 -- a touch is answered as an ask is, and nothing opens
 abbrev pub touchAsks : Panel
-touchAsks = panelWith rightNew (λ n t. stepNumbers (askOf (presenceOf n) t)) rightCheck rightAsk decidesOf rightFinish
+touchAsks = panelWith makesOf (λ n t. stepNumbers (askOf (presenceIn n) t)) checksOf asksOf decidesOf rightFinish
 
 -- every check is side 0's
 abbrev pub checkIs0 : Panel
-checkIs0 = panelWith rightNew rightTouch (λ n s t. rightCheck n 0 t) rightAsk decidesOf rightFinish
+checkIs0 = panelWith makesOf touchesOf (λ n s t. checksOf n 0 t) asksOf decidesOf rightFinish
 
 -- a side is cut to its lowest bit
 abbrev pub sideCut : Panel
-sideCut = panelWith rightNew rightTouch (λ n s t. rightCheck n (s % 2) t) rightAsk decidesOf rightFinish
+sideCut = panelWith makesOf touchesOf (λ n s t. checksOf n (s % 2) t) asksOf decidesOf rightFinish
 
 -- yes and no are exchanged in an ask's answer
 abbrev pub askSwapped : Panel
-askSwapped = panelWith rightNew rightTouch rightCheck (λ n t. record { answer = rightAsk n t .answer; yes = not (rightAsk n t .yes) }) decidesOf rightFinish
+askSwapped = panelWith makesOf touchesOf checksOf (λ n t. record { answer = asksOf n t .answer; yes = not (asksOf n t .yes) }) decidesOf rightFinish
 
 -- a check gives R6, whatever the record
 abbrev pub refusesWindow : Panel
-refusesWindow = panelWith rightNew rightTouch (λ n s t. record { answer = 6; yes = false; presence = n }) rightAsk decidesOf rightFinish
+refusesWindow = panelWith makesOf touchesOf (λ n s t. record { said = record { answer = 6; yes = false }; presence = n }) asksOf decidesOf rightFinish
 
 -- a check that finds a touch keeps it
-abbrev keptIf : Bool → PresenceRecord → Stepped → Stepped
-keptIf found n r = if found then record { answer = r .answer; yes = r .yes; presence = n } else r
+abbrev keptIf : Bool → (presence : List ℕ) → AfterStep → AfterStep
+keptIf found n r = if found then record { said = r .said; presence = n } else r
 
 abbrev pub touchKept : Panel
-touchKept = panelWith rightNew rightTouch (λ n s t. keptIf (rightCheck n s t .yes) n (rightCheck n s t)) rightAsk decidesOf rightFinish
+touchKept = panelWith makesOf touchesOf (λ n s t. keptIf (checksOf n s t .said .yes) n (checksOf n s t)) asksOf decidesOf rightFinish
 
--- a touch hands back its moment and two more: the window that it opened is said to be later than it was
+-- what a call left, with another record
+abbrev with : AfterStep → Presence → AfterStep
+with r p = record { said = r .said; presence = presenceNumbers p }
+
+-- a touch leaves its moment and two more: the window that it opened is said to be later than it was
 abbrev pub touchLate : Panel
 touchLate =
-    panelWith rightNew
+    panelWith makesOf
     (λ n t.
-    let r = rightTouch n t in
-    record {
-      answer = r .answer;
-      yes = r .yes;
-      presence = record { w = r .presence .w; prompt = r .presence .prompt; touch = r .presence .touch + 1; last = r .presence .last; asker = r .presence .asker };
-    })
-    rightCheck rightAsk decidesOf rightFinish
+    let r = touchesOf n t in
+    let p = presenceIn (r .presence) in
+    with r (record { w = p .w; prompt = p .prompt; touch = Opened (t + 1); last = p .last; asker = p .asker }))
+    checksOf asksOf decidesOf rightFinish
 
--- a check hands back the asker that it was lent
+-- a check leaves the asker that it was lent
 abbrev pub askerKept : Panel
 askerKept =
-    panelWith rightNew rightTouch
+    panelWith makesOf touchesOf
     (λ n s t.
-    let r = rightCheck n s t in
-    record {
-      answer = r .answer;
-      yes = r .yes;
-      presence = record { w = r .presence .w; prompt = r .presence .prompt; touch = r .presence .touch; last = r .presence .last; asker = n .asker };
-    })
-    rightAsk decidesOf rightFinish
+    let r = checksOf n s t in
+    let p = presenceIn (r .presence) in
+    with r (record { w = p .w; prompt = p .prompt; touch = p .touch; last = p .last; asker = presenceIn n .asker }))
+    asksOf decidesOf rightFinish
 
 -- a refused call moves the record, a decision's side is cut, and what is left is dropped at a refused C0: panel_stated's
 abbrev pub refusedMoves : Panel
-refusedMoves = panelWith rightNew Exports.refusedMoves (λ n s t. Exports.refusedMoves n t) rightAsk decidesOf rightFinish
+refusedMoves = panelWith makesOf Exports.refusedMoves (λ n s t. Exports.refusedMoves n t) asksOf decidesOf rightFinish
 
 abbrev pub sideCutInDecide : Panel
-sideCutInDecide = panelWith rightNew rightTouch rightCheck rightAsk Exports.sideCutInDecide rightFinish
+sideCutInDecide = panelWith makesOf touchesOf checksOf asksOf Exports.sideCutInDecide rightFinish
 
 abbrev pub dropsAtC0 : Panel
-dropsAtC0 = panelWith rightNew rightTouch rightCheck rightAsk Exports.dropsAtC0 rightFinish
+dropsAtC0 = panelWith makesOf touchesOf checksOf asksOf Exports.dropsAtC0 rightFinish
 
 -- finishing gives R2, whatever the room
 abbrev pub finishRefuses : Panel
-finishRefuses = panelWith rightNew rightTouch rightCheck rightAsk decidesOf (λ i. record { said = record { answer = 2; length = 0 }; buffer = i .reply })
+finishRefuses = panelWith makesOf touchesOf checksOf asksOf decidesOf (λ i. record { said = record { answer = 2; length = 0 }; buffer = i .reply })
 
 -- finishing says 9000 and writes nothing
 abbrev pub finishClaims : Panel
-finishClaims = panelWith rightNew rightTouch rightCheck rightAsk decidesOf (λ i. record { said = record { answer = 0x9000; length = 0 }; buffer = i .reply })
+finishClaims = panelWith makesOf touchesOf checksOf asksOf decidesOf (λ i. record { said = record { answer = 0x9000; length = 0 }; buffer = i .reply })
 
 -- what is lent, with another record and another remainder
-abbrev changed : PresenceRecord → Remainder → ToDecide → ToDecide
+abbrev changed : (presence : List ℕ) → Remainder → ToDecide → ToDecide
 changed n k i =
     record {
+      presence = n;
+      session = sessionNumbers (record { remainder = k; limit = sessionIn (i .session) .limit });
       frame = i .frame;
       side = i .side;
       moment = i .moment;
-      presence = n;
       hardware = i .hardware;
       newHandle = i .newHandle;
       certificate = i .certificate;
@@ -229,48 +251,35 @@ changed n k i =
       y = i .y;
       reply = i .reply;
       block = i .block;
-      remainder = k;
       part = i .part;
     }
 
 -- what a decision left, with another remainder
 abbrev keeping : Remainder → AfterDeciding → AfterDeciding
 keeping k d =
-    record {
-      said = record { answer = d .said .answer; fault = d .said .fault; taken = d .said .taken; length = d .said .length; order = d .said .order; presence = d .said .presence; place = d .said .place; remainder = k; limit = d .said .limit };
-      reply = d .reply;
-      block = d .block;
-      part = d .part;
-    }
+    record { said = d .said; presence = d .presence; session = sessionNumbers (record { remainder = k; limit = sessionIn (d .session) .limit }); reply = d .reply; block = d .block; part = d .part }
 
 -- wherever the place is no multiple of the limit, a frame is answered as if nothing were left, and all of it is kept
 abbrev pub stalls : Panel
-stalls = panelWith rightNew rightTouch rightCheck rightAsk (λ i. if eqb (i .remainder .place % frameLimit (i .frame)) 0 then decidesOf i else keeping (i .remainder) (decidesOf (changed (i .presence) (rest 0 0) i))) rightFinish
+stalls =
+    panelWith makesOf touchesOf checksOf asksOf
+    (λ i. if eqb (remainderIn (i .session) .place % frameLimit (i .frame)) 0 then decidesOf i else keeping (remainderIn (i .session)) (decidesOf (changed (i .presence) (rest 0 0) i))) rightFinish
 
 -- a part leaves a byte more behind it than it took: that byte never goes out
 abbrev pub skips : Panel
 skips =
-    panelWith rightNew rightTouch rightCheck rightAsk
-    (λ i. let d = decidesOf i in keeping (rest (d .said .remainder .place + 1) (d .said .remainder .count - 1)) d) rightFinish
+    panelWith makesOf touchesOf checksOf asksOf
+    (λ i. let d = decidesOf i in keeping (rest (remainderIn (d .session) .place + 1) (remainderIn (d .session) .count - 1)) d) rightFinish
 
--- a decision hands back the record that it was lent
-abbrev handing : PresenceRecord → AfterDeciding → AfterDeciding
-handing n d =
-    record {
-      said = record { answer = d .said .answer; fault = d .said .fault; taken = d .said .taken; length = d .said .length; order = d .said .order; presence = n; place = d .said .place; remainder = d .said .remainder; limit = d .said .limit };
-      reply = d .reply;
-      block = d .block;
-      part = d .part;
-    }
-
+-- a decision leaves the record as it was lent
 abbrev pub recordKept : Panel
-recordKept = panelWith rightNew rightTouch rightCheck rightAsk (λ i. handing (i .presence) (decidesOf i)) rightFinish
+recordKept = panelWith makesOf touchesOf checksOf asksOf Exports.recordForgotten rightFinish
 
 -- a decision is made as if its side had just been touched for
 abbrev pub untouched : Panel
 untouched =
-    panelWith rightNew rightTouch rightCheck rightAsk
+    panelWith makesOf touchesOf checksOf asksOf
     (λ i.
-    decidesOf
-    (changed (record { w = i .presence .w; prompt = i .presence .prompt; touch = i .moment + 1; last = i .presence .last; asker = i .side }) (i .remainder) i))
+    let p = presenceIn (i .presence) in
+    decidesOf (changed (presenceNumbers (record { w = p .w; prompt = p .prompt; touch = Opened (i .moment); last = p .last; asker = i .side })) (remainderIn (i .session)) i))
     rightFinish

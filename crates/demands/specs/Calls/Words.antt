@@ -2,7 +2,7 @@
 pub use Prim.Native.Nat.{ℕ, _+_, _≤_}
 pub use mathlib.Core.Path.{_≡_}
 pub use mathlib.Core.Logic.{_⊎_}
-pub use lib.ListN.{length}
+pub use lib.ListN.{length, getD}
 pub use mathlib.Core.Bool.{Bool, not}
 pub use mathlib.Core.List.{List, [], _∷_}
 pub use lib.Dec.{eqb, leb}
@@ -11,9 +11,8 @@ pub use Rattle.outcome.specs.Outcome.{lastRefusal}
 pub use Rattle.u2f_up_stated.specs.History.{Role, Touching, Checking, Asking, Call, Came, RefusedBy, AnsweredBefore, Event}
 pub use Rattle.u2f_up_stated.specs.Runs.{cameOfGiven}
 pub use Rattle.ctap1_stated.specs.Path.{roleOf}
-pub use Rattle.panel_stated.specs.declared.PresenceRecord.{PresenceRecord}
 pub use Rattle.ctap1_stated.specs.Words.{Inputs}
-pub use Rattle.ctap1_stated.specs.declared.HardwareSaid.{HardwareSaid}
-pub use Rattle.response_stated.specs.declared.Remainder.{Remainder}
-pub use Rattle.panel_stated.specs.Exports.{ToDecide, inputsOf, noRecord}
+pub use Rattle.session_stated.specs.Held.{hardwareIn}
+pub use Rattle.session_stated.specs.Contracts.{inputsIn}
+pub use Rattle.panel_stated.specs.Exports.{ToDecide}
 pub use Rattle.demands.specs.Panel.{Panel}

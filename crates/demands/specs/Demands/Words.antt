@@ -8,12 +8,12 @@ pub use lib.ListN.{length, take}
 pub use Rattle.octets.specs.Bytes.{byte}
 pub use Rattle.outcome.specs.Outcome.{lastRefusal}
 pub use Rattle.response_stated.specs.declared.Remainder.{Remainder}
-pub use Rattle.response_stated.specs.Words.{rest}
 pub use Rattle.response_stated.specs.Fetching.{remaining}
 pub use Rattle.u2f_up_stated.specs.Demand.{RunMeets}
 pub use Rattle.u2f_up_stated.specs.History.{Checking, Mark, heldAt, serverOf}
+pub use Rattle.session_stated.specs.Held.{remainderIn, sessionIn}
 pub use Rattle.panel_stated.specs.Exports.{ToDecide, ToFinish, AfterDeciding}
 pub use Rattle.demands.specs.Panel.{Panel, Meets}
 pub use Rattle.demands.specs.Answers.{CallsAnswer}
 pub use Rattle.demands.specs.Sessions.{IsC0, IsGetResponse, Unhindered, Each, bytesOf, firstBytes, fetch, fetched, leftAfter}
-pub use Rattle.demands.specs.Calls.{Lent, CCall, Decide, on, asCall, Reaches, recordAfter, cameNext, historyOf}
+pub use Rattle.demands.specs.Calls.{Lent, CCall, Decide, on, asCall, Reaches, touchNumber, askerNumber, recordAfter, cameNext, historyOf}

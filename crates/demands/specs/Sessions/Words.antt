@@ -8,5 +8,7 @@ pub use lib.ListN.{length, take}
 pub use Rattle.outcome.specs.Notation.{if_then_else_}
 pub use Rattle.response_stated.specs.declared.Remainder.{Remainder}
 pub use Rattle.response_stated.specs.Responses.{responseBodyOf}
+pub use Rattle.u2f_up_stated.specs.Numbers.{presenceIn}
+pub use Rattle.session_stated.specs.Held.{remainderIn, sessionIn, hardwareIn}
 pub use Rattle.panel_stated.specs.Exports.{ToDecide, AfterDeciding, AfterPart}
 pub use Rattle.demands.specs.Panel.{Panel}
