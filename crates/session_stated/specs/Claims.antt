@@ -1,6 +1,7 @@
--- What is promised of a session: a body that is cut by its first frame and fetched by C0, decision after decision. Proved in
--- proofs/Theorems.antt of the definitions; `decide`, `left`, `write`, `limit` and `next` are any functions, and proofs/Refuted.antt has that wrong
--- ones fail. That nothing but the definitions does these steps: ctap1_stated's and response_stated's proofs/Only.antt, step by step.
+-- What is promised of a session: a body that is cut by its first frame and fetched by C0, decision after decision; then what a transport holds between its
+-- frames and goes on with; then the room for a response, and that no touch is lost to a length. Proved in proofs/Theorems.antt of the definitions; `decide`,
+-- `left`, `write`, `limit`, `next` and the others are any functions, and proofs/Refuted.antt has that wrong ones fail. That nothing but the definitions does the
+-- steps of a session: ctap1_stated's and response_stated's proofs/Only.antt, step by step; meets a claim that ends in 'Exactly' or 'Stands': proofs/Only.antt.
 use Prim.Native.Nat.{ℕ, _+_, _≤_, _<_}
 use mathlib.Core.Path.{_≡_}
 use mathlib.Core.Logic.{_↔_}
