@@ -190,23 +190,26 @@ order-has-room p t a blocks _ (enrolled said y l h) x = rw (Commands.register-ro
 order-has-room p t a blocks _ (signed-03 said m y l k) x = rw (Commands.room-is a 0x03 said true m (y .1 .1)) (y .3)
 order-has-room p t a blocks _ (signed-08 said m y k) x = rw (Commands.room-is a 0x08 said false m (y .1 .1)) (y .3)
 
--- what an order was asked for with: its command, by which the room is known, and that the room was there
-pub data AskedWith (a : Inputs) : ℕ → Type 0 where
-  of-register : (said : Says) → commandOf (a .frame) ≡ Gives (Register said) → AskedWith a (registerRoom (length (a .newHandle)) (length (a .certificate)))
-  of-authenticate : (p1 : ℕ) (said : Says) → commandOf (a .frame) ≡ Gives (Authenticate p1 said) → AskedWith a authenticateRoom
+-- what an order was asked for with: its command, by which kind and room are known, and that the room was there
+pub data AskedWith (a : Inputs) : (kind room : ℕ) → Type 0 where
+  of-register : (said : Says) → commandOf (a .frame) ≡ Gives (Register said) → AskedWith a 0x01 (registerRoom (length (a .newHandle)) (length (a .certificate)))
+  of-authenticate : (p1 : ℕ) (said : Says) → commandOf (a .frame) ≡ Gives (Authenticate p1 said) → AskedWith a 0x02 authenticateRoom
+
+asked-as : (a : Inputs) (k l m n : ℕ) → k ≡ l → m ≡ n → AskedWith a l n → AskedWith a k m
+asked-as a k l m n e f x = rw (e, f) x
 
 pub asked-with : (p : Presence) (t : ℕ) (a : Inputs) → AreBlocks a → decisionOf p t a .answer ≡ Gives Ordered
-    → AskedWith a (roomNeeded (decisionOf p t a .order)) × (roomNeeded (decisionOf p t a .order) ≤ a .room)
+    → AskedWith a (kindNo (decisionOf p t a .order .kind)) (roomNeeded (decisionOf p t a .order)) × (roomNeeded (decisionOf p t a .order) ≤ a .room)
 asked-with p t a blocks e = (go (decisionOf p t a) (way p t a) e, order-has-room p t a blocks (decisionOf p t a) (way p t a) e)
   where
-    go : (r : DecisionResult) → Way p t a r → r .answer ≡ Gives Ordered → AskedWith a (roomNeeded (r .order))
+    go : (r : DecisionResult) → Way p t a r → r .answer ≡ Gives Ordered → AskedWith a (kindNo (r .order .kind)) (roomNeeded (r .order))
     go _ (refused m) x = absurd (r-gives _ _ x)
     go _ (stated m q w) x = absurd (word-gives _ _ x)
     go _ (versioned c room) x = absurd (body-order _ x)
     go _ (fetched c sent) x = absurd (part-order _ _ x)
-    go _ (enrolled said y l h) x = rw (Commands.register-room a blocks said (y .1 .1) h) (of-register said (y .1 .1))
-    go _ (signed-03 said m y l k) x = rw (Commands.room-is a 0x03 said true m (y .1 .1)) (of-authenticate 0x03 said (y .1 .1))
-    go _ (signed-08 said m y k) x = rw (Commands.room-is a 0x08 said false m (y .1 .1)) (of-authenticate 0x08 said (y .1 .1))
+    go _ (enrolled said y l h) x = asked-as a _ _ _ _ (Commands.register-kind a blocks said (y .1 .1) h) (Commands.register-room a blocks said (y .1 .1) h) (of-register said (y .1 .1))
+    go _ (signed-03 said m y l k) x = asked-as a _ _ _ _ (Commands.kind-is a 0x03 said true m (y .1 .1)) (Commands.room-is a 0x03 said true m (y .1 .1)) (of-authenticate 0x03 said (y .1 .1))
+    go _ (signed-08 said m y k) x = asked-as a _ _ _ _ (Commands.kind-is a 0x08 said false m (y .1 .1)) (Commands.room-is a 0x08 said false m (y .1 .1)) (of-authenticate 0x08 said (y .1 .1))
 
 enrolment-whole : (a : Inputs) (said : Says) → length (registerOrdered a said .bytes) ≡ 385
 unfolding enrolmentOrder

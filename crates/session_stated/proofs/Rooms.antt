@@ -16,7 +16,7 @@ use Rattle.apdu_stated.specs.Answers.{Says}
 use Rattle.apdu_stated.specs.Reading.{readOf}
 use Rattle.command_stated.specs.Command.{Command, Register, Authenticate, commandOf}
 use Rattle.command_stated.proofs.Laws.{RegisterExactly, AuthenticateExactly}
-use Rattle.signing_stated.specs.Orders.{isOfLayout, certificateLength}
+use Rattle.signing_stated.specs.Orders.{kindNo, isOfLayout, certificateLength}
 use Rattle.signing_stated.specs.Finishing.{Finishing, Ended, finishOf, endOf, lengthOf, replyOf, bodyOf, roomNeeded}
 use Rattle.signing_stated.proofs.Laws.{finish-failed, finish-gives}
 use Rattle.response_stated.specs.Words.{rest}
@@ -25,11 +25,11 @@ use Rattle.response_stated.specs.Terms.{Sender, sendingOf, sending}
 use Rattle.response_stated.proofs.Laws.{part-monotone, part-most, part-long, room-holds, room-said, room-unsaid, sends-given, goes, tells}
 use Rattle.u2f_up_stated.specs.declared.Presence.{Presence}
 use Rattle.ctap1_stated.specs.Words.{Inputs, Ordered}
-use Rattle.ctap1_stated.specs.Terms.{AreBlocks}
+use Rattle.ctap1_stated.specs.Terms.{AreBlocks, roomOfRegister}
 use Rattle.ctap1_stated.specs.Path.{limitOn, frameLimit}
 use Rattle.ctap1_stated.specs.Decision.{decisionOf}
 use Rattle.ctap1_stated.proofs.Laws.{AskedWith, of-register, of-authenticate, asked-with, orders-of-layout}
-use Rattle.session_stated.specs.Held.{roomOn, frameRoomOf}
+use Rattle.session_stated.specs.Held.{Session, sessionAfter, roomOn, frameRoomOf}
 use Rattle.session_stated.specs.Terms.{NoShape, TakesAtATime, given, absent, CanTake, whole, cut, extended, no-shape, LongestBody, register, authenticate, RoomWasAsked, FirstPart, Answered}
 
 -- ---- a frame in a shape
@@ -93,20 +93,24 @@ module _ (frame : List ℕ) (longest : ℕ) where
   pub some-take : (n : ℕ) × CanTake frame longest n
   some-take = takes-some (readOf frame) refl
 
--- a frame that is read as one of the two commands that come to an order is in a shape
-read-of-longest : (a : Inputs) (b : ℕ) → LongestBody a b → (said : Says) × (readOf (a .frame) ≡ Gives said)
-read-of-longest a _ (register said c) = (said, RegisterExactly (a .frame) said .0 c .0)
-read-of-longest a _ (authenticate p1 said c is) = (said, AuthenticateExactly (a .frame) p1 said .0 c .0)
+-- ---- the room that an order asks for is the longest body of its command, and a frame that comes to an order is in a shape
+read-of : (a : Inputs) (k n : ℕ) → AskedWith a k n → (said : Says) × (readOf (a .frame) ≡ Gives said)
+read-of a _ _ (of-register said c) = (said, RegisterExactly (a .frame) said .0 c .0)
+read-of a _ _ (of-authenticate p1 said c) = (said, AuthenticateExactly (a .frame) p1 said .0 c .0)
 
--- ---- the room that an order asks for is the longest body of its command
 register-not : (said other : Says) (p1 : ℕ) → _≡_ {A = Outcome Command} (Gives (Register said)) (Gives (Authenticate p1 other)) → ⊥
 register-not said other p1 e = let z : _≡_ {A = ℕ} 0 1 = cc in omega arith
 
-longest-is : (a : Inputs) (b n : ℕ) → LongestBody a b → AskedWith a n → n ≡ b
-longest-is a _ _ (register said c) (of-register other d) = refl
-longest-is a _ _ (register said c) (of-authenticate p1 other d) = absurd (register-not said other p1 (sym c ∙ d))
-longest-is a _ _ (authenticate p1 said c is) (of-register other d) = absurd (register-not other said p1 (sym d ∙ c))
-longest-is a _ _ (authenticate p1 said c is) (of-authenticate q other d) = refl
+longest-is : (a : Inputs) (b k n : ℕ) → LongestBody a b → AskedWith a k n → n ≡ b
+longest-is a _ _ _ (register said c) (of-register other d) = refl
+longest-is a _ _ _ (register said c) (of-authenticate p1 other d) = absurd (register-not said other p1 (sym c ∙ d))
+longest-is a _ _ _ (authenticate p1 said c is) (of-register other d) = absurd (register-not other said p1 (sym d ∙ c))
+longest-is a _ _ _ (authenticate p1 said c is) (of-authenticate q other d) = refl
+
+-- by the order's kind
+by-kind : (a : Inputs) (b k n : ℕ) → AskedWith a k n → (k ≡ 0x01 → roomOfRegister a ≤ b) → (k ≡ 0x02 → 77 ≤ b) → n ≤ b
+by-kind a b _ _ (of-register said c) r s = r refl
+by-kind a b _ _ (of-authenticate p1 said c) r s = s refl
 
 -- ---- the first part
 pub first-part : (body : List ℕ) (n limit : ℕ) (buffer : List ℕ) → n ≤ length body → partLength limit n + 2 ≤ length buffer → FirstPart sendingOf body n limit buffer
@@ -126,42 +130,60 @@ first-part body n limit buffer within room =
       };
     }
 
--- ---- no touch is lost
-module _ (p : Presence) (t : ℕ) (a : Inputs) (i : Finishing) (buffer : List ℕ) (x : RoomWasAsked decisionOf frameRoomOf p t a i buffer) where
-  asked : AskedWith a (roomNeeded (decisionOf p t a .order)) × (roomNeeded (decisionOf p t a .order) ≤ a .room)
-  asked = asked-with p t a (x .blocks) (x .ordered)
-
-  needs : roomNeeded (i .order) ≡ x .longest
-  needs = ap roomNeeded (x .order) ∙ longest-is a (x .longest) _ (x .is-longest) (asked .0)
+-- ---- no touch is lost: with any b that is no less than the room which the order asks for
+module _ (p : Presence) (t : ℕ) (a : Inputs) (i : Finishing) (buffer : List ℕ) (b bytes : ℕ) (blocks : AreBlocks a) (ordered : decisionOf p t a .answer ≡ Gives Ordered)
+    (least : roomNeeded (decisionOf p t a .order) ≤ b) (asked : frameRoomOf (a .frame) b ≡ Gives bytes) (had : bytes ≤ length buffer) (order : i .order ≡ decisionOf p t a .order)
+    (certificate : length (i .certificate) ≡ certificateLength (i .order)) (reply : a .room ≤ length (i .reply)) (signature : length (i .signature) ≤ 72) where
+  needs : roomNeeded (i .order) ≡ roomNeeded (decisionOf p t a .order)
+  needs = ap roomNeeded order
 
   layout : isOfLayout (i .order) ≡ true
-  layout = ap isOfLayout (x .order) ∙ orders-of-layout p t a (x .blocks) (x .ordered)
+  layout = ap isOfLayout order ∙ orders-of-layout p t a blocks ordered
 
   room : roomNeeded (i .order) ≤ length (i .reply)
-  room = omega (arith, ap roomNeeded (x .order), asked .1, x .reply)
+  room = omega (arith, needs, asked-with p t a blocks ordered .1, reply)
 
   -- what was asked for holds the longest first part
-  holds : partLength (frameLimit (a .frame)) (x .longest) + 2 ≤ length buffer
+  holds : partLength (frameLimit (a .frame)) b + 2 ≤ length buffer
   holds =
-      let read = read-of-longest a (x .longest) (x .is-longest) in
-      let said = room-holds (frameLimit (a .frame)) (x .longest) (x .bytes) (sym (room-in-shape (a .frame) (read .0) (x .longest) (read .1)) ∙ x .asked) in
-      omega (arith, said, x .had)
+      let read = read-of a _ _ (asked-with p t a blocks ordered .0) in
+      let said = room-holds (frameLimit (a .frame)) b bytes (sym (room-in-shape (a .frame) (read .0) b (read .1)) ∙ asked) in
+      omega (arith, said, had)
 
   ends : (o : Outcome (List ℕ)) → finishOf i ≡ o → endOf i ≡ record { answer = lengthOf o; reply = replyOf o (i .reply) }
   ends o e = ap (λ (y : Outcome (List ℕ)). record { answer = lengthOf y; reply = replyOf y (i .reply) }) e
 
-  pub answered : Answered endOf sendingOf i (frameLimit (a .frame)) buffer
+  sent : (body : List ℕ) → length body ≤ roomNeeded (i .order) → FirstPart sendingOf (laid body (i .reply)) (length body) (frameLimit (a .frame)) buffer
+  sent body within =
+      first-part (laid body (i .reply)) (length body) (frameLimit (a .frame)) buffer
+      (omega (arith, within, room, length-laid body (i .reply)))
+      (omega (arith, holds, part-monotone (frameLimit (a .frame)) (length body) b (omega (arith, within, needs, least))))
+
+  answered : Answered endOf sendingOf i (frameLimit (a .frame)) buffer
   answered = record {
-    failed = λ f. ends (SW 0x6f00) (finish-failed i layout (x .certificate) room f);
+    failed = λ f. ends (SW 0x6f00) (finish-failed i layout certificate room f);
     served = λ s.
-        let given = finish-gives i layout (x .certificate) room s (x .signature) in
+        let given = finish-gives i layout certificate room s signature in
         let body = bodyOf (i .order .kind) (i .order) (i .certificate) (i .signature) in
         let end = ends (Gives body) (given .0) in
         (length body, ap (λ (e : Ended). e .answer) end, subst (λ (l : List ℕ). FirstPart sendingOf l (length body) (frameLimit (a .frame)) buffer) (ap (λ (e : Ended). e .reply) (sym end)) (sent body (given .1)));
   }
-    where
-      sent : (body : List ℕ) → length body ≤ roomNeeded (i .order) → FirstPart sendingOf (laid body (i .reply)) (length body) (frameLimit (a .frame)) buffer
-      sent body within =
-          first-part (laid body (i .reply)) (length body) (frameLimit (a .frame)) buffer
-          (omega (arith, within, room, length-laid body (i .reply)))
-          (omega (arith, holds, part-monotone (frameLimit (a .frame)) (length body) (x .longest) (omega (arith, within, needs))))
+
+-- where b is known by the command, and where by the order's kind
+pub by-command : (p : Presence) (t : ℕ) (a : Inputs) (i : Finishing) (buffer : List ℕ) → RoomWasAsked decisionOf frameRoomOf p t a i buffer → Answered endOf sendingOf i (frameLimit (a .frame)) buffer
+by-command p t a i buffer x =
+    let least = longest-is a (x .longest) _ _ (x .is-longest) (asked-with p t a (x .blocks) (x .ordered) .0) in
+    answered p t a i buffer (x .longest) (x .bytes) (x .blocks) (x .ordered) (omega (arith, least)) (x .asked) (x .had) (x .order) (x .certificate) (x .reply) (x .signature)
+
+pub by-order : (p : Presence) (t : ℕ) (a : Inputs) (i : Finishing) (buffer : List ℕ) (b bytes : ℕ) → AreBlocks a → decisionOf p t a .answer ≡ Gives Ordered
+    → (kindNo (decisionOf p t a .order .kind) ≡ 0x01 → roomOfRegister a ≤ b) → (kindNo (decisionOf p t a .order .kind) ≡ 0x02 → 77 ≤ b)
+    → frameRoomOf (a .frame) b ≡ Gives bytes → bytes ≤ length buffer → i .order ≡ decisionOf p t a .order
+    → length (i .certificate) ≡ certificateLength (i .order) → a .room ≤ length (i .reply) → length (i .signature) ≤ 72
+    → Answered endOf sendingOf i (frameLimit (a .frame)) buffer
+by-order p t a i buffer b bytes blocks ordered r s asked had order certificate reply signature =
+    answered p t a i buffer b bytes blocks ordered (by-kind a b _ _ (asked-with p t a blocks ordered .0) r s) asked had order certificate reply signature
+
+-- the limit that such a decision leaves is the frame's
+pub ordered-limit : (frame : List ℕ) (s : Session) → sessionAfter (Gives Ordered) (readOf frame) s .limit ≡ frameLimit frame
+unfolding frameLimit
+ordered-limit frame s = refl

@@ -39,7 +39,7 @@ use Rattle.session_stated.specs.Sessions.{Visit, sentIn, leftIn, joinedO
 use Rattle.session_stated.specs.Claims
 use Rattle.session_stated.specs.Contracts.{ToDecide, inputsIn, Stated, Dropped, Left}
 use Rattle.session_stated.specs.Terms.{NoShape, CanTake, changedBy}
-use Rattle.session_stated.proofs.Rooms.{limit-taken, no-limit, takes-so, some-take, room-in-shape, answered}
+use Rattle.session_stated.proofs.Rooms.{limit-taken, no-limit, takes-so, some-take, room-in-shape, by-command}
 use Rattle.session_stated.proofs.Steps.{fetch, Step, keeps, sends, step, within-over, joins-over, parts-over, refused-over}
 use Rattle.session_stated.proofs.Counts.{Need, exact, need-first}
 
@@ -329,4 +329,4 @@ ResultsDetermined =
 
 -- ---- no touch is lost to a length
 pub NoTouchIsLost : Claims.NoTouchIsLost decisionOf endOf frameRoomOf frameLimit sendingOf
-NoTouchIsLost p t a i buffer x = answered p t a i buffer x
+NoTouchIsLost = by-command

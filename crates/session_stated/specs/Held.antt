@@ -31,8 +31,8 @@ sessionAfter (R n) read s = s
 sessionAfter (Word w) read s = record { remainder = remainderAfter (Word w) (isGetResponse read) (s .remainder); limit = limitOn read }
 sessionAfter (Gives g) read s = record { remainder = remainderAfter (Gives g) (isGetResponse read) (s .remainder); limit = limitOn read }
 
--- ours: how many bytes a response to a frame can take, where no body to it is longer than `longest`: its first part by the frame's limit, and two; "for bytes in
--- no shape two"
+-- ours: how many bytes a response to a frame can take, where no body to it is longer than `longest`: its first part by the frame's limit, and two; for bytes in no
+-- shape two
 abbrev pub roomOn : Outcome Says → (longest : ℕ) → Outcome ℕ
 roomOn (R n) longest = Gives 2
 roomOn (Word s) longest = Gives 2
