@@ -63,7 +63,7 @@ module _ (P : Panel) (M : Meets P) where
   }
 
   -- finishing of a kind
-  ends : (i : ToFinish) (k : Kind) → i .order .kind ≡ kindNo k → finishNumbered i ≡ finishOf (toEnd k i)
+  pub ends : (i : ToFinish) (k : Kind) → i .order .kind ≡ kindNo k → finishNumbered i ≡ finishOf (toEnd k i)
   ends i k e = ap (λ (q : Kinded). finishAs q i) (sym (Cases.kinded k (i .order .kind) e))
 
   end-by : (end : Finishing → Ended) → Signing.FinishesExactly end → (i : ToFinish) (k : Kind) (o : Outcome ℕ) → i .order .kind ≡ kindNo k → length (i .block) ≡ 385 → end (toEnd k i) .answer ≡ o

@@ -95,15 +95,15 @@ remains (Word w) read s = refl
 remains (Gives g) read s = refl
 
 -- the room that is said for a frame
-room-by : (limit longest : ℕ) → roomNumbers (responseRoomOf limit longest) .answer ≡ 0x9000 → roomNumbers (responseRoomOf limit longest) .length ≡ partLength limit longest + 2
+room-by : (limit longest : ℕ) → roomNumbers (responseRoomOf limit longest) .answer ≡ 0x9000 → responseRoomOf limit longest ≡ Gives (partLength limit longest + 2)
 unfolding responseRoomOf
 room-by limit longest e = by (ltb (partLength limit longest) 0xfffffffffffffffe) e
   where
-    by : (b : Bool) → roomNumbers (if b then Gives (partLength limit longest + 2) else R 2) .answer ≡ 0x9000 → roomNumbers (if b then Gives (partLength limit longest + 2) else R 2) .length ≡ partLength limit longest + 2
+    by : (b : Bool) → roomNumbers (if b then Gives (partLength limit longest + 2) else R 2) .answer ≡ 0x9000 → (if b then Gives (partLength limit longest + 2) else R 2) ≡ Gives (partLength limit longest + 2)
     by true x = refl
     by false x = absurd (omega (arith, x))
 
-pub room-is : (frame : List ℕ) (said : Says) (longest : ℕ) → readOf frame ≡ Gives said → roomsOf frame longest .answer ≡ 0x9000 → roomsOf frame longest .length ≡ partLength (frameLimit frame) longest + 2
+pub room-is : (frame : List ℕ) (said : Says) (longest : ℕ) → readOf frame ≡ Gives said → roomsOf frame longest .answer ≡ 0x9000 → frameRoomOf frame longest ≡ Gives (partLength (frameLimit frame) longest + 2)
 unfolding frameRoomOf frameLimit
 room-is frame said longest r e = rw r (room-by (limitOf said) longest (rw r at e))
 
@@ -265,7 +265,7 @@ module _ (P : Panel) (M : Meets P) (body : List ℕ) where
   fits n count i u most =
       let f = GetResponseExactly (i .frame) .0 (comes P M i (u .get-response) .1) in
       let m = M .response-room (i .frame) n in
-      let long = room-is (i .frame) (f .0) n (f .1) (ap (λ (s : RoomSaid). s .answer) (sym m) ∙ u .room .0) in
+      let long = ap (λ (o : Outcome ℕ). roomNumbers o .length) (room-is (i .frame) (f .0) n (f .1) (ap (λ (s : RoomSaid). s .answer) (sym m) ∙ u .room .0)) in
       omega (arith, part-monotone (frameLimit (i .frame)) count n most, long, ap (λ (s : RoomSaid). s .length) m, u .room .1)
 
   moved : (n : ℕ) (r : Remainder) (i : ToDecide) → Unhindered P n i → 0 < r .count → r .count ≤ n → r .place + r .count ≤ length body

@@ -1,5 +1,6 @@
 pub mod Runs
 pub mod Fetched
+pub mod Lost
 pub mod Answers
 pub mod Reached
 pub mod Theorems

@@ -13,17 +13,23 @@ use Rattle.u2f_up_stated.specs.History.{Mark}
 use Rattle.octets.specs.Bytes.{partOf}
 use Rattle.apdu_stated.specs.Reading.{readBy, dataOf, sayOf, lengthsOf, shortOf, extendedOf, afterData}
 use Rattle.command_stated.specs.Command.{commandOf, onReading, byInstruction, getResponseOf, registerOf, versionOf, authenticateOf, challengeOf, applicationOf}
-use Rattle.response_stated.specs.Parts.{limitOf, partLength, nextPartOf}
-use Rattle.ctap1_stated.specs.Path.{frameLimit, fetchPath, commandPath, allowedPath, pathOf, registerPath, loginPath, countedEnding}
+use Rattle.response_stated.specs.Parts.{limitOf, partLength, nextPartOf, responseRoomOf}
+use Rattle.session_stated.specs.Held.{frameRoomOf}
+use Rattle.ctap1_stated.specs.Path.{frameLimit, fetchPath, commandPath, allowedPath, pathOf, registerPath, registerEnding, enrolmentOrder, loginPath, countedEnding}
+use Rattle.panel_stated.specs.Numbers.{kindOf}
 use Rattle.ctap1_stated.specs.Numbers.{allowedOf, attestationOf}
 use Rattle.ctap1_stated.specs.Decision.{decisionOf}
-use Rattle.signing_stated.specs.Orders.{authenticateOrderOf, block}
+use Rattle.signing_stated.specs.Orders.{authenticateOrderOf, registerOrderOf, isRegisterLayout, block}
+use Rattle.signing_stated.specs.Finishing.{finishOf}
 use Rattle.panel_stated.specs.declared.Wrote.{Wrote}
 use Rattle.panel_stated.specs.declared.CommandSaid.{CommandSaid}
 use Rattle.panel_stated.specs.declared.ResponseSaid.{ResponseSaid}
-use Rattle.panel_stated.specs.declared.Stepped.{Stepped}
-use Rattle.panel_stated.specs.declared.PresenceRecord.{PresenceRecord}
+use Rattle.panel_stated.specs.declared.RoomSaid.{RoomSaid}
+use Rattle.u2f_up_stated.specs.declared.Presence.{Presence}
+use Rattle.u2f_up_stated.specs.declared.Window.{Window}
+use Rattle.u2f_up_stated.specs.declared.Window.the-variants.{Closed, Opened}
 use Rattle.panel_stated.specs.Exports.{ToDecide, ToFinish, decidesOf}
+use Rattle.panel_stated.proofs.Lists.{record-back}
 use Rattle.panel_stated.proofs.Refuted as Exports
 use Rattle.command_stated.proofs.Theorems as Commands
 use Rattle.u2f_up_stated.proofs.Theorems as Up
@@ -35,11 +41,11 @@ use Rattle.demands.specs.Wrong as Wrong
 
 pub meets : Meets Wrong.defined
 meets = record {
-  new = λ w. refl;
-  grant-up = λ n t. refl;
-  consume-up = λ n s t. refl;
+  new = λ n w. (refl, record-back _);
+  grant-up = λ n t. (refl, record-back _);
+  consume-up = λ n s t. (refl, record-back _);
   is-up-needed = λ n t. refl;
-  decide = λ i. (refl, refl, refl, refl);
+  decide = λ i. (refl, record-back _, refl, refl, refl, refl);
   finish = λ i. (refl, refl);
   read = λ frame. refl;
   read-strict = λ frame. refl;
@@ -50,36 +56,37 @@ meets = record {
   read-command = λ frame. refl;
   write-response = λ body status buffer. (refl, refl);
   read-response = λ response. refl;
-  next-part = λ body k limit buffer. (refl, refl);
+  next-part = λ session body part. (refl, refl, refl);
+  response-room = λ frame longest. refl;
 }
 
 -- what is lent with a frame at a moment, CTAP1 allowed
 lent : (frame : List ℕ) (t : ℕ) → Lent
 lent frame t =
     record {
+      session = 0 ∷ 0 ∷ 0 ∷ [];
       frame = frame;
       side = 0;
       moment = t;
-      hardware = record { allowed = 1; attestation = 1; stored = 1; good = 1; counted = 1; counter = 5 };
+      hardware = 1 ∷ 1 ∷ 1 ∷ 1 ∷ 1 ∷ 5 ∷ [];
       newHandle = [];
       certificate = [];
       x = replicate 32 0;
       y = replicate 32 0;
       reply = replicate 139 0;
       block = replicate 385 0;
-      remainder = record { place = 0; count = 0 };
       part = replicate 258 0;
     }
 
 -- a record that nothing was done with
-abbrev unused : PresenceRecord
-unused = record { w = 1000; prompt = 0; touch = 0; last = 0; asker = 0 }
+abbrev unused : List ℕ
+unused = 1000 ∷ 0 ∷ 0 ∷ 0 ∷ 0 ∷ []
 
 -- ---- making a record
 -- 65,537 is taken for 1
 pub newCut : Demands Wrong.newCut → ⊥
 unfolding newOf
-newCut d = omega (arith, d .makes 65537 .0 refl .1)
+newCut d = omega (arith, d .makes [] 65537 .0 refl .1)
 
 -- ---- which decisions reach the touch check
 -- a Register with room is no command
@@ -94,21 +101,21 @@ knowsNoCommand d =
 pub touchAsks : Demands Wrong.touchAsks → ⊥
 unfolding cameNext historyOf recordAfter touchOf checkOf askOf settleOf grantedOf checkedOf foretold latestPrompt unspent latestTouch isPromptStanding lastMoment newOf
 touchAsks d =
-    let e : NoTouchFound ≡ TouchFound = d .touches 1000 refl (Touch 1 ∷ Check 0 0 ∷ []) .foretells (Check 0 2) in
+    let e : NoTouchFound ≡ TouchFound = d .touches [] 1000 refl (Touch 1 ∷ Check 0 0 ∷ []) .foretells (Check 0 2) in
     let z : _≡_ {A = ℕ} 0 1 = cc in omega arith
 
 -- side 0 fetches, the finger touches, and side 1 finds the touch
 pub checkIs0 : Demands Wrong.checkIs0 → ⊥
 unfolding cameNext historyOf recordAfter touchOf checkOf askOf settleOf grantedOf checkedOf foretold latestPrompt unspent latestTouch isPromptStanding lastMoment newOf
 checkIs0 d =
-    let e : TouchFound ≡ NoTouchFound = d .touches 1000 refl (Touch 1 ∷ Check 0 0 ∷ []) .foretells (Check 1 2) in
+    let e : TouchFound ≡ NoTouchFound = d .touches [] 1000 refl (Touch 1 ∷ Check 0 0 ∷ []) .foretells (Check 1 2) in
     let z : _≡_ {A = ℕ} 0 1 = cc in omega arith
 
 -- the touch that it finds is another side's
 pub checkIs0Serves : Demands Wrong.checkIs0 → ⊥
 unfolding cameNext historyOf recordAfter touchOf checkOf askOf settleOf grantedOf checkedOf foretold latestPrompt unspent latestTouch isPromptStanding lastMoment newOf
 checkIs0Serves d =
-    let x = d .touches 1000 refl (Touch 1 ∷ Check 0 0 ∷ []) .serves (Check 1 2) refl in
+    let x = d .touches [] 1000 refl (Touch 1 ∷ Check 0 0 ∷ []) .serves (Check 1 2) refl in
     let k : _≡_ {A = ℕ} 0 (x .0 .side) = cc in
     let l : _≡_ {A = ℕ} 1 (x .0 .side) = cc in omega arith
 
@@ -116,94 +123,94 @@ checkIs0Serves d =
 pub sideCut : Demands Wrong.sideCut → ⊥
 unfolding cameNext historyOf recordAfter touchOf checkOf askOf settleOf grantedOf checkedOf foretold latestPrompt unspent latestTouch isPromptStanding lastMoment newOf
 sideCut d =
-    let e : NoTouchFound ≡ RefusedBy 8 = d .touches 1000 refl [] .refuses-side (Check 2 0) .1 (omega arith) in
+    let e : NoTouchFound ≡ RefusedBy 8 = d .touches [] 1000 refl [] .refuses-side (Check 2 0) .1 (omega arith) in
     let z : _≡_ {A = ℕ} 0 1 = cc in omega arith
 
 -- R6, from a record that was made
 pub refusesWindow : Demands Wrong.refusesWindow → ⊥
 unfolding cameNext newOf
-refusesWindow d = d .touches 1000 refl [] .refuses-no-window (Check 0 0) refl
+refusesWindow d = d .touches [] 1000 refl [] .refuses-no-window (Check 0 0) refl
 
 -- nobody asked, and the light blinks
 pub askSwapped : Demands Wrong.askSwapped → ⊥
 unfolding cameNext historyOf recordAfter touchOf checkOf askOf settleOf grantedOf checkedOf foretold latestPrompt unspent latestTouch isPromptStanding lastMoment newOf
 askSwapped d =
-    let e : PromptStands ≡ NoPromptStands = d .touches 1000 refl [] .foretells (Ask 0) in
+    let e : PromptStands ≡ NoPromptStands = d .touches [] 1000 refl [] .foretells (Ask 0) in
     let z : _≡_ {A = ℕ} 0 1 = cc in omega arith
 
 -- a decision at 5 does not move the last moment, and a check at 3 is taken
 pub recordKept : Demands Wrong.recordKept → ⊥
 unfolding lent decisionOf pathOf allowedPath commandPath commandOf onReading byInstruction readBy sayOf lengthsOf shortOf extendedOf afterData allowedOf attestationOf cameNext historyOf recordAfter touchOf checkOf askOf settleOf grantedOf checkedOf foretold latestPrompt unspent latestTouch isPromptStanding lastMoment newOf
 recordKept d =
-    let e : NoTouchFound ≡ RefusedBy 1 = d .touches 1000 refl (Decide (lent [] 5) ∷ []) .foretells (Check 0 3) in
+    let e : NoTouchFound ≡ RefusedBy 1 = d .touches [] 1000 refl (Decide (lent [] 5) ∷ []) .foretells (Check 0 3) in
     let z : _≡_ {A = ℕ} 0 1 = cc in omega arith
 
 -- one touch, and two checks find it
 pub touchKept : Demands Wrong.touchKept → ⊥
 unfolding cameNext historyOf recordAfter touchOf checkOf askOf settleOf grantedOf checkedOf foretold latestPrompt unspent latestTouch isPromptStanding lastMoment newOf
 touchKept d =
-    let e : TouchFound ≡ NoTouchFound = d .touches 1000 refl (Check 0 2 ∷ Touch 1 ∷ Check 0 0 ∷ []) .foretells (Check 0 3) in
+    let e : TouchFound ≡ NoTouchFound = d .touches [] 1000 refl (Check 0 2 ∷ Touch 1 ∷ Check 0 0 ∷ []) .foretells (Check 0 3) in
     let z : _≡_ {A = ℕ} 0 1 = cc in omega arith
 
 -- it named the touch twice, and two calls spent the one that was accepted
 pub touchKeptTwice : Demands Wrong.touchKept → ⊥
 unfolding cameNext historyOf recordAfter touchOf checkOf askOf settleOf grantedOf checkedOf foretold latestPrompt unspent latestTouch isPromptStanding lastMoment newOf servers
-touchKeptTwice d = omega (arith, d .touches 1000 refl (Check 0 3 ∷ Check 0 2 ∷ Touch 1 ∷ Check 0 0 ∷ []) .once 1)
+touchKeptTwice d = omega (arith, d .touches [] 1000 refl (Check 0 3 ∷ Check 0 2 ∷ Touch 1 ∷ Check 0 0 ∷ []) .once 1)
 
 pub touchKeptTotals : Demands Wrong.touchKept → ⊥
 unfolding cameNext historyOf recordAfter touchOf checkOf askOf settleOf grantedOf checkedOf foretold latestPrompt unspent latestTouch isPromptStanding lastMoment newOf accepted
-touchKeptTotals d = omega (arith, d .touches 1000 refl (Check 0 3 ∷ Check 0 2 ∷ Touch 1 ∷ Check 0 0 ∷ []) .side-totals 0)
+touchKeptTotals d = omega (arith, d .touches [] 1000 refl (Check 0 3 ∷ Check 0 2 ∷ Touch 1 ∷ Check 0 0 ∷ []) .side-totals 0)
 
 -- the touch at 1 is in C's hand as the one at 2
 pub touchLate : Demands Wrong.touchLate → ⊥
 unfolding cameNext historyOf recordAfter touchOf checkOf askOf settleOf grantedOf checkedOf foretold latestPrompt unspent latestTouch isPromptStanding lastMoment newOf
 touchLate d =
-    let e = d .touches 1000 refl (Touch 1 ∷ Check 0 0 ∷ []) .holds (record { number = 1; moment = 1; side = 0 }) 1 (omega arith) refl [] (Touch 1 ∷ Check 0 0 ∷ []) refl (omega arith) in
+    let e = d .touches [] 1000 refl (Touch 1 ∷ Check 0 0 ∷ []) .holds (record { number = 1; moment = 1; side = 0 }) 1 (omega arith) refl [] (Touch 1 ∷ Check 0 0 ∷ []) refl (omega arith) in
     omega (arith, e)
 
 -- side 1 fetches, and the record says side 0
 pub askerKept : Demands Wrong.askerKept → ⊥
 unfolding cameNext historyOf recordAfter touchOf checkOf askOf settleOf grantedOf checkedOf foretold latestPrompt unspent latestTouch isPromptStanding lastMoment newOf
-askerKept d = omega (arith, d .touches 1000 refl (Check 1 0 ∷ []) .asker)
+askerKept d = omega (arith, d .touches [] 1000 refl (Check 1 0 ∷ []) .asker)
 
 -- the remaining sentences of demand 3: a check before the last moment, a second touch for one prompt, another side's touch found, two touches held, a side that is none
 pub recordKeptMoment : Demands Wrong.recordKept → ⊥
 unfolding lent decisionOf pathOf allowedPath commandPath commandOf onReading byInstruction readBy sayOf lengthsOf shortOf extendedOf afterData allowedOf attestationOf cameNext historyOf recordAfter touchOf checkOf askOf settleOf grantedOf checkedOf foretold latestPrompt unspent latestTouch isPromptStanding lastMoment newOf
 recordKeptMoment d =
-    let e : NoTouchFound ≡ RefusedBy 1 = d .touches 1000 refl (Decide (lent [] 5) ∷ []) .refuses (Check 0 3) .1 ((λ z. omega arith), inr (omega arith)) in
+    let e : NoTouchFound ≡ RefusedBy 1 = d .touches [] 1000 refl (Decide (lent [] 5) ∷ []) .refuses (Check 0 3) .1 ((λ z. omega arith), inr (omega arith)) in
     let z : _≡_ {A = ℕ} 0 1 = cc in omega arith
 
 pub touchAsksTwice : Demands Wrong.touchAsks → ⊥
 unfolding cameNext historyOf recordAfter touchOf checkOf askOf settleOf grantedOf checkedOf foretold latestPrompt unspent latestTouch isPromptStanding lastMoment newOf
 touchAsksTwice d =
-    let x = d .touches 1000 refl (Touch 1 ∷ Check 0 0 ∷ []) .accepts (Touch 2) refl .0 refl .1 in
+    let x = d .touches [] 1000 refl (Touch 1 ∷ Check 0 0 ∷ []) .accepts (Touch 2) refl .0 refl .1 in
     let z : _≡_ {A = ℕ} 0 (x .0 .number) = cc in
     let after : _≡_ {A = Bool} false true = cc in false≢true after
 
 pub checkIs0Finds : Demands Wrong.checkIs0 → ⊥
 unfolding cameNext historyOf recordAfter touchOf checkOf askOf settleOf grantedOf checkedOf foretold latestPrompt unspent latestTouch isPromptStanding lastMoment newOf
 checkIs0Finds d =
-    let x = d .touches 1000 refl (Touch 1 ∷ Check 0 0 ∷ []) .finds (Check 1 2) 1 refl .0 refl .2 in
+    let x = d .touches [] 1000 refl (Touch 1 ∷ Check 0 0 ∷ []) .finds (Check 1 2) 1 refl .0 refl .2 in
     let e : _≡_ {A = ℕ} 0 1 = ap length (x .1) in omega (arith, e)
 
 pub touchAsksHeld : Demands Wrong.touchAsks → ⊥
 unfolding cameNext historyOf recordAfter touchOf checkOf askOf settleOf grantedOf checkedOf foretold latestPrompt unspent latestTouch isPromptStanding lastMoment newOf
-touchAsksHeld d = omega (arith, d .touches 1000 refl (Touch 3 ∷ Check 0 2 ∷ Touch 1 ∷ Check 0 0 ∷ []) .one-held)
+touchAsksHeld d = omega (arith, d .touches [] 1000 refl (Touch 3 ∷ Check 0 2 ∷ Touch 1 ∷ Check 0 0 ∷ []) .one-held)
 
 pub touchKeptTotalsPlain : Demands Wrong.touchKept → ⊥
 unfolding cameNext historyOf recordAfter touchOf checkOf askOf settleOf grantedOf checkedOf foretold latestPrompt unspent latestTouch isPromptStanding lastMoment newOf accepted
-touchKeptTotalsPlain d = omega (arith, d .touches 1000 refl (Check 0 3 ∷ Check 0 2 ∷ Touch 1 ∷ Check 0 0 ∷ []) .totals)
+touchKeptTotalsPlain d = omega (arith, d .touches [] 1000 refl (Check 0 3 ∷ Check 0 2 ∷ Touch 1 ∷ Check 0 0 ∷ []) .totals)
 
 pub sideCutTouch : Demands Wrong.sideCut → ⊥
 unfolding cameNext historyOf recordAfter touchOf checkOf askOf settleOf grantedOf checkedOf foretold latestPrompt unspent latestTouch isPromptStanding lastMoment newOf accepted
-sideCutTouch d = omega (arith, d .touches 1000 refl (Touch 1 ∷ Check 2 0 ∷ []) .two-sides)
+sideCutTouch d = omega (arith, d .touches [] 1000 refl (Touch 1 ∷ Check 2 0 ∷ []) .two-sides)
 
 -- ---- orders
 -- an Authenticate with P1 03 and no touch at all gets an order with presence byte 01
 pub untouched : Demands Wrong.untouched → ⊥
 unfolding lent decisionOf pathOf allowedPath commandPath loginPath countedEnding authenticateOrderOf block partOf dataOf commandOf onReading byInstruction authenticateOf challengeOf applicationOf readBy sayOf lengthsOf shortOf extendedOf afterData allowedOf attestationOf historyOf recordAfter settleOf checkedOf latestTouch newOf
 untouched d =
-    let k = d .orders 1000 refl .own [] (lent (0x00 ∷ 0x02 ∷ 0x03 ∷ 0x00 ∷ 65 ∷ replicate 65 0) 0) (refl, inr (refl, refl)) in
+    let k = d .orders [] 1000 refl .own [] (lent (0x00 ∷ 0x02 ∷ 0x03 ∷ 0x00 ∷ 65 ∷ replicate 65 0) 0) (refl, inr (refl, refl)) in
     let e : _≡_ {A = Option Mark} none (some (k .0)) = k .1 in
     let z : _≡_ {A = ℕ} 0 1 = cc in omega arith
 
@@ -212,7 +219,7 @@ pub recordKeptTwice : Demands Wrong.recordKept → ⊥
 unfolding lent decisionOf pathOf allowedPath commandPath loginPath countedEnding authenticateOrderOf block partOf dataOf commandOf onReading byInstruction authenticateOf challengeOf applicationOf readBy sayOf lengthsOf shortOf extendedOf afterData allowedOf attestationOf historyOf recordAfter cameNext touchOf checkOf grantedOf settleOf checkedOf latestTouch latestPrompt unspent lastMoment newOf foretold isPromptStanding
 recordKeptTwice d =
     let login : Lent = lent (0x00 ∷ 0x02 ∷ 0x03 ∷ 0x00 ∷ 65 ∷ replicate 65 0) 2 in
-    d .orders 1000 refl .apart (Touch 1 ∷ Check 0 0 ∷ []) [] login login (record { number = 1; moment = 1; side = 0 }) (record { number = 1; moment = 1; side = 0 })
+    d .orders [] 1000 refl .apart (Touch 1 ∷ Check 0 0 ∷ []) [] login login (record { number = 1; moment = 1; side = 0 }) (record { number = 1; moment = 1; side = 0 })
     (refl, inr (refl, refl)) refl (refl, inr (refl, refl)) refl refl
 
 -- ---- finishing
@@ -232,7 +239,7 @@ unfolding lent decisionOf pathOf allowedPath commandPath loginPath countedEnding
 finishRefuses d =
     let i : ToDecide = on unused (lent (0x00 ∷ 0x02 ∷ 0x08 ∷ 0x00 ∷ 65 ∷ replicate 65 0) 0) in
     let f : ToFinish = record { order = decidesOf i .said .order; block = decidesOf i .block; certificate = []; signed = 1; signature = []; reply = replicate 139 0 } in
-    let e = d .finished i f (refl, refl) refl refl refl refl (omega arith) refl (omega arith) in
+    let e = d .finished i f (record { blocks = (refl, refl); ordered = refl; order = refl; block = refl; certificate = refl; room = omega arith; signature = omega arith }) refl in
     omega (arith, e)
 
 -- ---- bodies
@@ -245,7 +252,7 @@ stalls d =
 
 -- so that one fetch, which is enough, is not
 pub stallsForGood : Demands Wrong.stalls → ⊥
-unfolding lent decisionOf pathOf allowedPath commandPath fetchPath settleOf nextPartOf frameLimit limitOf partLength commandOf onReading byInstruction getResponseOf readBy sayOf lengthsOf shortOf extendedOf afterData allowedOf attestationOf leftAfter
+unfolding lent decisionOf pathOf allowedPath commandPath fetchPath settleOf nextPartOf frameLimit limitOf partLength commandOf onReading byInstruction getResponseOf readBy sayOf lengthsOf shortOf extendedOf afterData allowedOf attestationOf leftAfter frameRoomOf responseRoomOf
 stallsForGood d =
     let e =
     d .bodies .enough (7 ∷ 8 ∷ []) (record { place = 1; count = 1 }) (on unused (lent (0x00 ∷ 0xC0 ∷ 0x00 ∷ 0x00 ∷ []) 0) ∷ []) (omega arith)
@@ -255,7 +262,7 @@ stallsForGood d =
       window = (omega arith, omega arith);
       sides = (omega arith, omega arith);
       moments = (omega arith, omega arith);
-      room = inl (omega arith);
+      room = (refl, omega arith);
     })
     no-more) (omega arith) .0 in
     omega (arith, e)
@@ -306,10 +313,40 @@ pub nextForgets : Demands Wrong.nextForgets → ⊥
 nextForgets d = Exports.nextForgets (d .answers .parts)
 
 pub refusedMoves : Demands Wrong.refusedMoves → ⊥
-refusedMoves d = Exports.refusedMoves (d .answers .hands-back)
+refusedMoves d = Exports.refusedMoves (d .answers .keeps)
 
 pub sideCutInDecide : Demands Wrong.sideCutInDecide → ⊥
 sideCutInDecide d = Exports.sideCutInDecide (d .answers .sides)
+
+-- ---- how many bytes a response takes
+-- a Register in an extended frame, of a certificate of 200 bytes: 258 were said to do, and the touch is spent for a body that they do not take
+pub room258 : Demands Wrong.room258 → ⊥
+unfolding decisionOf pathOf allowedPath commandPath registerPath registerEnding enrolmentOrder registerOrderOf isRegisterLayout kindOf block partOf dataOf commandOf onReading byInstruction registerOf challengeOf applicationOf readBy sayOf lengthsOf shortOf extendedOf afterData allowedOf attestationOf settleOf checkedOf finishOf limitOf frameLimit partLength nextPartOf
+room258 d =
+    let i : ToDecide =
+    record {
+      presence = 1000 ∷ 0 ∷ 1 ∷ 0 ∷ 0 ∷ [];
+      session = 0 ∷ 0 ∷ 0 ∷ [];
+      frame = 0x00 ∷ 0x01 ∷ 0x00 ∷ 0x00 ∷ 0 ∷ 0 ∷ 64 ∷ replicate 64 0;
+      side = 0;
+      moment = 0;
+      hardware = 1 ∷ 1 ∷ 1 ∷ 1 ∷ 1 ∷ 5 ∷ [];
+      newHandle = [];
+      certificate = replicate 200 0;
+      x = replicate 32 0;
+      y = replicate 32 0;
+      reply = replicate 339 0;
+      block = replicate 385 0;
+      part = [];
+    } in
+    let f : ToFinish = record { order = decidesOf i .said .order; block = decidesOf i .block; certificate = replicate 200 0; signed = 1; signature = []; reply = replicate 339 0 } in
+    let e =
+    d .none-lost .served i f (replicate 258 0) 339 (record { blocks = (refl, refl); ordered = refl; order = refl; block = refl; certificate = refl; room = omega arith; signature = omega arith })
+    (inl (refl, refl)) refl (omega arith) refl .1 in
+    omega (arith, e)
+
+pub roomUncut : Demands Wrong.roomUncut → ⊥
+roomUncut d = Exports.roomUncut (d .answers .rooms)
 
 pub dropsAtC0 : Demands Wrong.dropsAtC0 → ⊥
 dropsAtC0 d = Exports.dropsAtC0 (d .answers .decides)
@@ -318,5 +355,5 @@ dropsAtC0 d = Exports.dropsAtC0 (d .answers .decides)
 pub touchOpensNothing : Demands Wrong.touchAsks → ⊥
 unfolding touchOf askOf settleOf grantedOf
 touchOpensNothing d =
-    let e = ap (λ (r : Stepped). r .presence .touch) (d .answers .presences .touched touchOf Up.TouchesExactly (record { w = 1000; prompt = 1; touch = 0; last = 0; asker = 0 }) 0) in
-    omega (arith, e)
+    let e : _≡_ {A = Window} Closed (Opened 0) = ap (λ (p : Presence). p .touch) (d .answers .presences .touched touchOf Up.TouchesExactly (1000 ∷ 1 ∷ 0 ∷ 0 ∷ 0 ∷ []) 0 .1) in
+    let z : _≡_ {A = ℕ} 0 1 = cc in omega arith

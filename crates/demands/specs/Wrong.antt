@@ -219,7 +219,7 @@ askerKept =
 
 -- a refused call moves the record, a decision's side is cut, and what is left is dropped at a refused C0: panel_stated's
 abbrev pub refusedMoves : Panel
-refusedMoves = panelWith makesOf Exports.refusedMoves (λ n s t. Exports.refusedMoves n t) asksOf decidesOf rightFinish
+refusedMoves = panelWith makesOf Exports.refusedMoves checksOf asksOf decidesOf rightFinish
 
 abbrev pub sideCutInDecide : Panel
 sideCutInDecide = panelWith makesOf touchesOf checksOf asksOf Exports.sideCutInDecide rightFinish

@@ -204,8 +204,7 @@ next-part-exported f meets =
       refused = λ sender x session body old m e.
           let is = meets session body old in
           let same = next-only sendingOf sender next-exactly x body (remainderIn session) (sessionIn session .limit) old in
-          let sent = ap (λ (o : Outcome Sent × List ℕ). o .0) same ∙ e in
-          (
+          let sent = ap (λ (o : Outcome Sent × List ℕ). o .0) same ∙ e in (
             is .0 ∙ ap sentNumbers sent,
             is .1 ∙ ap (λ (o : Outcome Sent). sentOver o (sessionIn session)) sent,
             is .2 ∙ ap (λ (o : Outcome Sent × List ℕ). o .1) same ∙ x .refused body (remainderIn session) (sessionIn session .limit) old m e,

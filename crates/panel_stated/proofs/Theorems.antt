@@ -311,11 +311,10 @@ RefusalKeeps =
     record {
       grant-up = λ n t low. kept n _ (refused-record (presenceIn n) (settleOf (presenceIn n) (presenceIn n .asker) t) _ (Outcomes.settle-said (presenceIn n) (presenceIn n .asker) t) (λ q. (_, refl)) low);
       consume-up = λ n s t low. kept n _ (refused-record (presenceIn n) (settleOf (presenceIn n) s t) _ (Outcomes.settle-said (presenceIn n) s t) (λ q. (_, refl)) low);
-      decided = λ i low.
-          (
-            kept (i .presence) _ (decision-kept (presenceIn (i .presence)) (i .moment) (inputsIn i) (decidedBy i .answer) refl (EveryOutcomeNumbered .decide i) low),
-            same-session (decidesOf i .session) (i .session) (decide-exported .refused i low),
-          );
+      decided = λ i low. (
+        kept (i .presence) _ (decision-kept (presenceIn (i .presence)) (i .moment) (inputsIn i) (decidedBy i .answer) refl (EveryOutcomeNumbered .decide i) low),
+        same-session (decidesOf i .session) (i .session) (decide-exported .refused i low),
+      );
     }
   where
     kept : (n : List ℕ) (p : Presence) → p ≡ presenceIn n → SameNumbers 5 (presenceNumbers p) n
