@@ -201,7 +201,13 @@ extendedByLe c =
     let z : _≡_ {A = ℕ} 3 4 = gives-same _ _ (c .says wide 2 4 .1 (extended wideSaid wide-read (omega arith), omega arith)) in
     omega arith
 
--- a body of none goes out in two bytes
+-- a body of none takes two bytes, and not 258; in two it goes out
+pub limitAloneSaid : Claims.FrameRoomExactly Wrong.limitAlone → ⊥
+unfolding responseRoomOf limitOf partLength readBy sayOf lengthsOf shortOf extendedOf afterData
+limitAloneSaid c =
+    let z : _≡_ {A = ℕ} 258 2 = gives-same _ _ (c .says plain 0 2 .1 (whole plainSaid 256 plain-read (absent (omega arith) refl) (omega arith), omega arith)) in
+    omega arith
+
 sent-not : (n m : ℕ) (r : Remainder) → _≡_ {A = Outcome Sent} (Gives (sending n r)) (R m) → ⊥
 sent-not n m r e = r-gives m _ (sym e)
 

@@ -157,7 +157,7 @@ pub record FrameRoomServes (room : FrameRoom) (limit : List ℕ → ℕ) (next :
 
 -- NO TOUCH IS LOST TO A LENGTH (ours). Where the room for the longest body was asked for, and the decision then gave an order: finishing that order, with a certificate of
 -- its length, a reply buffer no shorter than the decision's and any signature of at most 72 bytes, gives a body, or 6f00 where the signer failed; and the body's first part
--- goes out in a buffer with that room, by the limit that the frame left. No R refusal comes after the touch is spent. By proofs/Follows.antt it is so of
+-- goes out in a buffer with that room, by the frame's limit. No R refusal comes after the touch is spent. By proofs/Follows.antt it is so of
 -- whatever meets the claims on deciding, finishing, the room, the limit and sending. `extendedByLe` fails it at an Authenticate in shape 7 with Le 1, and so does `withoutStatus`.
 abbrev pub NoTouchIsLost : Decider → (Finishing → Ended) → FrameRoom → (limit : List ℕ → ℕ) → Sender → Type 0
 NoTouchIsLost decide finish room limit next =
@@ -166,8 +166,8 @@ NoTouchIsLost decide finish room limit next =
 -- ---- the contracts
 
 -- Whatever meets a function's contract meets the claim on it. Of `stated`, `dropped` and `left` together: a transport that uses each after its answers, and leaves its numbers
--- after an R refusal, goes on as it should. Of a decision: what it hands back is what whatever meets `DecidesExactly` gives, its limit is the frame's, and `fetches` says INS C0. A contract of
--- `dropped` that keeps the limit fails it, with code to match.
+-- after an R refusal, goes on as it should. Of a decision: what it hands back is what whatever meets `DecidesExactly` gives, its limit is the frame's, and `fetches` says
+-- INS C0; what it leaves in the buffers is the theorem on top's. A contract of `left` that says no limit after a part fails it, with code to match.
 pub record ContractsAsClaimed : Type 0 where
   pub remainder-lent : (f : List ℕ → Remainder) → ((n : List ℕ) → RemainderLent n (f n)) → RemainderStands f
   pub goes-on : (stated : Bool → (limit : ℕ) → List ℕ → List ℕ) (dropped : (limit : ℕ) → List ℕ → List ℕ) (left : Remainder → (limit : ℕ) → List ℕ → List ℕ)
