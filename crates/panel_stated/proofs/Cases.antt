@@ -46,7 +46,7 @@ use Rattle.u2f_up_stated.specs.declared.Answer.the-variants as Answer′
 use Rattle.u2f_up_stated.specs.declared.Ready.{Ready}
 use Rattle.u2f_up_stated.specs.declared.Ready.the-variants as Ready′
 use Rattle.u2f_up_stated.specs.declared.Presence.{Presence}
-use Rattle.u2f_up_stated.proofs.OnNumbers.{settles-moved, checked-below, granted-below, five-set}
+use Rattle.u2f_up_stated.proofs.Laws.{settles-moved, checked-below, granted-below, five-set}
 use Rattle.signing_stated.specs.Orders.{kindNo}
 use Rattle.signing_stated.specs.Finishing.{Finishing, finishedOf, lengthOf, replyOf}
 use Rattle.signing_stated.specs.declared.Finished.{Finished}
@@ -60,7 +60,7 @@ use Rattle.ctap1_stated.specs.Path.{limitOn, frameLimit}
 use Rattle.ctap1_stated.specs.Session.{isGetResponse}
 use Rattle.ctap1_stated.specs.declared.DecisionAnswer.{DecisionAnswer}
 use Rattle.ctap1_stated.specs.declared.DecisionAnswer.the-variants as DecisionAnswer′
-use Rattle.ctap1_stated.proofs.Cases.{leaves}
+use Rattle.ctap1_stated.proofs.Laws.{leaves}
 use Rattle.apdu_stated.specs.Reading.{readOf}
 use Rattle.apdu_stated.proofs.Laws.{strict-out, strict-out-kept, strict-same, strict-same-buffer}
 use Rattle.response_stated.specs.Words.{Sent, rest, responseRead, responseWritten, partSent, roomSaid}

@@ -13,14 +13,13 @@ use Rattle.outcome.specs.Terms.{HasStatus}
 use Rattle.outcome.proofs.Laws.{gives-same, r-gives, r-word, word-gives}
 use Rattle.outcome.specs.Notation.{if_then_else_}
 use lib.Dec.{ltb}
-use Rattle.apdu_stated.proofs.Frames.{read-refuses-not}
 use Rattle.apdu_stated.specs.Answers.{Says}
 use Rattle.octets.specs.Bytes.{AreBytes}
 use Rattle.octets.specs.Terms.{DeterminesOn}
 use Rattle.apdu_stated.specs.Reading.{readBy, readOf}
 use Rattle.apdu_stated.specs.Writing.{Parts, partsOf, writingBy}
 use Rattle.apdu_stated.specs.Claims as Frames
-use Rattle.apdu_stated.proofs.Laws.{TableOf, CarryOf, reading-exactly, FrameWay, under, found, ends, goes-on, frame-way, write-exactly, WriteWay, unfit, no-room, written, write-way}
+use Rattle.apdu_stated.proofs.Laws.{read-refuses-not, TableOf, CarryOf, reading-exactly, FrameWay, under, found, ends, goes-on, frame-way, write-exactly, WriteWay, unfit, no-room, written, write-way}
 use Rattle.command_stated.specs.Command.{Register, Authenticate, Version, GetResponse}
 use Rattle.u2f_up_stated.specs.declared.Presence.{Presence}
 use Rattle.ctap1_stated.specs.Words.{DecisionGives, Body, Ordered, Part, DecisionResult}
@@ -256,30 +255,22 @@ module _ (i : ToDecide) where
     by-part (no n) = p .no-part i n ∙ sym (q .no-part i (λ is. n (same-answer ∙ is)))
 
 -- what is said, and the buffers, are the same; of the record's and the session's numbers what they stand for
-pub record Alike (a b : AfterDeciding) : Type 0 where
-  pub said : a .said ≡ b .said
-  pub presence : presenceIn (a .presence) ≡ presenceIn (b .presence)
-  pub session : sessionIn (a .session) ≡ sessionIn (b .session)
-  pub reply : a .reply ≡ b .reply
-  pub block : a .block ≡ b .block
-  pub part : a .part ≡ b .part
-
-pub DecideExported : (f g : ToDecide → AfterDeciding) → Claims.DecideExported f → Claims.DecideExported g → (i : ToDecide) → Alike (f i) (g i)
+pub DecideExported : (f g : ToDecide → AfterDeciding) → Claims.DecideExported f → Claims.DecideExported g
+    → (i : ToDecide) → (f i .said ≡ g i .said) × (presenceIn (f i .presence) ≡ presenceIn (g i .presence)) × (sessionIn (f i .session) ≡ sessionIn (g i .session))
+    × (f i .reply ≡ g i .reply) × (f i .block ≡ g i .block) × (f i .part ≡ g i .part)
 DecideExported f g p q i =
     let a = reported i f p in
     let b = reported i g q in
     let left = by-remainder i f g p q (decidedBy i .answer) refl (numbered i) (a .answer) (b .answer) (does-ask i) in
-    let limit = by-limit i f g p q (decLt lastRefusal (f i .said .answer)) in
-    record {
-      said =
-          decision-equal (f i .said) (g i .said) (a .answer ∙ sym (b .answer)) (a .fault ∙ sym (b .fault)) (a .place ∙ sym (b .place)) (a .long ∙ sym (b .long)) (a .taken ∙ sym (b .taken))
-          (a .order ∙ sym (b .order));
-      presence = recorded i f p ∙ sym (recorded i g q);
-      session = λ d. record { remainder = left d; limit = limit d };
-      reply = by-reply i f g p q (ℕ-discrete (f i .said .answer) 0x9000);
-      block = by-block i f g p q (ℕ-discrete (f i .said .answer) 0x0100);
-      part = by-part i f g p q (ℕ-discrete (f i .said .answer) 0x0200);
-    }
+    let limit = by-limit i f g p q (decLt lastRefusal (f i .said .answer)) in (
+      decision-equal (f i .said) (g i .said) (a .answer ∙ sym (b .answer)) (a .fault ∙ sym (b .fault)) (a .place ∙ sym (b .place)) (a .long ∙ sym (b .long)) (a .taken ∙ sym (b .taken))
+          (a .order ∙ sym (b .order)),
+      recorded i f p ∙ sym (recorded i g q),
+      λ d. record { remainder = left d; limit = limit d },
+      by-reply i f g p q (ℕ-discrete (f i .said .answer) 0x9000),
+      by-block i f g p q (ℕ-discrete (f i .said .answer) 0x0100),
+      by-part i f g p q (ℕ-discrete (f i .said .answer) 0x0200),
+    )
 
 -- ---- the exported making
 pub MakeExported : (f g : (presence : List ℕ) (w : ℕ) → AfterMaking) → Claims.MakeExported f → Claims.MakeExported g

@@ -21,7 +21,7 @@ use Rattle.u2f_up_stated.specs.Terms.{BadWindow, BadSide}
 use Rattle.u2f_up_stated.specs.Moments.{newOf, Told, settleOf, onSettled, touchOf, checkOf, askOf}
 use Rattle.u2f_up_stated.specs.declared.Presence.{Presence}
 use Rattle.u2f_up_stated.proofs.Laws.{touches-exactly, checks-exactly, asks-exactly}
-use Rattle.u2f_up_stated.proofs.OnNumbers.{five-apart}
+use Rattle.u2f_up_stated.proofs.Laws.{five-apart}
 use Rattle.signing_stated.specs.Orders.{kindNo, headOf}
 use Rattle.ctap1_stated.specs.Words.{Inputs, DecisionGives, Body, Ordered, Part}
 use Rattle.ctap1_stated.specs.Decision.{decisionOf, blockAfter}

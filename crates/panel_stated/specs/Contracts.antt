@@ -3,7 +3,7 @@
 use Rattle.panel_stated.specs.Words.{ℕ, _≡_, Bool, List, R, Word, Gives, Body, Ordered, Part, Head, Remainder, Ordinary, Strict, commandOf, newOf, touchOf, checkOf, lengthOf, replyOf, responseRead, responseWritten, readResponseOf, presenceIn, sessionIn}
 use Rattle.panel_stated.specs.Words.{FrameSaid, CommandSaid, Wrote, Asked, DecisionSaid, ResponseSaid, RoomSaid, Shaped, Kinded}
 use Rattle.panel_stated.specs.Numbers.{shapeOf, kindOf, noOrder}
-use Rattle.panel_stated.specs.Exports.{frameNumbers, lengthNumbers, ToWrite, strictAs, readsOf, writesOf, commandNumbers, madeOver, makesOf, askedNumbers, touchesOf, checksOf, asksOf, headAfter, decidedNumbers, ToDecide, decidedBy, sessionBy, decidesOf, respondsOf, responseNumbers, sentNumbers, sentOver, roomNumbers, roomsOf, ToFinish, finishNumbered}
+use Rattle.panel_stated.specs.Exports.{frameNumbers, lengthNumbers, ToWrite, strictAs, readsOf, writesOf, commandNumbers, madeOver, makesOf, askedNumbers, touchesOf, checksOf, asksOf, headAfter, decidedNumbers, ToDecide, decidedBy, sessionBy, decidesOf, respondsOf, responseNumbers, nextsOf, sentOver, roomNumbers, roomsOf, ToFinish, finishNumbered}
 use Rattle.response_stated.specs.Terms.{sendingOf}
 use Rattle.apdu_stated.specs.Answers.{saysOf}
 use Rattle.apdu_stated.specs.declared.Apdu.{Apdu}
@@ -154,7 +154,7 @@ BrinecandleReadResponse response r = r ≡ responseNumbers (readResponseOf respo
 abbrev pub BrinecandleNextPart : (session body part : List ℕ) → Wrote → (left exit : List ℕ) → Type 0
 BrinecandleNextPart session body part r left exit =
     let sent = sendingOf body (sessionIn session .remainder) (sessionIn session .limit) part in
-    (r ≡ sentNumbers (sent .0)) × (sessionIn left ≡ sentOver (sent .0) (sessionIn session)) × (exit ≡ sent .1)
+    (r ≡ nextsOf session body part .said) × (sessionIn left ≡ sentOver (sent .0) (sessionIn session)) × (exit ≡ nextsOf session body part .part)
 
 abbrev pub BrinecandleResponseRoom : (frame : List ℕ) (longest : ℕ) → RoomSaid → Type 0
 BrinecandleResponseRoom frame longest r = r ≡ roomsOf frame longest

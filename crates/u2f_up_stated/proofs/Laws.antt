@@ -13,4 +13,4 @@ pub use Rattle.u2f_up_stated.proofs.OneSide.{Mine, base-refused, base-n
 -- Which refusal a touch, a check and an ask give, exactly.
 pub use Rattle.u2f_up_stated.proofs.Theorems.{TouchesExactly as touches-exactly, ChecksExactly as checks-exactly, AsksExactly as asks-exactly}
 -- The record lent as five numbers: no two of the same; a moment that settles, and the touch check there.
-pub use Rattle.u2f_up_stated.proofs.OnNumbers.{settles-moved, checked-below, granted-below, five-apart}
+pub use Rattle.u2f_up_stated.proofs.OnNumbers.{settles-moved, checked-below, granted-below, five-apart, five-set}
