@@ -8,6 +8,9 @@ use response_stated::ResponseRoom;
 use response_stated::WroteResponse;
 ghost use Rattle.panel_stated.specs.Contracts.{ResponsePlain, WroteResponsePlain, RefusedPart, SentPart, RoomPlain};
 
+// What was asked for is there.
+const DONE: u16 = 0x9000;
+
 pub fn response_plain(read: ReadResponse) -> ResponseSaid
     ensures { λ r. ⌜ ResponsePlain read r ⌝ }
 {
@@ -18,7 +21,7 @@ pub fn response_plain(read: ReadResponse) -> ResponseSaid
             length: 0,
         },
         ReadResponse::Response(length, status) => ResponseSaid {
-            answer: 0x9000,
+            answer: DONE,
             status,
             length,
         },
@@ -34,7 +37,7 @@ pub fn wrote_response_plain(written: WroteResponse) -> Wrote
             length: 0,
         },
         WroteResponse::Response(length) => Wrote {
-            answer: 0x9000,
+            answer: DONE,
             length,
         },
     }
@@ -54,7 +57,7 @@ pub fn sent_part(length: usize) -> Wrote
     ensures { λ r. ⌜ SentPart length r ⌝ }
 {
     Wrote {
-        answer: 0x9000,
+        answer: DONE,
         length,
     }
 }
@@ -68,7 +71,7 @@ pub fn room_plain(room: ResponseRoom) -> RoomSaid
             length: 0,
         },
         ResponseRoom::Bytes(length) => RoomSaid {
-            answer: 0x9000,
+            answer: DONE,
             length,
         },
     }
