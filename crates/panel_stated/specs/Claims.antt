@@ -264,11 +264,11 @@ pub record DecisionNumbers (plain : DecisionResult → DecisionSaid) : Type 0 wh
   pub order : (r : DecisionResult) → plain r .order ≡ orderAfter (r .answer) (r .order)  -- by `OrderNumbersExactly`
 
 -- The exported decision as a whole, of what C lends under each name: a row of document 01's table and E2's (`row`), on what is lent, its numbers, and
--- what the call leaves. 02, E2: "a refused C0 or any R refusal keeps it"; "A frame with another INS or in no shape drops the remainder". Ours: the
--- decision hands the limit out with its answer, with an order too; 6, 139 + h + c and 77 are asked of the uncut body's buffer; a part is cut out of that one and
--- written to another. An export whose limit is a body's alone (`limitOfBodiesAlone`) fails it, one that asks the other buffer for room
--- (`roomsSwapped`), drops the remainder at a refused C0 (`dropsAtC0`), cuts the part out of the buffer for it (`partOfItself`), writes it over the body
--- (`partOverTheBody`), or takes x for y (`pointSwapped`).
+-- what the call leaves. 02, E2: "a refused C0 or any R refusal keeps it"; "A frame with another INS or in no shape drops the remainder". Ours: after every answer
+-- but a refusal the frame's limit is the session's third number, with an order too; 6, 139 + h + c and 77 are asked of the uncut body's buffer; a part is cut out of
+-- that one and written to another. An export that leaves the limit with a body alone (`limitOfBodiesAlone`) fails it, one that asks the other buffer for room
+-- (`roomsSwapped`), leaves the record as it was lent (`recordForgotten`), drops the remainder at a refused C0 (`dropsAtC0`), cuts the part out of the buffer for it
+-- (`partOfItself`), writes it over the body (`partOverTheBody`), or takes x for y (`pointSwapped`).
 pub record DecideExported (decide : ToDecide → AfterDeciding) : Type 0 where
   pub row : (i : ToDecide)
       → (r : DecisionResult)
@@ -290,9 +290,8 @@ pub record DecideExported (decide : ToDecide → AfterDeciding) : Type 0 where
       → next (i .reply) (remainderIn (i .session)) (sessionIn (decide i .session) .limit) (i .part) ≡ (Gives (sending (decide i .said .length) (remainderIn (decide i .session))), decide i .part)
   pub no-part : (i : ToDecide) → (decide i .said .answer ≡ 0x0200 → ⊥) → decide i .part ≡ i .part
 
--- The exported next part and the exported response, by whatever sender and writer meet response_stated's `NextExactly` and `WritesExactly`: their
--- answer in numbers, and their buffer; what remains and the limit are the session's. 02, E2: "any R refusal keeps it". An export that forgets what remains with R2
--- (`nextForgets`) fails it, one that looks at no limit (`nextWhole`), and one that writes 9000 whatever it is lent (`responds9000`).
+-- The exported next part, by whatever sender meets response_stated's `NextExactly`: its answer in numbers, and its buffer; what remains and the limit are the
+-- session's. 02, E2: "any R refusal keeps it". An export that forgets what remains with R2 (`nextForgets`) fails it, and one that looks at no limit (`nextWhole`).
 pub record NextPartExported (next : (session body part : List ℕ) → AfterPart) : Type 0 where
   pub given : (sender : Sender) → Responses.NextExactly sender → (session body old : List ℕ) (n : ℕ) (left : Remainder)
       → sender body (remainderIn session) (sessionIn session .limit) old .0 ≡ Gives (sending n left)
@@ -303,7 +302,7 @@ pub record NextPartExported (next : (session body part : List ℕ) → AfterPart
       → sender body (remainderIn session) (sessionIn session .limit) old .0 ≡ R m
       → (next session body old .said ≡ record { answer = m; length = 0 }) × (sessionIn (next session body old .session) ≡ sessionIn session) × (next session body old .part ≡ old)
 
--- The exported room, by whatever room meets response_stated's `RoomExactly`: of a frame that is read by its limit, "for bytes in no shape two". An export that
+-- The exported room, by whatever room meets response_stated's `RoomExactly`: of a frame that is read by its limit, of bytes in no shape two. An export that
 -- takes every frame for an extended one (`roomUncut`) fails it.
 pub record RoomExported (rooms : (frame : List ℕ) (longest : ℕ) → RoomSaid) : Type 0 where
   pub given : (room : (limit longest : ℕ) → Outcome ℕ) → Responses.RoomExactly room → (frame : List ℕ) (longest : ℕ) (said : Says) (n : ℕ) → readOf frame ≡ Gives said
@@ -312,6 +311,8 @@ pub record RoomExported (rooms : (frame : List ℕ) (longest : ℕ) → RoomSaid
       → room (limitOf said) longest ≡ R m → rooms frame longest ≡ record { answer = m; length = 0 }
   pub no-shape : (frame : List ℕ) (longest : ℕ) (w : StatusWord) → readOf frame ≡ Word w → rooms frame longest ≡ record { answer = 0x9000; length = 2 }
 
+-- The exported response, by whatever writer meets response_stated's `WritesExactly`: its answer in numbers, and its buffer. An export that writes 9000 whatever it
+-- is lent (`responds9000`) fails it.
 pub record ResponseExported (respond : (body : List ℕ) (status : ℕ) (old : List ℕ) → AfterWriting) : Type 0 where
   pub given : (writer : Writer) → Responses.WritesExactly writer → (body : List ℕ) (status : ℕ) (old : List ℕ) (n : ℕ) → writer body status old .0 ≡ Gives n
       → (respond body status old .said ≡ record { answer = 0x9000; length = n }) × (respond body status old .buffer ≡ writer body status old .1)
