@@ -78,7 +78,7 @@
 
 #include "brinecandle.h"
 #ifdef WATCH
-#include "watch.h" /* firmware/test: looks at the whole of what every call hands back */
+#include "watch.h" /* firmware/test: looks at the whole of what every call says and leaves */
 #endif
 #ifdef INTERRUPT
 #include "interrupt.h" /* firmware/test: signals come while it waits */

@@ -23,7 +23,6 @@ pub use Rattle.ctap1_stated.proofs.Ways.{sound}
 pub use Rattle.ctap1_stated.proofs.Ways.{row}
 pub use Rattle.ctap1_stated.proofs.Only.{LimitsExactly as limits-only, DecidesExactly as decides-only}
 pub use Rattle.ctap1_stated.proofs.GetResponse.{takes, Asked, is-refused, is-word, is-part, asked, IsPart, is-a-part, served, nothing-left}
-pub use Rattle.ctap1_stated.proofs.Ruled.{nothingLeft, same-refused, same-given, same-word, same-unasked, fetched-decision}
 
 -- whatever holds of these answers holds of every decision's
 pub every-answer : (P : Outcome DecisionGives → Type 0) (p : Presence) (t : ℕ) (a : Inputs)

@@ -4,7 +4,6 @@ pub mod Commands
 pub mod Ways
 pub mod RoleKept
 pub mod OneSide
-pub mod Ruled
 pub mod ByLengths
 pub mod Numbers
 pub mod Only

@@ -218,7 +218,7 @@ decision-said p t a = by-moment (settleOf p (a .side) t) (settle-said p (a .side
     by-moment (Word s) h = h
     by-moment (Gives settled) h = along-numbered (pathOf a) (path-numbered a) p settled (a .side) t
 
--- a refused decision hands back the record that it was lent
+-- no ending of a decision's path is a refusal
 ended-refused : (e : PathEnd) (p : Presence) (k : ℕ) → ended e p .answer ≡ R k → ⊥
 ended-refused Internal p k e = r-word _ _ (sym e)
 ended-refused WrongData p k e = r-word _ _ (sym e)

@@ -1,5 +1,6 @@
-// Presence: prompts, touches and their spending, carried over from the Rust's u2f_up.rs. Moments are given in. The record goes
-// in by value and comes back; the last three functions are the same calls on a record lent for writing.
+// Presence: prompts, touches and their spending, carried over from the Rust's u2f_up.rs. Moments are given in. A record
+// goes in by value and comes back; or it is lent, as the five numbers that C holds (record_lent to touch_granted), or as a struct for
+// writing (the last three functions).
 // A direct check, like a decision, names the side that it comes from, 0 or 1; touch and ask name none. Any values may stand in a
 // record: no sum of moments is ever made, so none can wrap.
 use outcome::Refusal;
