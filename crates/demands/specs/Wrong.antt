@@ -35,9 +35,31 @@ rightCommand frame = commandNumbers (commandOf frame)
 abbrev pub rightResponse : List ℕ → ResponseSaid
 rightResponse response = responseNumbers (readResponseOf response)
 
--- with any functions on the record and any decision and finishing, so that wrong ones can be tried
-abbrev pub panelWith : ((presence : List ℕ) (w : ℕ) → AfterMaking) → ((presence : List ℕ) (t : ℕ) → AfterStep) → ((presence : List ℕ) (side t : ℕ) → AfterStep) → ((presence : List ℕ) (t : ℕ) → Asked) → (ToDecide → AfterDeciding) → (ToFinish → AfterWriting) → Panel
-panelWith new touch check ask decide finish =
+-- any functions on the record, any decision and finishing, any functions on frames and responses, and any room, so that wrong ones can be tried
+abbrev MakeCall : Type 0
+MakeCall = (presence : List ℕ) (w : ℕ) → AfterMaking
+
+abbrev TouchCall : Type 0
+TouchCall = (presence : List ℕ) (t : ℕ) → AfterStep
+
+abbrev CheckCall : Type 0
+CheckCall = (presence : List ℕ) (side t : ℕ) → AfterStep
+
+abbrev AskCall : Type 0
+AskCall = (presence : List ℕ) (t : ℕ) → Asked
+
+abbrev RespondCall : Type 0
+RespondCall = (body : List ℕ) (status : ℕ) (old : List ℕ) → AfterWriting
+
+abbrev PartCall : Type 0
+PartCall = (session body part : List ℕ) → AfterPart
+
+abbrev RoomCall : Type 0
+RoomCall = (frame : List ℕ) (longest : ℕ) → RoomSaid
+
+abbrev panelOf : MakeCall → TouchCall → CheckCall → AskCall → (ToDecide → AfterDeciding) → (ToFinish → AfterWriting) → (read readTable readStrict readStrictTable : List ℕ → FrameSaid)
+    → (write writeStrict : ToWrite → AfterWriting) → (List ℕ → CommandSaid) → RespondCall → (List ℕ → ResponseSaid) → PartCall → RoomCall → Panel
+panelOf new touch check ask decide finish read readTable readStrict readStrictTable write writeStrict command respond response next room =
     record {
       new = new;
       grant-up = touch;
@@ -45,36 +67,6 @@ panelWith new touch check ask decide finish =
       is-up-needed = ask;
       decide = decide;
       finish = finish;
-      read = readsOf Ordinary;
-      read-strict = readsOf Strict;
-      read-by-table = readsOf Ordinary;
-      read-strict-by-table = readsOf Strict;
-      write = writesOf Ordinary;
-      write-strict = writesOf Strict;
-      read-command = rightCommand;
-      write-response = respondsOf;
-      read-response = rightResponse;
-      next-part = nextsOf;
-      response-room = roomsOf;
-    }
-
-abbrev pub rightFinish : ToFinish → AfterWriting
-rightFinish i = record { said = lengthNumbers (lengthOf (finishNumbered i)); buffer = replyOf (finishNumbered i) (i .reply) }
-
-abbrev pub defined : Panel
-defined = panelWith makesOf touchesOf checksOf asksOf decidesOf rightFinish
-
--- and with any functions on frames and responses
-abbrev pub framesWith : (read readTable readStrict readStrictTable : List ℕ → FrameSaid) (write writeStrict : ToWrite → AfterWriting) → (List ℕ → CommandSaid)
-    → ((body : List ℕ) (status : ℕ) (old : List ℕ) → AfterWriting) → (List ℕ → ResponseSaid) → ((session body part : List ℕ) → AfterPart) → Panel
-framesWith read readTable readStrict readStrictTable write writeStrict command respond response next =
-    record {
-      new = makesOf;
-      grant-up = touchesOf;
-      consume-up = checksOf;
-      is-up-needed = asksOf;
-      decide = decidesOf;
-      finish = rightFinish;
       read = read;
       read-strict = readStrict;
       read-by-table = readTable;
@@ -85,31 +77,26 @@ framesWith read readTable readStrict readStrictTable write writeStrict command r
       write-response = respond;
       read-response = response;
       next-part = next;
-      response-room = roomsOf;
-    }
-
--- and with any room for a response
-abbrev roomsWith : ((frame : List ℕ) (longest : ℕ) → RoomSaid) → Panel
-roomsWith room =
-    record {
-      new = makesOf;
-      grant-up = touchesOf;
-      consume-up = checksOf;
-      is-up-needed = asksOf;
-      decide = decidesOf;
-      finish = rightFinish;
-      read = readsOf Ordinary;
-      read-strict = readsOf Strict;
-      read-by-table = readsOf Ordinary;
-      read-strict-by-table = readsOf Strict;
-      write = writesOf Ordinary;
-      write-strict = writesOf Strict;
-      read-command = rightCommand;
-      write-response = respondsOf;
-      read-response = rightResponse;
-      next-part = nextsOf;
       response-room = room;
     }
+
+abbrev pub rightFinish : ToFinish → AfterWriting
+rightFinish i = record { said = lengthNumbers (lengthOf (finishNumbered i)); buffer = replyOf (finishNumbered i) (i .reply) }
+
+abbrev pub panelWith : MakeCall → TouchCall → CheckCall → AskCall → (ToDecide → AfterDeciding) → (ToFinish → AfterWriting) → Panel
+panelWith new touch check ask decide finish =
+    panelOf new touch check ask decide finish (readsOf Ordinary) (readsOf Ordinary) (readsOf Strict) (readsOf Strict) (writesOf Ordinary) (writesOf Strict) rightCommand respondsOf rightResponse nextsOf roomsOf
+
+abbrev pub framesWith : (read readTable readStrict readStrictTable : List ℕ → FrameSaid) (write writeStrict : ToWrite → AfterWriting) → (List ℕ → CommandSaid) → RespondCall → (List ℕ → ResponseSaid) → PartCall → Panel
+framesWith read readTable readStrict readStrictTable write writeStrict command respond response next =
+    panelOf makesOf touchesOf checksOf asksOf decidesOf rightFinish read readTable readStrict readStrictTable write writeStrict command respond response next roomsOf
+
+abbrev roomsWith : RoomCall → Panel
+roomsWith room =
+    panelOf makesOf touchesOf checksOf asksOf decidesOf rightFinish (readsOf Ordinary) (readsOf Ordinary) (readsOf Strict) (readsOf Strict) (writesOf Ordinary) (writesOf Strict) rightCommand respondsOf rightResponse nextsOf room
+
+abbrev pub defined : Panel
+defined = panelWith makesOf touchesOf checksOf asksOf decidesOf rightFinish
 
 -- the room is the whole body's, whatever the frame; and, in any shape, no more than a short frame's 258
 abbrev pub roomUncut : Panel
