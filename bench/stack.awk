@@ -1,5 +1,6 @@
 # The deepest stack of each exported function, in bytes, from `objdump -dr --no-show-raw-insn` of the archive: its return
-# address, its frame, and the deepest of what it calls in the archive. memcpy and memset come on top where it calls them.
+# address, its frame, what it keeps below the stack pointer (System V's red zone), and the deepest of what it calls in the archive.
+# memcpy and memset come on top where it calls them.
 # Within a function the depth is followed from line to line; after a `ret` it is again what it was before the epilogue.
 
 /^[0-9a-f]+ <.*>:$/ {
@@ -17,6 +18,12 @@ $2 == "pop" { shrink(8) }
 $2 == "add" && $3 ~ /,%rsp$/ { shrink(amount($3)) }
 $2 ~ /^ret/ && leaving { depth = before; leaving = 0 }
 $2 == "call" { leaving = 0 }
+
+match($0, /-0x[0-9a-f]+\(%rsp/) {
+    below = depth + hex(substr($0, RSTART + 3, RLENGTH - 8))
+    if (below > frame[name])
+        frame[name] = below
+}
 
 # Anything else that moves the stack pointer is beyond this reading.
 /,%rsp$/ && $2 != "sub" && $2 != "add" { unread[name] = 1 }

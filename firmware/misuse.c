@@ -214,6 +214,15 @@ static void one_reply_for_both(void)
     then_answer(brinecandle_panel_finish(panel, USB, with_signature).answer);
     then_answer(brinecandle_panel_decide(panel, WIRELESS, lent(fetch, sizeof fetch, 7)).answer);
     end();
+    fresh(258);
+    panel->transport[WIRELESS].buffers.reply = reply[USB];
+    begin("one reply for both sides, and an order that waits while the other asks its version");
+    then_answer(ordered(WIRELESS, 1).answer);
+    then_answer(brinecandle_panel_decide(panel, USB, lent(version_by_twos, sizeof version_by_twos, 4)).answer);
+    struct brinecandle_wrote cut = brinecandle_panel_respond(panel, brinecandle_panel_finish(panel, WIRELESS, with_signature));
+    then_answer(cut.answer);
+    then_text(cut.length == 258 ? "258 bytes" : "OTHER BYTES");
+    end();
 }
 
 static void two_finishes(void)

@@ -44,8 +44,9 @@
  * for are 0.
  *
  * Answers, faults, commands, an Authenticate's P1, kinds of orders, and yes and no are enums of their own, each as wide as its number in
- * the archive: compilers tell where one is put in the place of another (gcc with -Wextra; C++ refuses it), and most where two are compared
- * (-Wall; not clang 14 in C). Not told apart: handle and certificate, x and y, two lengths, side and moment. Take the wrapper, where they
+ * the archive: compilers tell in most places where one is put in the place of another (gcc with -Wextra; C++ refuses it) and where two are
+ * compared (-Wall; not clang 14 in C). They are silent at a `case` of another enum, at `b ? one : another`, and where a constant is lent as a
+ * side or a length. Not told apart: handle and certificate, x and y, two lengths, side and moment. Take the wrapper, where they
  * have names; of a decision and a finishing it also has the bare calls with names (brinecandle_decide_lent, brinecandle_finish_signed).
  */
 #ifndef BRINECANDLE_H
@@ -60,7 +61,7 @@
 #include <stddef.h>
 #include <stdint.h>
 
-#if !defined(__x86_64__) || defined(__ILP32__) || !defined(__ELF__)
+#if !defined(__x86_64__) || defined(__ILP32__) || defined(_WIN32) || defined(__CYGWIN__) || defined(__APPLE__)
 #error "brinecandle: the archive is for x86-64 with pointers of 8 bytes and ELF, and this machine is another"
 #endif
 
@@ -92,7 +93,7 @@
 #if defined(__cplusplus)
 #define BRINECANDLE_IS(claim) static_assert(claim, #claim)
 #else
-#define BRINECANDLE_IS(claim) _Static_assert(claim, #claim)
+#define BRINECANDLE_IS(claim) __extension__ _Static_assert(claim, #claim)
 #endif
 #define BRINECANDLE_AT(name, field, offset) BRINECANDLE_IS(offsetof(struct brinecandle_##name, field) == offset)
 #define BRINECANDLE_SIZE(name, size) BRINECANDLE_IS(sizeof(struct brinecandle_##name) == size)

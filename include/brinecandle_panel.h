@@ -30,8 +30,9 @@
 enum { BRINECANDLE_SIDES = 2 };
 
 /* A side's buffers. They stay the panel's, `reply` as the core leaves it: a body stands there until all of it is fetched. So give each side a
- * `reply` of its own; where both have the same one, a body of the one side ends what is left for the other. One buffer for part and status may
- * serve both. */
+ * `reply` of its own; where both have the same one, a body of the one side ends what is left for the other (replies that overlap otherwise are
+ * not noticed). One buffer for part and status may serve both. Where a buffer serves both, respond and send what a call came to before the
+ * next call for either side, a dry run too: or the one host gets the other's bytes. */
 struct brinecandle_buffers {
     uint8_t *reply; /* uncut bodies */
     size_t reply_length;
@@ -218,13 +219,13 @@ static inline struct brinecandle_tried brinecandle_panel_try(const struct brinec
     return said;
 }
 
-/* A body was written for this side: in a `reply` that is the other's too, nothing is left of the other's. */
+/* A body was written for this side: in a `reply` that is the other's too, nothing is left of the other's. The other's limit is kept: its
+ * order may wait, whose body will be cut by it. */
 static inline void brinecandle_panel_overwrote(struct brinecandle_panel *panel, uint64_t side)
 {
-    const struct brinecandle_session nothing = {0, 0, 0};
     for (uint64_t other = 0; other < BRINECANDLE_SIDES; other++)
         if (other != side && panel->transport[other].buffers.reply == panel->transport[side].buffers.reply)
-            panel->transport[other].session = nothing;
+            panel->transport[other].session.place = panel->transport[other].session.count = 0;
 }
 
 /* Decides, for the side that the frame came from. With BRINECANDLE_ORDER sign the first panel->order.to_sign bytes of panel->block. A
@@ -272,8 +273,8 @@ static inline struct brinecandle_outcome brinecandle_panel_finish(struct brineca
 /* Makes what the host gets, at the front of the side's buffer for part and status: with BRINECANDLE_OK the first part of the body, cut by
  * the limit of its frame, and the session keeps what remains; with BRINECANDLE_PART nothing is to be done, since the response stands there;
  * with a status word it alone. It says BRINECANDLE_OK and the response's length, or R2: never where the buffers are those of the decision.
- * A refusal and an order are for no host: they are handed back as they are, and nothing is written. A BRINECANDLE_OK without a body comes
- * from no call, and is BRINECANDLE_NO_ANSWER. */
+ * A refusal and an order are for no host: they are handed back as they are, and nothing is written. A BRINECANDLE_OK without a body, and a
+ * BRINECANDLE_PART without a response, come from no call, and are BRINECANDLE_NO_ANSWER. */
 BRINECANDLE_TAKE_IT
 static inline struct brinecandle_wrote brinecandle_panel_respond(struct brinecandle_panel *panel, struct brinecandle_outcome with)
 {
@@ -281,7 +282,7 @@ static inline struct brinecandle_wrote brinecandle_panel_respond(struct brinecan
     if (with.answer <= BRINECANDLE_ORDER) /* refusals lie below it, and so does memory of zeros */
         return said;
     said.answer = BRINECANDLE_SIDES <= with.side ? BRINECANDLE_R8 : BRINECANDLE_NO_ANSWER;
-    if (said.answer == BRINECANDLE_R8 || (with.answer == BRINECANDLE_OK && with.length == 0))
+    if (said.answer == BRINECANDLE_R8 || (with.length == 0 && (with.answer == BRINECANDLE_OK || with.answer == BRINECANDLE_PART)))
         return said;
     struct brinecandle_transport *own = &panel->transport[with.side];
     struct brinecandle_buffers to = own->buffers;
@@ -321,7 +322,8 @@ static inline struct brinecandle_wrote brinecandle_panel_status(struct brinecand
     return brinecandle_panel_respond(panel, said);
 }
 
-/* What the host gets in the place of a refusal: 0x6f00. What is left to fetch is kept, as the refusal kept it. */
+/* What the host gets in the place of a refusal: 0x6f00. What is left to fetch, and an order that waits, are kept, as the refusal kept them:
+ * where the host's command is given up for good, brinecandle_panel_drop ends both. */
 BRINECANDLE_TAKE_IT
 static inline struct brinecandle_wrote brinecandle_panel_give_up(struct brinecandle_panel *panel, uint64_t side)
 {

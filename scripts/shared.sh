@@ -105,7 +105,7 @@ installed() { # FOLDER PREFIX
     filled "$2" package/BrinecandleConfigVersion.cmake.in "$1/lib/cmake/Brinecandle/BrinecandleConfigVersion.cmake"
 }
 
-# Fills in prefix and version, each at most once in a line. Any character may stand in a prefix.
+# Fills in prefix and version, each at most once in a line.
 filled() { # PREFIX TEMPLATE FILE
     PREFIX=$1 VERSION=$version awk '
         function put(word, value,    at) {
