@@ -332,10 +332,11 @@ struct brinecandle_room {
 };
 
 /* How many bytes a response to this frame can take, where no body to it is longer than `longest`: in shapes 1 to 4 the smaller of its
- * limit and `longest`, and two; in shapes 5, 7 and 8 `longest` and two; of bytes in no shape two. R2 where no size_t can say it. With a
- * buffer for part and status of that length no first part of a body of at most `longest` bytes is refused; with one byte less that of a body
- * of `longest` bytes is. Ask before you decide, since after the decision the touch is spent: `longest` is 139 and the lengths of handle and
- * certificate for Register, 77 for Authenticate, 6 for Version, the session's count for GET RESPONSE, 0 for every other frame. */
+ * limit and `longest`, and two; in shapes 5, 7 and 8 `longest` and two; of bytes in no shape, which have no body, two. R2 where no size_t can
+ * say it. For a frame in a shape, with a buffer for part and status of that length no first part of a body of at most `longest` bytes is
+ * refused; with one byte less that of a body of `longest` bytes is. Ask before you decide, since after the decision the touch is spent:
+ * `longest` is 139 and the lengths of handle and certificate for Register, 77 for Authenticate with P1 03 or 08, 6 for Version, the
+ * session's count for GET RESPONSE, 0 for every other frame. */
 BRINECANDLE_TAKE_IT
 struct brinecandle_room brinecandle_response_room(const uint8_t *frame, size_t frame_length, size_t longest);
 

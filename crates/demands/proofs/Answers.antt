@@ -138,7 +138,7 @@ module _ (P : Panel) (M : Meets P) where
     pub finishes : f .signed ≡ 1 → P .finish f .said .answer ≡ 0x9000
     finishes signed =
         let k = decided .order .kind in
-        let asked = Decision.OrderHasRoom (presenceIn (i .presence)) (i .moment) (inputsIn i) (toEnd k f) (lent .blocks) is-order the-order the-length (lent .room) in
+        let asked = Decision.OrderHasRoom (presenceIn (i .presence)) (i .moment) (inputsIn i) (toEnd k f) (lent .blocks) is-order the-order the-length (lent .reply) in
         ap (λ (s : Wrote). s .answer) (M .finish f .0)
         ∙ ap (λ (x : Outcome (List ℕ)). answerNo (lengthOf x)) (ends f k the-kind)
         ∙ gives (toEnd k f) (eq-eqb (f .signed) 1 signed) (lent .signature) (asked .0) (asked .1) (asked .2)

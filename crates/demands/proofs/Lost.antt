@@ -6,7 +6,7 @@ use mathlib.Core.List.{List, [], _∷_}
 use mathlib.Core.Logic.{_⊎_, inl, inr, ⊎-elim}
 use native.Mathlib.Omega.{arith}
 use borrow.Author.Tests.{eq-eqb, ne-eqb}
-use lib.ListN.{length}
+use lib.ListN.{length, take}
 use Rattle.outcome.specs.Outcome.{Outcome, R, Word, SW, Gives}
 use Rattle.apdu_stated.specs.Answers.{Says}
 use Rattle.apdu_stated.specs.Reading.{readOf}
@@ -14,16 +14,22 @@ use Rattle.command_stated.specs.Command.{Command, Register, Authenticate, comma
 use Rattle.command_stated.proofs.Laws.{RegisterExactly, AuthenticateExactly}
 use Rattle.response_stated.specs.Words.{Sent, rest}
 use Rattle.response_stated.specs.Parts.{partLength}
-use Rattle.response_stated.specs.Terms.{sendingOf, writingOf}
-use Rattle.response_stated.proofs.Laws.{write-room}
-use Rattle.signing_stated.specs.Orders.{kindNo, certificateLength}
-use Rattle.signing_stated.specs.Finishing.{Finishing, Ended, endOf, finishOf, lengthOf, replyOf, roomNeeded}
+use Rattle.response_stated.specs.Terms.{Goes, Sends, spelled, sendingOf, writingOf}
+use Rattle.response_stated.specs.Responses.{responseBodyOf}
+use Rattle.response_stated.proofs.Laws.{write-room, front-of, cut-back}
+use lib.Dec.{eqb}
+use Rattle.outcome.specs.Notation.{if_then_else_}
+use Rattle.demands.specs.Sessions.{firstBytes}
+use Rattle.signing_stated.specs.Orders.{isOfLayout, kindNo, certificateLength}
+use Rattle.signing_stated.specs.Words.{Order}
+use Rattle.signing_stated.proofs.Laws.{finish-gives, body-full}
+use Rattle.signing_stated.specs.Finishing.{Finishing, Ended, endOf, finishOf, lengthOf, replyOf, roomNeeded, bodyOf}
 use Rattle.u2f_up_stated.specs.Numbers.{presenceIn}
 use Rattle.ctap1_stated.specs.Words.{Inputs, DecisionGives, Ordered, DecisionResult}
 use Rattle.ctap1_stated.specs.Terms.{roomOfRegister}
 use Rattle.ctap1_stated.specs.Path.{frameLimit}
 use Rattle.ctap1_stated.specs.Decision.{decisionOf}
-use Rattle.ctap1_stated.proofs.Laws.{AskedWith, of-register, of-authenticate, asked-with}
+use Rattle.ctap1_stated.proofs.Laws.{AskedWith, of-register, of-authenticate, asked-with, order-whole, orders-of-layout}
 use Rattle.session_stated.specs.declared.Session.{Session}
 use Rattle.session_stated.specs.Held.{sessionIn, sessionAfter, frameRoomOf}
 use Rattle.session_stated.specs.Contracts.{inputsIn}
@@ -32,10 +38,10 @@ use Rattle.session_stated.proofs.Laws.{by-order, ordered-limit}
 use Rattle.panel_stated.specs.declared.CommandSaid.{CommandSaid}
 use Rattle.panel_stated.specs.declared.RoomSaid.{RoomSaid}
 use Rattle.panel_stated.specs.declared.Wrote.{Wrote}
-use Rattle.panel_stated.specs.Exports.{ToDecide, ToFinish, commandNumbers, lengthNumbers, sentNumbers, roomNumbers, nextsOf}
+use Rattle.panel_stated.specs.Exports.{ToDecide, ToFinish, AfterPart, commandNumbers, lengthNumbers, sentNumbers, roomNumbers, nextsOf}
 use Rattle.demands.specs.Panel.{Panel, Meets}
 use Rattle.demands.specs.Answers.{toEnd}
-use Rattle.demands.specs.Demands.{ToFinishOf, LongestBody, NoTouchIsLost}
+use Rattle.demands.specs.Demands.{ToFinishOf, LongestBody, NoTouchIsLost, firstOf}
 use Rattle.demands.proofs.Answers.{ends, is-order, the-order, the-kind, the-length}
 use Rattle.demands.proofs.Fetched.{room-is}
 
@@ -55,6 +61,45 @@ module _ (a : Inputs) (longest : ℕ) where
   by-kind _ _ (of-authenticate p1 said c) h =
       let is : Asked (commandNumbers (Gives (Authenticate p1 said))) = rw c at h in
       (λ z. absurd (omega (arith, z)), λ z. ⊎-elim (λ x. absurd (omega (arith, x .0))) (λ x. omega (arith, x .1)) is)
+
+-- the room that an order asks for is the longest body of its command
+longest-of : (a : Inputs) (longest k n : ℕ) → AskedWith a k n → Asked a longest (commandNumbers (commandOf (a .frame))) → n ≡ longest
+longest-of a longest _ _ (of-register said c) h =
+    let is : Asked a longest (commandNumbers (Gives (Register said))) = rw c at h in
+    ⊎-elim (λ x. omega (arith, x .1)) (λ x. absurd (omega (arith, x .0))) is
+longest-of a longest _ _ (of-authenticate p1 said c) h =
+    let is : Asked a longest (commandNumbers (Gives (Authenticate p1 said))) = rw c at h in
+    ⊎-elim (λ x. absurd (omega (arith, x .0))) (λ x. omega (arith, x .1)) is
+
+module _ (P : Panel) (M : Meets P) (i : ToDecide) (f : ToFinish) (longest : ℕ) (lent : ToFinishOf P i f) (is-longest : LongestBody P i longest) where
+  abbrev its : DecisionResult
+  its = decisionOf (presenceIn (i .presence)) (i .moment) (inputsIn i)
+
+  abbrev ending : Finishing
+  ending = toEnd (its .order .kind) f
+
+  comes-to : f .signed ≡ 1 → length (f .signature) ≡ 72 → P .finish f .said .length ≡ longest
+  comes-to signed is =
+      let o = the-order P M i f lent in
+      let layout : isOfLayout (ending .order) ≡ true = ap isOfLayout o ∙ orders-of-layout (presenceIn (i .presence)) (i .moment) (inputsIn i) (lent .blocks) (is-order P M i f lent) in
+      let whole : length (ending .order .bytes) ≡ 385 = ap (λ (x : Order). length (x .bytes)) o ∙ order-whole (presenceIn (i .presence)) (i .moment) (inputsIn i) (is-order P M i f lent) in
+      let certificate : length (ending .certificate) ≡ certificateLength (ending .order) = the-length P M i f lent ∙ sym (ap certificateLength o) in
+      let asked = asked-with (presenceIn (i .presence)) (i .moment) (inputsIn i) (lent .blocks) (is-order P M i f lent) in
+      let room : roomNeeded (ending .order) ≤ length (ending .reply) = omega (arith, ap roomNeeded o, asked .1, lent .reply) in
+      let given = finish-gives ending layout certificate room (eq-eqb (f .signed) 1 signed) (omega (arith, is)) in
+      let all : length (bodyOf (ending .order .kind) (ending .order) (ending .certificate) (ending .signature)) ≡ roomNeeded (ending .order) =
+      body-full (ending .order .kind) (ending .order) (ending .certificate) (ending .signature) layout whole certificate is in
+      ap (λ (w : Wrote). w .length)
+      (M .finish f .0 ∙ ap (λ (x : Outcome (List ℕ)). lengthNumbers (lengthOf x)) (ends P M f (its .order .kind) (the-kind P M i f lent) ∙ given .0))
+      ∙ all ∙ ap roomNeeded o
+      ∙ longest-of (inputsIn i) longest _ _ (asked .0) (subst (λ (c : CommandSaid). Asked (inputsIn i) longest c) (M .read-command (i .frame)) is-longest)
+
+-- what goes out with a part that was sent
+sent-bytes : (body : List ℕ) (n limit : ℕ) (old bytes : List ℕ) (status : ℕ) (after : _) → Sends (sendingOf body (rest 0 n) limit old) bytes status after
+    → firstBytes (nextsOf (0 ∷ n ∷ limit ∷ []) body old) ≡ bytes
+sent-bytes body n limit old bytes status after s =
+    ap₂ (λ (o : Outcome Sent) (l : List ℕ). if eqb (sentNumbers o .answer) 0x9000 then responseBodyOf (take (sentNumbers o .length) l) else []) (s .says) (s .holds)
+    ∙ ap responseBodyOf (front-of bytes status (s .behind)) ∙ cut-back bytes _ _
 
 module _ (P : Panel) (M : Meets P) (i : ToDecide) (f : ToFinish) (part : List ℕ) (longest : ℕ) (lent : ToFinishOf P i f) (is-longest : LongestBody P i longest)
     (asked : P .response-room (i .frame) longest .answer ≡ 0x9000) (had : P .response-room (i .frame) longest .length ≤ length part) where
@@ -84,7 +129,7 @@ module _ (P : Panel) (M : Meets P) (i : ToDecide) (f : ToFinish) (part : List �
   answered : Answered endOf sendingOf end (frameLimit (i .frame)) part
   answered =
       by-order (presenceIn (i .presence)) (i .moment) (inputsIn i) end part longest (partLength (frameLimit (i .frame)) longest + 2) (lent .blocks) (is-order P M i f lent) (least .0) (least .1)
-      room fits (the-order P M i f lent) (the-length P M i f lent ∙ sym (ap certificateLength (the-order P M i f lent))) (lent .room) (lent .signature)
+      room fits (the-order P M i f lent) (the-length P M i f lent ∙ sym (ap certificateLength (the-order P M i f lent))) (lent .reply) (lent .signature)
 
   -- what the panel finishes with
   finished : P .finish f .said ≡ lengthNumbers (endOf end .answer)
@@ -103,9 +148,13 @@ module _ (P : Panel) (M : Meets P) (i : ToDecide) (f : ToFinish) (part : List �
   abbrev first : (n limit : ℕ) (l : List ℕ) → ℕ
   first n limit l = nextsOf (0 ∷ n ∷ limit ∷ []) l part .said .answer
 
+  abbrev bytes : (n limit : ℕ) (l : List ℕ) → List ℕ
+  bytes n limit l = firstBytes (nextsOf (0 ∷ n ∷ limit ∷ []) l part)
+
   sends : f .signed ≡ 1
       → (P .finish f .said .answer ≡ 0x9000)
-      × (P .next-part (0 ∷ P .finish f .said .length ∷ sessionIn (P .decide i .session) .limit ∷ []) (P .finish f .buffer) part .said .answer ≡ 0x9000)
+      × (firstOf P i f part .said .answer ≡ 0x9000)
+      × ((n : ℕ) × Goes (sessionIn (P .decide i .session) .limit) (P .finish f .said .length) n × (firstBytes (firstOf P i f part) ≡ take n (P .finish f .buffer)))
   sends signed =
       let s = answered .served (eq-eqb (f .signed) 1 signed) in
       let ends = finished ∙ ap lengthNumbers (s .1) in
@@ -115,6 +164,17 @@ module _ (P : Panel) (M : Meets P) (i : ToDecide) (f : ToFinish) (part : List �
             ∙ ap (λ (l : List ℕ). first (P .finish f .said .length) (sessionIn (P .decide i .session) .limit) l) body
             ∙ ap₂ (λ (n k : ℕ). first n k (endOf end .reply)) long limit
             ∙ ap (λ (o : Outcome Sent). sentNumbers o .answer) (s .2 .sends .says),
+        (
+          s .2 .part,
+          rw (limit, long) (s .2 .goes),
+          ap₂ (λ (w : Wrote) (l : List ℕ). if eqb (w .answer) 0x9000 then responseBodyOf (take (w .length) l) else [])
+              (M .next-part (0 ∷ P .finish f .said .length ∷ sessionIn (P .decide i .session) .limit ∷ []) (P .finish f .buffer) part .0)
+              (M .next-part (0 ∷ P .finish f .said .length ∷ sessionIn (P .decide i .session) .limit ∷ []) (P .finish f .buffer) part .2)
+              ∙ ap (λ (l : List ℕ). bytes (P .finish f .said .length) (sessionIn (P .decide i .session) .limit) l) body
+              ∙ ap₂ (λ (n k : ℕ). bytes n k (endOf end .reply)) long limit
+              ∙ sent-bytes (endOf end .reply) (s .0) (frameLimit (i .frame)) part _ _ _ (s .2 .sends)
+              ∙ ap (take (s .2 .part)) (sym body),
+        ),
       )
 
   tells : (f .signed ≡ 1 → ⊥) → (P .finish f .said .answer ≡ 0x6f00) × (P .write-response [] 0x6f00 part .said .answer ≡ 0x9000)
@@ -126,5 +186,6 @@ module _ (P : Panel) (M : Meets P) (i : ToDecide) (f : ToFinish) (part : List �
 pub none-lost : (P : Panel) → Meets P → NoTouchIsLost P
 none-lost P M = record {
   served = λ i f part longest lent is-longest asked had signed. sends P M i f part longest lent is-longest asked had signed;
+  longest = λ i f longest lent is-longest signed is. comes-to P M i f longest lent is-longest signed is;
   failed = λ i f part longest lent is-longest asked had not. tells P M i f part longest lent is-longest asked had not;
 }

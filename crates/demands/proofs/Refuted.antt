@@ -8,7 +8,9 @@ use Rattle.u2f_up_stated.specs.Moments.{newOf, settleOf, grantedOf, checkedOf, 
 use Rattle.u2f_up_stated.specs.History.{RefusedBy, TouchFound, NoTouchFound, PromptStands, NoPromptStands, foretold, latestPrompt, unspent, latestTouch, isPromptStanding, lastMoment, servers, accepted}
 use mathlib.Core.Logic.{inl, inr}
 use mathlib.Core.Option.{Option, none, some}
-use lib.ListN.{length, replicate}
+use lib.ListN.{length, take, replicate, length-take}
+use Rattle.response_stated.specs.Terms.{Goes, whole, cut, last}
+use Prim.Native.Nat.{_≤_}
 use Rattle.u2f_up_stated.specs.History.{Mark}
 use Rattle.octets.specs.Bytes.{partOf}
 use Rattle.apdu_stated.specs.Reading.{readBy, dataOf, sayOf, lengthsOf, shortOf, extendedOf, afterData}
@@ -239,7 +241,7 @@ unfolding lent decisionOf pathOf allowedPath commandPath loginPath countedEnding
 finishRefuses d =
     let i : ToDecide = on unused (lent (0x00 ∷ 0x02 ∷ 0x08 ∷ 0x00 ∷ 65 ∷ replicate 65 0) 0) in
     let f : ToFinish = record { order = decidesOf i .said .order; block = decidesOf i .block; certificate = []; signed = 1; signature = []; reply = replicate 139 0 } in
-    let e = d .finished i f (record { blocks = (refl, refl); ordered = refl; order = refl; block = refl; certificate = refl; room = omega arith; signature = omega arith }) refl in
+    let e = d .finished i f (record { blocks = (refl, refl); ordered = refl; order = refl; block = refl; certificate = refl; reply = omega arith; signature = omega arith }) refl in
     omega (arith, e)
 
 -- ---- bodies
@@ -319,11 +321,9 @@ pub sideCutInDecide : Demands Wrong.sideCutInDecide → ⊥
 sideCutInDecide d = Exports.sideCutInDecide (d .answers .sides)
 
 -- ---- how many bytes a response takes
--- a Register in an extended frame, of a certificate of 200 bytes: 258 were said to do, and the touch is spent for a body that they do not take
-pub room258 : Demands Wrong.room258 → ⊥
-unfolding decisionOf pathOf allowedPath commandPath registerPath registerEnding enrolmentOrder registerOrderOf isRegisterLayout kindOf block partOf dataOf commandOf onReading byInstruction registerOf challengeOf applicationOf readBy sayOf lengthsOf shortOf extendedOf afterData allowedOf attestationOf settleOf checkedOf finishOf limitOf frameLimit partLength nextPartOf
-room258 d =
-    let i : ToDecide =
+-- a Register in an extended frame, with a live touch and a certificate of 200 bytes, and what finishes its order
+abbrev enrolling : ToDecide
+enrolling =
     record {
       presence = 1000 ∷ 0 ∷ 1 ∷ 0 ∷ 0 ∷ [];
       session = 0 ∷ 0 ∷ 0 ∷ [];
@@ -338,12 +338,38 @@ room258 d =
       reply = replicate 339 0;
       block = replicate 385 0;
       part = [];
-    } in
-    let f : ToFinish = record { order = decidesOf i .said .order; block = decidesOf i .block; certificate = replicate 200 0; signed = 1; signature = []; reply = replicate 339 0 } in
+    }
+
+abbrev enrolled : ToFinish
+enrolled =
+    record { order = decidesOf enrolling .said .order; block = decidesOf enrolling .block; certificate = replicate 200 0; signed = 1; signature = []; reply = replicate 339 0 }
+
+-- 258 were said to do, and the touch is spent for a body that they do not take
+pub room258 : Demands Wrong.room258 → ⊥
+unfolding decisionOf pathOf allowedPath commandPath registerPath registerEnding enrolmentOrder registerOrderOf isRegisterLayout kindOf block partOf dataOf commandOf onReading byInstruction registerOf challengeOf applicationOf readBy sayOf lengthsOf shortOf extendedOf afterData allowedOf attestationOf settleOf checkedOf finishOf limitOf frameLimit partLength nextPartOf
+room258 d =
     let e =
-    d .none-lost .served i f (replicate 258 0) 339 (record { blocks = (refl, refl); ordered = refl; order = refl; block = refl; certificate = refl; room = omega arith; signature = omega arith })
+    d .none-lost .served enrolling enrolled (replicate 258 0) 339 (record { blocks = (refl, refl); ordered = refl; order = refl; block = refl; certificate = refl; reply = omega arith; signature = omega arith })
     (inl (refl, refl)) refl (omega arith) refl .1 in
     omega (arith, e)
+
+-- of a body of one byte and more something goes out
+some-out : (limit n k : ℕ) (buffer : List ℕ) → Goes limit n k → 1 ≤ n → 1 ≤ length buffer → [] ≡ take k buffer → ⊥
+some-out limit n k buffer g low long e = let z : 0 ≡ length (take k buffer) = ap length e in omega (arith, z, length-take k buffer, least g low)
+  where
+    least : {l m j : ℕ} → Goes l m j → 1 ≤ m → 1 ≤ j
+    least whole x = x
+    least (cut h i) x = h
+    least (last h i) x = x
+
+-- with room for all of its response
+pub sendsNothing : Demands Wrong.sendsNothing → ⊥
+unfolding decisionOf pathOf allowedPath commandPath registerPath registerEnding enrolmentOrder registerOrderOf isRegisterLayout kindOf block partOf dataOf commandOf onReading byInstruction registerOf challengeOf applicationOf readBy sayOf lengthsOf shortOf extendedOf afterData allowedOf attestationOf settleOf checkedOf finishOf limitOf frameLimit partLength nextPartOf frameRoomOf responseRoomOf
+sendsNothing d =
+    let e =
+    d .none-lost .served enrolling enrolled (replicate 341 0) 339 (record { blocks = (refl, refl); ordered = refl; order = refl; block = refl; certificate = refl; reply = omega arith; signature = omega arith })
+    (inl (refl, refl)) refl (omega arith) refl .2 in
+    some-out _ _ (e .0) _ (e .1) (omega arith) (omega arith) (e .2)
 
 pub roomUncut : Demands Wrong.roomUncut → ⊥
 roomUncut d = Exports.roomUncut (d .answers .rooms)

@@ -62,27 +62,35 @@ pub record ToFinishOf (P : Panel) (i : ToDecide) (f : ToFinish) : Type 0 where
   pub order : f .order ≡ P .decide i .said .order
   pub block : f .block ≡ P .decide i .block
   pub certificate : length (f .certificate) ≡ f .order .«certificate_length»
-  pub room : length (i .reply) ≤ length (f .reply)
+  pub reply : length (i .reply) ≤ length (f .reply)
   pub signature : length (f .signature) ≤ 72
 
 -- it is finished: where the signer signed, it gets 9000
 abbrev pub OrdersAreFinished : Panel → Type 0
 OrdersAreFinished P = (i : ToDecide) (f : ToFinish) → ToFinishOf P i f → f .signed ≡ 1 → P .finish f .said .answer ≡ 0x9000
 
--- ---- NO TOUCH IS LOST TO A LENGTH. Where the room for the response was asked for, of this frame and of the longest body that its command can come to, and the decision
--- then gave an order: finishing it, and responding in that room by the limit that the decision left, are no refusal. The host gets the body's first part, or 6f00 where the
--- signer failed
+-- ---- NO TOUCH IS LOST TO A LENGTH, once there is an order (a new handle above 255 bytes gives none). Where the room for the response was asked for, of this frame and
+-- of the longest body that its command can come to, and the decision then gave an order: finishing it, so lent, and responding in that room by the limit that the decision
+-- left, are no refusal. The host gets the body's first part (`Goes limit n k`: of n bytes k go out at once, as many as the limit lets), or 6f00 where the signer failed
 abbrev pub LongestBody : Panel → ToDecide → (longest : ℕ) → Type 0
 LongestBody P i longest =
     ((P .read-command (i .frame) .command ≡ 1) × (longest ≡ 139 + length (i .newHandle) + length (i .certificate)))
     ⊎ ((P .read-command (i .frame) .command ≡ 2) × (longest ≡ 77))
+
+-- what C sends first of the body that finishing gave
+abbrev pub firstOf : Panel → ToDecide → ToFinish → (part : List ℕ) → AfterPart
+firstOf P i f part = P .next-part (0 ∷ P .finish f .said .length ∷ sessionIn (P .decide i .session) .limit ∷ []) (P .finish f .buffer) part
 
 pub record NoTouchIsLost (P : Panel) : Type 0 where
   pub served : (i : ToDecide) (f : ToFinish) (part : List ℕ) (longest : ℕ) → ToFinishOf P i f → LongestBody P i longest
       → P .response-room (i .frame) longest .answer ≡ 0x9000 → P .response-room (i .frame) longest .length ≤ length part
       → f .signed ≡ 1
       → (P .finish f .said .answer ≡ 0x9000)
-      × (P .next-part (0 ∷ P .finish f .said .length ∷ sessionIn (P .decide i .session) .limit ∷ []) (P .finish f .buffer) part .said .answer ≡ 0x9000)
+      × (firstOf P i f part .said .answer ≡ 0x9000)
+      × ((n : ℕ) × Goes (sessionIn (P .decide i .session) .limit) (P .finish f .said .length) n × (firstBytes (firstOf P i f part) ≡ take n (P .finish f .buffer)))
+  -- a signature of 72 bytes comes to that body: less could not have been asked for
+  pub longest : (i : ToDecide) (f : ToFinish) (longest : ℕ) → ToFinishOf P i f → LongestBody P i longest → f .signed ≡ 1 → length (f .signature) ≡ 72
+      → P .finish f .said .length ≡ longest
   pub failed : (i : ToDecide) (f : ToFinish) (part : List ℕ) (longest : ℕ) → ToFinishOf P i f → LongestBody P i longest
       → P .response-room (i .frame) longest .answer ≡ 0x9000 → P .response-room (i .frame) longest .length ≤ length part
       → (f .signed ≡ 1 → ⊥)

@@ -40,6 +40,8 @@ use Rattle.ctap1_stated.specs.Path.{frameLimit}
 use Rattle.ctap1_stated.specs.Decision.{decisionOf, replyLeft, blockAfter}
 use Rattle.ctap1_stated.specs.Session.{remainderLeft, partLeft}
 use Rattle.session_stated.specs.Claims as Sessions
+use Rattle.session_stated.specs.Held.{remainderIn, sessionIn, hardwareIn, sessionAfter, frameRoomOf}
+use Rattle.u2f_up_stated.specs.Numbers.{presenceIn, checkedIn, grantedIn}
 use Rattle.ctap1_stated.specs.OneSide.{baseDecisionOf}
 use Rattle.panel_stated.specs.Claims as Panel
 use Rattle.panel_stated.specs.Exports.{frameNumbers, commandNumbers}
@@ -60,13 +62,14 @@ pub record EveryInputIsAnswered : Type 0 where
   pub responses-determined : Responses.ResultsDetermined
   pub signing-determined : Signing.ResultsDetermined
   pub decision-determined : Decision.ResultsDetermined
+  pub sessions-determined : Sessions.ResultsDetermined
   pub exports-determined : Panel.ResultsDetermined
   -- each refusal comes exactly under its condition: R6, R8 (02, E7) and R1, making and settling a record; touch, check, ask
   pub records : Presence.MakesExactly newOf
   pub moments : Presence.SettlesExactly settleOf
   pub touches : Presence.TouchesExactly touchOf
   pub checks : Presence.ChecksExactly checkOf
-  pub fetches : Presence.AsksExactly askOf
+  pub asks : Presence.AsksExactly askOf
   -- R5 and R2 of the writer, and of the strict one (02, E4); what meets a contract of reading or writing meets these claims
   pub writing : Frames.WriteExactly Carries InTable writingOf
   pub strict-writing : Frames.StrictWriteExactly strictWritingOf
@@ -81,6 +84,18 @@ pub record EveryInputIsAnswered : Type 0 where
   pub signing-as-claimed : Signing.ContractsAsClaimed
   pub fields-as-claimed : Fields.ContractsAsClaimed
   pub presence-as-claimed : Presence.ContractsAsClaimed
+  pub sessions-as-claimed : Sessions.ContractsAsClaimed
+  -- what is lent as an array: which number is what, and touch check and touch on the numbers
+  pub records-stand : Presence.StandsExactly presenceIn
+  pub checks-on-numbers : Presence.AsOnRecords checkedIn grantedIn
+  pub remainders-stand : Sessions.RemainderStands remainderIn
+  pub sessions-stand : Sessions.SessionStands sessionIn
+  pub hardware-stands : Sessions.HardwareStands hardwareIn
+  -- what a transport goes on with; the room for a response, and that no touch is lost to a length
+  pub goes-on : Sessions.GoesOnExactly sessionAfter
+  pub rooms : Sessions.FrameRoomExactly frameRoomOf
+  pub rooms-serve : Sessions.FrameRoomServes frameRoomOf frameLimit sendingOf
+  pub none-lost : Sessions.NoTouchIsLost decisionOf endOf frameRoomOf frameLimit sendingOf
   -- every answer of the source's types has its value
   pub readings-said : Frames.ReadingSaidExactly readingOf
   pub commands-said : Commands.SaidExactly commandSaid

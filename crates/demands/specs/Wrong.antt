@@ -148,6 +148,12 @@ abbrev pub nextForgets : Panel
 nextForgets =
     framesWith (readsOf Ordinary) (readsOf Ordinary) (readsOf Strict) (readsOf Strict) (writesOf Ordinary) (writesOf Strict) rightCommand respondsOf rightResponse Exports.nextForgets
 
+-- a part is answered as it should be, and no byte of it goes out
+abbrev pub sendsNothing : Panel
+sendsNothing =
+    framesWith (readsOf Ordinary) (readsOf Ordinary) (readsOf Strict) (readsOf Strict) (writesOf Ordinary) (writesOf Strict) rightCommand respondsOf rightResponse
+    (λ session body part. record { said = record { answer = nextsOf session body part .said .answer; length = 0 }; session = session; part = part })
+
 -- ---- presence, decision and finishing
 -- W is cut to 16 bits
 abbrev pub newCut : Panel

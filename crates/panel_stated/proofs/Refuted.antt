@@ -216,7 +216,7 @@ fetchFrame = 0x00 ∷ 0xC0 ∷ 0x00 ∷ 0x00 ∷ []
 -- C0 where nothing is left: 6985, and its limit of 256
 pub limitOfBodiesAlone : Claims.DecideExported Wrong.limitOfBodiesAlone → ⊥
 unfolding decisionOf pathOf allowedPath commandPath versionPath registerPath registerEnding settleOf checkedOf fetchPath nextPartOf frameLimit limitOf partLength commandOf onReading byInstruction getResponseOf versionOf readBy sayOf lengthsOf shortOf extendedOf afterData allowedOf attestationOf leftStatus
-limitOfBodiesAlone p = let e : _≡_ {A = ℕ} 0 256 = p .limit (lending fetchFrame 1 [] (rest 0 0) []) frameLimit limits-exactly (omega arith) in omega arith
+limitOfBodiesAlone p = let e : _≡_ {A = ℕ} 5 256 = p .limit (lending fetchFrame 1 [] (rest 0 0) []) frameLimit limits-exactly (omega arith) in omega arith
 
 -- a decision before the last moment, 2: R1
 pub refusedForgets : Claims.RefusalKeeps touchesOf checksOf Wrong.refusedForgets → ⊥

@@ -1,6 +1,5 @@
 -- What is promised of the numbers that cross to C, of any function: proofs/Theorems.antt has that the definitions meet it,
--- proofs/Only.antt that no others meet the claims named '..Numbers', proofs/Refuted.antt that the wrong programs of
--- specs/Wrong.antt do not.
+-- proofs/Only.antt that no others meet those that it names, proofs/Refuted.antt that the wrong programs of specs/Wrong.antt do not.
 use mathlib.Core.Logic.{_↔_, _⊎_}
 use mathlib.Core.List.{_∷_}
 use lib.ListN.{drop}
@@ -94,7 +93,7 @@ pub record MakeExported (make : (presence : List ℕ) (w : ℕ) → AfterMaking)
 
 -- "An R refusal changes no buffer and no record", said of the numbers: after a refusal the record that was lent is as it was, number by number, and after a
 -- decision the session too (02, E2: "any R refusal keeps it"). A touch that moves the last moment all the same (`refusedMoves`) fails it, before the last
--- moment, and a decision that forgets the limit (`refusedForgets`).
+-- moment, and a decision that forgets the session (`refusedForgets`).
 pub record RefusalKeeps (touch : (presence : List ℕ) (t : ℕ) → AfterStep) (check : (presence : List ℕ) (side t : ℕ) → AfterStep) (decide : ToDecide → AfterDeciding) : Type 0 where
   pub grant-up : (n : List ℕ) (t : ℕ) → touch n t .said .answer ≤ lastRefusal → SameNumbers 5 (touch n t .presence) n
   pub consume-up : (n : List ℕ) (s t : ℕ) → check n s t .said .answer ≤ lastRefusal → SameNumbers 5 (check n s t .presence) n

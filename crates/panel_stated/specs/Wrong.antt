@@ -57,9 +57,11 @@ clearsAtR6 n w = let a = makesOf n w in record { said = a .said; presence = if e
 abbrev pub madeFrom16Bits : (presence : List ℕ) (w : ℕ) → AfterMaking
 madeFrom16Bits n w = makesOf n (w % 0x10000)
 
--- "An R refusal changes no buffer and no record": the last moment moves all the same; and a decision forgets the limit
+-- "An R refusal changes no buffer and no record": the last moment moves all the same; and a decision forgets the session
 abbrev pub refusedMoves : (presence : List ℕ) (t : ℕ) → AfterStep
-refusedMoves n t = record { said = touchesOf n t .said; presence = presenceNumbers (movedTo (presenceIn n) t) }
+refusedMoves n t =
+    let a = touchesOf n t in
+    record { said = a .said; presence = if leb (a .said .answer) lastRefusal then presenceNumbers (movedTo (presenceIn n) t) else a .presence }
 
 abbrev pub refusedForgets : ToDecide → AfterDeciding
 refusedForgets i =
@@ -278,11 +280,11 @@ noKindIsR2 i = if leb 3 (i .order .kind) then R 2 else finishNumbered i
 abbrev leavesSession : AfterDeciding → (session : List ℕ) → AfterDeciding
 leavesSession a session = record { said = a .said; presence = a .presence; session = session; reply = a .reply; block = a .block; part = a .part }
 
--- the limit comes with an order too. Here with a body alone
+-- the limit comes with every answer but a refusal. Here with a body alone
 abbrev pub limitOfBodiesAlone : ToDecide → AfterDeciding
 limitOfBodiesAlone i =
     let a = decidesOf i in
-    leavesSession a (sessionNumbers (record { remainder = remainderIn (a .session); limit = if eqb (a .said .answer) 0x9000 then sessionIn (a .session) .limit else 0 }))
+    leavesSession a (sessionNumbers (record { remainder = remainderIn (a .session); limit = if eqb (a .said .answer) 0x9000 then sessionIn (a .session) .limit else sessionIn (i .session) .limit }))
 
 -- body and part are lent apart. Here each is taken for the other
 abbrev pub roomsSwapped : ToDecide → AfterDeciding

@@ -1,7 +1,7 @@
 -- What is promised of a session: a body that is cut by its first frame and fetched by C0, decision after decision; then what a transport holds between its
 -- frames and goes on with; then the room for a response, and that no touch is lost to a length. Proved in proofs/Theorems.antt of the definitions; `decide`,
--- `left`, `write`, `limit`, `next` and the others are any functions, and proofs/Refuted.antt has that wrong ones fail. That nothing but the definitions does the
--- steps of a session: ctap1_stated's and response_stated's proofs/Only.antt, step by step; meets a claim that ends in 'Exactly' or 'Stands': proofs/Only.antt.
+-- `left`, `write`, `limit`, `next` and the others are any functions, and proofs/Refuted.antt has that wrong ones fail. That nothing but the definitions meets
+-- a claim whose name ends in 'Exactly' or 'Stands' is said in proofs/Only.antt. Of the steps of a session it is said in that file of ctap1_stated and response_stated.
 use Prim.Native.Nat.{ℕ, _+_, _≤_, _<_}
 use mathlib.Core.Path.{_≡_}
 use mathlib.Core.Logic.{_↔_}
@@ -155,7 +155,7 @@ pub record FrameRoomServes (room : FrameRoom) (limit : List ℕ → ℕ) (next :
   pub needed : (frame : List ℕ) (said : Says) (longest m : ℕ) (body buffer : List ℕ) → readOf frame ≡ Gives said → room frame longest ≡ Gives m
       → longest ≤ length body → length buffer < m → next body (rest 0 longest) (limit frame) buffer .0 ≡ R 2
 
--- NO TOUCH IS LOST TO A LENGTH (ours). Where the room for the longest body was asked for, and the decision then gave an order: finishing that order, with a certificate of
+-- NO TOUCH IS LOST TO A LENGTH, once there is an order (ours). Where the room for the longest body was asked for, and the decision then gave an order: finishing that order, with a certificate of
 -- its length, a reply buffer no shorter than the decision's and any signature of at most 72 bytes, gives a body, or 6f00 where the signer failed; and the body's first part
 -- goes out in a buffer with that room, by the frame's limit. No R refusal comes after the touch is spent. By proofs/Follows.antt it is so of
 -- whatever meets the claims on deciding, finishing, the room, the limit and sending. `extendedByLe` fails it at an Authenticate in shape 7 with Le 1, and so does `withoutStatus`.

@@ -1,5 +1,5 @@
--- A session with a reader: a first part, and then decisions on frames that ask for the next one. Each takes the remainder that the last one gave
--- back, and the reply buffer holds the body all the while. Of any decision, and any body. Whatever else is lent may differ from visit to visit:
+-- A session with a reader: a first part, and then decisions on frames that ask for the next one. Each takes the remainder that the last one left,
+-- and the reply buffer holds the body all the while. Of any decision, and any body. Whatever else is lent may differ from visit to visit:
 -- record, moment, side (a remainder belongs to none: ours), hardware, the buffer for part and status.
 use Prim.Native.Nat.{ℕ, _+_, _≤_}
 use mathlib.Core.Path.{_≡_}
@@ -14,7 +14,7 @@ use Rattle.u2f_up_stated.specs.Terms.{NotRefused}
 use Rattle.ctap1_stated.specs.Words.{Inputs, DecisionGives, Body, Ordered, Part, DecisionResult}
 use Rattle.ctap1_stated.specs.Terms.{Decider, HasInsC0, Comes}
 
--- a frame that is decided, and all that is lent with it; of `lent` neither room nor remainder is looked at
+-- a frame that is decided, and all that is lent with it; of `lent` neither the two rooms nor the remainder are looked at
 pub record Visit : Type 0 where
   pub presence : Presence
   pub moment : ℕ

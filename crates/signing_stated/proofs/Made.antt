@@ -11,10 +11,11 @@ use lib.ListN.{length, replicate, length-replicate}
 use Rattle.octets.proofs.Laws.{length-laid}
 use Rattle.outcome.specs.Outcome.{R, SW, Gives}
 use Rattle.signing_stated.specs.Layouts.{RegisterFields, AuthenticateFields, registerToSign, authenticateToSign, isRegisterFit, isAuthenticateFit}
-use Rattle.signing_stated.specs.Orders.{Register, Head, Order, headOf, toSign, certificateLength, block, blankOrder, registerOrderOf, authenticateOrderOf, isRegisterLayout, isOfLayout, registerFieldsOf, authenticateFieldsOf}
-use Rattle.signing_stated.specs.Finishing.{Finishing, finishOf, bodyOf, registerRoom, authenticateRoom, roomNeeded}
+use Rattle.signing_stated.specs.Orders.{Kind, Register, Authenticate, Head, Order, headOf, toSign, certificateLength, block, blankOrder, registerOrderOf, authenticateOrderOf, isRegisterLayout, isLayout, isOfLayout, registerFieldsOf, authenticateFieldsOf}
+use Rattle.signing_stated.specs.Finishing.{Finishing, finishOf, bodyOf, registerRoom, authenticateRoom, roomOf, roomNeeded}
 use Rattle.signing_stated.proofs.FieldsKept.{register-kept, authenticate-kept, register-made-shape, authenticate-made-shape}
-use Rattle.signing_stated.proofs.Shapes.{shape-register, shape-authenticate}
+use Rattle.signing_stated.proofs.Shapes.{register-shape, shape-register, shape-authenticate}
+use Rattle.signing_stated.proofs.Cases.{register-body-length, authenticate-body-length}
 use Rattle.signing_stated.proofs.Fit.{register-lengths, authenticate-lengths, register-order-fit, authenticate-order-fit}
 use Rattle.signing_stated.proofs.Ways.{comes-to-r7, way, told-r3, body-within}
 
@@ -102,6 +103,14 @@ module _ (i : Finishing) (ok : isOfLayout (i .order) ≡ true) (its : length (i 
     rw (ok, eq-eqb (length (i .certificate)) (certificateLength (i .order)) its, le-ltb (length (i .reply)) (roomNeeded (i .order)) room, s, le-ltb 72 (length (i .signature)) fits),
     body-within (i .order .kind) (i .order) (i .certificate) (i .signature) its fits,
   )
+
+-- with 72 bytes of signature a body takes all the room that its order asks for
+pub body-full : (k : Kind) (o : Order) (certificate signature : List ℕ) → isLayout k o ≡ true → length (o .bytes) ≡ 385 → length certificate ≡ certificateLength o
+    → length signature ≡ 72 → length (bodyOf k o certificate signature) ≡ roomOf k (headOf o)
+body-full Register o certificate signature ok whole its is =
+    let s = register-shape (toSign o) (o .bytes) ok in
+    omega (arith, register-body-length (toSign o) (o .bytes) (s .least) (s .most) whole certificate signature, its, is)
+body-full Authenticate o certificate signature ok whole its is = omega (arith, authenticate-body-length (o .bytes) signature whole, is)
 
 -- a made order's block has 385 bytes, and so has a blank one's
 block-whole : (s : List ℕ) → length (block s) ≡ 385

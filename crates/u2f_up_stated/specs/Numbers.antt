@@ -12,7 +12,8 @@ windowOf (suc m) = Opened m
 abbrev pub presenceIn : List ℕ → Presence
 presenceIn s = record { w = getD s 0 0; prompt = windowOf (getD s 1 0); touch = windowOf (getD s 2 0); last = getD s 3 0; asker = getD s 4 0 }
 
--- a moment's number in a window; the greatest number of 64 bits has none after it, and stands for itself. No moment that settles comes near it
+-- a moment's number in a window, one more; the greatest of 64 bits has none after it, and is its own number, which says the moment before. No moment that
+-- settles comes near it
 abbrev pub numberOf : ℕ → ℕ
 numberOf t = if eqb t 0xffffffffffffffff then 0xffffffffffffffff else t + 1
 

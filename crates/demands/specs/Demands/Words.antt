@@ -9,10 +9,11 @@ pub use Rattle.octets.specs.Bytes.{byte}
 pub use Rattle.outcome.specs.Outcome.{lastRefusal}
 pub use Rattle.response_stated.specs.declared.Remainder.{Remainder}
 pub use Rattle.response_stated.specs.Fetching.{remaining}
+pub use Rattle.response_stated.specs.Terms.{Goes}
 pub use Rattle.u2f_up_stated.specs.Demand.{RunMeets}
 pub use Rattle.u2f_up_stated.specs.History.{Checking, Mark, heldAt, serverOf}
 pub use Rattle.session_stated.specs.Held.{remainderIn, sessionIn}
-pub use Rattle.panel_stated.specs.Exports.{ToDecide, ToFinish, AfterDeciding}
+pub use Rattle.panel_stated.specs.Exports.{ToDecide, ToFinish, AfterDeciding, AfterPart}
 pub use Rattle.demands.specs.Panel.{Panel, Meets}
 pub use Rattle.demands.specs.Answers.{CallsAnswer}
 pub use Rattle.demands.specs.Sessions.{IsC0, IsGetResponse, Unhindered, Each, bytesOf, firstBytes, fetch, fetched, leftAfter}
