@@ -2,7 +2,7 @@
 use Prim.Native.Nat.{ℕ, _+_, _-_, _*_, _/_, _%_, _<_, _≤_}
 use mathlib.Core.Path.{_≡_, refl, ap, ap₂, sym, subst, _∙_}
 use mathlib.Core.Bool.{Bool, true, false, false≢true}
-use mathlib.Core.Logic.{_↔_}
+use mathlib.Core.Logic.{_↔_, _⊎_, inl, inr}
 use mathlib.Core.List.{List, [], _∷_, _++_, append-nil}
 use native.Mathlib.Omega.{arith}
 use native.Mathlib.Decide.{decLt}
@@ -25,14 +25,16 @@ use Rattle.u2f_up_stated.specs.Moments.{fresh, settleOf}
 use Rattle.u2f_up_stated.specs.declared.Presence.{Presence}
 use Rattle.u2f_up_stated.specs.Numbers.{presenceIn}
 use Rattle.ctap1_stated.specs.declared.Decision.{Decision}
-use Rattle.ctap1_stated.specs.Words.{Inputs, Body, Ordered, Part, DecisionGives, DecisionLeft, handedOf}
+use Rattle.ctap1_stated.specs.Words.{Inputs, Body, Ordered, Part, DecisionGives, DecisionResult, DecisionLeft, handedOf}
+use Rattle.ctap1_stated.specs.Terms.{Decider}
+use Rattle.ctap1_stated.specs.Claims.{DecidesExactly, LimitsExactly, RepliesExactly, PartsExactly}
 use Rattle.ctap1_stated.specs.Path.{limitOn, frameLimit, fetchPath, commandPath, allowedPath, pathOf}
-use Rattle.ctap1_stated.specs.Decision.{decisionOf}
+use Rattle.ctap1_stated.specs.Decision.{decisionOf, replyLeft, blockAfter, blockLeft}
 use Rattle.ctap1_stated.specs.Session.{isGetResponse, remainderLeft, partAfter, partLeft}
 use Rattle.ctap1_stated.specs.declared.Allowed.the-variants as Allowed′
 use Rattle.ctap1_stated.specs.declared.Attestation.the-variants as Attestation′
 use Rattle.ctap1_stated.specs.declared.Counter.the-variants as Counter′
-use Rattle.ctap1_stated.proofs.Laws.{takes, IsPart, is-a-part, limits-exactly, limits-only, decides-exactly, decides-only, left-apart}
+use Rattle.ctap1_stated.proofs.Laws.{takes, IsPart, is-a-part, limits-exactly, limits-only, replies-exactly, parts-exactly, decides-exactly, decides-only, left-apart}
 use Rattle.signing_stated.specs.Finishing.{endOf}
 use Rattle.session_stated.specs.Held.{Session, remainderIn, sessionIn, hardwareIn, sessionAfter, frameRoomOf}
 use Rattle.session_stated.specs.Sessions.{Visit, sentIn, leftIn, joinedOver, leftOver, partsOver, Each, IsFetch, Serves}
@@ -285,6 +287,73 @@ asks-c0 (R n) = (λ e. absurd (false≢true e), λ x. absurd (r-gives n (x .0) (
 asks-c0 (Word w) = (λ e. absurd (false≢true e), λ x. absurd (word-gives w (x .0) (x .1)))
 asks-c0 (Gives said) = (λ e. (said, refl, eqb-true (said .header .ins) 0xC0 e), λ x. eq-eqb (said .header .ins) 0xC0 (ap (λ (o : Says). o .header .ins) (gives-same _ _ (x .1)) ∙ x .2))
 
+body-part : (n m : ℕ) (after : Remainder) → _≡_ {A = Outcome DecisionGives} (Gives (Body n)) (Gives (Part m after)) → ⊥
+body-part n m after e = let z : _≡_ {A = ℕ} 0 1 = cc in omega arith
+
+order-part : (m : ℕ) (after : Remainder) → _≡_ {A = Outcome DecisionGives} (Gives Ordered) (Gives (Part m after)) → ⊥
+order-part m after e = let z : _≡_ {A = ℕ} 0 1 = cc in omega arith
+
+-- what a decision leaves in the buffers, of whatever decides and leaves as ctap1_stated's claims have it
+module _ (g : Decider) (G : DecidesExactly g) (i : ToDecide) where
+  abbrev ours : DecisionResult
+  ours = decisionOf (presenceIn (i .presence)) (i .moment) (inputsIn i)
+
+  abbrev its : DecisionResult
+  its = g (presenceIn (i .presence)) (i .moment) (inputsIn i)
+
+  same : ours ≡ its
+  same = decides-only decisionOf g decides-exactly G (presenceIn (i .presence)) (i .moment) (inputsIn i)
+
+  reply-as : (left : DecisionResult → List ℕ → List ℕ) → RepliesExactly g left → replyLeft ours (i .reply) ≡ left its (i .reply)
+  reply-as left is = by (replies-exactly (presenceIn (i .presence)) (i .moment) (inputsIn i) (i .reply) refl) (is (presenceIn (i .presence)) (i .moment) (inputsIn i) (i .reply) refl)
+    where
+      Written : DecisionResult → List ℕ → Type 0
+      Written d l = (d .answer ≡ Gives (Body 6)) × (6 ≤ length (i .reply)) × (l ≡ 0x55 ∷ 0x32 ∷ 0x46 ∷ 0x5F ∷ 0x56 ∷ 0x32 ∷ drop 6 (i .reply))
+
+      Kept : DecisionResult → List ℕ → Type 0
+      Kept d l = ((n : ℕ) → d .answer ≡ Gives (Body n) → ⊥) × (l ≡ i .reply)
+
+      by : Written ours (replyLeft ours (i .reply)) ⊎ Kept ours (replyLeft ours (i .reply)) → Written its (left its (i .reply)) ⊎ Kept its (left its (i .reply)) → replyLeft ours (i .reply) ≡ left its (i .reply)
+      by (inl x) (inl y) = x .2 ∙ sym (y .2)
+      by (inl x) (inr y) = absurd (y .0 6 (ap (λ (d : DecisionResult). d .answer) (sym same) ∙ x .0))
+      by (inr x) (inl y) = absurd (x .0 6 (ap (λ (d : DecisionResult). d .answer) same ∙ y .0))
+      by (inr x) (inr y) = x .1 ∙ sym (y .1)
+
+  block-as : (its .answer ≡ Gives Ordered → blockLeft ours (i .block) ≡ its .order .bytes) × ((its .answer ≡ Gives Ordered → ⊥) → blockLeft ours (i .block) ≡ i .block)
+  block-as = (
+    λ e. ap (λ (d : DecisionResult). blockLeft d (i .block)) same ∙ ap (λ (o : Outcome DecisionGives). blockAfter o (its .order .bytes) (i .block)) e,
+    λ n. ap (λ (d : DecisionResult). blockLeft d (i .block)) same ∙ by (its .answer) n,
+  )
+    where
+      by : (o : Outcome DecisionGives) → (o ≡ Gives Ordered → ⊥) → blockAfter o (its .order .bytes) (i .block) ≡ i .block
+      by (R n) x = refl
+      by (Word w) x = refl
+      by (Gives (Body n)) x = refl
+      by (Gives Ordered) x = absurd (x refl)
+      by (Gives (Part n after)) x = refl
+
+  part-as : (limit : List ℕ → ℕ) → LimitsExactly limit → (left : Inputs → DecisionResult → (body old : List ℕ) → List ℕ) → PartsExactly g limit left
+      → partLeft (inputsIn i) ours (i .reply) (i .part) ≡ left (inputsIn i) its (i .reply) (i .part)
+  part-as limit are left is = by (its .answer) refl
+    where
+      there : (o : Outcome DecisionGives) → its .answer ≡ o → ours .answer ≡ o
+      there o e = ap (λ (d : DecisionResult). d .answer) same ∙ e
+
+      none : (o : Outcome DecisionGives) → its .answer ≡ o → ((n : ℕ) (after : Remainder) → o ≡ Gives (Part n after) → ⊥) → partLeft (inputsIn i) ours (i .reply) (i .part) ≡ left (inputsIn i) its (i .reply) (i .part)
+      none o e x =
+          parts-exactly .other (presenceIn (i .presence)) (i .moment) (inputsIn i) (i .reply) (i .part) (λ n after k. x n after (sym (there o e) ∙ k))
+          ∙ sym (is .other (presenceIn (i .presence)) (i .moment) (inputsIn i) (i .reply) (i .part) (λ n after k. x n after (sym e ∙ k)))
+
+      by : (o : Outcome DecisionGives) → its .answer ≡ o → partLeft (inputsIn i) ours (i .reply) (i .part) ≡ left (inputsIn i) its (i .reply) (i .part)
+      by (R n) e = none (R n) e (λ m after k. r-gives _ _ k)
+      by (Word w) e = none (Word w) e (λ m after k. word-gives _ _ k)
+      by (Gives (Body n)) e = none (Gives (Body n)) e (λ m after k. body-part n m after k)
+      by (Gives Ordered) e = none (Gives Ordered) e (λ m after k. order-part m after k)
+      by (Gives (Part n after)) e =
+          parts-exactly .part (presenceIn (i .presence)) (i .moment) (inputsIn i) (i .reply) (i .part) n after (there (Gives (Part n after)) e)
+          ∙ ap (λ (k : ℕ). laid (partResponse (i .reply) (remainderIn (i .session)) k) (i .part)) (limits-only frameLimit limit limits-exactly are (i .frame))
+          ∙ sym (is .part (presenceIn (i .presence)) (i .moment) (inputsIn i) (i .reply) (i .part) n after e)
+
 pub ContractsAsClaimed : Claims.ContractsAsClaimed
 ContractsAsClaimed =
     record {
@@ -296,6 +365,11 @@ ContractsAsClaimed =
         h .1 ∙ limits-only frameLimit limit limits-exactly is (i .frame),
         (λ e. asks-c0 (readOf (i .frame)) .0 (sym (h .2) ∙ e), λ x. h .2 ∙ asks-c0 (readOf (i .frame)) .1 x),
       );
+      reply = λ g G left is i r presence reply block part h. h .0 .1 ∙ reply-as g G i left is;
+      block = λ g G i r presence reply block part h.
+          let left = ap (λ (w : DecisionLeft). w .block) (h .0 .0) in
+          (λ e. left ∙ block-as g G i .0 e, λ n. left ∙ block-as g G i .1 n);
+      part = λ g G limit are left is i r presence reply block part h. h .0 .2 ∙ part-as g G i limit are left is;
     }
 
 -- ---- two results are equal

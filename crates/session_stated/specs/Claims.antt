@@ -20,8 +20,8 @@ use Rattle.response_stated.specs.Terms.{Sender, sending, IsResponse, Tells}
 use Rattle.response_stated.specs.Fetching.{got, left, remaining, RoundsUp}
 use Rattle.u2f_up_stated.specs.declared.Presence.{Presence}
 use Rattle.ctap1_stated.specs.declared.HardwareSaid.{HardwareSaid}
-use Rattle.ctap1_stated.specs.Words.{Inputs, DecisionGives, Body, Ordered, Part, handedOf, handedFrom}
-use Rattle.ctap1_stated.specs.Claims.{LimitsExactly, DecidesExactly}
+use Rattle.ctap1_stated.specs.Words.{Inputs, DecisionGives, Body, Ordered, Part, DecisionResult, handedOf, handedFrom}
+use Rattle.ctap1_stated.specs.Claims.{LimitsExactly, DecidesExactly, RepliesExactly, PartsExactly}
 use Rattle.u2f_up_stated.specs.Numbers.{presenceIn}
 use Rattle.response_stated.specs.declared.ResponseRoom.{ResponseRoom}
 use Rattle.ctap1_stated.specs.Terms.{Decider, HasInsC0}
@@ -167,7 +167,8 @@ NoTouchIsLost decide finish room limit next =
 
 -- Whatever meets a function's contract meets the claim on it. Of `stated`, `dropped` and `left` together: a transport that uses each after its answers, and leaves its numbers
 -- after an R refusal, goes on as it should. Of a decision: what it hands back is what whatever meets `DecidesExactly` gives, its limit is the frame's, and `fetches` says
--- INS C0; what it leaves in the buffers is the theorem on top's. A contract of `left` that says no limit after a part fails it, with code to match.
+-- INS C0; and the reply buffer, the block and the buffer for part and status are what ctap1_stated's claims on them say, the block written for an order alone. A contract of
+-- `left` that says no limit after a part fails it, with code to match, and so does one of a decision that leaves Version's body out.
 pub record ContractsAsClaimed : Type 0 where
   pub remainder-lent : (f : List ℕ → Remainder) → ((n : List ℕ) → RemainderLent n (f n)) → RemainderStands f
   pub goes-on : (stated : Bool → (limit : ℕ) → List ℕ → List ℕ) (dropped : (limit : ℕ) → List ℕ → List ℕ) (left : Remainder → (limit : ℕ) → List ℕ → List ℕ)
@@ -180,6 +181,14 @@ pub record ContractsAsClaimed : Type 0 where
       → (handedFrom (r .decision) (presenceIn presence) ≡ handedOf (g (presenceIn (i .presence)) (i .moment) (inputsIn i)))
       × (r .limit ≡ limit (i .frame))
       × ((r .fetches ≡ true) ↔ HasInsC0 (inputsIn i))
+  pub reply : (g : Decider) → DecidesExactly g → (left : DecisionResult → List ℕ → List ℕ) → RepliesExactly g left → (i : ToDecide) (r : SessionDecision) (presence reply block part : List ℕ) → Decide i r presence reply block part
+      → reply ≡ left (g (presenceIn (i .presence)) (i .moment) (inputsIn i)) (i .reply)
+  pub block : (g : Decider) → DecidesExactly g → (i : ToDecide) (r : SessionDecision) (presence reply block part : List ℕ) → Decide i r presence reply block part
+      → (g (presenceIn (i .presence)) (i .moment) (inputsIn i) .answer ≡ Gives Ordered → block ≡ g (presenceIn (i .presence)) (i .moment) (inputsIn i) .order .bytes)
+      × ((g (presenceIn (i .presence)) (i .moment) (inputsIn i) .answer ≡ Gives Ordered → ⊥) → block ≡ i .block)
+  pub part : (g : Decider) → DecidesExactly g → (limit : List ℕ → ℕ) → LimitsExactly limit → (left : Inputs → DecisionResult → (body old : List ℕ) → List ℕ) → PartsExactly g limit left
+      → (i : ToDecide) (r : SessionDecision) (presence reply block part : List ℕ) → Decide i r presence reply block part
+      → part ≡ left (inputsIn i) (g (presenceIn (i .presence)) (i .moment) (inputsIn i)) (i .reply) (i .part)
 
 -- 01, What each statement has to say: "two results satisfying it are equal", on every input; what is lent for writing counts, five numbers of a record and three of a session.
 -- A promise that is silent on the limit after a part fails it.
