@@ -21,7 +21,7 @@ use Rattle.ctap1_stated.specs.Terms.{HasInsC0, Comes, Fetching}
 use Rattle.ctap1_stated.specs.Table
 use Rattle.ctap1_stated.specs.Table.{Answers}
 use Rattle.ctap1_stated.proofs.Ways.{sound, row}
-use Rattle.ctap1_stated.proofs.Theorems.{part-body, part-order}
+use Rattle.ctap1_stated.proofs.Orders.{part-body, part-order}
 
 module _ (p : Presence) (t : ℕ) (a : Inputs) where
   abbrev pub takes : ℕ

@@ -2,6 +2,7 @@ pub mod Refuted
 pub mod Cases
 pub mod Commands
 pub mod Ways
+pub mod Orders
 pub mod RoleKept
 pub mod OneSide
 pub mod ByLengths

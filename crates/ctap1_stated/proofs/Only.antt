@@ -23,7 +23,8 @@ use Rattle.u2f_up_stated.specs.Runs.{after}
 use Rattle.ctap1_stated.specs.declared.DecisionAnswer.the-variants as DecisionAnswer′
 use Rattle.ctap1_stated.specs.Claims
 use Rattle.ctap1_stated.proofs.Ways.{sound}
-use Rattle.ctap1_stated.proofs.Theorems.{part-body, part-order, only-remainder}
+use Rattle.ctap1_stated.proofs.Orders.{part-body, part-order}
+use Rattle.ctap1_stated.proofs.Theorems.{only-remainder}
 
 pub DecidesExactly : Determines3 Claims.DecidesExactly
 DecidesExactly f g F G p t a = sym (sound p t a (f p t a) (F p t a)) ∙ sound p t a (g p t a) (G p t a)

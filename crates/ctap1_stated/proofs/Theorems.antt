@@ -7,6 +7,7 @@ use mathlib.Core.List.{List, [], _∷_, _++_}
 use mathlib.Core.Option.{Option, some}
 use native.Mathlib.Omega.{arith}
 use borrow.Author.Tests.{le-leb, lt-leb, eq-eqb, ne-eqb, eqb-true}
+use lib.Dec.{eqb}
 use lib.ListN.{length, drop}
 use Rattle.outcome.specs.Notation.{if_then_else_}
 use Rattle.outcome.specs.Outcome.{StatusWord, Outcome, R, Word, Gives, plainWord, wrongLength}
@@ -31,7 +32,7 @@ use Rattle.signing_stated.proofs.Laws.{made-whole}
 use Rattle.u2f_up_stated.proofs.Laws.{five-apart, demand-3, r-apart, servers-next, named-later, named-counts, count, length-those}
 use Rattle.signing_stated.specs.Orders.{kindNo, certificateLength, blankOrder, isOfLayout}
 use Rattle.signing_stated.specs.Finishing.{roomNeeded, registerRoom, authenticateRoom}
-use Rattle.ctap1_stated.specs.Words.{Remainder, rest, Inputs, DecisionGives, Body, Ordered, Part, DecisionResult, Allowed, DecisionAlone, DecisionHanded, DecisionLeft, Decision, leftFrom, decisionAnswerOf}
+use Rattle.ctap1_stated.specs.Words.{Remainder, rest, Inputs, Order, DecisionGives, Body, Ordered, Part, DecisionResult, Allowed, DecisionAlone, DecisionHanded, DecisionLeft, Decision, leftFrom, decisionAnswerOf}
 use Rattle.ctap1_stated.specs.Numbers.{allowedOf, attestationOf, isYes, hardwareOf}
 use Rattle.ctap1_stated.specs.Path.{limitOn, frameLimit, roleOf, enrolmentOrder, registerOrdered}
 use Rattle.ctap1_stated.specs.Decision.{statusResult, versionBytes, decisionOf, replyLeft}
@@ -45,21 +46,12 @@ use Rattle.ctap1_stated.specs.declared.Counter.the-variants as Counter�
 use Rattle.ctap1_stated.specs.declared.DecisionAnswer.the-variants as DecisionAnswer′
 use Rattle.ctap1_stated.proofs.Ways.{Stated, its-own, framed, Way, refused, stated, versioned, fetched, enrolled, signed-03, signed-08, way, row, sound, registering-checks, signing-checks}
 use Rattle.ctap1_stated.proofs.Commands as Commands
+use Rattle.ctap1_stated.proofs.Orders.{body-order, part-order, part-body, MadeOf, of-enrolment, of-login, made-of}
 use Rattle.ctap1_stated.specs.OneSide.{baseDecisionOf}
 use Rattle.ctap1_stated.proofs.RoleKept.{panel-keeps}
 use Rattle.ctap1_stated.proofs.OneSide.{base-decides, one-side-is-base}
 use Rattle.ctap1_stated.proofs.Numbers.{decided-apart, decision-apart}
 use Rattle.ctap1_stated.proofs.ByLengths.{by-lengths}
-
--- a body and an order are apart
-body-order : (n : ℕ) → _≡_ {A = Outcome DecisionGives} (Gives (Body n)) (Gives Ordered) → ⊥
-body-order n e = let z : _≡_ {A = ℕ} 0 1 = cc in omega arith
-
-pub part-order : (n : ℕ) (r : Remainder) → _≡_ {A = Outcome DecisionGives} (Gives (Part n r)) (Gives Ordered) → ⊥
-part-order n r e = let z : _≡_ {A = ℕ} 0 1 = cc in omega arith
-
-pub part-body : (n : ℕ) (r : Remainder) (m : ℕ) → _≡_ {A = Outcome DecisionGives} (Gives (Part n r)) (Gives (Body m)) → ⊥
-part-body n r m e = let z : _≡_ {A = ℕ} 0 1 = cc in omega arith
 
 -- ---- the whole decision
 pub DecidesExactly : Claims.DecidesExactly decisionOf
@@ -155,16 +147,12 @@ CounterExactly p t a blocks = (λ e. forth (decisionOf p t a) (way p t a) e, λ 
 
 -- ---- orders
 pub OrdersOfLayout : Claims.OrdersOfLayout decisionOf
-OrdersOfLayout p t a blocks e = go (decisionOf p t a) (way p t a) e
+unfolding enrolmentOrder
+OrdersOfLayout p t a blocks e = go (made-of p t a blocks e)
   where
-    go : (r : DecisionResult) → Way p t a r → r .answer ≡ Gives Ordered → isOfLayout (r .order) ≡ true
-    go _ (refused m) x = absurd (r-gives _ _ x)
-    go _ (stated m q w) x = absurd (word-gives _ _ x)
-    go _ (versioned c room) x = absurd (body-order _ x)
-    go _ (fetched c sent) x = absurd (part-order _ _ x)
-    go _ (enrolled said y l h) x = Commands.register-of-layout a blocks said (y .1 .1) h
-    go _ (signed-03 said m y l k) x = Commands.of-layout a 0x03 said true m (y .1 .1)
-    go _ (signed-08 said m y k) x = Commands.of-layout a 0x08 said false m (y .1 .1)
+    go : {k : ℕ} {o : Order} → MadeOf a k o → isOfLayout o ≡ true
+    go (of-enrolment said c l) = Commands.register-of-layout a blocks said c (l .handle)
+    go (of-login p1 n said c k l) = Commands.of-layout a p1 said (eqb p1 0x03) n c
 
 pub NoOrderIsBlank : Claims.NoOrderIsBlank decisionOf
 NoOrderIsBlank p t a f none same = (blank, Commands.blank-refused .1 f (same ∙ blank))
@@ -195,21 +183,17 @@ pub data AskedWith (a : Inputs) : (kind room : ℕ) → Type 0 where
   of-register : (said : Says) → commandOf (a .frame) ≡ Gives (Register said) → AskedWith a 0x01 (registerRoom (length (a .newHandle)) (length (a .certificate)))
   of-authenticate : (p1 : ℕ) (said : Says) → commandOf (a .frame) ≡ Gives (Authenticate p1 said) → AskedWith a 0x02 authenticateRoom
 
-asked-as : (a : Inputs) (k l m n : ℕ) → k ≡ l → m ≡ n → AskedWith a l n → AskedWith a k m
-asked-as a k l m n e f x = rw (e, f) x
+asked-as : (a : Inputs) (k m n : ℕ) → m ≡ n → AskedWith a k n → AskedWith a k m
+asked-as a k m n e x = rw e x
 
 pub asked-with : (p : Presence) (t : ℕ) (a : Inputs) → AreBlocks a → decisionOf p t a .answer ≡ Gives Ordered
     → AskedWith a (kindNo (decisionOf p t a .order .kind)) (roomNeeded (decisionOf p t a .order)) × (roomNeeded (decisionOf p t a .order) ≤ a .room)
-asked-with p t a blocks e = (go (decisionOf p t a) (way p t a) e, order-has-room p t a blocks (decisionOf p t a) (way p t a) e)
+unfolding enrolmentOrder
+asked-with p t a blocks e = (go (made-of p t a blocks e), order-has-room p t a blocks (decisionOf p t a) (way p t a) e)
   where
-    go : (r : DecisionResult) → Way p t a r → r .answer ≡ Gives Ordered → AskedWith a (kindNo (r .order .kind)) (roomNeeded (r .order))
-    go _ (refused m) x = absurd (r-gives _ _ x)
-    go _ (stated m q w) x = absurd (word-gives _ _ x)
-    go _ (versioned c room) x = absurd (body-order _ x)
-    go _ (fetched c sent) x = absurd (part-order _ _ x)
-    go _ (enrolled said y l h) x = asked-as a _ _ _ _ (Commands.register-kind a blocks said (y .1 .1) h) (Commands.register-room a blocks said (y .1 .1) h) (of-register said (y .1 .1))
-    go _ (signed-03 said m y l k) x = asked-as a _ _ _ _ (Commands.kind-is a 0x03 said true m (y .1 .1)) (Commands.room-is a 0x03 said true m (y .1 .1)) (of-authenticate 0x03 said (y .1 .1))
-    go _ (signed-08 said m y k) x = asked-as a _ _ _ _ (Commands.kind-is a 0x08 said false m (y .1 .1)) (Commands.room-is a 0x08 said false m (y .1 .1)) (of-authenticate 0x08 said (y .1 .1))
+    go : {k : ℕ} {o : Order} → MadeOf a k o → AskedWith a k (roomNeeded o)
+    go (of-enrolment said c l) = asked-as a 0x01 _ _ (Commands.register-room a blocks said c (l .handle)) (of-register said c)
+    go (of-login p1 n said c k l) = asked-as a 0x02 _ _ (Commands.room-is a p1 said (eqb p1 0x03) n c) (of-authenticate p1 said c)
 
 enrolment-whole : (a : Inputs) (said : Says) → length (registerOrdered a said .bytes) ≡ 385
 unfolding enrolmentOrder
@@ -233,17 +217,12 @@ OrderHasRoom p t a f blocks e same certificate room =
     Commands.room-kept f (ap isOfLayout same ∙ OrdersOfLayout p t a blocks e) (certificate ∙ ap certificateLength (sym same)) (rw same (omega (arith, asked, room)))
 
 pub CertificateOfOrder : Claims.CertificateOfOrder decisionOf
-CertificateOfOrder p t a blocks e = go (decisionOf p t a) (way p t a) e
+unfolding enrolmentOrder
+CertificateOfOrder p t a blocks e = go (made-of p t a blocks e)
   where
-    go : (r : DecisionResult) → Way p t a r → r .answer ≡ Gives Ordered
-        → ((kindNo (r .order .kind) ≡ 0x01) × (certificateLength (r .order) ≡ length (a .certificate))) ⊎ ((kindNo (r .order .kind) ≡ 0x02) × (certificateLength (r .order) ≡ 0))
-    go _ (refused m) x = absurd (r-gives _ _ x)
-    go _ (stated m q w) x = absurd (word-gives _ _ x)
-    go _ (versioned c room) x = absurd (body-order _ x)
-    go _ (fetched c sent) x = absurd (part-order _ _ x)
-    go _ (enrolled said y l h) x = inl (Commands.register-kind a blocks said (y .1 .1) h, Commands.register-certificate a blocks said (y .1 .1) h)
-    go _ (signed-03 said m y l k) x = inr (Commands.kind-is a 0x03 said true m (y .1 .1), Commands.certificate-is a 0x03 said true m (y .1 .1))
-    go _ (signed-08 said m y k) x = inr (Commands.kind-is a 0x08 said false m (y .1 .1), Commands.certificate-is a 0x08 said false m (y .1 .1))
+    go : {k : ℕ} {o : Order} → MadeOf a k o → ((k ≡ 0x01) × (certificateLength o ≡ length (a .certificate))) ⊎ ((k ≡ 0x02) × (certificateLength o ≡ 0))
+    go (of-enrolment said c l) = inl (refl, Commands.register-certificate a blocks said c (l .handle))
+    go (of-login p1 n said c k l) = inr (refl, Commands.certificate-is a p1 said (eqb p1 0x03) n c)
 
 -- ---- where a length went wrong
 module _ (p : Presence) (t : ℕ) (a : Inputs) where

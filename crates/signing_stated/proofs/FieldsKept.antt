@@ -203,26 +203,30 @@ module _ (n : ℕ) (b : List ℕ) (whole : length b ≡ 385) (s : RegisterShape 
       k (omega (arith, e, s .least, handle)) refl (is-b ∙ register-block)
       ∙ sym (register-order-fit (registerFieldsOf n b) (certificateLength o) register-fields-lengths)
 
-module _ (b : List ℕ) (whole : length b ≡ 385) (n c : ℕ) (s : AuthenticateShape n c b) where
-  authenticate-front : take 69 b ≡ authenticateToSign (authenticateFieldsOf b)
-  authenticate-front =
-      four-parts (take 32 b) (take 33 b) (take 37 b) (take 69 b) (byte b 32 ∷ []) (bytesAt 33 4 b) (bytesAt 37 32 b)
-      (ap (λ (p : List ℕ). take 32 b ++ p) (sym (first-byte b 32 (byte b 32) (omega arith) refl)) ∙ sym (take-add 32 1 b))
-      (sym (take-add 33 4 b))
-      (sym (take-add 37 32 b))
+-- of 69 bytes or more, the first 69 are an Authenticate order's, but for the presence byte
+pub authenticate-front : (b : List ℕ) → 69 ≤ length b → take 69 b ≡ authenticateToSign (authenticateFieldsOf b)
+authenticate-front b long =
+    four-parts (take 32 b) (take 33 b) (take 37 b) (take 69 b) (byte b 32 ∷ []) (bytesAt 33 4 b) (bytesAt 37 32 b)
+    (ap (λ (p : List ℕ). take 32 b ++ p) (sym (first-byte b 32 (byte b 32) (omega arith) refl)) ∙ sym (take-add 32 1 b))
+    (sym (take-add 33 4 b))
+    (sym (take-add 37 32 b))
 
+pub front-lengths : (b : List ℕ) → 69 ≤ length b → byte b 32 ≤ 1 → AuthenticateLengths (authenticateFieldsOf b)
+front-lengths b long presence =
+    record {
+      application = length-part 0 32 b (omega arith);
+      presence = presence;
+      counter = length-part 33 4 b (omega arith);
+      challenge = length-part 37 32 b (omega arith);
+    }
+
+module _ (b : List ℕ) (whole : length b ≡ 385) (n c : ℕ) (s : AuthenticateShape n c b) where
   pub authenticate-fields-lengths : AuthenticateLengths (authenticateFieldsOf b)
-  authenticate-fields-lengths =
-      record {
-        application = length-part 0 32 b (omega arith);
-        presence = s .presence;
-        counter = length-part 33 4 b (omega arith);
-        challenge = length-part 37 32 b (omega arith);
-      }
+  authenticate-fields-lengths = front-lengths b (omega arith) (s .presence)
 
   pub authenticate-order-of : (o : Order) → o .kind ≡ Authenticate → toSign o ≡ n → certificateLength o ≡ c → o .bytes ≡ b
       → o ≡ authenticateOrderOf (authenticateFieldsOf b)
   authenticate-order-of o k e is-c is-b =
       order-equal o (record { kind = Authenticate; «to_sign» = 69; «certificate_length» = 0; bytes = block (authenticateToSign (authenticateFieldsOf b)) })
-      k (e ∙ s .long) (is-c ∙ s .no-certificate) (is-b ∙ block-of b 69 whole (omega arith) (s .rest) ∙ ap block authenticate-front)
+      k (e ∙ s .long) (is-c ∙ s .no-certificate) (is-b ∙ block-of b 69 whole (omega arith) (s .rest) ∙ ap block (authenticate-front b (omega arith)))
       ∙ sym (authenticate-order-fit (authenticateFieldsOf b) authenticate-fields-lengths)

@@ -7,6 +7,7 @@ pub mod Messages
 pub mod Numbers
 pub mod Spelled
 pub mod Made
+pub mod Carried
 pub mod Theorems
 pub mod Only
 pub mod Refuted

@@ -1,6 +1,6 @@
 -- The claims are false of the wrong programs of specs/Wrong.antt, each at an input where it bites.
 use Prim.Native.Nat.{ℕ, _+_, _≤_}
-use mathlib.Core.Bool.{Bool, true, false}
+use mathlib.Core.Bool.{Bool, true, false, false≢true}
 use mathlib.Core.Path.{_≡_, refl, ap, _∙_}
 use mathlib.Core.Logic.{_⊎_, inl}
 use mathlib.Core.List.{List, [], _∷_, _++_}
@@ -105,6 +105,47 @@ presenceAlways01 p = let e : _≡_ {A = ℕ} 1 0 = p .absent parts parts-fit ref
 pub counterLittleEndian : Claims.MakesAuthenticate Wrong.counterLittleEndian → ⊥
 unfolding authenticateOrderOf block
 counterLittleEndian p = let e : _≡_ {A = ℕ} 1 0 = p .counter-1 parts parts-fit in omega arith
+
+-- 02, E11. Without the key, an enrolment with a handle of 4 bytes has a login's bytes: the application's last is its presence byte, the challenge's first four its counter
+abbrev handled : RegisterFields
+handled = record { application = replicate 32 1; challenge = replicate 32 2; handle = replicate 4 2; x = replicate 32 0; y = replicate 32 3 }
+
+abbrev posing : AuthenticateParts
+posing = record { application = 0 ∷ replicate 31 1; challenge = replicate 32 2; present = true; counter = 0x02020202 }
+
+pub keyLeftOut : Claims.NoneCarriesOver Wrong.keyLeftOut authenticateOrderFor → ⊥
+unfolding authenticateOrderOf block
+keyLeftOut p = p .apart handled 0 posing (record { application = refl; challenge = refl; handle = omega arith; x = refl; y = refl }) (record { application = refl; challenge = refl }) refl
+
+-- handles that differ in their last byte
+pub handleCut : Claims.NoneCarriesOver Wrong.handleCut authenticateOrderFor → ⊥
+unfolding registerOrderOf block
+handleCut p =
+    let with : ℕ → RegisterFields = λ n. record { application = replicate 32 1; challenge = replicate 32 2; handle = n ∷ []; x = replicate 32 0; y = replicate 32 3 } in
+    let fit : (n : ℕ) → RegisterLengths (with n) = λ n. record { application = refl; challenge = refl; handle = omega arith; x = refl; y = refl } in
+    let e : _≡_ {A = ℕ} 7 8 = ap (λ (f : RegisterFields). byte (f .handle) 0) (p .enrolments (with 7) (with 8) 0 0 (fit 7) (fit 8) refl) in
+    omega arith
+
+-- somebody was there, and nobody
+pub presenceLeftOut : Claims.NoneCarriesOver registerOrderOf Wrong.presenceLeftOut → ⊥
+unfolding block
+presenceLeftOut p =
+    let touched : AuthenticateParts = record { application = replicate 32 1; challenge = replicate 32 2; present = true; counter = 1 } in
+    false≢true (ap (λ (x : AuthenticateParts). x .present) (p .logins parts touched parts-fit (record { application = refl; challenge = refl }) refl))
+
+-- counters 1 and 1 + 2^24
+pub counterCut : Claims.NoneCarriesOver registerOrderOf Wrong.counterCut → ⊥
+unfolding block
+counterCut p =
+    let later : AuthenticateParts = record { application = replicate 32 1; challenge = replicate 32 2; present = false; counter = 0x1000001 } in
+    let e : _≡_ {A = ℕ} 1 0x1000001 = ap (λ (x : AuthenticateParts). x .counter) (p .logins parts later parts-fit (record { application = refl; challenge = refl }) refl) in
+    omega arith
+
+pub frontWithoutMarker : Claims.NotRuledOut Wrong.dropsMarker authenticateOrderOf → ⊥
+unfolding block
+frontWithoutMarker p =
+    let e : _≡_ {A = ℕ} 130 129 = ap length (p .enrolment enrolled 0 0 (replicate 32 0) (replicate 32 0) fits (omega arith) refl refl) in
+    omega arith
 
 pub readsChallengeFirst : Claims.FieldsKept Wrong.readsChallengeFirst authenticateFieldsOf → ⊥
 unfolding registerOrderOf block

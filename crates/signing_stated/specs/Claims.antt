@@ -6,7 +6,7 @@ use mathlib.Core.Bool.{Bool, true, false}
 use mathlib.Core.Path.{_≡_}
 use mathlib.Core.Logic.{_↔_, _⊎_}
 use mathlib.Core.List.{List, [], _∷_, _++_}
-use lib.ListN.{length, drop, replicate}
+use lib.ListN.{length, take, drop, replicate}
 use Rattle.outcome.specs.Notation.{AtMostOne}
 use Rattle.outcome.specs.Outcome.{Outcome, R, Word, SW, Gives, wordOf, refusalNo}
 use Rattle.outcome.specs.declared.Refusal.{Refusal}
@@ -17,7 +17,7 @@ use Rattle.signing_stated.specs.Fido.{IsMessage, IsKey, IsCounter, prese
 use Rattle.signing_stated.specs.Orders.{Kind, Register, Authenticate, Head, Order, headOf, orderWith, AuthenticateParts, toSign, certificateLength, registerOrderOf, authenticateOrderOf}
 use Rattle.signing_stated.specs.Finishing.{Finishing, Finished, Refused, Status, Body, finishedOf, Ended}
 use Rattle.signing_stated.specs.Contracts.{KindNumber, Blank, RegisterOrder, AuthenticateOrder, HasLayout, HasRegisterRoom, HasAuthenticateRoom, Finish}
-use Rattle.signing_stated.specs.Terms.{bytesAt, RegisterLengths, PartsLengths, IsWhole, IsBlank, IsRegisterOrder, IsAuthenticateOrder, HoldsJust, signedBytes, HoldsMessage, RegisterShaped, AuthenticateShaped, NeedsRoom, OfLayout, keeping}
+use Rattle.signing_stated.specs.Terms.{bytesAt, RegisterLengths, AuthenticateLengths, PartsLengths, IsWhole, IsBlank, IsRegisterOrder, IsAuthenticateOrder, HoldsJust, signedBytes, longer, HoldsMessage, RegisterShaped, AuthenticateShaped, NeedsRoom, OfLayout, keeping}
 pub use Rattle.signing_stated.specs.Replies.{FinishesExactly}
 
 -- ---- numbers and results
@@ -123,6 +123,26 @@ FieldsKept register authenticate =
 -- that asks a first byte 00 of an Authenticate order too (`testsFirstByte`) at an application that begins with F0.
 abbrev pub LayoutExactly : (Order → Bool) → Type 0
 LayoutExactly test = (o : Order) → IsWhole o → (test o ≡ true) ↔ (IsRegisterOrder o ⊎ IsAuthenticateOrder o)
+
+-- ---- no signature can be carried over
+
+-- Of orders for fields of the right lengths, whatever their certificates. 02, E11: "no Register and Authenticate order have the same bytes to sign, and two of one
+-- kind with equal bytes have every field inside them equal". The handle's length is not among the bytes and cannot mislead: all 130 + h of them are signed, so equal
+-- bytes have equal h, and the key's 65 stand behind the handle. An order without the key (`keyLeftOut`) fails the first, at a handle of 4 bytes; one without the
+-- handle's last byte (`handleCut`) the second; one without the presence byte (`presenceLeftOut`), or with three bytes of the counter (`counterCut`), the third.
+pub record NoneCarriesOver (register : RegisterFields → ℕ → Order) (authenticate : AuthenticateParts → Order) : Type 0 where
+  pub apart : (f : RegisterFields) (c : ℕ) (p : AuthenticateParts) → RegisterLengths f → PartsLengths p → signedBytes (register f c) ≡ signedBytes (authenticate p) → ⊥
+  pub enrolments : (f g : RegisterFields) (c d : ℕ) → RegisterLengths f → RegisterLengths g → signedBytes (register f c) ≡ signedBytes (register g d) → f ≡ g
+  pub logins : (p q : AuthenticateParts) → PartsLengths p → PartsLengths q → signedBytes (authenticate p) ≡ signedBytes (authenticate q) → p ≡ q
+
+-- What that does not rule out, since it speaks of all the bytes to sign: the front of an order's may be another's. The first 69 of a Register order's are an
+-- Authenticate order's exactly where the application ends in 00 or 01; and with a handle that goes on with the key of another Register order, they begin with all of
+-- that one's. Orders with the 04 left out (`dropsMarker`) fail the second.
+pub record NotRuledOut (register : RegisterFields → ℕ → Order) (authenticate : AuthenticateFields → Order) : Type 0 where
+  pub login : (f : RegisterFields) (c : ℕ) → RegisterLengths f
+      → ((p : AuthenticateFields) × AuthenticateLengths p × (take 69 (signedBytes (register f c)) ≡ signedBytes (authenticate p))) ↔ (byte (f .application) 31 ≤ 1)
+  pub enrolment : (f : RegisterFields) (c d : ℕ) (x y : List ℕ) → RegisterLengths f → length (f .handle) ≤ 190 → length x ≡ 32 → length y ≡ 32
+      → take (130 + length (f .handle)) (signedBytes (register (longer f x y) d)) ≡ signedBytes (register f c)
 
 -- ---- room
 

@@ -3,11 +3,11 @@
 use Prim.Native.Nat.{ℕ, _≤_}
 use mathlib.Core.Bool.{true}
 use mathlib.Core.Path.{_≡_}
-use mathlib.Core.List.{List}
+use mathlib.Core.List.{List, _++_}
 use lib.ListN.{length, take, drop, replicate}
 use Rattle.octets.specs.Bytes.{byte, allZero}
 use Rattle.signing_stated.specs.Fido.{Field, IsMessage}
-use Rattle.signing_stated.specs.Layouts.{RegisterFields, AuthenticateFields, isRegisterFit, isAuthenticateFit}
+use Rattle.signing_stated.specs.Layouts.{RegisterFields, AuthenticateFields, publicKey, isRegisterFit, isAuthenticateFit}
 use Rattle.signing_stated.specs.Orders.{Kind, Register, Order, AuthenticateParts, toSign, certificateLength, registerOrderOf, authenticateOrderOf}
 pub use Rattle.signing_stated.specs.Replies.{bytesAt, IsWhole, RegisterShaped, AuthenticateShaped, NeedsRoom, register, authenticate, OfLayout, keeping}
 
@@ -51,6 +51,10 @@ HoldsJust s n o = (toSign o ≡ n) × (take n (o .bytes) ≡ s) × (allZero (dro
 -- the bytes to sign of an order
 abbrev pub signedBytes : Order → List ℕ
 signedBytes o = take (toSign o) (o .bytes)
+
+-- fields whose handle goes on with the key of f, and another key behind it
+abbrev pub longer : RegisterFields → (x y : List ℕ) → RegisterFields
+longer f x y = record { application = f .application; challenge = f .challenge; handle = f .handle ++ publicKey (f .x) (f .y); x = x; y = y }
 
 -- `HoldsMessage kind certificate fields o`: an order of this kind and certificate length, whose bytes to sign are a message of these fields, with zeros behind
 -- them up to the block's end

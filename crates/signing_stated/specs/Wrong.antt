@@ -4,11 +4,11 @@ use Prim.Native.Nat.{ℕ, _+_, _-_, _/_, _%_}
 use mathlib.Core.Bool.{Bool, true, not, _&&_}
 use mathlib.Core.List.{List, [], _∷_, _++_}
 use lib.Dec.{eqb, leb, ltb}
-use lib.ListN.{length, take, replicate}
+use lib.ListN.{length, take, drop, replicate}
 use Rattle.outcome.specs.Notation.{if_then_else_}
 use Rattle.outcome.specs.Outcome.{Outcome, R, Word, SW, Gives, wordOf, refusalNo}
 use Rattle.outcome.specs.declared.Refusal.the-variants.{R1, R2, R3, R4, R5, R6, R7, R8}
-use Rattle.octets.specs.Bytes.{byte, laid}
+use Rattle.octets.specs.Bytes.{byte, laid, bytes4}
 use Rattle.signing_stated.specs.Layouts.{RegisterFields, registerToSign, registerBody, presenceByte}
 use Rattle.signing_stated.specs.Orders.{Kind, Register, Authenticate, Order, AuthenticateParts, kindNo, toSign, certificateLength, block, registerOrderOf, authenticateOrderOf, authenticateOrderFor, isOfLayout, registerFieldsOf}
 use Rattle.signing_stated.specs.Finishing.{Finishing, Finished, Refused, Status, Body, Ended, endOf, finishOf, registerRoom, roomNeeded, bodyOf}
@@ -118,6 +118,36 @@ counterLittleEndian p =
       counter = p .counter % 256 ∷ p .counter / 256 % 256 ∷ p .counter / 65536 % 256 ∷ p .counter / 16777216 ∷ [];
       challenge = p .challenge;
     })
+
+-- 02, E11: "every field inside them". The public key is not signed
+abbrev pub keyLeftOut : RegisterFields → ℕ → Order
+keyLeftOut f c =
+    record {
+      kind = Register;
+      «to_sign» = 65 + length (f .handle);
+      «certificate_length» = c;
+      bytes = block (0x00 ∷ [] ++ f .application ++ f .challenge ++ f .handle);
+    }
+
+-- nor the handle's last byte
+abbrev pub handleCut : RegisterFields → ℕ → Order
+handleCut f c =
+    registerOrderOf (record { application = f .application; challenge = f .challenge; handle = take (length (f .handle) - 1) (f .handle); x = f .x; y = f .y }) c
+
+-- nor the presence byte
+abbrev pub presenceLeftOut : AuthenticateParts → Order
+presenceLeftOut p =
+    record { kind = Authenticate; «to_sign» = 68; «certificate_length» = 0; bytes = block (p .application ++ bytes4 (p .counter) ++ p .challenge) }
+
+-- nor the counter's first byte
+abbrev pub counterCut : AuthenticateParts → Order
+counterCut p =
+    record {
+      kind = Authenticate;
+      «to_sign» = 68;
+      «certificate_length» = 0;
+      bytes = block (p .application ++ presenceByte (p .present) ∷ [] ++ drop 1 (bytes4 (p .counter)) ++ p .challenge);
+    }
 
 -- a reading of the bytes to sign that takes the challenge for the application
 abbrev pub readsChallengeFirst : (size : ℕ) (bytes : List ℕ) → RegisterFields
