@@ -110,20 +110,34 @@ module _ (P : Panel) (M : Meets P) where
   ordered-back : (k : Kind) (o : Order) → k ≡ o .kind → orderFrom k (orderAfter (Gives Ordered) o) (o .bytes) ≡ o
   ordered-back k o e = rw e refl
 
+  -- an order that C sees is the decision's: its numbers, and its block
+  module _ (i : ToDecide) (ordered : P .decide i .said .answer ≡ 0x0100) where
+    abbrev on-it : DecisionResult
+    on-it = decisionOf (presenceIn (i .presence)) (i .moment) (inputsIn i)
+
+    pub order-given : on-it .answer ≡ Gives Ordered
+    order-given =
+        Panel′.DecisionTells .ordered (on-it .answer) (Outcomes.decision-said (presenceIn (i .presence)) (i .moment) (inputsIn i)) .0
+        (ap (λ (s : DecisionSaid). s .answer) (sym (M .decide i .0)) ∙ ordered)
+
+    pub order-numbers : P .decide i .said .order ≡ orderAfter (Gives Ordered) (on-it .order)
+    order-numbers = ap (λ (s : DecisionSaid). s .order) (M .decide i .0) ∙ ap (λ (o : Outcome DecisionGives). orderAfter o (on-it .order)) order-given
+
+    pub order-block : P .decide i .block ≡ on-it .order .bytes
+    order-block = M .decide i .4 ∙ ap (λ (o : Outcome DecisionGives). blockAfter o (on-it .order .bytes) (i .block)) order-given
+
   module _ (i : ToDecide) (f : ToFinish) (lent : ToFinishOf P i f) where
     abbrev decided : DecisionResult
     decided = decisionOf (presenceIn (i .presence)) (i .moment) (inputsIn i)
 
     pub is-order : decided .answer ≡ Gives Ordered
-    is-order =
-        Panel′.DecisionTells .ordered (decided .answer) (Outcomes.decision-said (presenceIn (i .presence)) (i .moment) (inputsIn i)) .0
-        (ap (λ (s : DecisionSaid). s .answer) (sym (M .decide i .0)) ∙ lent .ordered)
+    is-order = order-given i (lent .ordered)
 
     numbers : f .order ≡ orderAfter (Gives Ordered) (decided .order)
-    numbers = lent .order ∙ ap (λ (s : DecisionSaid). s .order) (M .decide i .0) ∙ ap (λ (o : Outcome DecisionGives). orderAfter o (decided .order)) is-order
+    numbers = lent .order ∙ order-numbers i (lent .ordered)
 
     bytes : f .block ≡ decided .order .bytes
-    bytes = lent .block ∙ M .decide i .4 ∙ ap (λ (o : Outcome DecisionGives). blockAfter o (decided .order .bytes) (i .block)) is-order
+    bytes = lent .block ∙ order-block i (lent .ordered)
 
     -- what is finished is the decision's order, with its certificate's length
     pub the-order : orderFrom (decided .order .kind) (f .order) (f .block) ≡ decided .order

@@ -1,6 +1,8 @@
 pub mod Runs
 pub mod Fetched
 pub mod Lost
+pub mod Carried
+pub mod Examples
 pub mod Answers
 pub mod Reached
 pub mod Theorems

@@ -12,7 +12,7 @@ use lib.ListN.{length, take, replicate, length-take}
 use Rattle.response_stated.specs.Terms.{Goes, whole, cut, last}
 use Prim.Native.Nat.{_≤_}
 use Rattle.u2f_up_stated.specs.History.{Mark}
-use Rattle.octets.specs.Bytes.{partOf}
+use Rattle.octets.specs.Bytes.{byte, partOf}
 use Rattle.apdu_stated.specs.Reading.{readBy, dataOf, sayOf, lengthsOf, shortOf, extendedOf, afterData}
 use Rattle.command_stated.specs.Command.{commandOf, onReading, byInstruction, getResponseOf, registerOf, versionOf, authenticateOf, challengeOf, applicationOf}
 use Rattle.response_stated.specs.Parts.{limitOf, partLength, nextPartOf, responseRoomOf}
@@ -21,7 +21,8 @@ use Rattle.ctap1_stated.specs.Path.{frameLimit, fetchPath, commandPath, allowed
 use Rattle.panel_stated.specs.Numbers.{kindOf}
 use Rattle.ctap1_stated.specs.Numbers.{allowedOf, attestationOf}
 use Rattle.ctap1_stated.specs.Decision.{decisionOf}
-use Rattle.signing_stated.specs.Orders.{authenticateOrderOf, registerOrderOf, isRegisterLayout, block}
+use Rattle.signing_stated.specs.Layouts.{RegisterFields}
+use Rattle.signing_stated.specs.Orders.{AuthenticateParts, authenticateOrderOf, registerOrderOf, isRegisterLayout, block}
 use Rattle.signing_stated.specs.Finishing.{finishOf}
 use Rattle.panel_stated.specs.declared.Wrote.{Wrote}
 use Rattle.panel_stated.specs.declared.CommandSaid.{CommandSaid}
@@ -39,6 +40,8 @@ use Rattle.demands.specs.Panel.{Meets}
 use Rattle.demands.specs.Calls.{Lent, Touch, Check, Ask, Decide, on, recordAfter, cameNext, historyOf}
 use Rattle.demands.specs.Sessions.{none as no-more, also, fetched, leftAfter}
 use Rattle.demands.specs.Demands.{Demands}
+use Rattle.demands.specs.NotRuledOut.{lend, enrol, posing, posedAs}
+use Rattle.demands.proofs.Examples.{without-key}
 use Rattle.demands.specs.Wrong as Wrong
 
 pub meets : Meets Wrong.defined
@@ -376,6 +379,35 @@ roomUncut d = Exports.roomUncut (d .answers .rooms)
 
 pub dropsAtC0 : Demands Wrong.dropsAtC0 → ⊥
 dropsAtC0 d = Exports.dropsAtC0 (d .answers .decides)
+
+-- ---- what is signed
+-- without the key, an enrolment's 69 bytes are a login's
+pub keyLeftOut : Demands Wrong.keyLeftOut → ⊥
+unfolding decisionOf pathOf allowedPath commandPath registerPath registerEnding enrolmentOrder registerOrderOf loginPath countedEnding authenticateOrderOf block partOf dataOf commandOf onReading byInstruction registerOf authenticateOf challengeOf applicationOf readBy sayOf lengthsOf shortOf extendedOf afterData allowedOf attestationOf settleOf checkedOf
+keyLeftOut d = d .carried .apart (posing 0) (posedAs 0) (refl, refl, refl, refl) (refl, refl, refl, refl) without-key
+
+-- new handles that differ in their last byte
+pub handleCut : Demands Wrong.handleCut → ⊥
+unfolding decisionOf pathOf allowedPath commandPath registerPath registerEnding enrolmentOrder registerOrderOf block partOf dataOf commandOf onReading byInstruction registerOf challengeOf applicationOf readBy sayOf lengthsOf shortOf extendedOf afterData allowedOf attestationOf settleOf checkedOf
+handleCut d =
+    let with : ℕ → ToDecide = λ n. enrol (replicate 32 0xA1) (replicate 32 0xC1) (0xB1 ∷ n ∷ []) [] (replicate 32 0xD1) (replicate 32 0xE1) in
+    let e : _≡_ {A = ℕ} 1 2 = ap (λ (f : RegisterFields). byte (f .handle) 1) (d .carried .enrolments (with 1) (with 2) (refl, refl, refl, refl) (refl, refl, refl, refl) refl) in
+    omega arith
+
+-- a login for which somebody was there, and the same with P1 08
+pub presenceLeftOut : Demands Wrong.presenceLeftOut → ⊥
+unfolding decisionOf pathOf allowedPath commandPath registerPath registerEnding enrolmentOrder registerOrderOf loginPath countedEnding authenticateOrderOf block partOf dataOf commandOf onReading byInstruction registerOf authenticateOf challengeOf applicationOf readBy sayOf lengthsOf shortOf extendedOf afterData allowedOf attestationOf settleOf checkedOf
+presenceLeftOut d =
+    let with : ℕ → ToDecide = λ p1. lend (0x00 ∷ 0x02 ∷ p1 ∷ 0x00 ∷ 65 ∷ replicate 65 0) 7 [] [] (replicate 32 0) (replicate 32 0) in
+    false≢true (ap (λ (p : AuthenticateParts). p .present) (d .carried .logins (with 0x08) (with 0x03) (refl, refl, refl, refl) (refl, refl, refl, refl) refl))
+
+-- counters 1 and 1 + 2^24
+pub counterCut : Demands Wrong.counterCut → ⊥
+unfolding decisionOf pathOf allowedPath commandPath registerPath registerEnding enrolmentOrder registerOrderOf loginPath countedEnding authenticateOrderOf block partOf dataOf commandOf onReading byInstruction registerOf authenticateOf challengeOf applicationOf readBy sayOf lengthsOf shortOf extendedOf afterData allowedOf attestationOf settleOf checkedOf
+counterCut d =
+    let with : ℕ → ToDecide = λ n. lend (0x00 ∷ 0x02 ∷ 0x08 ∷ 0x00 ∷ 65 ∷ replicate 65 0) n [] [] (replicate 32 0) (replicate 32 0) in
+    let e : _≡_ {A = ℕ} 1 0x1000001 = ap (λ (p : AuthenticateParts). p .counter) (d .carried .logins (with 1) (with 0x1000001) (refl, refl, refl, refl) (refl, refl, refl, refl) refl) in
+    omega arith
 
 -- on a lent record whose prompt is live, a touch opens nothing
 pub touchOpensNothing : Demands Wrong.touchAsks → ⊥

@@ -34,6 +34,7 @@ use Rattle.demands.proofs.Fetched.{so-far, takes, enough}
 use Rattle.demands.proofs.Reached.{reached}
 use Rattle.demands.proofs.Answers.{commands, responses, finishing, finishes, presences, sides, keeps}
 use Rattle.demands.proofs.Lost.{none-lost}
+use Rattle.demands.proofs.Carried.{none-carries-over}
 use Rattle.demands.proofs.Runs.{asPanel, allAs, all-append, all-length, there, record-in, came-same, call-same, history-same}
 
 -- a window's number, opened
@@ -143,6 +144,7 @@ OnTop P M = record {
   reaches = λ i. reached P M i;
   finished = finishes P M;
   none-lost = none-lost P M;
+  carried = none-carries-over P M;
   answers = record {
     makes = Panel′.ContractsAsClaimed .new (P .new) (M .new);
     presences = presences P M;

@@ -107,6 +107,7 @@ pub record Demands (P : Panel) : Type 0 where
   pub orders : (old : List ℕ) (w : ℕ) → P .new old w .said ≡ 0x9000 → OrdersHaveTheirTouch P old w
   pub finished : OrdersAreFinished P
   pub none-lost : NoTouchIsLost P
+  pub carried : NoneCarriesOver P  -- Carried.antt
   pub bodies : BodiesAreFetched P
   -- each call by itself: Answers.antt. That every input is answered: P is a function
   pub answers : CallsAnswer P

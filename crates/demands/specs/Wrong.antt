@@ -1,11 +1,13 @@
 -- The panel of the definitions, and wrong ones, each with one fault. proofs/Refuted.antt shows that the first meets every contract, and of each other that it
 -- does not meet the demands.
 use Prim.Native.Nat.{ℕ, _+_, _-_, _%_}
-use mathlib.Core.List.{List, [], _∷_}
+use mathlib.Core.List.{List, [], _∷_, _++_}
 use mathlib.Core.Bool.{Bool, false, not}
 use lib.Dec.{eqb}
+use lib.ListN.{length, take, drop, replicate}
 use Rattle.outcome.specs.Notation.{if_then_else_}
 use Rattle.outcome.specs.Outcome.{R, SW}
+use Rattle.octets.specs.Bytes.{laid}
 use Rattle.apdu_stated.specs.declared.Entry.the-variants.{Ordinary, Strict}
 use Rattle.command_stated.specs.Command.{commandOf}
 use Rattle.response_stated.specs.declared.Remainder.{Remainder}
@@ -276,3 +278,42 @@ untouched =
     let p = presenceIn (i .presence) in
     decidesOf (changed (presenceNumbers (record { w = p .w; prompt = p .prompt; touch = Opened (i .moment); last = p .last; asker = i .side })) (remainderIn (i .session)) i))
     rightFinish
+
+-- ---- 02, E11: an order of this kind, with other bytes to sign, and zeros behind them
+abbrev signing : (kind : ℕ) (change : List ℕ → List ℕ) → AfterDeciding → AfterDeciding
+signing kind change d =
+    let order = d .said .order in
+    let s = change (take (order .«to_sign») (d .block)) in
+    if eqb (order .kind) kind
+    then record {
+      said = record {
+        answer = d .said .answer;
+        fault = d .said .fault;
+        taken = d .said .taken;
+        length = d .said .length;
+        order = record { kind = kind; «to_sign» = length s; «certificate_length» = order .«certificate_length» };
+        place = d .said .place;
+      };
+      presence = d .presence;
+      session = d .session;
+      reply = d .reply;
+      block = laid s (replicate 385 0);
+      part = d .part;
+    }
+    else d
+
+-- the public key is left out of a Register's bytes
+abbrev pub keyLeftOut : Panel
+keyLeftOut = panelWith makesOf touchesOf checksOf asksOf (λ i. signing 1 (λ s. take (length s - 65) s) (decidesOf i)) rightFinish
+
+-- the handle's last byte is
+abbrev pub handleCut : Panel
+handleCut =
+    panelWith makesOf touchesOf checksOf asksOf (λ i. signing 1 (λ s. if eqb (length s) 130 then s else take (length s - 66) s ++ drop (length s - 65) s) (decidesOf i)) rightFinish
+
+-- the presence byte is left out of an Authenticate's, and the counter's first byte is
+abbrev pub presenceLeftOut : Panel
+presenceLeftOut = panelWith makesOf touchesOf checksOf asksOf (λ i. signing 2 (λ s. take 32 s ++ drop 33 s) (decidesOf i)) rightFinish
+
+abbrev pub counterCut : Panel
+counterCut = panelWith makesOf touchesOf checksOf asksOf (λ i. signing 2 (λ s. take 33 s ++ drop 34 s) (decidesOf i)) rightFinish

@@ -16,5 +16,6 @@ pub use Rattle.session_stated.specs.Held.{remainderIn, sessionIn}
 pub use Rattle.panel_stated.specs.Exports.{ToDecide, ToFinish, AfterDeciding, AfterPart}
 pub use Rattle.demands.specs.Panel.{Panel, Meets}
 pub use Rattle.demands.specs.Answers.{CallsAnswer}
+pub use Rattle.demands.specs.Carried.{NoneCarriesOver}
 pub use Rattle.demands.specs.Sessions.{IsC0, IsGetResponse, Unhindered, Each, bytesOf, firstBytes, fetch, fetched, leftAfter}
 pub use Rattle.demands.specs.Calls.{Lent, CCall, Decide, on, asCall, Reaches, touchNumber, askerNumber, recordAfter, cameNext, historyOf}
