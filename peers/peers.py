@@ -12,7 +12,7 @@ from fido2.attestation import InvalidSignature as InvalidEnrolment
 from fido2.ctap1 import APDU, ApduError, Ctap1, SignatureData
 
 from building import quietly, tell
-from hardware import HANDLE, Attestation, Device
+from hardware import HANDLE, Attestation, Device, coordinates, ecdsa
 from panel import USB, WIRELESS, Panel, Refusal, Trouble
 from server import ORIGIN, Server, is_known, server_enrolment, server_login
 from wireless import Daemon, Unavailable, laid_on
@@ -118,6 +118,22 @@ def changed_replies(device):
     for changed in (spoiled(login), counted_on):
         assert rejected(lambda: changed.verify(APPLICATION, challenge, key.public_key))
     say("enrolment with another signature, login with another signature, login with another counter: rejected")
+
+
+def carried_over(device):
+    """fido2 takes an enrolment's signature for no login's, though one key signs both, as long as all its bytes are signed"""
+    application, challenge = os.urandom(31) + bytes([1]), bytes([0, 0, 0, 7]) + os.urandom(28)
+    reply = touched(device, lambda: Ctap1(device).register(challenge, application))
+    reply.verify(application, challenge)
+    # the login that the first 69 bytes are: application, presence byte and counter, challenge
+    signed = bytes(1) + application + challenge + reply.key_handle + reply.public_key
+    key = device.attestation.key
+    public = b"\x04" + b"".join(coordinates(key))
+    login = lambda signature: SignatureData(signed[32:37] + signature).verify(signed[:32], signed[37:69], public)
+    assert rejected(lambda: login(reply.signature)) and rejected(lambda: login(ecdsa(key, signed[:70])))
+    say("the enrolment's signature as a login's: rejected")
+    assert not rejected(lambda: login(ecdsa(key, signed[:69])))
+    say("a signature of its first 69 bytes: accepted, so a signer is not to stop there")
 
 
 def handles(device):
@@ -384,6 +400,7 @@ CASES = [
     (enrolment_and_logins, 600),
     (login_without_touch, 300),
     (changed_replies, 300),
+    (carried_over, 300),
     (handles, 300),
     (wrong_lengths, 300),
     (lapsed_touch, 300),

@@ -2,7 +2,7 @@
 use Prim.Native.Nat.{ℕ}
 use mathlib.Core.Path.{_≡_, refl, ap}
 use mathlib.Core.Bool.{Bool, true, false, false≢true}
-use mathlib.Core.List.{List, [], _∷_}
+use mathlib.Core.List.{List, [], _∷_, _++_}
 use native.Mathlib.Omega.{arith}
 use Rattle.u2f_up_stated.specs.Moments.{newOf, settleOf, grantedOf, checkedOf, touchOf, checkOf, askOf}
 use Rattle.u2f_up_stated.specs.History.{RefusedBy, TouchFound, NoTouchFound, PromptStands, NoPromptStands, foretold, latestPrompt, unspent, latestTouch, isPromptStanding, lastMoment, servers, accepted}
@@ -392,6 +392,16 @@ unfolding decisionOf pathOf allowedPath commandPath registerPath registerEnding 
 handleCut d =
     let with : ℕ → ToDecide = λ n. enrol (replicate 32 0xA1) (replicate 32 0xC1) (0xB1 ∷ n ∷ []) [] (replicate 32 0xD1) (replicate 32 0xE1) in
     let e : _≡_ {A = ℕ} 1 2 = ap (λ (f : RegisterFields). byte (f .handle) 1) (d .carried .enrolments (with 1) (with 2) (refl, refl, refl, refl) (refl, refl, refl, refl) refl) in
+    omega arith
+
+-- a key of 04s whose y ends in 00, behind no handle; and the same bytes as a handle of one byte and a key
+pub blockSigned : Demands Wrong.blockSigned → ⊥
+unfolding decisionOf pathOf allowedPath commandPath registerPath registerEnding enrolmentOrder registerOrderOf block partOf dataOf commandOf onReading byInstruction registerOf challengeOf applicationOf readBy sayOf lengthsOf shortOf extendedOf afterData allowedOf attestationOf settleOf checkedOf
+blockSigned d =
+    let with : (handle y : List ℕ) → ToDecide = λ handle y. enrol (replicate 32 0xA1) (replicate 32 0xC1) handle [] (replicate 32 0x04) y in
+    let e : _≡_ {A = ℕ} 0 1 =
+    ap (λ (f : RegisterFields). length (f .handle))
+    (d .carried .enrolments (with [] (replicate 32 0x04)) (with (0x04 ∷ []) (replicate 31 0x04 ++ 0x00 ∷ [])) (refl, refl, refl, refl) (refl, refl, refl, refl) refl) in
     omega arith
 
 -- a login for which somebody was there, and the same with P1 08

@@ -11,7 +11,8 @@ use Rattle.u2f_up_stated.specs.declared.Window.the-variants.{Opened}
 use Rattle.u2f_up_stated.specs.Moments.{newOf}
 use Rattle.u2f_up_stated.specs.History.{Call}
 use Rattle.u2f_up_stated.specs.Terms.{BadWindow}
-use Rattle.u2f_up_stated.specs.Demand.{RunMeets, RunOf}
+use Rattle.u2f_up_stated.specs.Demand.{RunMeets}
+use Rattle.u2f_up_stated.specs.FreshRuns.{RunOf}
 use Rattle.u2f_up_stated.proofs.Theorems as Up
 use Rattle.u2f_up_stated.proofs.Laws.{bad-window}
 use Rattle.signing_stated.specs.Words.{Order}

@@ -3,7 +3,7 @@ mod Words
 use Words.*
 
 module _ (P : Panel) where
-  -- an order of this kind, 1 Register, 2 Authenticate; x and y are 32 bytes in C
+  -- an order: 1 Register, 2 Authenticate; x and y are 32 bytes in C
   abbrev pub Orders : (kind : ℕ) → ToDecide → Type 0
   Orders kind i = (P .decide i .said .answer ≡ 0x0100) × (P .decide i .said .order .kind ≡ kind) × (length (i .x) ≡ 32) × (length (i .y) ≡ 32)
 
@@ -11,7 +11,7 @@ module _ (P : Panel) where
   abbrev pub signed : ToDecide → List ℕ
   signed i = take (P .decide i .said .order .«to_sign») (P .decide i .block)
 
-  -- what was lent for it; application and challenge stand in the frame where `brinecandle_read_command` says
+  -- its fields, as lent; two stand in the frame where `brinecandle_read_command` says
   abbrev pub enrolment : (frame : List ℕ) → ToDecide → RegisterFields
   enrolment frame i =
       record {

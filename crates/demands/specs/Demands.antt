@@ -1,8 +1,5 @@
--- ONE THEOREM ON TOP, of any panel P, that is any seventeen functions that C could link (Panel.antt): if each meets the contract of its export at every input, then
--- over any calls that C makes (Calls.antt, Sessions.antt) P meets the demands, last in this file. A history's words (Mark, heldAt, serverOf) are History.antt's.
--- Lists of calls are NEWEST FIRST, lists of GET RESPONSEs run from left to right.
---
---     OnTop = (P : Panel) → Meets P → Demands P
+-- ONE THEOREM ON TOP, `OnTop`, of any panel P, that is any seventeen functions that C could link (Panel.antt): if each meets the contract of its export at every input,
+-- then over any calls that C makes (Calls.antt, Sessions.antt) P meets the demands, last in this file. A history's words (Mark, heldAt, serverOf) are History.antt's.
 mod Words
 use Words.*
 
@@ -69,9 +66,9 @@ pub record ToFinishOf (P : Panel) (i : ToDecide) (f : ToFinish) : Type 0 where
 abbrev pub OrdersAreFinished : Panel → Type 0
 OrdersAreFinished P = (i : ToDecide) (f : ToFinish) → ToFinishOf P i f → f .signed ≡ 1 → P .finish f .said .answer ≡ 0x9000
 
--- ---- NO TOUCH IS LOST TO A LENGTH, once there is an order (a new handle above 255 bytes gives none). Where the room for the response was asked for, of this frame and
--- of the longest body that its command can come to, and the decision then gave an order: finishing it, so lent, and responding in that room by the limit that the decision
--- left, are no refusal. The host gets the body's first part (`Goes limit n k`: of n bytes k go out at once, as many as the limit lets), or 6f00 where the signer failed
+-- ---- NO TOUCH IS LOST TO A LENGTH, once there is an order (a new handle above 255 bytes gives none). Where the response's room was asked for, of this frame and of the
+-- longest body of its command, and the decision then gave an order: finishing it, so lent, and responding in that room by the limit that it left, are no refusal. The host
+-- gets the body's first part (`Goes limit n k`: of n bytes k go out at once, as many as the limit lets), or 6f00 where the signer failed
 abbrev pub LongestBody : Panel → ToDecide → (longest : ℕ) → Type 0
 LongestBody P i longest =
     ((P .read-command (i .frame) .command ≡ 1) × (longest ≡ 139 + length (i .newHandle) + length (i .certificate)))

@@ -33,7 +33,7 @@ use Rattle.u2f_up_stated.specs.History.{Checking}
 use Rattle.u2f_up_stated.specs.Runs.{own}
 use Rattle.u2f_up_stated.specs.OneSide.{base, baseBy, baseSettleOf, baseCheckedOf}
 use Rattle.signing_stated.specs.Claims as Signing
-use Rattle.signing_stated.specs.Orders.{registerOrderOf, authenticateOrderFor}
+use Rattle.signing_stated.specs.Orders.{registerOrderOf, authenticateOrderOf, authenticateOrderFor}
 use Rattle.signing_stated.specs.Finishing.{finishOf, finishedOf, endOf}
 use Rattle.ctap1_stated.specs.Claims as Decision
 use Rattle.ctap1_stated.specs.Path.{frameLimit}
@@ -203,6 +203,9 @@ pub record AsTheDocumentsSay : Type 0 where
   pub register-orders : Signing.MakesRegister registerOrderOf
   pub authenticate-orders : Signing.MakesAuthenticate authenticateOrderFor
   pub signed-bytes : Signing.SignsFido registerOrderOf authenticateOrderFor
+  -- 02, E11: no bytes to sign are an enrolment's and a login's, or of other fields; and which fronts of them are another order's
+  pub none-carries-over : Signing.NoneCarriesOver registerOrderOf authenticateOrderFor
+  pub fronts : Signing.NotRuledOut registerOrderOf authenticateOrderOf
   pub reply-bytes : Signing.FinishesExactly endOf
   pub register-replies : Signing.RegisterRoundTrip finishOf
   pub authenticate-replies : Signing.AuthenticateRoundTrip finishOf

@@ -3,24 +3,9 @@
 mod Words
 use Words.*
 
--- all that is lent, with this body in the reply buffer and this remainder of it
+-- all that is lent, with this body in the reply buffer and this remainder of it (`lending presence session reply i`: i with these in place of its own)
 abbrev pub fetching : (body : List ℕ) → Remainder → ToDecide → ToDecide
-fetching body r i =
-    record {
-      presence = i .presence;
-      session = r .place ∷ r .count ∷ sessionIn (i .session) .limit ∷ [];
-      frame = i .frame;
-      side = i .side;
-      moment = i .moment;
-      hardware = i .hardware;
-      newHandle = i .newHandle;
-      certificate = i .certificate;
-      x = i .x;
-      y = i .y;
-      reply = body;
-      block = i .block;
-      part = i .part;
-    }
+fetching body r i = lending (i .presence) (r .place ∷ r .count ∷ sessionIn (i .session) .limit ∷ []) body i
 
 -- a frame with INS C0 that brinecandle_read takes, whatever else it says and whatever it is answered
 abbrev pub IsC0 : Panel → ToDecide → Type 0

@@ -16,6 +16,7 @@ use Rattle.response_stated.specs.Responses.{readResponseOf}
 use Rattle.ctap1_stated.specs.Path.{frameLimit}
 use Rattle.session_stated.specs.declared.Session.{Session}
 use Rattle.session_stated.specs.Held.{remainderIn, sessionIn}
+use Rattle.session_stated.specs.Contracts.{lending}
 use Rattle.u2f_up_stated.specs.declared.Presence.{Presence}
 use Rattle.u2f_up_stated.specs.declared.Window.the-variants.{Opened}
 use Rattle.u2f_up_stated.specs.Numbers.{presenceIn}
@@ -232,22 +233,7 @@ finishClaims = panelWith makesOf touchesOf checksOf asksOf decidesOf (λ i. reco
 
 -- what is lent, with another record and another remainder
 abbrev changed : (presence : List ℕ) → Remainder → ToDecide → ToDecide
-changed n k i =
-    record {
-      presence = n;
-      session = sessionNumbers (record { remainder = k; limit = sessionIn (i .session) .limit });
-      frame = i .frame;
-      side = i .side;
-      moment = i .moment;
-      hardware = i .hardware;
-      newHandle = i .newHandle;
-      certificate = i .certificate;
-      x = i .x;
-      y = i .y;
-      reply = i .reply;
-      block = i .block;
-      part = i .part;
-    }
+changed n k i = lending n (sessionNumbers (record { remainder = k; limit = sessionIn (i .session) .limit })) (i .reply) i
 
 -- what a decision left, with another remainder
 abbrev keeping : Remainder → AfterDeciding → AfterDeciding
@@ -317,3 +303,7 @@ presenceLeftOut = panelWith makesOf touchesOf checksOf asksOf (λ i. signing 2 (
 
 abbrev pub counterCut : Panel
 counterCut = panelWith makesOf touchesOf checksOf asksOf (λ i. signing 2 (λ s. take 33 s ++ drop 34 s) (decidesOf i)) rightFinish
+
+-- the whole block is signed, with the zeros behind a Register's bytes
+abbrev pub blockSigned : Panel
+blockSigned = panelWith makesOf touchesOf checksOf asksOf (λ i. signing 1 (λ s. laid s (replicate 385 0)) (decidesOf i)) rightFinish

@@ -37,6 +37,25 @@ pub record ToDecide : Type 0 where
   pub block : List ℕ
   pub part : List ℕ
 
+-- the same with another record, session and reply buffer
+abbrev pub lending : (presence session reply : List ℕ) → ToDecide → ToDecide
+lending presence session reply i =
+    record {
+      presence = presence;
+      session = session;
+      frame = i .frame;
+      side = i .side;
+      moment = i .moment;
+      hardware = i .hardware;
+      newHandle = i .newHandle;
+      certificate = i .certificate;
+      x = i .x;
+      y = i .y;
+      reply = reply;
+      block = i .block;
+      part = i .part;
+    }
+
 abbrev pub inputsIn : ToDecide → Inputs
 inputsIn i =
     inputsFrom (i .side) (i .frame) (hardwareOf (hardwareIn (i .hardware))) (enrolmentOf (i .newHandle) (i .certificate) (i .x) (i .y)) (length (i .reply)) (remainderIn (i .session)) (length (i .part))

@@ -9,10 +9,10 @@ use lib.ListN.{length, take, length-append, List·getD-append}
 use lib.Seq.{take-at, getD-at, getD-take}
 use Rattle.octets.specs.Bytes.{byte, bytes4}
 use Rattle.signing_stated.specs.Layouts.{RegisterFields, AuthenticateFields, registerToSign, authenticateToSign, publicKey, presenceByte}
-use Rattle.signing_stated.specs.Orders.{Order, AuthenticateParts, block, registerFieldsOf, authenticateFieldsOf, registerOrderOf, authenticateOrderOf, authenticateOrderFor}
+use Rattle.signing_stated.specs.Orders.{Order, AuthenticateParts, fieldsFor, block, registerFieldsOf, authenticateFieldsOf, registerOrderOf, authenticateOrderOf, authenticateOrderFor}
 use Rattle.signing_stated.specs.Terms.{RegisterLengths, AuthenticateLengths, PartsLengths, signedBytes, longer}
 use Rattle.signing_stated.proofs.Cases.{four}
-use Rattle.signing_stated.proofs.Fit.{register-order-fit, authenticate-order-fit}
+use Rattle.signing_stated.proofs.Fit.{lengths-of, register-order-fit, authenticate-order-fit}
 use Rattle.signing_stated.proofs.FieldsKept.{block-front, register-to-sign-length, authenticate-to-sign-length, register-kept, authenticate-kept, authenticate-front, front-lengths}
 
 -- ---- the bytes to sign of an order are its layout's
@@ -38,17 +38,7 @@ register-injective f g l m e =
 authenticate-injective : (f g : AuthenticateFields) → AuthenticateLengths f → AuthenticateLengths g → authenticateToSign f ≡ authenticateToSign g → f ≡ g
 authenticate-injective f g l m e = sym (authenticate-kept f l) ∙ ap (λ (s : List ℕ). authenticateFieldsOf (block s)) e ∙ authenticate-kept g m
 
--- what the decision puts into an Authenticate order is told by its fields: a presence byte says whether somebody touched, four bytes which number
-abbrev fieldsOf : AuthenticateParts → AuthenticateFields
-fieldsOf p = record { application = p .application; presence = presenceByte (p .present); counter = bytes4 (p .counter); challenge = p .challenge }
-
-small : (b : Bool) → presenceByte b ≤ 1
-small true = omega arith
-small false = omega arith
-
-lengths-of : (p : AuthenticateParts) → PartsLengths p → AuthenticateLengths (fieldsOf p)
-lengths-of p l = record { application = l .application; presence = small (p .present); counter = refl; challenge = l .challenge }
-
+-- what the decision makes an Authenticate order of is told by its fields: a presence byte says whether somebody touched, four bytes which number
 told : (a b : Bool) → presenceByte a ≡ presenceByte b → a ≡ b
 told true true e = refl
 told true false e = absurd (omega arith)
@@ -64,7 +54,7 @@ numbered n = omega arith
 counted : (n m : ℕ) → bytes4 n ≡ bytes4 m → n ≡ m
 counted n m e = sym (numbered n) ∙ ap number e ∙ numbered m
 
-parts-equal : (p q : AuthenticateParts) → fieldsOf p ≡ fieldsOf q → p ≡ q
+parts-equal : (p q : AuthenticateParts) → fieldsFor p ≡ fieldsFor q → p ≡ q
 parts-equal p q e =
     let present : p .present ≡ q .present = told (p .present) (q .present) (ap (λ (f : AuthenticateFields). f .presence) e) in
     let counter : p .counter ≡ q .counter = counted (p .counter) (q .counter) (ap (λ (f : AuthenticateFields). f .counter) e) in
@@ -74,7 +64,7 @@ parts-equal p q e =
 pub orders-apart : (f : RegisterFields) (c : ℕ) (p : AuthenticateParts) → RegisterLengths f → PartsLengths p
     → signedBytes (registerOrderOf f c) ≡ signedBytes (authenticateOrderFor p) → ⊥
 orders-apart f c p l m e =
-    layouts-apart f (fieldsOf p) l (lengths-of p m) (sym (signed-register f c l) ∙ e ∙ signed-authenticate (fieldsOf p) (lengths-of p m))
+    layouts-apart f (fieldsFor p) l (lengths-of p m) (sym (signed-register f c l) ∙ e ∙ signed-authenticate (fieldsFor p) (lengths-of p m))
 
 pub enrolments-told : (f g : RegisterFields) (c d : ℕ) → RegisterLengths f → RegisterLengths g
     → signedBytes (registerOrderOf f c) ≡ signedBytes (registerOrderOf g d) → f ≡ g
@@ -84,8 +74,8 @@ pub logins-told : (p q : AuthenticateParts) → PartsLengths p → PartsLengths 
     → signedBytes (authenticateOrderFor p) ≡ signedBytes (authenticateOrderFor q) → p ≡ q
 logins-told p q l m e =
     parts-equal p q
-    (authenticate-injective (fieldsOf p) (fieldsOf q) (lengths-of p l) (lengths-of q m)
-    (sym (signed-authenticate (fieldsOf p) (lengths-of p l)) ∙ e ∙ signed-authenticate (fieldsOf q) (lengths-of q m)))
+    (authenticate-injective (fieldsFor p) (fieldsFor q) (lengths-of p l) (lengths-of q m)
+    (sym (signed-authenticate (fieldsFor p) (lengths-of p l)) ∙ e ∙ signed-authenticate (fieldsFor q) (lengths-of q m)))
 
 -- ---- fronts
 module _ (f : RegisterFields) (l : RegisterLengths f) where

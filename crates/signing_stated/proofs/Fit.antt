@@ -1,13 +1,14 @@
 -- Fields that fit, as lengths, and the orders that they make.
-use Prim.Native.Nat.{ℕ, _+_}
-use mathlib.Core.Bool.{true}
-use mathlib.Core.Path.{_≡_}
+use Prim.Native.Nat.{ℕ, _+_, _≤_}
+use mathlib.Core.Bool.{Bool, true, false}
+use mathlib.Core.Path.{_≡_, refl}
+use native.Mathlib.Omega.{arith}
 use borrow.Author.Tests.{eq-eqb, le-leb, eqb-true, leb-true}
 use lib.ListN.{length}
 use Rattle.octets.proofs.Laws.{both}
-use Rattle.signing_stated.specs.Layouts.{RegisterFields, AuthenticateFields, isRegisterFit, isAuthenticateFit, registerToSign, authenticateToSign}
-use Rattle.signing_stated.specs.Orders.{Register, Authenticate, block, registerOrderOf, authenticateOrderOf}
-pub use Rattle.signing_stated.specs.Terms.{RegisterLengths, AuthenticateLengths}
+use Rattle.signing_stated.specs.Layouts.{RegisterFields, AuthenticateFields, isRegisterFit, isAuthenticateFit, registerToSign, authenticateToSign, presenceByte}
+use Rattle.signing_stated.specs.Orders.{Register, Authenticate, AuthenticateParts, fieldsFor, block, registerOrderOf, authenticateOrderOf}
+pub use Rattle.signing_stated.specs.Terms.{RegisterLengths, AuthenticateLengths, PartsLengths}
 
 pub register-fit : (f : RegisterFields) → RegisterLengths f → isRegisterFit f ≡ true
 register-fit f l =
@@ -52,3 +53,11 @@ pub authenticate-order-fit : (f : AuthenticateFields) → AuthenticateLengths f
     → authenticateOrderOf f ≡ record { kind = Authenticate; «to_sign» = 69; «certificate_length» = 0; bytes = block (authenticateToSign f) }
 unfolding authenticateOrderOf
 authenticate-order-fit f l = rw (authenticate-fit f l)
+
+-- what the decision makes an Authenticate order of fits
+presence-small : (b : Bool) → presenceByte b ≤ 1
+presence-small true = omega arith
+presence-small false = omega arith
+
+pub lengths-of : (p : AuthenticateParts) → PartsLengths p → AuthenticateLengths (fieldsFor p)
+lengths-of p l = record { application = l .application; presence = presence-small (p .present); counter = refl; challenge = l .challenge }

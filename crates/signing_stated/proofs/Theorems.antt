@@ -16,10 +16,10 @@ use Rattle.octets.proofs.Laws.{length-part}
 use Rattle.signing_stated.specs.Claims
 use Rattle.signing_stated.specs.Layouts.{RegisterFields, AuthenticateFields, registerToSign, authenticateToSign, registerBody, authenticateBody, publicKey, presenceByte, isRegisterFit, isAuthenticateFit}
 use Rattle.signing_stated.specs.Fido.{IsMessage, IsKey, IsCounter, presenceBit, registrationSigned, registrationResponse, authenticationSigned, authenticationResponse}
-use Rattle.signing_stated.specs.Orders.{Head, Order, headOf, orderWith, Kind, Register, Authenticate, AuthenticateParts, kindNo, toSign, certificateLength, blankOrder, registerOrderOf, authenticateOrderOf, authenticateOrderFor, block, isOfLayout, registerFieldsOf, authenticateFieldsOf}
+use Rattle.signing_stated.specs.Orders.{Head, Order, headOf, orderWith, Kind, Register, Authenticate, AuthenticateParts, fieldsFor, kindNo, toSign, certificateLength, blankOrder, registerOrderOf, authenticateOrderOf, authenticateOrderFor, block, isOfLayout, registerFieldsOf, authenticateFieldsOf}
 use Rattle.signing_stated.specs.Finishing.{registerRoom, authenticateRoom, Finishing, Ended, finishOf, finishedOf, endOf, lengthOf, replyOf, roomNeeded, bodyOf}
 use Rattle.signing_stated.specs.Terms.{bytesAt, RegisterLengths, AuthenticateLengths, PartsLengths, IsWhole, IsRegisterOrder, IsAuthenticateOrder, HoldsJust, signedBytes, HoldsMessage, RegisterShaped, AuthenticateShaped, register, authenticate}
-use Rattle.signing_stated.proofs.Fit.{register-fit, authenticate-fit, register-lengths, authenticate-lengths, register-order-fit, authenticate-order-fit}
+use Rattle.signing_stated.proofs.Fit.{lengths-of, register-fit, authenticate-fit, register-lengths, authenticate-lengths, register-order-fit, authenticate-order-fit}
 use Rattle.signing_stated.proofs.Shapes.{register-shaped, authenticate-shaped, zeros-from, needed, not-of-layout, of-no-layout}
 use Rattle.signing_stated.proofs.FieldsKept.{block-front, register-to-sign-length, authenticate-to-sign-length, register-made-shape, authenticate-made-shape, register-fields-lengths, authenticate-fields-lengths, register-order-of, authenticate-order-of, found, found-in, one-byte}
 use Rattle.signing_stated.proofs.Ways.{comes-to-r7, comes-to-r4, comes-to-r2, comes-to-6f00, comes-to-r3, comes-to-body, way, told-r3, told-body, body-within}
@@ -112,24 +112,13 @@ MakesRegister =
     bytes-are : (f : RegisterFields) (c : ℕ) → RegisterLengths f → registerOrderOf f c .bytes ≡ block (registerToSign f)
     bytes-are f c l = ap (λ (o : Order). o .bytes) (register-order-fit f c l)
 
--- the fields that parts stand for
-abbrev fieldsOf : AuthenticateParts → AuthenticateFields
-fieldsOf p = record { application = p .application; presence = presenceByte (p .present); counter = bytes4 (p .counter); challenge = p .challenge }
-
-presence-small : (p : Bool) → presenceByte p ≤ 1
-presence-small true = omega arith
-presence-small false = omega arith
-
-pub lengths-of : (p : AuthenticateParts) → PartsLengths p → AuthenticateLengths (fieldsOf p)
-lengths-of p l = record { application = l .application; presence = presence-small (p .present); counter = refl; challenge = l .challenge }
-
 authenticate-unfit : (p : AuthenticateParts) → (PartsLengths p → ⊥) → authenticateOrderFor p ≡ blankOrder
 unfolding authenticateOrderOf
-authenticate-unfit p none = by-fit (isAuthenticateFit (fieldsOf p)) refl
+authenticate-unfit p none = by-fit (isAuthenticateFit (fieldsFor p)) refl
   where
-    by-fit : (t : Bool) → isAuthenticateFit (fieldsOf p) ≡ t → authenticateOrderFor p ≡ blankOrder
+    by-fit : (t : Bool) → isAuthenticateFit (fieldsFor p) ≡ t → authenticateOrderFor p ≡ blankOrder
     by-fit true fit =
-        let l = authenticate-lengths (fieldsOf p) fit in
+        let l = authenticate-lengths (fieldsFor p) fit in
         absurd (none (record { application = l .application; challenge = l .challenge }))
     by-fit false bad = rw bad
 
@@ -139,42 +128,42 @@ MakesAuthenticate =
       kind = λ p l. ap (λ (o : Order). o .kind) (fits p l);
       counts = λ p l. ap toSign (fits p l);
       certificate = λ p l. ap certificateLength (fits p l);
-      whole = λ p l. ap length (bytes-are p l) ∙ block-length (authenticateToSign (fieldsOf p));
-      application = λ p l. ap (bytesAt 0 32) (bytes-are p l) ∙ found-in (fieldsOf p) (lengths-of p l) .application;
+      whole = λ p l. ap length (bytes-are p l) ∙ block-length (authenticateToSign (fieldsFor p));
+      application = λ p l. ap (bytesAt 0 32) (bytes-are p l) ∙ found-in (fieldsFor p) (lengths-of p l) .application;
       present = λ p l is. presence-at p l ∙ ap presenceByte is;
       absent = λ p l is. presence-at p l ∙ ap presenceByte is;
       counter-1 = λ p l. ap (λ (s : List ℕ). byte s 0) (counter-at p l);
       counter-2 = λ p l. ap (λ (s : List ℕ). byte s 1) (counter-at p l);
       counter-3 = λ p l. ap (λ (s : List ℕ). byte s 2) (counter-at p l);
       counter-4 = λ p l. ap (λ (s : List ℕ). byte s 3) (counter-at p l);
-      challenge = λ p l. ap (bytesAt 37 32) (bytes-are p l) ∙ found-in (fieldsOf p) (lengths-of p l) .challenge;
+      challenge = λ p l. ap (bytesAt 37 32) (bytes-are p l) ∙ found-in (fieldsFor p) (lengths-of p l) .challenge;
       rest =
           λ p l i from.
           ap (λ (b : List ℕ). byte b i) (bytes-are p l)
-          ∙ zeros-from (block (authenticateToSign (fieldsOf p))) 69 (authenticate-made-shape (fieldsOf p) (lengths-of p l) .rest) i from;
+          ∙ zeros-from (block (authenticateToSign (fieldsFor p))) 69 (authenticate-made-shape (fieldsFor p) (lengths-of p l) .rest) i from;
       unfit = λ p none. rw (authenticate-unfit p none) BlankExactly;
     }
   where
     fits : (p : AuthenticateParts) → PartsLengths p
-        → authenticateOrderFor p ≡ record { kind = Authenticate; «to_sign» = 69; «certificate_length» = 0; bytes = block (authenticateToSign (fieldsOf p)) }
-    fits p l = authenticate-order-fit (fieldsOf p) (lengths-of p l)
+        → authenticateOrderFor p ≡ record { kind = Authenticate; «to_sign» = 69; «certificate_length» = 0; bytes = block (authenticateToSign (fieldsFor p)) }
+    fits p l = authenticate-order-fit (fieldsFor p) (lengths-of p l)
 
-    bytes-are : (p : AuthenticateParts) → PartsLengths p → authenticateOrderFor p .bytes ≡ block (authenticateToSign (fieldsOf p))
+    bytes-are : (p : AuthenticateParts) → PartsLengths p → authenticateOrderFor p .bytes ≡ block (authenticateToSign (fieldsFor p))
     bytes-are p l = ap (λ (o : Order). o .bytes) (fits p l)
 
     presence-at : (p : AuthenticateParts) → PartsLengths p → byte (authenticateOrderFor p .bytes) 32 ≡ presenceByte (p .present)
     presence-at p l =
         ap (λ (b : List ℕ). byte b 32) (bytes-are p l)
-        ∙ one-byte (block (authenticateToSign (fieldsOf p))) 32 (presenceByte (p .present)) (found-in (fieldsOf p) (lengths-of p l) .presence)
+        ∙ one-byte (block (authenticateToSign (fieldsFor p))) 32 (presenceByte (p .present)) (found-in (fieldsFor p) (lengths-of p l) .presence)
 
     counter-at : (p : AuthenticateParts) → PartsLengths p
         → byte (authenticateOrderFor p .bytes) 33 ∷ byte (authenticateOrderFor p .bytes) 34 ∷ byte (authenticateOrderFor p .bytes) 35 ∷ byte (authenticateOrderFor p .bytes) 36 ∷ []
         ≡ bytes4 (p .counter)
     counter-at p l =
-        let long : length (authenticateOrderFor p .bytes) ≡ 385 = ap length (bytes-are p l) ∙ block-length (authenticateToSign (fieldsOf p)) in
+        let long : length (authenticateOrderFor p .bytes) ≡ 385 = ap length (bytes-are p l) ∙ block-length (authenticateToSign (fieldsFor p)) in
         sym (four-at (authenticateOrderFor p .bytes) 33 (omega arith))
         ∙ ap (bytesAt 33 4) (bytes-are p l)
-        ∙ found-in (fieldsOf p) (lengths-of p l) .counter
+        ∙ found-in (fieldsFor p) (lengths-of p l) .counter
 
 pub BytesToSign : Claims.BytesToSign registerOrderOf authenticateOrderOf
 BytesToSign = (for-register, for-authenticate)
@@ -411,7 +400,7 @@ SignsFido = record { registration = registration; authentication = authenticatio
         → (counter : List ℕ) × IsCounter (p .counter) counter
         × IsMessage (authenticationSigned (p .application) (presenceBit (p .present)) counter (p .challenge)) (signedBytes (authenticateOrderFor p))
     authentication p l small =
-        let f = fieldsOf p in
+        let f = fieldsFor p in
         let ok = lengths-of p l in
         let m : IsMessage (authenticationSigned (p .application) (presenceByte (p .present)) (bytes4 (p .counter)) (p .challenge)) (signedBytes (authenticateOrderOf f)) =
         subst (IsMessage _) (sym (ap signedBytes (authenticate-order-fit f ok) ∙ block-front (authenticateToSign f) _ (authenticate-to-sign-length f ok) (omega arith))) (authentication-signed f ok) in (

@@ -100,12 +100,8 @@ pub record AuthenticateParts : Type 0 where
   pub counter : ℕ
 
 -- 01: "presence byte (01 for P1 03, 00 for 08), counter (4, big-endian)"
+abbrev pub fieldsFor : AuthenticateParts → AuthenticateFields
+fieldsFor p = record { application = p .application; presence = presenceByte (p .present); counter = bytes4 (p .counter); challenge = p .challenge }
+
 abbrev pub authenticateOrderFor : AuthenticateParts → Order
-authenticateOrderFor p =
-    authenticateOrderOf
-    (record {
-      application = p .application;
-      presence = presenceByte (p .present);
-      counter = bytes4 (p .counter);
-      challenge = p .challenge;
-    })
+authenticateOrderFor p = authenticateOrderOf (fieldsFor p)

@@ -13,7 +13,7 @@ use Rattle.u2f_up_stated.specs.Moments.{isR6}
 use Rattle.u2f_up_stated.specs.History.{Role, Touching, Checking, TouchFound, Event, Mark, sideOf, isOf, lastMoment, heldAt, heldFor, serverOf, foretold}
 use Rattle.u2f_up_stated.specs.Terms.{RefusedAt, NamesBadSide}
 use Rattle.u2f_up_stated.specs.Runs.{Caller, Keeps, after, comesTo, history}
-use Rattle.u2f_up_stated.specs.Demand.{RunOf}
+use Rattle.u2f_up_stated.specs.FreshRuns.{RunOf}
 use Rattle.u2f_up_stated.specs.Claims.{Demand3}
 use Rattle.u2f_up_stated.proofs.Cases.{r6-above}
 use Rattle.u2f_up_stated.proofs.Demand as Demand

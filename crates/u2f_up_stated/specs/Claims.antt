@@ -13,7 +13,7 @@ use Rattle.u2f_up_stated.specs.Contracts.{New, Settle, TouchCheck, Grant
 use Rattle.u2f_up_stated.specs.Runs.{Caller, after, next}
 use Rattle.u2f_up_stated.specs.OneSide.{sideless, NamesOnly, OnlySide}
 use Rattle.u2f_up_stated.specs.Terms.{BadWindow, BadSide, BadMoment, NotRefused, HasPrompt, HasTouch, SettlesFirst, LiveNumber}
-use Rattle.u2f_up_stated.specs.Demand.{RunOf}
+use Rattle.u2f_up_stated.specs.FreshRuns.{RunOf}
 
 -- ---- each call, on any record
 

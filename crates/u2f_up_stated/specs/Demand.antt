@@ -4,8 +4,7 @@ mod Words
 use Words.*
 
 -- Of any calls of type D: `asCall` says what each is, `past` is the history of the calls `ds`, newest first, `comes` what comes of one more, `OpenedAt earlier
--- m` that after the calls `earlier` the record's touch window is one opened at m, `side` the record's asker. `RunOf`, below, puts in the definitions,
--- Demands.antt C's calls.
+-- m` that after the calls `earlier` the record's touch window is one opened at m, `side` the record's asker. Demands.antt puts in C's calls.
 module _ {D : Type 0} (w : ℕ) (asCall : D → Call) (ds : List D) (past : List Event) (comes : D → Came) (OpenedAt : (earlier : List D) (m : ℕ) → Type 0) (side : ℕ) where
   abbrev moment : D → ℕ
   moment d = asCall d .moment
@@ -46,8 +45,3 @@ module _ {D : Type 0} (w : ℕ) (asCall : D → Call) (ds : List D) (past : List
     pub two-sides : length (accepted w past) ≡ length (those (isOf 0) (accepted w past)) + length (those (isOf 1) (accepted w past))
     pub totals : length (accepted w past) ≡ spenders past + length (lapsed w past) + length (heldAt w past (lastMoment past))
     pub one-held : length (heldAt w past (lastMoment past)) ≤ 1
-
--- the run of the calls `ds` on a fresh record with touch window `w`, by the definitions
-abbrev pub RunOf : {D : Type 0} → Caller D → (w : ℕ) → List D → Type 0
-RunOf {D} 𝒞 w ds =
-    RunMeets w (𝒞 .asCall) ds (history 𝒞 w ds) (comesTo 𝒞 w ds) (λ earlier m. after 𝒞 w earlier .touch ≡ Opened m) (after 𝒞 w ds .asker)

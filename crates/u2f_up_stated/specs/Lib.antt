@@ -11,5 +11,6 @@ pub mod Runs
 pub mod OneSide
 pub mod Terms
 pub mod Demand
+pub mod FreshRuns
 pub mod Claims
 pub mod Wrong
