@@ -1,4 +1,4 @@
--- NO SIGNATURE CAN BE CARRIED OVER: document 02, E11, of orders out of `brinecandle_decide`, on any two inputs
+-- NO SIGNATURE CAN BE CARRIED OVER: document 02, E11, of orders out of `brinecandle_decide`, on any two inputs. Terms first
 mod Words
 use Words.*
 
@@ -31,7 +31,7 @@ module _ (P : Panel) where
         counter = hardwareIn (i .hardware) .counter;
       }
 
--- the same bytes to sign are of one kind, and of the same fields
+-- "no Register and Authenticate order have the same bytes to sign, and two of one kind with equal bytes have every field inside them equal"
 pub record NoneCarriesOver (P : Panel) : Type 0 where
   pub apart : (i j : ToDecide) → Orders P 1 i → Orders P 2 j → signed P i ≡ signed P j → ⊥
   pub enrolments : (i j : ToDecide) → Orders P 1 i → Orders P 1 j → signed P i ≡ signed P j → enrolment P (i .frame) i ≡ enrolment P (j .frame) j
