@@ -11,7 +11,7 @@ use Rattle.outcome.specs.Outcome.{Gives}
 use Rattle.octets.proofs.Laws.{part-within}
 use Rattle.octets.specs.Bytes.{partOf}
 use Rattle.apdu_stated.specs.Answers.{Says}
-use Rattle.command_stated.specs.Command.{Register, Authenticate, commandOf, applicationOf, challengeOf}
+use Rattle.command_stated.specs.Command.{Command, commandOf, applicationOf, challengeOf}
 use Rattle.command_stated.proofs.Laws.{CutAtPlaces}
 use Rattle.signing_stated.specs.Replies.{bytesAt}
 use Rattle.signing_stated.specs.Layouts.{RegisterFields}
@@ -50,27 +50,16 @@ deciding frame i =
     inputsFrom (i .side) frame (hardwareOf (hardwareIn (i .hardware))) (enrolmentOf (i .newHandle) (i .certificate) (i .x) (i .y)) (length (i .reply)) (remainderIn (i .session)) (length (i .part))
 
 module _ (P : Panel) (M : Meets P) where
-  -- a command's parts, by the places that are said of it
-  module _ (frame : List ℕ) (said : Says) where
-    register-application : commandOf frame ≡ Gives (Register said) → bytesAt (P .read-command frame .application) 32 frame ≡ applicationOf frame said
-    register-application c =
-        let x = CutAtPlaces .register-within frame said c in
-        field frame _ _ _ _ (ap (λ (r : CommandSaid). r .application) (M .read-command frame ∙ ap commandNumbers c)) (omega arith) (x .2) (CutAtPlaces .application-cut frame said)
+  -- a command's application and challenge, by the places that are said of it
+  parts : (frame : List ℕ) (said : Says) → P .read-command frame .application ≡ said .dataAt + 32 → P .read-command frame .challenge ≡ said .dataAt → said .dataAt + 64 ≤ length frame
+      → (bytesAt (P .read-command frame .application) 32 frame ≡ applicationOf frame said) × (bytesAt (P .read-command frame .challenge) 32 frame ≡ challengeOf frame said)
+  parts frame said a d within = (
+    field frame _ _ _ _ a (omega arith) within (CutAtPlaces .application-cut frame said),
+    field frame _ _ _ _ d refl (omega arith) (CutAtPlaces .challenge-cut frame said),
+  )
 
-    register-challenge : commandOf frame ≡ Gives (Register said) → bytesAt (P .read-command frame .challenge) 32 frame ≡ challengeOf frame said
-    register-challenge c =
-        let x = CutAtPlaces .register-within frame said c in
-        field frame _ _ _ _ (ap (λ (r : CommandSaid). r .challenge) (M .read-command frame ∙ ap commandNumbers c)) refl (omega (arith, x .1, x .2)) (CutAtPlaces .challenge-cut frame said)
-
-    login-application : (p1 : ℕ) → commandOf frame ≡ Gives (Authenticate p1 said) → bytesAt (P .read-command frame .application) 32 frame ≡ applicationOf frame said
-    login-application p1 c =
-        let x = CutAtPlaces .authenticate-within frame p1 said c in
-        field frame _ _ _ _ (ap (λ (r : CommandSaid). r .application) (M .read-command frame ∙ ap commandNumbers c)) (omega arith) (omega (arith, x .2, x .3, x .4)) (CutAtPlaces .application-cut frame said)
-
-    login-challenge : (p1 : ℕ) → commandOf frame ≡ Gives (Authenticate p1 said) → bytesAt (P .read-command frame .challenge) 32 frame ≡ challengeOf frame said
-    login-challenge p1 c =
-        let x = CutAtPlaces .authenticate-within frame p1 said c in
-        field frame _ _ _ _ (ap (λ (r : CommandSaid). r .challenge) (M .read-command frame ∙ ap commandNumbers c)) refl (omega (arith, x .1, x .2, x .3, x .4)) (CutAtPlaces .challenge-cut frame said)
+  reads : (frame : List ℕ) (c : Command) → commandOf frame ≡ Gives c → P .read-command frame ≡ commandNumbers (Gives c)
+  reads frame c e = M .read-command frame ∙ ap commandNumbers e
 
   -- what the signer sees of an order, by the fields of its input
   data Signs (frame : List ℕ) (i : ToDecide) (s : List ℕ) : (kind : ℕ) → Type 0 where
@@ -80,16 +69,18 @@ module _ (P : Panel) (M : Meets P) where
   -- of an order that is made of what is lent, whichever frame is decided
   signs-made : (frame : List ℕ) (i : ToDecide) (s : List ℕ) (k l : ℕ) (o : Order) → MadeOf (deciding frame i) k o → l ≡ k → s ≡ signedBytes o → Signs frame i s l
   signs-made frame i s _ l _ (of-enrolment said c lengths) e is =
-      let a = register-application frame said c in
-      let d = register-challenge frame said c in
+      let r = reads frame _ c in
+      let within = CutAtPlaces .register-within frame said c in
+      let (a, d) = parts frame said (ap (λ (r : CommandSaid). r .application) r) (ap (λ (r : CommandSaid). r .challenge) r) (within .2) in
       rw e (enrols (enrolmentIn (deciding frame i) said) _ lengths (λ j. record { application = a j; challenge = d j; handle = i .newHandle; x = i .x; y = i .y }) is)
   signs-made frame i s _ l _ (of-login p1 n said c counter lengths) e is =
-      let a = login-application frame said p1 c in
-      let d = login-challenge frame said p1 c in
-      let p = ap (λ (r : CommandSaid). eqb (r .p1) 0x03) (M .read-command frame ∙ ap commandNumbers c) in
+      let r = reads frame _ c in
+      let within = CutAtPlaces .authenticate-within frame p1 said c in
+      let (a, d) = parts frame said (ap (λ (r : CommandSaid). r .application) r) (ap (λ (r : CommandSaid). r .challenge) r) (omega (arith, within .2, within .3, within .4)) in
+      let present = ap (λ (r : CommandSaid). eqb (r .p1) 0x03) r in
       let h = hardwareIn (i .hardware) in
-      let m = offered (eqb (h .counted) 1) (h .counter) n counter in
-      rw e (logs (loginIn (deciding frame i) said p1 n) lengths (λ j. record { application = a j; challenge = d j; present = p j; counter = m j }) is)
+      let number = offered (eqb (h .counted) 1) (h .counter) n counter in
+      rw e (logs (loginIn (deciding frame i) said p1 n) lengths (λ j. record { application = a j; challenge = d j; present = present j; counter = number j }) is)
 
   signs : (k : ℕ) (i : ToDecide) → Orders P k i → Signs (i .frame) i (signed P i) k
   signs k i (ordered, kind, x, y) =
