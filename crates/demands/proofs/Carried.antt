@@ -1,6 +1,6 @@
 -- No signature can be carried over: of a panel that meets its contracts, by what its orders are made of (ctap1_stated's `made-of`) and the layouts (signing_stated).
-use Prim.Native.Nat.{ℕ, _+_, _-_, _≤_}
-use mathlib.Core.Path.{_≡_, refl, ap, ap₂, sym, _∙_}
+use Prim.Native.Nat.{ℕ, _+_, _-_, _<_, _≤_}
+use mathlib.Core.Path.{_≡_, refl, ap, ap₂, sym, subst, _∙_}
 use mathlib.Core.Bool.{Bool, true, false}
 use mathlib.Core.List.{List}
 use native.Mathlib.Omega.{arith}
@@ -17,7 +17,7 @@ use Rattle.signing_stated.specs.Replies.{bytesAt}
 use Rattle.signing_stated.specs.Layouts.{RegisterFields}
 use Rattle.signing_stated.specs.Words.{Order}
 use Rattle.signing_stated.specs.Orders.{AuthenticateParts, registerOrderOf, authenticateOrderFor}
-use Rattle.signing_stated.specs.Terms.{RegisterLengths, PartsLengths, signedBytes}
+use Rattle.signing_stated.specs.Terms.{RegisterLengths, PartsLengths, signedBytes, IsEnrolment, IsLogin}
 use Rattle.signing_stated.proofs.Theorems as Signing
 use Rattle.u2f_up_stated.specs.Numbers.{presenceIn}
 use Rattle.ctap1_stated.specs.Words.{Inputs, inputsFrom, enrolmentOf}
@@ -31,6 +31,7 @@ use Rattle.panel_stated.specs.declared.OrderNumbers.{OrderNumbers}
 use Rattle.panel_stated.specs.Exports.{ToDecide, commandNumbers}
 use Rattle.demands.specs.Panel.{Panel, Meets}
 use Rattle.demands.specs.Carried.{Orders, signed, enrolment, login, NoneCarriesOver}
+use Rattle.demands.specs.Answers.{SignsLent}
 use Rattle.demands.proofs.Answers.{order-given, order-numbers, order-block}
 
 -- 32 bytes of a frame, from a place that is said
@@ -111,3 +112,17 @@ module _ (P : Panel) (M : Meets P) where
     enrolments = λ i j a b e. same-enrolment 1 1 refl refl (signs 1 i a) (signs 1 j b) e;
     logins = λ i j a b e. same-login 2 2 refl refl (signs 2 i a) (signs 2 j b) e;
   }
+
+  -- ---- and each is FIDO's message of what was lent
+  is-enrolment : {f : List ℕ} {i : ToDecide} {s : List ℕ} (k : ℕ) → k ≡ 1 → Signs f i s k → IsEnrolment (enrolment P f i) s
+  is-enrolment {s = s} _ k (enrols f c m e is) = subst (λ (g : RegisterFields). IsEnrolment g s) (sym e) (subst (IsEnrolment f) (sym is) (Signing.SignsFido .registration f c m))
+  is-enrolment _ k (logs p n d are) = absurd (omega arith)
+
+  is-login : {f : List ℕ} {i : ToDecide} {s : List ℕ} (k : ℕ) → k ≡ 2 → hardwareIn (i .hardware) .counter < 0x100000000 → Signs f i s k → IsLogin (login P f i) s
+  is-login {s = s} _ k low (logs p m e is) =
+      let small : p .counter < 0x100000000 = omega (arith, low, ap (λ (q : AuthenticateParts). q .counter) e) in
+      subst (λ (q : AuthenticateParts). IsLogin q s) (sym e) (subst (IsLogin p) (sym is) (Signing.SignsFido .authentication p m small))
+  is-login _ k low (enrols f c m e is) = absurd (omega arith)
+
+  pub signs-lent : SignsLent P
+  signs-lent = record { enrolments = λ i a. is-enrolment 1 refl (signs 1 i a); logins = λ i a low. is-login 2 refl low (signs 2 i a) }

@@ -15,7 +15,7 @@ use Rattle.panel_stated.specs.declared.DecisionSaid.{DecisionSaid}
 use Rattle.panel_stated.specs.Exports.{ToDecide}
 use Rattle.demands.specs.Panel.{Panel, Meets}
 use Rattle.demands.specs.Carried.{Orders, signed}
-use Rattle.demands.specs.NotRuledOut.{posing, posedAs, handleless, goingOn, NotRuledOut}
+use Rattle.demands.specs.NotRuledOut.{posing, posedAs, handleless, goingOn, NotRuledOut, OtherBytes}
 use Rattle.demands.specs.Wrong as Wrong
 
 -- on the definitions
@@ -52,7 +52,7 @@ module _ (P : Panel) (M : Meets P) where
     any-handle = λ n m. same (posedAs n) ∙ defined .any-handle n m ∙ sym (same (posedAs m));
   }
 
--- with the key left out, an enrolment and a login have the same bytes to sign
-pub without-key : signed Wrong.keyLeftOut (posing 0) ≡ signed Wrong.keyLeftOut (posedAs 0)
+-- ---- with other bytes
+pub other-bytes : OtherBytes Wrong.keyLeftOut Wrong.blockSigned
 unfolding decisionOf pathOf allowedPath commandPath registerPath registerEnding enrolmentOrder registerOrderOf loginPath countedEnding authenticateOrderOf block partOf dataOf commandOf onReading byInstruction registerOf authenticateOf challengeOf applicationOf readBy sayOf lengthsOf shortOf extendedOf afterData allowedOf attestationOf settleOf checkedOf
-without-key = refl
+other-bytes = record { without-key = refl; whole-block = refl }

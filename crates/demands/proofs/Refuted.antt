@@ -40,8 +40,10 @@ use Rattle.demands.specs.Panel.{Meets}
 use Rattle.demands.specs.Calls.{Lent, Touch, Check, Ask, Decide, on, recordAfter, cameNext, historyOf}
 use Rattle.demands.specs.Sessions.{none as no-more, also, fetched, leftAfter}
 use Rattle.demands.specs.Demands.{Demands}
-use Rattle.demands.specs.NotRuledOut.{lend, enrol, posing, posedAs}
-use Rattle.demands.proofs.Examples.{without-key}
+use Rattle.demands.specs.Carried.{NoneCarriesOver}
+use Rattle.demands.specs.Answers.{SignsLent}
+use Rattle.demands.specs.NotRuledOut.{lend, enrol, posing, posedAs, handleless, unhandled, handled}
+use Rattle.demands.proofs.Examples.{other-bytes}
 use Rattle.demands.specs.Wrong as Wrong
 
 pub meets : Meets Wrong.defined
@@ -382,41 +384,46 @@ dropsAtC0 d = Exports.dropsAtC0 (d .answers .decides)
 
 -- ---- what is signed
 -- without the key, an enrolment's 69 bytes are a login's
-pub keyLeftOut : Demands Wrong.keyLeftOut → ⊥
+pub keyLeftOut : NoneCarriesOver Wrong.keyLeftOut → ⊥
 unfolding decisionOf pathOf allowedPath commandPath registerPath registerEnding enrolmentOrder registerOrderOf loginPath countedEnding authenticateOrderOf block partOf dataOf commandOf onReading byInstruction registerOf authenticateOf challengeOf applicationOf readBy sayOf lengthsOf shortOf extendedOf afterData allowedOf attestationOf settleOf checkedOf
-keyLeftOut d = d .carried .apart (posing 0) (posedAs 0) (refl, refl, refl, refl) (refl, refl, refl, refl) without-key
+keyLeftOut d = d .apart (posing 0) (posedAs 0) (refl, refl, refl, refl) (refl, refl, refl, refl) (other-bytes .without-key)
 
 -- new handles that differ in their last byte
-pub handleCut : Demands Wrong.handleCut → ⊥
+pub handleCut : NoneCarriesOver Wrong.handleCut → ⊥
 unfolding decisionOf pathOf allowedPath commandPath registerPath registerEnding enrolmentOrder registerOrderOf block partOf dataOf commandOf onReading byInstruction registerOf challengeOf applicationOf readBy sayOf lengthsOf shortOf extendedOf afterData allowedOf attestationOf settleOf checkedOf
 handleCut d =
     let with : ℕ → ToDecide = λ n. enrol (replicate 32 0xA1) (replicate 32 0xC1) (0xB1 ∷ n ∷ []) [] (replicate 32 0xD1) (replicate 32 0xE1) in
-    let e : _≡_ {A = ℕ} 1 2 = ap (λ (f : RegisterFields). byte (f .handle) 1) (d .carried .enrolments (with 1) (with 2) (refl, refl, refl, refl) (refl, refl, refl, refl) refl) in
+    let e : _≡_ {A = ℕ} 1 2 = ap (λ (f : RegisterFields). byte (f .handle) 1) (d .enrolments (with 1) (with 2) (refl, refl, refl, refl) (refl, refl, refl, refl) refl) in
     omega arith
 
--- a key of 04s whose y ends in 00, behind no handle; and the same bytes as a handle of one byte and a key
-pub blockSigned : Demands Wrong.blockSigned → ⊥
+-- a handle of no bytes, and one of one
+pub blockSigned : NoneCarriesOver Wrong.blockSigned → ⊥
 unfolding decisionOf pathOf allowedPath commandPath registerPath registerEnding enrolmentOrder registerOrderOf block partOf dataOf commandOf onReading byInstruction registerOf challengeOf applicationOf readBy sayOf lengthsOf shortOf extendedOf afterData allowedOf attestationOf settleOf checkedOf
 blockSigned d =
-    let with : (handle y : List ℕ) → ToDecide = λ handle y. enrol (replicate 32 0xA1) (replicate 32 0xC1) handle [] (replicate 32 0x04) y in
     let e : _≡_ {A = ℕ} 0 1 =
-    ap (λ (f : RegisterFields). length (f .handle))
-    (d .carried .enrolments (with [] (replicate 32 0x04)) (with (0x04 ∷ []) (replicate 31 0x04 ++ 0x00 ∷ [])) (refl, refl, refl, refl) (refl, refl, refl, refl) refl) in
+    ap (λ (f : RegisterFields). length (f .handle)) (d .enrolments unhandled handled (refl, refl, refl, refl) (refl, refl, refl, refl) (other-bytes .whole-block)) in
     omega arith
 
 -- a login for which somebody was there, and the same with P1 08
-pub presenceLeftOut : Demands Wrong.presenceLeftOut → ⊥
+pub presenceLeftOut : NoneCarriesOver Wrong.presenceLeftOut → ⊥
 unfolding decisionOf pathOf allowedPath commandPath registerPath registerEnding enrolmentOrder registerOrderOf loginPath countedEnding authenticateOrderOf block partOf dataOf commandOf onReading byInstruction registerOf authenticateOf challengeOf applicationOf readBy sayOf lengthsOf shortOf extendedOf afterData allowedOf attestationOf settleOf checkedOf
 presenceLeftOut d =
     let with : ℕ → ToDecide = λ p1. lend (0x00 ∷ 0x02 ∷ p1 ∷ 0x00 ∷ 65 ∷ replicate 65 0) 7 [] [] (replicate 32 0) (replicate 32 0) in
-    false≢true (ap (λ (p : AuthenticateParts). p .present) (d .carried .logins (with 0x08) (with 0x03) (refl, refl, refl, refl) (refl, refl, refl, refl) refl))
+    false≢true (ap (λ (p : AuthenticateParts). p .present) (d .logins (with 0x08) (with 0x03) (refl, refl, refl, refl) (refl, refl, refl, refl) refl))
 
 -- counters 1 and 1 + 2^24
-pub counterCut : Demands Wrong.counterCut → ⊥
+pub counterCut : NoneCarriesOver Wrong.counterCut → ⊥
 unfolding decisionOf pathOf allowedPath commandPath registerPath registerEnding enrolmentOrder registerOrderOf loginPath countedEnding authenticateOrderOf block partOf dataOf commandOf onReading byInstruction registerOf authenticateOf challengeOf applicationOf readBy sayOf lengthsOf shortOf extendedOf afterData allowedOf attestationOf settleOf checkedOf
 counterCut d =
     let with : ℕ → ToDecide = λ n. lend (0x00 ∷ 0x02 ∷ 0x08 ∷ 0x00 ∷ 65 ∷ replicate 65 0) n [] [] (replicate 32 0) (replicate 32 0) in
-    let e : _≡_ {A = ℕ} 1 0x1000001 = ap (λ (p : AuthenticateParts). p .counter) (d .carried .logins (with 1) (with 0x1000001) (refl, refl, refl, refl) (refl, refl, refl, refl) refl) in
+    let e : _≡_ {A = ℕ} 1 0x1000001 = ap (λ (p : AuthenticateParts). p .counter) (d .logins (with 1) (with 0x1000001) (refl, refl, refl, refl) (refl, refl, refl, refl) refl) in
+    omega arith
+
+-- application and challenge differ, and each stands where the other should
+pub fieldsExchanged : SignsLent Wrong.fieldsExchanged → ⊥
+unfolding decisionOf pathOf allowedPath commandPath registerPath registerEnding enrolmentOrder registerOrderOf block partOf dataOf commandOf onReading byInstruction registerOf challengeOf applicationOf readBy sayOf lengthsOf shortOf extendedOf afterData allowedOf attestationOf settleOf checkedOf
+fieldsExchanged d =
+    let e : _≡_ {A = ℕ} 0xC1 0xA1 = ap (λ (s : List ℕ). byte s 1) (d .enrolments handleless (refl, refl, refl, refl) .2 .are) in
     omega arith
 
 -- on a lent record whose prompt is live, a touch opens nothing

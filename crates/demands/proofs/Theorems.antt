@@ -35,7 +35,7 @@ use Rattle.demands.proofs.Fetched.{so-far, takes, enough}
 use Rattle.demands.proofs.Reached.{reached}
 use Rattle.demands.proofs.Answers.{commands, responses, finishing, finishes, presences, sides, keeps}
 use Rattle.demands.proofs.Lost.{none-lost}
-use Rattle.demands.proofs.Carried.{none-carries-over}
+use Rattle.demands.proofs.Carried.{none-carries-over, signs-lent}
 use Rattle.demands.proofs.Runs.{asPanel, allAs, all-append, all-length, there, record-in, came-same, call-same, history-same}
 
 -- a window's number, opened
@@ -159,6 +159,7 @@ OnTop P M = record {
     writes-strictly = Panel′.ContractsAsClaimed .write-strict (P .write-strict) (M .write-strict);
     commands = commands P M;
     decides = Panel′.ContractsAsClaimed .decide (P .decide) (M .decide);
+    signs = signs-lent P M;
     finishes = finishing P M;
     responds = Panel′.ContractsAsClaimed .write-response (P .write-response) (M .write-response);
     responses = responses P M;

@@ -11,7 +11,7 @@ module _ (P : Panel) where
   abbrev pub signed : ToDecide → List ℕ
   signed i = take (P .decide i .said .order .«to_sign») (P .decide i .block)
 
-  -- its fields, as lent; two stand in the frame where `brinecandle_read_command` says
+  -- its fields, as lent; two stand in the frame that is decided, where `brinecandle_read_command` says
   abbrev pub enrolment : (frame : List ℕ) → ToDecide → RegisterFields
   enrolment frame i =
       record {

@@ -1,5 +1,5 @@
 -- ONE THEOREM ON TOP, `OnTop`, of any panel P, that is any seventeen functions that C could link (Panel.antt): if each meets the contract of its export at every input,
--- then over any calls that C makes (Calls.antt, Sessions.antt) P meets the demands, last in this file. A history's words (Mark, heldAt, serverOf) are History.antt's.
+-- then over any calls that C makes (Calls.antt, Sessions.antt) P meets the demands, last in this file. A history's words (Mark, heldAt, serverOf) are History.antt's. Calls: NEWEST FIRST.
 mod Words
 use Words.*
 

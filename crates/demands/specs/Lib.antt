@@ -1,8 +1,8 @@
 pub mod Panel
 pub mod Calls
 pub mod Sessions
-pub mod Answers
 pub mod Carried
+pub mod Answers
 pub mod NotRuledOut
 pub mod Demands
 pub mod Wrong

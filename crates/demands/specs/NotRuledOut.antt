@@ -45,6 +45,13 @@ handleless = enrol (replicate 32 0xA1) (replicate 32 0xC1) [] [] (replicate 32 0
 abbrev pub goingOn : ToDecide
 goingOn = enrol (replicate 32 0xA1) (replicate 32 0xC1) (0x04 ∷ [] ++ replicate 32 0xD1 ++ replicate 32 0xE1) [] (replicate 32 0xD2) (replicate 32 0xE2)
 
+-- a handle of no bytes and one of one, before keys of 04s: the same block, since the second key's y ends in 00 where the first order has its zeros
+abbrev pub unhandled : ToDecide
+unhandled = enrol (replicate 32 0xA1) (replicate 32 0xC1) [] [] (replicate 32 0x04) (replicate 32 0x04)
+
+abbrev pub handled : ToDecide
+handled = enrol (replicate 32 0xA1) (replicate 32 0xC1) (0x04 ∷ []) [] (replicate 32 0x04) (replicate 31 0x04 ++ 0x00 ∷ [])
+
 pub record NotRuledOut (P : Panel) : Type 0 where
   -- they are orders
   pub enrols : (n : ℕ) → Orders P 1 (posing n)
@@ -57,3 +64,8 @@ pub record NotRuledOut (P : Panel) : Type 0 where
   -- the certificate stands outside the bytes, and so does a login's handle, which chooses the key
   pub any-certificate : (n m : ℕ) → signed P (posing n) ≡ signed P (posing m)
   pub any-handle : (n m : ℕ) → signed P (posedAs n) ≡ signed P (posedAs m)
+
+-- What fewer fields, or more bytes, would come to, of the panels of those names in Wrong.antt: an enrolment with a login's bytes; an enrolment with another's
+pub record OtherBytes (keyLeftOut blockSigned : Panel) : Type 0 where
+  pub without-key : signed keyLeftOut (posing 0) ≡ signed keyLeftOut (posedAs 0)
+  pub whole-block : signed blockSigned unhandled ≡ signed blockSigned handled

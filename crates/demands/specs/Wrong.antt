@@ -292,18 +292,24 @@ signing kind change d =
 abbrev pub keyLeftOut : Panel
 keyLeftOut = panelWith makesOf touchesOf checksOf asksOf (λ i. signing 1 (λ s. take (length s - 65) s) (decidesOf i)) rightFinish
 
--- the handle's last byte is
+-- its handle's last byte is left out
 abbrev pub handleCut : Panel
 handleCut =
     panelWith makesOf touchesOf checksOf asksOf (λ i. signing 1 (λ s. if eqb (length s) 130 then s else take (length s - 66) s ++ drop (length s - 65) s) (decidesOf i)) rightFinish
 
--- the presence byte is left out of an Authenticate's, and the counter's first byte is
+-- the presence byte is left out of an Authenticate's
 abbrev pub presenceLeftOut : Panel
 presenceLeftOut = panelWith makesOf touchesOf checksOf asksOf (λ i. signing 2 (λ s. take 32 s ++ drop 33 s) (decidesOf i)) rightFinish
 
+-- its counter's first byte is left out
 abbrev pub counterCut : Panel
 counterCut = panelWith makesOf touchesOf checksOf asksOf (λ i. signing 2 (λ s. take 33 s ++ drop 34 s) (decidesOf i)) rightFinish
 
 -- the whole block is signed, with the zeros behind a Register's bytes
 abbrev pub blockSigned : Panel
 blockSigned = panelWith makesOf touchesOf checksOf asksOf (λ i. signing 1 (λ s. laid s (replicate 385 0)) (decidesOf i)) rightFinish
+
+-- application and challenge change places in a Register's bytes
+abbrev pub fieldsExchanged : Panel
+fieldsExchanged =
+    panelWith makesOf touchesOf checksOf asksOf (λ i. signing 1 (λ s. take 1 s ++ take 32 (drop 33 s) ++ take 32 (drop 1 s) ++ drop 65 s) (decidesOf i)) rightFinish

@@ -7,7 +7,7 @@ pub mod Messages
 pub mod Numbers
 pub mod Spelled
 pub mod Made
-pub mod Carried
+pub mod Told
 pub mod Theorems
 pub mod Only
 pub mod Refuted

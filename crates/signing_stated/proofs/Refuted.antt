@@ -110,12 +110,12 @@ counterLittleEndian p = let e : _≡_ {A = ℕ} 1 0 = p .counter-1 parts parts-f
 abbrev handled : RegisterFields
 handled = record { application = replicate 32 1; challenge = replicate 32 2; handle = replicate 4 2; x = replicate 32 0; y = replicate 32 3 }
 
-abbrev posing : AuthenticateParts
-posing = record { application = 0 ∷ replicate 31 1; challenge = replicate 32 2; present = true; counter = 0x02020202 }
+abbrev posedAs : AuthenticateParts
+posedAs = record { application = 0 ∷ replicate 31 1; challenge = replicate 32 2; present = true; counter = 0x02020202 }
 
 pub keyLeftOut : Claims.NoneCarriesOver Wrong.keyLeftOut authenticateOrderFor → ⊥
 unfolding authenticateOrderOf block
-keyLeftOut p = p .apart handled 0 posing (record { application = refl; challenge = refl; handle = omega arith; x = refl; y = refl }) (record { application = refl; challenge = refl }) refl
+keyLeftOut p = p .apart handled 0 posedAs (record { application = refl; challenge = refl; handle = omega arith; x = refl; y = refl }) (record { application = refl; challenge = refl }) refl
 
 -- handles that differ in their last byte
 pub handleCut : Claims.NoneCarriesOver Wrong.handleCut authenticateOrderFor → ⊥
@@ -146,6 +146,17 @@ unfolding block
 frontWithoutMarker p =
     let e : _≡_ {A = ℕ} 130 129 = ap length (p .enrolment enrolled 0 0 (replicate 32 0) (replicate 32 0) fits (omega arith) refl refl) in
     omega arith
+
+-- with the challenge first, the front is a login's where the challenge ends in 01, whatever the application ends in
+pub frontOfChallenge : Claims.NotRuledOut Wrong.registerChallengeFirst authenticateOrderOf → ⊥
+unfolding registerOrderOf authenticateOrderOf block
+frontOfChallenge p =
+    let f : RegisterFields = record { application = replicate 32 2; challenge = replicate 32 1; handle = replicate 4 2; x = replicate 32 0; y = replicate 32 3 } in
+    let g : AuthenticateFields = record { application = 0 ∷ replicate 31 1; presence = 1; counter = replicate 4 2; challenge = replicate 32 2 } in
+    let low =
+    p .login f 0 (record { application = refl; challenge = refl; handle = omega arith; x = refl; y = refl }) .0
+    (g, record { application = refl; presence = omega arith; counter = refl; challenge = refl }, refl) in
+    omega (arith, low)
 
 pub readsChallengeFirst : Claims.FieldsKept Wrong.readsChallengeFirst authenticateFieldsOf → ⊥
 unfolding registerOrderOf block

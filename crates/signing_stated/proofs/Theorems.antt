@@ -25,7 +25,7 @@ use Rattle.signing_stated.proofs.FieldsKept.{block-front, register-to-s
 use Rattle.signing_stated.proofs.Ways.{comes-to-r7, comes-to-r4, comes-to-r2, comes-to-6f00, comes-to-r3, comes-to-body, way, told-r3, told-body, body-within}
 use Rattle.signing_stated.proofs.Messages.{key-is, is-key, counter-is, presence-same, bit-small, registration-signed, registered-order, registration-response, authentication-signed, signed-order, authentication-response}
 use Rattle.signing_stated.proofs.Numbers.{kind-one-to-one, finished-one-to-one}
-use Rattle.signing_stated.proofs.Carried.{orders-apart, enrolments-told, logins-told, front-of-login, front-of-enrolment}
+use Rattle.signing_stated.proofs.Told.{orders-apart, enrolments-told, logins-told, front-of-login, front-of-enrolment}
 use Rattle.signing_stated.proofs.Spelled.{four-at, register-spelled, authenticate-spelled}
 use Rattle.signing_stated.proofs.Made
 use Rattle.signing_stated.proofs.Made.{made-of-layout, blank-refused, room-of-made, fields-kept}

@@ -13,11 +13,11 @@ use Rattle.outcome.specs.declared.Refusal.{Refusal}
 use Rattle.outcome.specs.declared.ApduStatusCode.{ApduStatusCode}
 use Rattle.octets.specs.Bytes.{byte}
 use Rattle.signing_stated.specs.Layouts.{RegisterFields, AuthenticateFields, registerToSign, authenticateToSign, isRegisterFit, isAuthenticateFit}
-use Rattle.signing_stated.specs.Fido.{IsMessage, IsKey, IsCounter, presenceBit, registrationSigned, registrationResponse, authenticationSigned, authenticationResponse}
+use Rattle.signing_stated.specs.Fido.{IsMessage, IsKey, presenceBit, registrationSigned, registrationResponse, authenticationSigned, authenticationResponse}
 use Rattle.signing_stated.specs.Orders.{Kind, Register, Authenticate, Head, Order, headOf, orderWith, AuthenticateParts, toSign, certificateLength, registerOrderOf, authenticateOrderOf}
 use Rattle.signing_stated.specs.Finishing.{Finishing, Finished, Refused, Status, Body, finishedOf, Ended}
 use Rattle.signing_stated.specs.Contracts.{KindNumber, Blank, RegisterOrder, AuthenticateOrder, HasLayout, HasRegisterRoom, HasAuthenticateRoom, Finish}
-use Rattle.signing_stated.specs.Terms.{bytesAt, RegisterLengths, AuthenticateLengths, PartsLengths, IsWhole, IsBlank, IsRegisterOrder, IsAuthenticateOrder, HoldsJust, signedBytes, longer, HoldsMessage, RegisterShaped, AuthenticateShaped, NeedsRoom, OfLayout, keeping}
+use Rattle.signing_stated.specs.Terms.{bytesAt, RegisterLengths, AuthenticateLengths, PartsLengths, IsWhole, IsBlank, IsRegisterOrder, IsAuthenticateOrder, HoldsJust, signedBytes, longer, IsEnrolment, IsLogin, HoldsMessage, RegisterShaped, AuthenticateShaped, NeedsRoom, OfLayout, keeping}
 pub use Rattle.signing_stated.specs.Replies.{FinishesExactly}
 
 -- ---- numbers and results
@@ -137,7 +137,8 @@ pub record NoneCarriesOver (register : RegisterFields → ℕ → Order) (authen
 
 -- What that does not rule out, since it speaks of all the bytes to sign: the front of an order's may be another's. The first 69 of a Register order's are an
 -- Authenticate order's exactly where the application ends in 00 or 01; and with a handle that goes on with the key of another Register order, they begin with all of
--- that one's. Orders with the 04 left out (`dropsMarker`) fail the second.
+-- that one's. Orders with the challenge first (`registerChallengeFirst`) fail
+-- the first, with the 04 left out (`dropsMarker`) the second.
 pub record NotRuledOut (register : RegisterFields → ℕ → Order) (authenticate : AuthenticateFields → Order) : Type 0 where
   pub login : (f : RegisterFields) (c : ℕ) → RegisterLengths f
       → ((p : AuthenticateFields) × AuthenticateLengths p × (take 69 (signedBytes (register f c)) ≡ signedBytes (authenticate p))) ↔ (byte (f .application) 31 ≤ 1)
@@ -186,11 +187,8 @@ MadeOrderKept finish =
 -- What is signed is FIDO's message, field by field: of the lengths that it has, and nothing else. An order with the challenge first (`registerChallengeFirst`)
 -- fails it, and one whose presence byte is always 01 (`presenceAlways01`).
 pub record SignsFido (register : RegisterFields → ℕ → Order) (authenticate : AuthenticateParts → Order) : Type 0 where
-  pub registration : (f : RegisterFields) (c : ℕ) → RegisterLengths f
-      → (key : List ℕ) × IsKey (f .x) (f .y) key × IsMessage (registrationSigned (f .application) (f .challenge) (f .handle) key) (signedBytes (register f c))
-  pub authentication : (p : AuthenticateParts) → PartsLengths p → p .counter < 0x100000000
-      → (counter : List ℕ) × IsCounter (p .counter) counter
-      × IsMessage (authenticationSigned (p .application) (presenceBit (p .present)) counter (p .challenge)) (signedBytes (authenticate p))
+  pub registration : (f : RegisterFields) (c : ℕ) → RegisterLengths f → IsEnrolment f (signedBytes (register f c))
+  pub authentication : (p : AuthenticateParts) → PartsLengths p → p .counter < 0x100000000 → IsLogin p (signedBytes (authenticate p))
 
 -- An order that holds FIDO's bytes to sign comes back as FIDO's response message: with the key and the handle that were signed, or the presence byte and the
 -- counter, and with the certificate and the signature that were lent. 01: "Bodies, status 9000: ..". A finisher that sends the challenge for the handle

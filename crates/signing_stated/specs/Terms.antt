@@ -6,7 +6,7 @@ use mathlib.Core.Path.{_≡_}
 use mathlib.Core.List.{List, _++_}
 use lib.ListN.{length, take, drop, replicate}
 use Rattle.octets.specs.Bytes.{byte, allZero}
-use Rattle.signing_stated.specs.Fido.{Field, IsMessage}
+use Rattle.signing_stated.specs.Fido.{Field, IsMessage, IsKey, IsCounter, presenceBit, registrationSigned, authenticationSigned}
 use Rattle.signing_stated.specs.Layouts.{RegisterFields, AuthenticateFields, publicKey, isRegisterFit, isAuthenticateFit}
 use Rattle.signing_stated.specs.Orders.{Kind, Register, Order, AuthenticateParts, toSign, certificateLength, registerOrderOf, authenticateOrderOf}
 pub use Rattle.signing_stated.specs.Replies.{bytesAt, IsWhole, RegisterShaped, AuthenticateShaped, NeedsRoom, register, authenticate, OfLayout, keeping}
@@ -51,6 +51,14 @@ HoldsJust s n o = (toSign o ≡ n) × (take n (o .bytes) ≡ s) × (allZero (dro
 -- the bytes to sign of an order
 abbrev pub signedBytes : Order → List ℕ
 signedBytes o = take (toSign o) (o .bytes)
+
+-- s is FIDO's message of these fields: what is signed at a registration, and at an authentication
+abbrev pub IsEnrolment : RegisterFields → (s : List ℕ) → Type 0
+IsEnrolment f s = (key : List ℕ) × IsKey (f .x) (f .y) key × IsMessage (registrationSigned (f .application) (f .challenge) (f .handle) key) s
+
+abbrev pub IsLogin : AuthenticateParts → (s : List ℕ) → Type 0
+IsLogin p s =
+    (counter : List ℕ) × IsCounter (p .counter) counter × IsMessage (authenticationSigned (p .application) (presenceBit (p .present)) counter (p .challenge)) s
 
 -- fields whose handle goes on with the key of f, and another key behind it
 abbrev pub longer : RegisterFields → (x y : List ℕ) → RegisterFields

@@ -119,7 +119,7 @@ counterLittleEndian p =
       challenge = p .challenge;
     })
 
--- 02, E11: "every field inside them". The public key is not signed
+-- 02, E11: "every field inside them": the public key is not signed
 abbrev pub keyLeftOut : RegisterFields → ℕ → Order
 keyLeftOut f c =
     record {
@@ -129,17 +129,17 @@ keyLeftOut f c =
       bytes = block (0x00 ∷ [] ++ f .application ++ f .challenge ++ f .handle);
     }
 
--- nor the handle's last byte
+-- the same: the handle's last byte is not
 abbrev pub handleCut : RegisterFields → ℕ → Order
 handleCut f c =
     registerOrderOf (record { application = f .application; challenge = f .challenge; handle = take (length (f .handle) - 1) (f .handle); x = f .x; y = f .y }) c
 
--- nor the presence byte
+-- the same: the presence byte is not
 abbrev pub presenceLeftOut : AuthenticateParts → Order
 presenceLeftOut p =
     record { kind = Authenticate; «to_sign» = 68; «certificate_length» = 0; bytes = block (p .application ++ bytes4 (p .counter) ++ p .challenge) }
 
--- nor the counter's first byte
+-- the same: the counter's first byte is not
 abbrev pub counterCut : AuthenticateParts → Order
 counterCut p =
     record {
