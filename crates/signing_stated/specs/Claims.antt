@@ -137,8 +137,7 @@ pub record NoneCarriesOver (register : RegisterFields → ℕ → Order) (authen
 
 -- What that does not rule out, since it speaks of all the bytes to sign: the front of an order's may be another's. The first 69 of a Register order's are an
 -- Authenticate order's exactly where the application ends in 00 or 01; and with a handle that goes on with the key of another Register order, they begin with all of
--- that one's. Orders with the challenge first (`registerChallengeFirst`) fail
--- the first, with the 04 left out (`dropsMarker`) the second.
+-- that one's. Orders with the challenge first (`registerChallengeFirst`) fail the first, with the 04 left out (`dropsMarker`) the second.
 pub record NotRuledOut (register : RegisterFields → ℕ → Order) (authenticate : AuthenticateFields → Order) : Type 0 where
   pub login : (f : RegisterFields) (c : ℕ) → RegisterLengths f
       → ((p : AuthenticateFields) × AuthenticateLengths p × (take 69 (signedBytes (register f c)) ≡ signedBytes (authenticate p))) ↔ (byte (f .application) 31 ≤ 1)
