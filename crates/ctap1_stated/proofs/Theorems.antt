@@ -2,7 +2,7 @@
 use Prim.Native.Nat.{ℕ, _+_, _*_, _<_, _≤_}
 use mathlib.Core.Path.{_≡_, refl, ap, sym, subst, _∙_}
 use mathlib.Core.Bool.{Bool, true, false, true≢false}
-use mathlib.Core.Logic.{_↔_, _⊎_, inl, inr}
+use mathlib.Core.Logic.{_↔_, _⊎_, inl, inr, ⊎-elim}
 use mathlib.Core.List.{List, [], _∷_, _++_}
 use mathlib.Core.Option.{Option, some}
 use native.Mathlib.Omega.{arith}
@@ -10,17 +10,17 @@ use borrow.Author.Tests.{le-leb, lt-leb, eq-eqb, ne-eqb, eqb-true}
 use lib.Dec.{eqb}
 use lib.ListN.{length, drop}
 use Rattle.outcome.specs.Notation.{if_then_else_}
-use Rattle.outcome.specs.Outcome.{StatusWord, Outcome, R, Word, Gives, plainWord, wrongLength}
+use Rattle.outcome.specs.Outcome.{StatusWord, Outcome, R, Word, Gives, plainWord, wrongLength, wordOf}
 use Rattle.outcome.proofs.Laws.{gives-same, word-same, word-gives, r-gives, r-word, both-are}
 use Rattle.octets.specs.Bytes.{byte, pairAt}
 use Rattle.octets.proofs.Laws.{laid-fits}
-use Rattle.apdu_stated.specs.Answers.{Says}
+use Rattle.apdu_stated.specs.Answers.{Says, saysOf}
 use Rattle.apdu_stated.specs.Reading.{readOf}
 use Rattle.apdu_stated.specs.declared.Entry.the-variants.{Ordinary}
 use Rattle.apdu_stated.specs.Terms.{OldForm}
 use Rattle.apdu_stated.proofs.Laws.{old-at}
 use Rattle.response_stated.specs.Parts.{limitOf}
-use Rattle.command_stated.specs.Command.{Command, Register, Authenticate, commandOf}
+use Rattle.command_stated.specs.Command.{Command, Register, Authenticate, Version, commandOf, flagsNo}
 use Rattle.command_stated.proofs.Laws.{RegisterExactly, AuthenticateExactly, VersionExactly, GetResponseExactly, CommandPairsExactly, frame-status}
 use Rattle.u2f_up_stated.specs.Moments.{movedTo, touchClosed}
 use Rattle.u2f_up_stated.specs.History.{Role, Mark, Checking, TouchFound, sideOf, isTouchFound, isNamed, heldAt, serverOf, servers}
@@ -32,20 +32,22 @@ use Rattle.signing_stated.proofs.Laws.{made-whole}
 use Rattle.u2f_up_stated.proofs.Laws.{five-apart, demand-3, r-apart, servers-next, named-later, named-counts, count, length-those}
 use Rattle.signing_stated.specs.Orders.{kindNo, certificateLength, blankOrder, isOfLayout}
 use Rattle.signing_stated.specs.Finishing.{roomNeeded, registerRoom, authenticateRoom}
-use Rattle.ctap1_stated.specs.Words.{Remainder, rest, Inputs, Order, DecisionGives, Body, Ordered, Part, DecisionResult, Allowed, DecisionAlone, DecisionHanded, DecisionLeft, Decision, leftFrom, decisionAnswerOf}
+use Rattle.ctap1_stated.specs.Words.{Remainder, rest, Inputs, Order, DecisionGives, Body, Ordered, Part, DecisionResult, Allowed, DecisionAlone, DecisionHanded, DecisionLeft, Decision, Hardware, leftFrom, handedOf, enrolmentOf, unfetched, decisionAnswerOf}
 use Rattle.ctap1_stated.specs.Numbers.{allowedOf, attestationOf, isYes, hardwareOf}
-use Rattle.ctap1_stated.specs.Path.{limitOn, frameLimit, roleOf, enrolmentOrder, registerOrdered}
+use Rattle.ctap1_stated.specs.Path.{limitOn, frameLimit, roleOf, enrolmentOrder, registerOrdered, registerPath, loginPath}
 use Rattle.ctap1_stated.specs.Decision.{statusResult, versionBytes, decisionOf, replyLeft}
 use Rattle.ctap1_stated.specs.Session.{isGetResponse, remainderLeft, partAfter, partLeft}
 use Rattle.ctap1_stated.specs.Calls.{PanelCall, DecideAt, panelCalls, seen}
-use Rattle.ctap1_stated.specs.Terms.{AreBlocks, HasInsC0, Fetching, SaysPresent, OrdersPresent, checkOnlyAnswer}
+use Rattle.ctap1_stated.specs.Terms.{AreBlocks, Comes, HasInsC0, Fetching, SaysPresent, OrdersPresent, checkOnlyAnswer}
 use Rattle.ctap1_stated.specs.Table
 use Rattle.ctap1_stated.specs.Claims
+use Rattle.ctap1_stated.specs.Contracts as Contract
 use Rattle.ctap1_stated.specs.declared.Allowed.the-variants as Allowed′
 use Rattle.ctap1_stated.specs.declared.Counter.the-variants as Counter′
 use Rattle.ctap1_stated.specs.declared.DecisionAnswer.the-variants as DecisionAnswer′
 use Rattle.ctap1_stated.proofs.Ways.{Stated, its-own, framed, Way, refused, stated, versioned, fetched, enrolled, signed-03, signed-08, way, row, sound, registering-checks, signing-checks}
 use Rattle.ctap1_stated.proofs.Commands as Commands
+use Rattle.ctap1_stated.proofs.Contracted.{bare, as-decided, register-path, login-path, version-decided}
 use Rattle.ctap1_stated.proofs.Orders.{body-order, part-order, part-body, MadeOf, of-enrolment, of-login, made-of}
 use Rattle.ctap1_stated.specs.OneSide.{baseDecisionOf}
 use Rattle.ctap1_stated.proofs.RoleKept.{panel-keeps}
@@ -553,6 +555,36 @@ SaidExactly = record {
   ordered = λ d. (decided-apart _ _, ap decisionAnswerOf);
   part = λ d n after. (decided-apart _ _, ap decisionAnswerOf);
 }
+
+-- ---- the contracts
+-- Version's buffer, by its contract
+version-reply : (n : List ℕ) (t : ℕ) (a : Inputs) (old : List ℕ) → NotRefused (presenceIn n) (a .side) t → Comes a Version → length old ≡ a .room
+    → (r : Decision) (after reply : List ℕ) → Contract.Version n t old r after reply
+    → (6 ≤ length old → reply ≡ 0x55 ∷ 0x32 ∷ 0x46 ∷ 0x5F ∷ 0x56 ∷ 0x32 ∷ drop 6 old) × (length old < 6 → reply ≡ old)
+version-reply n t a old ok c is r after reply h =
+    let p = presenceIn n in
+    let left : reply ≡ replyLeft (decisionOf p t a) old = h .1 ∙ ap (λ (d : DecisionResult). replyLeft d old) (version-decided decisionOf DecidesExactly p t a ok (length old) c is) in
+    let replies = RepliesExactly p t a old is in (
+      λ enough.
+          left
+          ∙ ⊎-elim (λ x. x .2) (λ y. absurd (y .0 6 (ap (λ (d : DecisionResult). d .answer) (sound p t a _ (Table.version ok c (omega (arith, is, enough))))))) replies,
+      λ short. left ∙ ⊎-elim (λ x. absurd (omega (arith, x .1, is, short))) (λ y. y .1) replies,
+    )
+
+pub ContractsAsClaimed : Claims.ContractsAsClaimed
+ContractsAsClaimed =
+    record {
+      refused = λ why r h. (decided-apart _ _ (ap (λ (d : DecisionAlone). d .answer) h), bare r _ h);
+      answered = λ s r h. (SaidExactly .status (r .answer) (wordOf s) .0 (ap (λ (d : DecisionAlone). d .answer) h), bare r _ h);
+      version = λ g G n t a old ok c is r after reply h.
+          let b = version-reply n t a old ok c is r after reply h in (h .0 ∙ ap handedOf (version-decided g G (presenceIn n) t a ok (length old) c is), b .0, b .1);
+      register = λ g G n t a h says old ok c is r after block l.
+          let path = ap (λ (x : Hardware). registerPath (unfetched (a .side) (a .frame) x (enrolmentOf (a .newHandle) (a .certificate) (a .x) (a .y)) (a .room)) (saysOf says)) is in
+          as-decided g G (presenceIn n) t a ok (Register (saysOf says)) c _ (path ∙ register-path g G (presenceIn n) t a ok (saysOf says)) r (presenceIn after) old block l;
+      authenticate = λ g G n t a h flags says old ok c is r after block l.
+          let path = ap (λ (x : Hardware). loginPath (a .frame) x (a .room) (flagsNo flags) (saysOf says)) is in
+          as-decided g G (presenceIn n) t a ok (Authenticate (flagsNo flags) (saysOf says)) c _ (path ∙ login-path g G (presenceIn n) t a ok (flagsNo flags) (saysOf says)) r (presenceIn after) old block l;
+    }
 
 -- ---- two results are equal
 pub DecidedOneToOne : Claims.DecidedOneToOne

@@ -47,7 +47,7 @@ module _ (p : Presence) (t : ℕ) (a : Inputs) where
   unfolding decisionOf
   settled ok = rw (settle-moves p (a .side) t ok)
 
-  came : (c : Command) → NotRefused p (a .side) t → Comes a c → decisionOf p t a ≡ along (commandPath a (Gives c)) p (movedTo p t) (a .side) t
+  pub came : (c : Command) → NotRefused p (a .side) t → Comes a c → decisionOf p t a ≡ along (commandPath a (Gives c)) p (movedTo p t) (a .side) t
   came c ok e = settled ok ∙ ap (λ (x : DecisionPath). along x p (movedTo p t) (a .side) t) (comes a c e)
 
   is-r6 : BadWindow (p .w) → decisionOf p t a ≡ refusalResult 6 p

@@ -3,12 +3,12 @@
 -- record, a moment and all that is lent.
 use mathlib.Core.Logic.{_↔_, _⊎_}
 use mathlib.Core.Option.{some}
-use Rattle.ctap1_stated.specs.Words.{AtMostOne, StatusWord, R, Word, SW, Gives, wrongLength, [], _∷_, _++_, drop, ℕ, _+_, _*_, _<_, _≤_, _≡_, Bool, true, false, List, length, Presence, Decision, DecisionAnswer, Remainder, rest, Inputs, Enrolment, Allowed, Attestation, Hardware, HardwareSaid, DecisionGives, Body, Ordered, Part, DecisionResult, handedOf, decisionAnswerOf, Outcome, Refusal, ApduStatusCode, wordOf, refusalNo}
-use Rattle.ctap1_stated.specs.Numbers.{allowedOf, attestationOf}
+use Rattle.ctap1_stated.specs.Words.{AtMostOne, StatusWord, R, Word, SW, Gives, wrongLength, [], _∷_, _++_, drop, ℕ, _+_, _*_, _<_, _≤_, _≡_, Bool, true, false, List, length, Presence, Decision, DecisionAnswer, Remainder, rest, Inputs, Enrolment, Allowed, Attestation, Hardware, HardwareSaid, DecisionGives, Body, Ordered, Part, DecisionResult, handedOf, handedFrom, enrolmentOf, decisionAnswerOf, Outcome, Refusal, ApduStatusCode, wordOf, refusalNo}
+use Rattle.ctap1_stated.specs.Numbers.{allowedOf, attestationOf, hardwareOf}
 use Rattle.ctap1_stated.specs.Calls.{PanelCall, DecideAt, callsWith}
 use Rattle.ctap1_stated.specs.OneSide.{baseWith, sidelessResult}
 use Rattle.ctap1_stated.specs.Contracts as Contract
-use Rattle.ctap1_stated.specs.Terms.{Decider, AreBlocks, withContents, AsLong, HasInsC0, result, movedAt, spentAt, onSide, Comes, OrdersPresent, checkOnlyAnswer}
+use Rattle.ctap1_stated.specs.Terms.{Decider, AreBlocks, withContents, AsLong, HasInsC0, result, movedAt, spentAt, onSide, Comes, HandsNoOrder, BlockWritten, OrdersPresent, checkOnlyAnswer}
 use Rattle.ctap1_stated.specs.Table.{Answers}
 pub use Rattle.ctap1_stated.specs.Table.{DecidesExactly}
 use Rattle.ctap1_stated.specs.declared.Allowed.the-variants as Allowed′
@@ -17,17 +17,18 @@ use Rattle.ctap1_stated.specs.declared.Counter.the-variants as Counter�
 use Rattle.ctap1_stated.specs.declared.DecisionAnswer.the-variants as DecisionAnswer′
 use Rattle.outcome.specs.Terms.{PairsExactly}
 use Rattle.octets.specs.Bytes.{byte, pairAt, laid}
-use Rattle.apdu_stated.specs.Answers.{Says}
+use Rattle.apdu_stated.specs.Answers.{Says, saysOf}
 use Rattle.apdu_stated.specs.declared.Apdu.{Apdu}
 use Rattle.command_stated.specs.declared.Ctap1Flags.{Ctap1Flags}
 use Rattle.apdu_stated.specs.Reading.{readOf}
 use Rattle.apdu_stated.specs.Terms.{OldForm}
 use Rattle.response_stated.specs.Parts.{partResponse}
-use Rattle.command_stated.specs.Command.{Authenticate, commandOf}
+use Rattle.command_stated.specs.Command.{Register, Authenticate, Version, commandOf, flagsNo}
 use Rattle.u2f_up_stated.specs.History.{Mark, heldAt, serverOf}
 use Rattle.u2f_up_stated.specs.Runs.{Caller, Keeps, after, history}
 use Rattle.u2f_up_stated.specs.OneSide.{OnlySide}
 use Rattle.u2f_up_stated.specs.Terms.{BadWindow, BadSide, NotRefused, HasTouch}
+use Rattle.u2f_up_stated.specs.Numbers.{presenceIn}
 use Rattle.u2f_up_stated.specs.Claims as Up
 use Rattle.signing_stated.specs.Orders.{kindNo, certificateLength, blankOrder, isOfLayout}
 use Rattle.signing_stated.specs.Finishing.{Finishing, finishOf}
@@ -273,6 +274,29 @@ pub record SaidExactly (said : DecisionAnswer → Outcome DecisionGives) : Type 
   pub body : (d : DecisionAnswer) (n : ℕ) → (said d ≡ Gives (Body n)) ↔ (d ≡ DecisionAnswer′.Body n)
   pub ordered : (d : DecisionAnswer) → (said d ≡ Gives Ordered) ↔ (d ≡ DecisionAnswer′.Order)
   pub part : (d : DecisionAnswer) (n : ℕ) (after : Remainder) → (said d ≡ Gives (Part n after)) ↔ (d ≡ DecisionAnswer′.Part n after)
+
+-- ---- the contracts
+
+-- Whatever meets a function's contract meets the claim on it. A refusal and a status word have their answer, and no order. Version, Register and Authenticate, where the record
+-- settles and a frame is read as the command, hand back and leave what whatever meets `DecidesExactly` decides on it. A contract of `refused` that says R2 for every refusal
+-- fails it, one of `version` that leaves the reply as it was, and one of `register` for side 0, each with code to match.
+pub record ContractsAsClaimed : Type 0 where
+  pub refused : (why : Refusal) (r : Decision) → Contract.Refused why r → (r .answer ≡ DecisionAnswer′.Refused why) × HandsNoOrder r
+  pub answered : (s : ApduStatusCode) (r : Decision) → Contract.Answered s r
+      → (r .answer ≡ DecisionAnswer′.Status (wordOf s .number) (wordOf s .kind) (wordOf s .place)) × HandsNoOrder r
+  pub version : (g : Decider) → DecidesExactly g → (n : List ℕ) (t : ℕ) (a : Inputs) (old : List ℕ) → NotRefused (presenceIn n) (a .side) t → Comes a Version → length old ≡ a .room
+      → (r : Decision) (after reply : List ℕ) → Contract.Version n t old r after reply
+      → (handedFrom r (presenceIn after) ≡ handedOf (g (presenceIn n) t a))
+      × (6 ≤ length old → reply ≡ 0x55 ∷ 0x32 ∷ 0x46 ∷ 0x5F ∷ 0x56 ∷ 0x32 ∷ drop 6 old)
+      × (length old < 6 → reply ≡ old)
+  pub register : (g : Decider) → DecidesExactly g → (n : List ℕ) (t : ℕ) (a : Inputs) (h : HardwareSaid) (says : Apdu) (old : List ℕ)
+      → NotRefused (presenceIn n) (a .side) t → Comes a (Register (saysOf says)) → hardwareOf h ≡ a .hardware
+      → (r : Decision) (after block : List ℕ) → Contract.Register (a .frame) (a .side) t n h (enrolmentOf (a .newHandle) (a .certificate) (a .x) (a .y)) (a .room) says old r after block
+      → (handedFrom r (presenceIn after) ≡ handedOf (g (presenceIn n) t a)) × BlockWritten (g (presenceIn n) t a) old block
+  pub authenticate : (g : Decider) → DecidesExactly g → (n : List ℕ) (t : ℕ) (a : Inputs) (h : HardwareSaid) (flags : Ctap1Flags) (says : Apdu) (old : List ℕ)
+      → NotRefused (presenceIn n) (a .side) t → Comes a (Authenticate (flagsNo flags) (saysOf says)) → hardwareOf h ≡ a .hardware
+      → (r : Decision) (after block : List ℕ) → Contract.Authenticate (a .frame) (a .side) t n h (a .room) flags says old r after block
+      → (handedFrom r (presenceIn after) ≡ handedOf (g (presenceIn n) t a)) × BlockWritten (g (presenceIn n) t a) old block
 
 -- ---- two results that satisfy the contract are equal
 abbrev pub DecidedOneToOne : Type 0

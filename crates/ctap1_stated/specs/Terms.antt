@@ -1,6 +1,6 @@
 -- Words that only the claims use: conditions, and orders spelled out; those of Table.antt among them.
 use mathlib.Core.Logic.{_⊎_}
-use Rattle.ctap1_stated.specs.Words.{if_then_else_, Gives, ℕ, _≡_, Bool, length, Order, Inputs, Enrolment, Ordered, DecisionResult, Allowed}
+use Rattle.ctap1_stated.specs.Words.{if_then_else_, Gives, ℕ, _≡_, Bool, false, List, length, Order, Inputs, Enrolment, Ordered, Decision, DecisionResult, Allowed}
 use Rattle.ctap1_stated.specs.declared.Allowed.the-variants as Allowed′
 use Rattle.octets.specs.Bytes.{byte}
 use Rattle.apdu_stated.specs.Answers.{Says}
@@ -33,6 +33,13 @@ pub record AsLong (e : Enrolment) (a : Inputs) : Type 0 where
 -- a shaped frame with INS C0, whatever it is answered
 abbrev pub HasInsC0 : Inputs → Type 0
 HasInsC0 a = (said : Says) × (readOf (a .frame) ≡ Gives said) × (said .header .ins ≡ 0xC0)
+
+-- ---- what functions hand back: no order, and nothing taken; and the lent block, written for an order alone
+abbrev pub HandsNoOrder : Decision → Type 0
+HandsNoOrder r = (kindNo (r .order .kind) ≡ 0x01) × (r .order .«to_sign» ≡ 0) × (r .order .«certificate_length» ≡ 0) × (r .taken ≡ false)
+
+abbrev pub BlockWritten : DecisionResult → (old block : List ℕ) → Type 0
+BlockWritten d old block = (d .answer ≡ Gives Ordered → block ≡ d .order .bytes) × ((d .answer ≡ Gives Ordered → ⊥) → block ≡ old)
 
 -- ---- an order that says a person was there: a Register order, or an Authenticate order with presence byte 01
 abbrev pub SaysPresent : Order → Type 0
