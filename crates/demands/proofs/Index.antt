@@ -48,6 +48,7 @@ answered =
       signing-as-claimed = Signing.ContractsAsClaimed;
       fields-as-claimed = Fields.ContractsAsClaimed;
       presence-as-claimed = Presence.ContractsAsClaimed;
+      decision-as-claimed = Decision.ContractsAsClaimed;
       sessions-as-claimed = Sessions.ContractsAsClaimed;
       records-stand = Presence.StandsExactly;
       checks-on-numbers = Presence.AsOnRecords;

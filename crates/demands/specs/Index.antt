@@ -84,6 +84,7 @@ pub record EveryInputIsAnswered : Type 0 where
   pub signing-as-claimed : Signing.ContractsAsClaimed
   pub fields-as-claimed : Fields.ContractsAsClaimed
   pub presence-as-claimed : Presence.ContractsAsClaimed
+  pub decision-as-claimed : Decision.ContractsAsClaimed
   pub sessions-as-claimed : Sessions.ContractsAsClaimed
   -- what is lent as an array: which number is what, and touch check and touch on the numbers
   pub records-stand : Presence.StandsExactly presenceIn
