@@ -42,7 +42,7 @@ use Rattle.demands.specs.Sessions.{none as no-more, also, fetched, leftA
 use Rattle.demands.specs.Demands.{Demands}
 use Rattle.demands.specs.Carried.{NoneCarriesOver}
 use Rattle.demands.specs.Answers.{SignsLent}
-use Rattle.demands.specs.NotRuledOut.{lend, enrol, posing, posedAs, handleless, unhandled, handled}
+use Rattle.demands.specs.NotRuledOut.{lend, enrol, posing, posedAs, handleless, unhandled, handled, NotRuledOut}
 use Rattle.demands.proofs.Examples.{other-bytes}
 use Rattle.demands.specs.Wrong as Wrong
 
@@ -424,6 +424,19 @@ pub fieldsExchanged : SignsLent Wrong.fieldsExchanged → ⊥
 unfolding decisionOf pathOf allowedPath commandPath registerPath registerEnding enrolmentOrder registerOrderOf block partOf dataOf commandOf onReading byInstruction registerOf challengeOf applicationOf readBy sayOf lengthsOf shortOf extendedOf afterData allowedOf attestationOf settleOf checkedOf
 fieldsExchanged d =
     let e : _≡_ {A = ℕ} 0xC1 0xA1 = ap (λ (s : List ℕ). byte s 1) (d .enrolments handleless (refl, refl, refl, refl) .2 .are) in
+    omega arith
+
+pub loginExchanged : SignsLent Wrong.loginExchanged → ⊥
+unfolding decisionOf pathOf allowedPath commandPath registerPath registerEnding enrolmentOrder registerOrderOf loginPath countedEnding authenticateOrderOf block partOf dataOf commandOf onReading byInstruction registerOf authenticateOf challengeOf applicationOf readBy sayOf lengthsOf shortOf extendedOf afterData allowedOf attestationOf settleOf checkedOf
+loginExchanged d =
+    let e : _≡_ {A = ℕ} 0xC1 0x00 = ap (λ (s : List ℕ). byte s 0) (d .logins (posedAs 0) (refl, refl, refl, refl) (omega arith) .2 .are) in
+    omega arith
+
+-- what is left is a claim too: of the whole block, 130 bytes are not all
+pub blockSignedInFront : NotRuledOut Wrong.blockSigned → ⊥
+unfolding decisionOf pathOf allowedPath commandPath registerPath registerEnding enrolmentOrder registerOrderOf block partOf dataOf commandOf onReading byInstruction registerOf challengeOf applicationOf readBy sayOf lengthsOf shortOf extendedOf afterData allowedOf attestationOf settleOf checkedOf
+blockSignedInFront d =
+    let e : _≡_ {A = ℕ} 130 385 = ap length (d .enrolment-in-front) in
     omega arith
 
 -- on a lent record whose prompt is live, a touch opens nothing

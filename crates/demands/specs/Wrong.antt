@@ -313,3 +313,7 @@ blockSigned = panelWith makesOf touchesOf checksOf asksOf (λ i. signing 1 (λ s
 abbrev pub fieldsExchanged : Panel
 fieldsExchanged =
     panelWith makesOf touchesOf checksOf asksOf (λ i. signing 1 (λ s. take 1 s ++ take 32 (drop 33 s) ++ take 32 (drop 1 s) ++ drop 65 s) (decidesOf i)) rightFinish
+
+-- and in an Authenticate's
+abbrev pub loginExchanged : Panel
+loginExchanged = panelWith makesOf touchesOf checksOf asksOf (λ i. signing 2 (λ s. drop 37 s ++ take 5 (drop 32 s) ++ take 32 s) (decidesOf i)) rightFinish
