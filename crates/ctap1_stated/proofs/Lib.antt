@@ -3,6 +3,7 @@ pub mod Cases
 pub mod Commands
 pub mod Ways
 pub mod Orders
+pub mod Rooms
 pub mod Contracted
 pub mod RoleKept
 pub mod OneSide

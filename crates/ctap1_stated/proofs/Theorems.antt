@@ -28,7 +28,7 @@ use Rattle.u2f_up_stated.specs.Runs.{after, comesTo, cameOf, history}
 use Rattle.u2f_up_stated.specs.Terms.{BadWindow, BadSide, NotRefused, HasTouch}
 use Rattle.u2f_up_stated.specs.declared.Presence.{Presence}
 use Rattle.u2f_up_stated.specs.Numbers.{presenceIn}
-use Rattle.signing_stated.proofs.Laws.{made-whole}
+use Rattle.signing_stated.proofs.Laws.{made-whole, room-most}
 use Rattle.u2f_up_stated.proofs.Laws.{five-apart, demand-3, r-apart, servers-next, named-later, named-counts, count, length-those}
 use Rattle.signing_stated.specs.Orders.{kindNo, certificateLength, blankOrder, isOfLayout}
 use Rattle.signing_stated.specs.Finishing.{roomNeeded, registerRoom, authenticateRoom}
@@ -171,14 +171,22 @@ NoOrderIsBlank p t a f none same = (blank, Commands.blank-refused .1 f (same ∙
     blank : decisionOf p t a .order ≡ blankOrder
     blank = go (decisionOf p t a) (way p t a) none
 
-order-has-room : (p : Presence) (t : ℕ) (a : Inputs) → AreBlocks a → (r : DecisionResult) → Way p t a r → r .answer ≡ Gives Ordered → roomNeeded (r .order) ≤ a .room
-order-has-room p t a blocks _ (refused m) x = absurd (r-gives _ _ x)
-order-has-room p t a blocks _ (stated m q w) x = absurd (word-gives _ _ x)
-order-has-room p t a blocks _ (versioned c room) x = absurd (body-order _ x)
-order-has-room p t a blocks _ (fetched c sent) x = absurd (part-order _ _ x)
-order-has-room p t a blocks _ (enrolled said y l h) x = rw (Commands.register-room a blocks said (y .1 .1) h) (y .2)
-order-has-room p t a blocks _ (signed-03 said m y l k) x = rw (Commands.room-is a 0x03 said true m (y .1 .1)) (y .3)
-order-has-room p t a blocks _ (signed-08 said m y k) x = rw (Commands.room-is a 0x08 said false m (y .1 .1)) (y .3)
+-- the room of an order was there, whatever x and y
+pub order-has-room : (p : Presence) (t : ℕ) (a : Inputs) → decisionOf p t a .answer ≡ Gives Ordered → roomNeeded (decisionOf p t a .order) ≤ a .room
+unfolding enrolmentOrder
+order-has-room p t a = go (decisionOf p t a) (way p t a)
+  where
+    enrolment-room : (said : Says) → roomNeeded (registerOrdered a said) ≤ registerRoom (length (a .newHandle)) (length (a .certificate))
+    enrolment-room said = room-most _ _
+
+    go : (r : DecisionResult) → Way p t a r → r .answer ≡ Gives Ordered → roomNeeded (r .order) ≤ a .room
+    go _ (refused m) x = absurd (r-gives _ _ x)
+    go _ (stated m q w) x = absurd (word-gives _ _ x)
+    go _ (versioned c room) x = absurd (body-order _ x)
+    go _ (fetched c sent) x = absurd (part-order _ _ x)
+    go _ (enrolled said y l h) x = omega (arith, enrolment-room said, y .2)
+    go _ (signed-03 said m y l k) x = rw (Commands.room-is a 0x03 said true m (y .1 .1)) (y .3)
+    go _ (signed-08 said m y k) x = rw (Commands.room-is a 0x08 said false m (y .1 .1)) (y .3)
 
 -- what an order was asked for with: its command, by which kind and room are known, and that the room was there
 pub data AskedWith (a : Inputs) : (kind room : ℕ) → Type 0 where
@@ -191,7 +199,7 @@ asked-as a k m n e x = rw e x
 pub asked-with : (p : Presence) (t : ℕ) (a : Inputs) → AreBlocks a → decisionOf p t a .answer ≡ Gives Ordered
     → AskedWith a (kindNo (decisionOf p t a .order .kind)) (roomNeeded (decisionOf p t a .order)) × (roomNeeded (decisionOf p t a .order) ≤ a .room)
 unfolding enrolmentOrder
-asked-with p t a blocks e = (go (made-of p t a blocks e), order-has-room p t a blocks (decisionOf p t a) (way p t a) e)
+asked-with p t a blocks e = (go (made-of p t a blocks e), order-has-room p t a e)
   where
     go : {k : ℕ} {o : Order} → MadeOf a k o → AskedWith a k (roomNeeded o)
     go (of-enrolment said c l) = asked-as a 0x01 _ _ (Commands.register-room a blocks said c (l .handle)) (of-register said c)
@@ -215,7 +223,7 @@ order-whole p t a e = go (decisionOf p t a) (way p t a) e
 
 pub OrderHasRoom : Claims.OrderHasRoom decisionOf
 OrderHasRoom p t a f blocks e same certificate room =
-    let asked : roomNeeded (decisionOf p t a .order) ≤ a .room = order-has-room p t a blocks (decisionOf p t a) (way p t a) e in
+    let asked : roomNeeded (decisionOf p t a .order) ≤ a .room = order-has-room p t a e in
     Commands.room-kept f (ap isOfLayout same ∙ OrdersOfLayout p t a blocks e) (certificate ∙ ap certificateLength (sym same)) (rw same (omega (arith, asked, room)))
 
 pub CertificateOfOrder : Claims.CertificateOfOrder decisionOf

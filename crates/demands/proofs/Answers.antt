@@ -126,6 +126,23 @@ module _ (P : Panel) (M : Meets P) where
     pub order-block : P .decide i .block ≡ on-it .order .bytes
     order-block = M .decide i .4 ∙ ap (λ (o : Outcome DecisionGives). blockAfter o (on-it .order .bytes) (i .block)) order-given
 
+  -- what is finished is the decision's order, where the order's numbers and its block are lent as they came
+  module _ (i : ToDecide) (f : ToFinish) (ordered : P .decide i .said .answer ≡ 0x0100) (order : f .order ≡ P .decide i .said .order) (block : f .block ≡ P .decide i .block) where
+    abbrev its : Order
+    its = decisionOf (presenceIn (i .presence)) (i .moment) (inputsIn i) .order
+
+    numbers : f .order ≡ orderAfter (Gives Ordered) its
+    numbers = order ∙ order-numbers i ordered
+
+    pub is-its : orderFrom (its .kind) (f .order) (f .block) ≡ its
+    is-its = ap₂ (λ (n : OrderNumbers) (l : List ℕ). orderFrom (its .kind) n l) numbers (block ∙ order-block i ordered) ∙ ordered-back (its .kind) its refl
+
+    pub its-kind : f .order .kind ≡ kindNo (its .kind)
+    its-kind = ap (λ (n : OrderNumbers). n .kind) numbers
+
+    its-length : f .order .«certificate_length» ≡ certificateLength its
+    its-length = ap (λ (n : OrderNumbers). n .«certificate_length») numbers
+
   module _ (i : ToDecide) (f : ToFinish) (lent : ToFinishOf P i f) where
     abbrev decided : DecisionResult
     decided = decisionOf (presenceIn (i .presence)) (i .moment) (inputsIn i)
@@ -133,21 +150,15 @@ module _ (P : Panel) (M : Meets P) where
     pub is-order : decided .answer ≡ Gives Ordered
     is-order = order-given i (lent .ordered)
 
-    numbers : f .order ≡ orderAfter (Gives Ordered) (decided .order)
-    numbers = lent .order ∙ order-numbers i (lent .ordered)
-
-    bytes : f .block ≡ decided .order .bytes
-    bytes = lent .block ∙ order-block i (lent .ordered)
-
     -- what is finished is the decision's order, with its certificate's length
     pub the-order : orderFrom (decided .order .kind) (f .order) (f .block) ≡ decided .order
-    the-order = ap₂ (λ (n : OrderNumbers) (l : List ℕ). orderFrom (decided .order .kind) n l) numbers bytes ∙ ordered-back (decided .order .kind) (decided .order) refl
+    the-order = is-its i f (lent .ordered) (lent .order) (lent .block)
 
     pub the-kind : f .order .kind ≡ kindNo (decided .order .kind)
-    the-kind = ap (λ (n : OrderNumbers). n .kind) numbers
+    the-kind = its-kind i f (lent .ordered) (lent .order) (lent .block)
 
     pub the-length : length (f .certificate) ≡ certificateLength (decided .order)
-    the-length = lent .certificate ∙ ap (λ (n : OrderNumbers). n .«certificate_length») numbers
+    the-length = lent .certificate ∙ its-length i f (lent .ordered) (lent .order) (lent .block)
 
     pub finishes : f .signed ≡ 1 → P .finish f .said .answer ≡ 0x9000
     finishes signed =

@@ -23,8 +23,10 @@ use Rattle.panel_stated.specs.Terms.{IsNumbered}
 use Rattle.panel_stated.specs.Exports.{commandNumbers}
 use Rattle.panel_stated.proofs.Outcomes as Outcomes
 use Rattle.session_stated.specs.Held.{hardwareIn}
+use Rattle.session_stated.specs.Contracts.{inputsIn}
+use Rattle.panel_stated.specs.Exports.{ToDecide}
 use Rattle.demands.specs.Panel.{Panel, Meets}
-use Rattle.demands.specs.Calls.{Lent, Reaches, lentOf, asCall, Decide}
+use Rattle.demands.specs.Calls.{Reaches, asCall, Decide}
 
 -- a path that goes to the touch check
 abbrev Goes : DecisionPath → Type 0
@@ -120,11 +122,11 @@ by-allowed n a = by (ℕ-discrete n 1) (ℕ-discrete n 0)
     by (no e) (yes z) = rw (ap allowedOf z ∙ AllowedNumbers .refused) (λ x. absurd x, λ x. absurd (e (x .0)))
     by (no e) (no z) = rw (AllowedNumbers .failed n (omega (arith, e, z))) (λ x. absurd x, λ x. absurd (e (x .0)))
 
-module _ (P : Panel) (M : Meets P) (i : Lent) where
+module _ (P : Panel) (M : Meets P) (i : ToDecide) where
   pub reached : (asCall (Decide i) .role ≡ Checking (i .side)) ↔ Reaches P i
   unfolding pathOf
   reached =
-      let a = lentOf i in
+      let a = inputsIn i in
       let on = goes (i .side) (pathOf a) in
       let allowed = by-allowed (hardwareIn (i .hardware) .allowed) a in
       let command = by-command a (commandOf (i .frame)) (Outcomes.command-said (i .frame)) in (

@@ -37,7 +37,7 @@ use Rattle.panel_stated.proofs.Refuted as Exports
 use Rattle.command_stated.proofs.Theorems as Commands
 use Rattle.u2f_up_stated.proofs.Theorems as Up
 use Rattle.demands.specs.Panel.{Meets}
-use Rattle.demands.specs.Calls.{Lent, Touch, Check, Ask, Decide, on, recordAfter, cameNext, historyOf}
+use Rattle.demands.specs.Calls.{Touch, Check, Ask, Decide, recordAfter, cameNext, historyOf}
 use Rattle.demands.specs.Sessions.{none as no-more, also, fetched, leftAfter}
 use Rattle.demands.specs.Demands.{Demands}
 use Rattle.demands.specs.Carried.{NoneCarriesOver}
@@ -67,10 +67,15 @@ meets = record {
   response-room = λ frame longest. refl;
 }
 
+-- a record that nothing was done with
+abbrev unused : List ℕ
+unused = 1000 ∷ 0 ∷ 0 ∷ 0 ∷ 0 ∷ []
+
 -- what is lent with a frame at a moment, CTAP1 allowed
-lent : (frame : List ℕ) (t : ℕ) → Lent
+lent : (frame : List ℕ) (t : ℕ) → ToDecide
 lent frame t =
     record {
+      presence = unused;
       session = 0 ∷ 0 ∷ 0 ∷ [];
       frame = frame;
       side = 0;
@@ -84,10 +89,6 @@ lent frame t =
       block = replicate 385 0;
       part = replicate 258 0;
     }
-
--- a record that nothing was done with
-abbrev unused : List ℕ
-unused = 1000 ∷ 0 ∷ 0 ∷ 0 ∷ 0 ∷ []
 
 -- ---- making a record
 -- 65,537 is taken for 1
@@ -225,7 +226,7 @@ untouched d =
 pub recordKeptTwice : Demands Wrong.recordKept → ⊥
 unfolding lent decisionOf pathOf allowedPath commandPath loginPath countedEnding authenticateOrderOf block partOf dataOf commandOf onReading byInstruction authenticateOf challengeOf applicationOf readBy sayOf lengthsOf shortOf extendedOf afterData allowedOf attestationOf historyOf recordAfter cameNext touchOf checkOf grantedOf settleOf checkedOf latestTouch latestPrompt unspent lastMoment newOf foretold isPromptStanding
 recordKeptTwice d =
-    let login : Lent = lent (0x00 ∷ 0x02 ∷ 0x03 ∷ 0x00 ∷ 65 ∷ replicate 65 0) 2 in
+    let login : ToDecide = lent (0x00 ∷ 0x02 ∷ 0x03 ∷ 0x00 ∷ 65 ∷ replicate 65 0) 2 in
     d .orders [] 1000 refl .apart (Touch 1 ∷ Check 0 0 ∷ []) [] login login (record { number = 1; moment = 1; side = 0 }) (record { number = 1; moment = 1; side = 0 })
     (refl, inr (refl, refl)) refl (refl, inr (refl, refl)) refl refl
 
@@ -244,7 +245,7 @@ finishClaims d =
 pub finishRefuses : Demands Wrong.finishRefuses → ⊥
 unfolding lent decisionOf pathOf allowedPath commandPath loginPath countedEnding authenticateOrderOf block partOf dataOf commandOf onReading byInstruction authenticateOf challengeOf applicationOf readBy sayOf lengthsOf shortOf extendedOf afterData allowedOf attestationOf settleOf
 finishRefuses d =
-    let i : ToDecide = on unused (lent (0x00 ∷ 0x02 ∷ 0x08 ∷ 0x00 ∷ 65 ∷ replicate 65 0) 0) in
+    let i : ToDecide = lent (0x00 ∷ 0x02 ∷ 0x08 ∷ 0x00 ∷ 65 ∷ replicate 65 0) 0 in
     let f : ToFinish = record { order = decidesOf i .said .order; block = decidesOf i .block; certificate = []; signed = 1; signature = []; reply = replicate 139 0 } in
     let e = d .finished i f (record { blocks = (refl, refl); ordered = refl; order = refl; block = refl; certificate = refl; reply = omega arith; signature = omega arith }) refl in
     omega (arith, e)
@@ -254,7 +255,7 @@ finishRefuses d =
 pub stalls : Demands Wrong.stalls → ⊥
 unfolding lent decisionOf pathOf allowedPath commandPath fetchPath settleOf nextPartOf frameLimit limitOf partLength commandOf onReading byInstruction getResponseOf readBy sayOf lengthsOf shortOf extendedOf afterData allowedOf attestationOf
 stalls d =
-    let e = d .bodies .takes (7 ∷ 8 ∷ []) (record { place = 1; count = 1 }) (on unused (lent (0x00 ∷ 0xC0 ∷ 0x00 ∷ 0x00 ∷ []) 0)) (refl, refl, refl) (omega arith) (omega arith) .0 in
+    let e = d .bodies .takes (7 ∷ 8 ∷ []) (record { place = 1; count = 1 }) (lent (0x00 ∷ 0xC0 ∷ 0x00 ∷ 0x00 ∷ []) 0) (refl, refl, refl) (omega arith) (omega arith) .0 in
     omega (arith, e)
 
 -- so that one fetch, which is enough, is not
@@ -262,7 +263,7 @@ pub stallsForGood : Demands Wrong.stalls → ⊥
 unfolding lent decisionOf pathOf allowedPath commandPath fetchPath settleOf nextPartOf frameLimit limitOf partLength commandOf onReading byInstruction getResponseOf readBy sayOf lengthsOf shortOf extendedOf afterData allowedOf attestationOf leftAfter frameRoomOf responseRoomOf
 stallsForGood d =
     let e =
-    d .bodies .enough (7 ∷ 8 ∷ []) (record { place = 1; count = 1 }) (on unused (lent (0x00 ∷ 0xC0 ∷ 0x00 ∷ 0x00 ∷ []) 0) ∷ []) (omega arith)
+    d .bodies .enough (7 ∷ 8 ∷ []) (record { place = 1; count = 1 }) (lent (0x00 ∷ 0xC0 ∷ 0x00 ∷ 0x00 ∷ []) 0 ∷ []) (omega arith)
     (also
     (record {
       get-response = (refl, refl, refl);
@@ -278,7 +279,7 @@ stallsForGood d =
 pub skips : Demands Wrong.skips → ⊥
 unfolding lent decisionOf pathOf allowedPath commandPath fetchPath settleOf nextPartOf frameLimit limitOf partLength commandOf onReading byInstruction getResponseOf readBy sayOf lengthsOf shortOf extendedOf afterData allowedOf attestationOf fetched leftAfter
 skips d =
-    let e = ap length (d .bodies .so-far (7 ∷ 8 ∷ 9 ∷ []) (replicate 258 0) 3 1 (on unused (lent (0x00 ∷ 0xC0 ∷ 0x00 ∷ 0x00 ∷ 1 ∷ []) 0) ∷ []) (omega arith) (also (refl, refl) no-more)) in
+    let e = ap length (d .bodies .so-far (7 ∷ 8 ∷ 9 ∷ []) (replicate 258 0) 3 1 (lent (0x00 ∷ 0xC0 ∷ 0x00 ∷ 0x00 ∷ 1 ∷ []) 0 ∷ []) (omega arith) (also (refl, refl) no-more)) in
     omega (arith, e)
 
 -- ---- each call by itself

@@ -23,15 +23,16 @@ use Rattle.panel_stated.specs.Terms.{IsNumbered}
 use Rattle.panel_stated.specs.Exports.{yesIn, madeOver}
 use Rattle.panel_stated.proofs.Outcomes as Outcomes
 use Rattle.u2f_up_stated.specs.Numbers.{presenceIn}
+use Rattle.session_stated.specs.Contracts.{inputsIn}
 use Rattle.demands.specs.Panel.{Panel, Meets}
-use Rattle.demands.specs.Calls.{CCall, Touch as CTouch, Check, Ask, Decide, on, lentOf, asCall, cameOfYes, cameOfAnswer, recordAfter, cameNext, historyOf}
+use Rattle.demands.specs.Calls.{CCall, Touch as CTouch, Check, Ask, Decide, on, asCall, cameOfYes, cameOfAnswer, recordAfter, cameNext, historyOf}
 
 -- C's calls as the definitions' calls
 abbrev pub asPanel : CCall → PanelCall
 asPanel (CTouch t) = TouchAt t
 asPanel (Check s t) = CheckAt s t
 asPanel (Ask t) = AskAt t
-asPanel (Decide i) = DecideAt (i .moment) (lentOf i)
+asPanel (Decide i) = DecideAt (i .moment) (inputsIn i)
 
 abbrev pub allAs : List CCall → List PanelCall
 allAs [] = []
@@ -100,7 +101,7 @@ module _ (P : Panel) (M : Meets P) (old : List ℕ) (w : ℕ) (low : 0 < w) (hig
   record-in (CTouch t ∷ cs) = M .grant-up (recordAfter P old w cs) t .1 ∙ ap (λ (p : Presence). touchOf p t .presence) (record-in cs)
   record-in (Check s t ∷ cs) = M .consume-up (recordAfter P old w cs) s t .1 ∙ ap (λ (p : Presence). checkOf p s t .presence) (record-in cs)
   record-in (Ask t ∷ cs) = record-in cs ∙ sym (ask-keeps (there cs) t)
-  record-in (Decide i ∷ cs) = M .decide (on (recordAfter P old w cs) i) .1 ∙ ap (λ (p : Presence). decisionOf p (i .moment) (lentOf i) .presence) (record-in cs)
+  record-in (Decide i ∷ cs) = M .decide (on (recordAfter P old w cs) i) .1 ∙ ap (λ (p : Presence). decisionOf p (i .moment) (inputsIn i) .presence) (record-in cs)
 
   -- what C sees of the next call is what comes of it there
   pub came-same : (cs : List CCall) (c : CCall) → cameNext P old w cs c ≡ comesTo panelCalls w (allAs cs) (asPanel c)
@@ -118,9 +119,9 @@ module _ (P : Panel) (M : Meets P) (old : List ℕ) (w : ℕ) (low : 0 < w) (hig
       ∙ ap (λ (p : Presence). cameOfYes Asking (answerNo (askOf p t .outcome)) (yesIn (askOf p t .outcome))) (record-in cs)
       ∙ came-yes Asking (askOf (there cs) t .outcome) (Outcomes.ask-said (there cs) t)
   came-same cs (Decide i) =
-      ap (λ (r : DecisionSaid). cameOfAnswer (roleOf (lentOf i)) (r .answer)) (M .decide (on (recordAfter P old w cs) i) .0)
-      ∙ ap (λ (p : Presence). cameOfAnswer (roleOf (lentOf i)) (decidedNo (decisionOf p (i .moment) (lentOf i) .answer))) (record-in cs)
-      ∙ came-path (i .side) (pathOf (lentOf i)) (decisionOf (there cs) (i .moment) (lentOf i) .answer) (Outcomes.decision-said (there cs) (i .moment) (lentOf i))
+      ap (λ (r : DecisionSaid). cameOfAnswer (roleOf (inputsIn i)) (r .answer)) (M .decide (on (recordAfter P old w cs) i) .0)
+      ∙ ap (λ (p : Presence). cameOfAnswer (roleOf (inputsIn i)) (decidedNo (decisionOf p (i .moment) (inputsIn i) .answer))) (record-in cs)
+      ∙ came-path (i .side) (pathOf (inputsIn i)) (decisionOf (there cs) (i .moment) (inputsIn i) .answer) (Outcomes.decision-said (there cs) (i .moment) (inputsIn i))
 
   -- what a call is, in both
   pub call-same : (c : CCall) → asCall c ≡ panelCalls .asCall (asPanel c)

@@ -24,11 +24,12 @@ use Rattle.ctap1_stated.proofs.Theorems as Decision
 use Rattle.panel_stated.specs.declared.DecisionSaid.{DecisionSaid}
 use Rattle.u2f_up_stated.specs.Numbers.{windowOf, presenceIn}
 use Rattle.panel_stated.specs.Numbers.{answerNo, decidedNo}
-use Rattle.panel_stated.specs.Exports.{AfterDeciding, orderAfter}
+use Rattle.panel_stated.specs.Exports.{ToDecide, AfterDeciding, orderAfter}
 use Rattle.panel_stated.proofs.Outcomes as Outcomes
 use Rattle.panel_stated.proofs.Theorems as Panel′
+use Rattle.session_stated.specs.Contracts.{inputsIn}
 use Rattle.demands.specs.Panel.{Panel, Meets}
-use Rattle.demands.specs.Calls.{Lent, CCall, Decide, on, lentOf, asCall, touchNumber, askerNumber, recordAfter, cameNext, historyOf}
+use Rattle.demands.specs.Calls.{CCall, Decide, on, asCall, touchNumber, askerNumber, recordAfter, cameNext, historyOf}
 use Rattle.demands.specs.Demands as Claims
 use Rattle.demands.specs.Demands.{Demand3, OrdersPresent, OrdersNext, OrdersHaveTheirTouch}
 use Rattle.demands.proofs.Fetched.{so-far, takes, enough}
@@ -36,6 +37,7 @@ use Rattle.demands.proofs.Reached.{reached}
 use Rattle.demands.proofs.Answers.{commands, responses, finishing, finishes, presences, sides, keeps}
 use Rattle.demands.proofs.Lost.{none-lost}
 use Rattle.demands.proofs.Carried.{none-carries-over, signs-lent}
+use Rattle.demands.proofs.Room.{room-serves}
 use Rattle.demands.proofs.Runs.{asPanel, allAs, all-append, all-length, there, record-in, came-same, call-same, history-same}
 
 -- a window's number, opened
@@ -113,18 +115,18 @@ orders-there p t a old r answer order block (e, h) =
     (ordered, says-present (decisionOf p t a .answer) (decisionOf p t a .order) old ordered (rw (← order, ← block) h))
 
 module _ (P : Panel) (M : Meets P) (old : List ℕ) (w : ℕ) (low : 0 < w) (high : w ≤ 60000) where
-  ordered-in : (earlier : List CCall) (i : Lent) → OrdersNext P old w earlier i → Terms.OrdersPresent (decisionOf (there P M old w low high earlier) (i .moment) (lentOf i))
+  ordered-in : (earlier : List CCall) (i : ToDecide) → OrdersNext P old w earlier i → Terms.OrdersPresent (decisionOf (there P M old w low high earlier) (i .moment) (inputsIn i))
   ordered-in earlier i o =
       let n = recordAfter P old w earlier in
       let m = M .decide (on n i) in
-      subst (λ (p : Presence). Terms.OrdersPresent (decisionOf p (i .moment) (lentOf i))) (record-in P M old w low high earlier)
-      (orders-there (presenceIn n) (i .moment) (lentOf i) (i .block) (P .decide (on n i)) (ap (λ (r : DecisionSaid). r .answer) (m .0)) (ap (λ (r : DecisionSaid). r .order) (m .0)) (m .4) o)
+      subst (λ (p : Presence). Terms.OrdersPresent (decisionOf p (i .moment) (inputsIn i))) (record-in P M old w low high earlier)
+      (orders-there (presenceIn n) (i .moment) (inputsIn i) (i .block) (P .decide (on n i)) (ap (λ (r : DecisionSaid). r .answer) (m .0)) (ap (λ (r : DecisionSaid). r .order) (m .0)) (m .4) o)
 
   orders : OrdersHaveTheirTouch P old w
   orders = record {
-    own = λ earlier i o. rw (history-same P M old w low high earlier) (Decision.OrdersHaveTheirTouch .own w low high (allAs earlier) (i .moment) (lentOf i) (ordered-in earlier i o));
+    own = λ earlier i o. rw (history-same P M old w low high earlier) (Decision.OrdersHaveTheirTouch .own w low high (allAs earlier) (i .moment) (inputsIn i) (ordered-in earlier i o));
     apart = λ earlier later i j k l o e q f.
-        Decision.OrdersHaveTheirTouch .apart w low high (allAs earlier) (allAs later) (i .moment) (j .moment) (lentOf i) (lentOf j) k l
+        Decision.OrdersHaveTheirTouch .apart w low high (allAs earlier) (allAs later) (i .moment) (j .moment) (inputsIn i) (inputsIn j) k l
         (ordered-in earlier i o)
         (rw (← history-same P M old w low high earlier) e)
         (rw (← all-append later (Decide i ∷ earlier)) (ordered-in (later ++ Decide i ∷ earlier) j q))
@@ -146,6 +148,7 @@ OnTop P M = record {
   finished = finishes P M;
   none-lost = none-lost P M;
   carried = none-carries-over P M;
+  room = room-serves P M;
   answers = record {
     makes = Panel′.ContractsAsClaimed .new (P .new) (M .new);
     presences = presences P M;

@@ -3,58 +3,24 @@
 mod Words
 use Words.*
 
--- all that is lent to a decision but the record
-pub record Lent : Type 0 where
-  pub session : List ℕ
-  pub frame : List ℕ
-  pub side : ℕ
-  pub moment : ℕ
-  pub hardware : List ℕ
-  pub newHandle : List ℕ
-  pub certificate : List ℕ
-  pub x : List ℕ
-  pub y : List ℕ
-  pub reply : List ℕ
-  pub block : List ℕ
-  pub part : List ℕ
-
--- with the record in hand
-abbrev pub on : (presence : List ℕ) → Lent → ToDecide
-on n i =
-    record {
-      presence = n;
-      session = i .session;
-      frame = i .frame;
-      side = i .side;
-      moment = i .moment;
-      hardware = i .hardware;
-      newHandle = i .newHandle;
-      certificate = i .certificate;
-      x = i .x;
-      y = i .y;
-      reply = i .reply;
-      block = i .block;
-      part = i .part;
-    }
-
--- what its numbers stand for (session_stated's Contracts.antt, `inputsIn`), which no record changes
-abbrev pub lentOf : Lent → Inputs
-lentOf i = inputsIn (on [] i)
+-- what is lent to a decision, with the record in hand
+abbrev pub on : (presence : List ℕ) → ToDecide → ToDecide
+on n i = lending n (i .session) (i .reply) i
 
 -- a call on the record in hand
 pub data CCall : Type 0 where
   Touch : (t : ℕ) → CCall  -- brinecandle_grant_up (record, t)
   Check : (side t : ℕ) → CCall  -- brinecandle_consume_up (record, side, t)
   Ask : (t : ℕ) → CCall  -- brinecandle_is_up_needed (record, t)
-  Decide : Lent → CCall  -- brinecandle_decide
+  Decide : ToDecide → CCall  -- brinecandle_decide; the record in it is not looked at
 
 -- what a call is in a history: touch, check of a side, ask; a decision reaches the touch check or is answered without it, by what is lent alone
--- (ctap1_stated's specs/Path.antt, `roleOf`: no line of it looks at the record)
+-- (ctap1_stated's specs/Path.antt, `roleOf`, of what the numbers stand for, `inputsIn`: no line of either looks at the record)
 abbrev pub asCall : CCall → Call
 asCall (Touch t) = record { role = Touching; moment = t }
 asCall (Check s t) = record { role = Checking s; moment = t }
 asCall (Ask t) = record { role = Asking; moment = t }
-asCall (Decide i) = record { role = roleOf (lentOf i); moment = i .moment }
+asCall (Decide i) = record { role = roleOf (inputsIn i); moment = i .moment }
 
 -- what C sees of touch, check and ask: a number up to 8 is a refusal, 9000 is done, and `yes` says the rest (`cameOfGiven`, Runs.antt: the role's case for yes
 -- or no)
@@ -72,7 +38,7 @@ cameOfAnswer role answer =
 
 -- a decision reaches the touch check, R6, R8 and R1 apart: CTAP1 is allowed, and the frame is a Register with room for its reply, or an Authenticate with P1
 -- 03, a good handle and room
-abbrev pub Reaches : Panel → Lent → Type 0
+abbrev pub Reaches : Panel → ToDecide → Type 0
 Reaches P i =
     (hardwareIn (i .hardware) .allowed ≡ 1) × (P .read-command (i .frame) .answer ≡ 0x9000)
     × (((P .read-command (i .frame) .command ≡ 1) × (139 + length (i .newHandle) + length (i .certificate) ≤ length (i .reply)))
@@ -97,7 +63,7 @@ module _ (P : Panel) where
   cameBy n (Touch t) = cameOfYes Touching (P .grant-up n t .said .answer) (P .grant-up n t .said .yes)
   cameBy n (Check s t) = cameOfYes (Checking s) (P .consume-up n s t .said .answer) (P .consume-up n s t .said .yes)
   cameBy n (Ask t) = cameOfYes Asking (P .is-up-needed n t .answer) (P .is-up-needed n t .yes)
-  cameBy n (Decide i) = cameOfAnswer (roleOf (lentOf i)) (P .decide (on n i) .said .answer)
+  cameBy n (Decide i) = cameOfAnswer (roleOf (inputsIn i)) (P .decide (on n i) .said .answer)
 
   -- from `brinecandle_new w` on, over whatever the numbers were
   module _ (old : List ℕ) (w : ℕ) where

@@ -17,7 +17,7 @@ OrdersPresent r = (r .said .answer ≡ 0x0100) × ((r .said .order .kind ≡ 1) 
 
 module _ (P : Panel) (old : List ℕ) (w : ℕ) where
   -- the next call is a decision, and gives such an order
-  abbrev pub OrdersNext : (earlier : List CCall) → Lent → Type 0
+  abbrev pub OrdersNext : (earlier : List CCall) → ToDecide → Type 0
   OrdersNext earlier i = OrdersPresent (P .decide (on (recordAfter P old w earlier) i))
 
   -- the touch that a call after these is served by, if it spends one
@@ -26,10 +26,10 @@ module _ (P : Panel) (old : List ℕ) (w : ℕ) where
 
   pub record OrdersHaveTheirTouch : Type 0 where
     -- it has a touch: the latest accepted one, the only one held, and of the side that the decision names
-    pub own : (earlier : List CCall) (i : Lent) → OrdersNext earlier i
+    pub own : (earlier : List CCall) (i : ToDecide) → OrdersNext earlier i
         → (k : Mark) × ServedBy earlier k × (heldAt w (historyOf P old w earlier) (i .moment) ≡ k ∷ []) × (k .side ≡ i .side)
     -- and no later order has the same
-    pub apart : (earlier later : List CCall) (i j : Lent) (k l : Mark)
+    pub apart : (earlier later : List CCall) (i j : ToDecide) (k l : Mark)
         → OrdersNext earlier i → ServedBy earlier k
         → OrdersNext (later ++ Decide i ∷ earlier) j → ServedBy (later ++ Decide i ∷ earlier) l
         → k .number ≡ l .number → ⊥
@@ -98,13 +98,14 @@ pub record Demands (P : Panel) : Type 0 where
   -- a record is made for W from 1 to 60,000, and for no other
   pub makes : (old : List ℕ) (w : ℕ) → (P .new old w .said ≡ 0x9000) ↔ ((1 ≤ w) × (w ≤ 60000))
   -- which decisions reach the touch check, in C's numbers
-  pub reaches : (i : Lent) → (asCall (Decide i) .role ≡ Checking (i .side)) ↔ Reaches P i
+  pub reaches : (i : ToDecide) → (asCall (Decide i) .role ≡ Checking (i .side)) ↔ Reaches P i
   -- and then, whatever is called, in any order
   pub touches : (old : List ℕ) (w : ℕ) → P .new old w .said ≡ 0x9000 → (calls : List CCall) → Demand3 P old w calls
   pub orders : (old : List ℕ) (w : ℕ) → P .new old w .said ≡ 0x9000 → OrdersHaveTheirTouch P old w
   pub finished : OrdersAreFinished P
   pub none-lost : NoTouchIsLost P
   pub carried : NoneCarriesOver P  -- Carried.antt
+  pub room : RoomServes P  -- Room.antt
   pub bodies : BodiesAreFetched P
   -- each call by itself: Answers.antt. That every input is answered: P is a function
   pub answers : CallsAnswer P

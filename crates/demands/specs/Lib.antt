@@ -4,6 +4,7 @@ pub mod Sessions
 pub mod Carried
 pub mod Answers
 pub mod NotRuledOut
+pub mod Room
 pub mod Demands
 pub mod Wrong
 pub mod Index

@@ -1,5 +1,5 @@
 -- Orders that are made of lengths that fit, and what finishing gives for them.
-use Prim.Native.Nat.{ℕ, _+_, _-_, _≤_}
+use Prim.Native.Nat.{ℕ, _+_, _-_, _<_, _≤_}
 use mathlib.Core.Bool.{Bool, true, false, not, _&&_}
 use mathlib.Core.Path.{_≡_, refl, sym, ap, _∙_}
 use mathlib.Core.List.{List, []}
@@ -17,7 +17,7 @@ use Rattle.signing_stated.proofs.FieldsKept.{register-kept, authenticat
 use Rattle.signing_stated.proofs.Shapes.{register-shape, shape-register, shape-authenticate}
 use Rattle.signing_stated.proofs.Cases.{register-body-length, authenticate-body-length}
 use Rattle.signing_stated.proofs.Fit.{register-lengths, authenticate-lengths, register-order-fit, authenticate-order-fit}
-use Rattle.signing_stated.proofs.Ways.{comes-to-r7, way, told-r3, body-within}
+use Rattle.signing_stated.proofs.Ways.{comes-to-r7, way, told-body, told-r2, told-r3, body-within}
 
 pub made-of-layout :
     ((f : RegisterFields) (c : ℕ) → isRegisterFit f ≡ true → isOfLayout (registerOrderOf f c) ≡ true)
@@ -61,6 +61,26 @@ room-of-made = (
       ap roomNeeded (register-order-fit f c (register-lengths f fit)) ∙ ap (λ (h : ℕ). registerRoom h c) same,
   λ f fit. ap roomNeeded (authenticate-order-fit f (authenticate-lengths f fit)),
 )
+
+-- and no order for these fields asks for more, a blank one neither
+pub room-most : (f : RegisterFields) (c : ℕ) → roomNeeded (registerOrderOf f c) ≤ registerRoom (length (f .handle)) c
+unfolding registerOrderOf blankOrder
+room-most f c = by (isRegisterFit f) (registerToSign f)
+  where
+    by : (fit : Bool) (s : List ℕ)
+        → roomNeeded (if not fit then blankOrder else record { kind = Register; «to_sign» = 130 + length (f .handle); «certificate_length» = c; bytes = block s })
+        ≤ registerRoom (length (f .handle)) c
+    by true s = omega arith
+    by false s = omega arith
+
+-- whatever was lent: R2 tells that the order's room was not there, and a body is within it
+pub finish-short : (i : Finishing) → finishOf i ≡ R 2 → length (i .reply) < roomNeeded (i .order)
+finish-short i e = told-r2 (way i) e
+
+pub finish-within : (i : Finishing) (body : List ℕ) → finishOf i ≡ Gives body → length body ≤ roomNeeded (i .order)
+finish-within i body e =
+    let (passed, same) = told-body body (way i) e in
+    rw same (body-within (i .order .kind) (i .order) (i .certificate) (i .signature) (passed .certificate) (passed .signature))
 
 -- once the layout is right, the certificate is the order's and the room is there, finishing gives none of R7, R4 and R2
 pub room-kept : (i : Finishing) → isOfLayout (i .order) ≡ true → length (i .certificate) ≡ certificateLength (i .order)

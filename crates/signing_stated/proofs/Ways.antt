@@ -106,6 +106,14 @@ module _ {i : Finishing} where
   told-body body (long-signature _ _ _ _ _) e = let z : _≡_ {A = ℕ} 0 1 = cc in absurd (omega arith)
   told-body body (passed p) e = (p, cc)
 
+  pub told-r2 : {x : Outcome (List ℕ)} → Way i x → x ≡ R 2 → length (i .reply) < roomNeeded (i .order)
+  told-r2 (no-layout bad) e = let z : _≡_ {A = ℕ} 7 2 = cc in absurd (omega arith)
+  told-r2 (no-certificate _ other) e = let z : _≡_ {A = ℕ} 4 2 = cc in absurd (omega arith)
+  told-r2 (no-room _ _ short) e = short
+  told-r2 (no-signature _ _ _ _) e = let z : _≡_ {A = ℕ} 0 1 = cc in absurd (omega arith)
+  told-r2 (long-signature _ _ _ _ _) e = let z : _≡_ {A = ℕ} 3 2 = cc in absurd (omega arith)
+  told-r2 (passed p) e = let z : _≡_ {A = ℕ} 0 1 = cc in absurd (omega arith)
+
   -- past layout, certificate and room, the one refusal left is R3
   pub told-r3 : {x : Outcome (List ℕ)} (n : ℕ) → Way i x → x ≡ R n → isOfLayout (i .order) ≡ true
       → length (i .certificate) ≡ certificateLength (i .order) → roomNeeded (i .order) ≤ length (i .reply) → n ≡ 3
