@@ -1,23 +1,25 @@
 -- The definitions' panel meets every contract, so that the theorem on top speaks of something; and the wrong panels of specs/Wrong.antt fail the demands.
 use Prim.Native.Nat.{ℕ}
-use mathlib.Core.Path.{_≡_, refl, ap}
+use mathlib.Core.Path.{_≡_, refl, ap, sym, _∙_}
 use mathlib.Core.Bool.{Bool, true, false, false≢true}
 use mathlib.Core.List.{List, [], _∷_, _++_}
 use native.Mathlib.Omega.{arith}
 use Rattle.u2f_up_stated.specs.Moments.{newOf, settleOf, grantedOf, checkedOf, touchOf, checkOf, askOf}
 use Rattle.u2f_up_stated.specs.History.{RefusedBy, TouchFound, NoTouchFound, PromptStands, NoPromptStands, foretold, latestPrompt, unspent, latestTouch, isPromptStanding, lastMoment, servers, accepted}
-use mathlib.Core.Logic.{inl, inr}
+use mathlib.Core.Logic.{inl, inr, ⊎-elim}
 use mathlib.Core.Option.{Option, none, some}
 use lib.ListN.{length, take, replicate, length-take}
 use Rattle.response_stated.specs.Terms.{Goes, whole, cut, last}
-use Prim.Native.Nat.{_≤_}
+use Prim.Native.Nat.{_<_, _≤_}
 use Rattle.u2f_up_stated.specs.History.{Mark}
 use Rattle.octets.specs.Bytes.{byte, partOf}
+use Rattle.octets.proofs.Laws.{bytes-of, small}
 use Rattle.apdu_stated.specs.Reading.{readBy, dataOf, sayOf, lengthsOf, shortOf, extendedOf, afterData}
 use Rattle.command_stated.specs.Command.{commandOf, onReading, byInstruction, getResponseOf, registerOf, versionOf, authenticateOf, challengeOf, applicationOf}
+use Rattle.response_stated.specs.Responses.{writeResponseOf}
 use Rattle.response_stated.specs.Parts.{limitOf, partLength, nextPartOf, responseRoomOf}
 use Rattle.session_stated.specs.Held.{frameRoomOf}
-use Rattle.ctap1_stated.specs.Path.{frameLimit, fetchPath, commandPath, allowedPath, pathOf, registerPath, registerEnding, enrolmentOrder, loginPath, countedEnding}
+use Rattle.ctap1_stated.specs.Path.{frameLimit, versionPath, fetchPath, commandPath, allowedPath, pathOf, registerPath, registerEnding, enrolmentOrder, loginPath, countedEnding}
 use Rattle.panel_stated.specs.Numbers.{kindOf}
 use Rattle.ctap1_stated.specs.Numbers.{allowedOf, attestationOf}
 use Rattle.ctap1_stated.specs.Decision.{decisionOf}
@@ -42,8 +44,10 @@ use Rattle.demands.specs.Sessions.{none as no-more, also, fetched, leftA
 use Rattle.demands.specs.Demands.{Demands}
 use Rattle.demands.specs.Carried.{NoneCarriesOver}
 use Rattle.demands.specs.Answers.{SignsLent}
-use Rattle.demands.specs.NotRuledOut.{lend, enrol, posing, posedAs, handleless, unhandled, handled, NotRuledOut}
+use Rattle.demands.specs.Room.{ReplyServes, RefusedAt, NoMoreFits, ResponsesServed, enrolling}
+use Rattle.demands.specs.NotRuledOut.{lend, enrol, logIn, posing, posedAs, handleless, unhandled, handled, NotRuledOut}
 use Rattle.demands.proofs.Examples.{other-bytes}
+use Rattle.demands.proofs.Room.{no-more-fits}
 use Rattle.demands.specs.Wrong as Wrong
 
 pub meets : Meets Wrong.defined
@@ -328,8 +332,8 @@ sideCutInDecide d = Exports.sideCutInDecide (d .answers .sides)
 
 -- ---- how many bytes a response takes
 -- a Register in an extended frame, with a live touch and a certificate of 200 bytes, and what finishes its order
-abbrev enrolling : ToDecide
-enrolling =
+abbrev inExtended : ToDecide
+inExtended =
     record {
       presence = 1000 ∷ 0 ∷ 1 ∷ 0 ∷ 0 ∷ [];
       session = 0 ∷ 0 ∷ 0 ∷ [];
@@ -346,16 +350,21 @@ enrolling =
       part = [];
     }
 
+-- what finishes the order of an enrolment in 394 bytes
+abbrev finishing : (signature : List ℕ) → ToFinish
+finishing signature =
+    record { order = decidesOf (enrolling 394 255 0) .said .order; block = decidesOf (enrolling 394 255 0) .block; certificate = []; signed = 1; signature = signature; reply = replicate 394 0 }
+
 abbrev enrolled : ToFinish
 enrolled =
-    record { order = decidesOf enrolling .said .order; block = decidesOf enrolling .block; certificate = replicate 200 0; signed = 1; signature = []; reply = replicate 339 0 }
+    record { order = decidesOf inExtended .said .order; block = decidesOf inExtended .block; certificate = replicate 200 0; signed = 1; signature = []; reply = replicate 339 0 }
 
 -- 258 were said to do, and the touch is spent for a body that they do not take
 pub room258 : Demands Wrong.room258 → ⊥
 unfolding decisionOf pathOf allowedPath commandPath registerPath registerEnding enrolmentOrder registerOrderOf isRegisterLayout kindOf block partOf dataOf commandOf onReading byInstruction registerOf challengeOf applicationOf readBy sayOf lengthsOf shortOf extendedOf afterData allowedOf attestationOf settleOf checkedOf finishOf limitOf frameLimit partLength nextPartOf
 room258 d =
     let e =
-    d .none-lost .served enrolling enrolled (replicate 258 0) 339 (record { blocks = (refl, refl); ordered = refl; order = refl; block = refl; certificate = refl; reply = omega arith; signature = omega arith })
+    d .none-lost .served inExtended enrolled (replicate 258 0) 339 (record { blocks = (refl, refl); ordered = refl; order = refl; block = refl; certificate = refl; reply = omega arith; signature = omega arith })
     (inl (refl, refl)) refl (omega arith) refl .1 in
     omega (arith, e)
 
@@ -373,7 +382,7 @@ pub sendsNothing : Demands Wrong.sendsNothing → ⊥
 unfolding decisionOf pathOf allowedPath commandPath registerPath registerEnding enrolmentOrder registerOrderOf isRegisterLayout kindOf block partOf dataOf commandOf onReading byInstruction registerOf challengeOf applicationOf readBy sayOf lengthsOf shortOf extendedOf afterData allowedOf attestationOf settleOf checkedOf finishOf limitOf frameLimit partLength nextPartOf frameRoomOf responseRoomOf
 sendsNothing d =
     let e =
-    d .none-lost .served enrolling enrolled (replicate 341 0) 339 (record { blocks = (refl, refl); ordered = refl; order = refl; block = refl; certificate = refl; reply = omega arith; signature = omega arith })
+    d .none-lost .served inExtended enrolled (replicate 341 0) 339 (record { blocks = (refl, refl); ordered = refl; order = refl; block = refl; certificate = refl; reply = omega arith; signature = omega arith })
     (inl (refl, refl)) refl (omega arith) refl .2 in
     some-out _ _ (e .0) _ (e .1) (omega arith) (omega arith) (e .2)
 
@@ -446,3 +455,85 @@ unfolding touchOf askOf settleOf grantedOf
 touchOpensNothing d =
     let e : _≡_ {A = Window} Closed (Opened 0) = ap (λ (p : Presence). p .touch) (d .answers .presences .touched touchOf Up.TouchesExactly (1000 ∷ 1 ∷ 0 ∷ 0 ∷ 0 ∷ []) 0 .1) in
     let z : _≡_ {A = ℕ} 0 1 = cc in omega arith
+
+-- ---- 02, E10: the claim with another number. A certificate of n - 393 bytes is said to fit; the witness is shown at handle length 254
+pub claimed393 : ReplyServes 393 Wrong.defined → ⊥
+claimed393 d = let e = no-more-fits Wrong.defined meets .least 393 d in omega (arith, e)
+
+pub claimedWithout72 : ReplyServes 322 Wrong.defined → ⊥
+claimedWithout72 d = let e = no-more-fits Wrong.defined meets .least 322 d in omega (arith, e)
+
+pub witnessAt254 : RefusedAt 254 Wrong.defined → ⊥
+witnessAt254 d = let e : _≡_ {A = ℕ} 0x0100 2 = sym (no-more-fits Wrong.defined meets .at-254 393 (omega arith)) ∙ d 393 (omega arith) in omega arith
+
+-- and panels that ask for other room: without the signature's 72 there is an order where R2 is due, and finishing it is R2, the touch spent
+pub signatureForgotten : NoMoreFits Wrong.signatureForgotten → ⊥
+unfolding decisionOf pathOf allowedPath commandPath registerPath registerEnding enrolmentOrder registerOrderOf isRegisterLayout kindOf block partOf dataOf commandOf onReading byInstruction registerOf challengeOf applicationOf readBy sayOf lengthsOf shortOf extendedOf afterData allowedOf attestationOf settleOf checkedOf finishOf
+signatureForgotten d = let e : _≡_ {A = ℕ} 0x0100 2 = d .refused 393 (omega arith) in omega arith
+
+-- a byte more is asked for than a certificate of none takes
+pub asksOneMore : ReplyServes 394 Wrong.asksOneMore → ⊥
+unfolding decisionOf pathOf allowedPath commandPath registerPath registerEnding enrolmentOrder registerOrderOf isRegisterLayout kindOf block partOf dataOf commandOf onReading byInstruction registerOf challengeOf applicationOf readBy sayOf lengthsOf shortOf extendedOf afterData allowedOf attestationOf settleOf checkedOf finishOf
+asksOneMore d = d .register 394 (enrolling 394 255 0) (record { reply = refl; certificate = omega arith; handle = omega arith }) refl refl
+
+-- a login in 394 bytes is refused for a guess
+pub guesses1024 : ReplyServes 394 Wrong.guesses1024 → ⊥
+unfolding commandOf onReading byInstruction authenticateOf readBy sayOf lengthsOf shortOf extendedOf afterData dataOf partOf
+guesses1024 d =
+    d .authenticate 512 (logIn (replicate 32 0xA1) (replicate 32 0xC1) [] 7) (record { reply = refl; certificate = omega arith; handle = omega arith }) refl refl
+
+-- an order is finished with R2, whatever the room
+pub finishRefusesRoom : ReplyServes 394 Wrong.finishRefuses → ⊥
+unfolding decisionOf pathOf allowedPath commandPath registerPath registerEnding enrolmentOrder registerOrderOf isRegisterLayout kindOf block partOf dataOf commandOf onReading byInstruction registerOf challengeOf applicationOf readBy sayOf lengthsOf shortOf extendedOf afterData allowedOf attestationOf settleOf checkedOf finishOf
+finishRefusesRoom d = d .finish 394 (enrolling 394 255 0) (finishing (replicate 72 0)) (record { reply = refl; certificate = omega arith; handle = omega arith }) (record { ordered = refl; order = refl; block = refl; reply = omega arith }) refl
+
+-- with 72 bytes of signature the body is said to be longer than the buffer
+pub finishOneMore : ReplyServes 394 Wrong.finishOneMore → ⊥
+unfolding decisionOf pathOf allowedPath commandPath registerPath registerEnding enrolmentOrder registerOrderOf isRegisterLayout kindOf block partOf dataOf commandOf onReading byInstruction registerOf challengeOf applicationOf readBy sayOf lengthsOf shortOf extendedOf afterData allowedOf attestationOf settleOf checkedOf finishOf
+finishOneMore d =
+    let e : 395 ≤ 394 = d .body 394 (enrolling 394 255 0) (finishing (replicate 72 0)) (record { reply = refl; certificate = omega arith; handle = omega arith }) (record { ordered = refl; order = refl; block = refl; reply = omega arith }) in
+    omega arith
+
+-- Version's body
+pub says1024 : ReplyServes 394 Wrong.says1024 → ⊥
+unfolding decisionOf pathOf allowedPath commandPath versionPath commandOf onReading byInstruction versionOf readBy sayOf lengthsOf shortOf extendedOf afterData allowedOf settleOf
+says1024 d =
+    let e : 1024 ≤ 512 = d .version 512 (lend (0x00 ∷ 0x03 ∷ 0x00 ∷ 0x00 ∷ []) 7 [] [] [] []) (record { reply = refl; certificate = omega arith; handle = omega arith }) refl in
+    omega arith
+
+-- ---- and the room for part and status: a C0 without Le, one byte left of 512, in 258 bytes
+pub partWantsBody : ResponsesServed Wrong.partWantsBody → ⊥
+unfolding frameLimit limitOf readBy sayOf lengthsOf shortOf extendedOf afterData
+partWantsBody d =
+    d .decided 512 (lend (0x00 ∷ 0xC0 ∷ 0x00 ∷ 0x00 ∷ []) 7 [] [] [] []) (record { reply = refl; certificate = omega arith; handle = omega arith }) (omega arith) (inr (omega arith, omega arith)) refl
+
+-- a part of no bytes, in 2
+pub partWants3 : ResponsesServed Wrong.partWants3 → ⊥
+unfolding nextPartOf partLength
+partWants3 d = d .sent (0 ∷ 0 ∷ 0 ∷ []) [] (0 ∷ 0 ∷ []) (omega arith) .0 refl (inl (omega arith))
+
+-- a status word, in 2
+pub responseWants3 : ResponsesServed Wrong.responseWants3 → ⊥
+unfolding writeResponseOf
+responseWants3 d = let e : 2 < 2 = d .written [] 0x6985 (0 ∷ 0 ∷ []) .0 refl in omega arith
+
+-- a Version without Le takes 256
+pub limitForgotten : ResponsesServed Wrong.limitForgotten → ⊥
+unfolding decisionOf pathOf allowedPath commandPath versionPath commandOf onReading byInstruction versionOf readBy sayOf lengthsOf shortOf extendedOf afterData allowedOf settleOf frameLimit limitOf
+limitForgotten d = let e : _≡_ {A = ℕ} 0 256 = d .limit (lend (0x00 ∷ 0x03 ∷ 0x00 ∷ 0x00 ∷ []) 7 [] [] [] []) (omega arith) in omega arith
+
+-- an extended frame has no limit, and one without Le takes 256
+pub readsShape4 : ResponsesServed Wrong.readsShape4 → ⊥
+unfolding small frameLimit limitOf readBy sayOf lengthsOf shortOf extendedOf afterData
+readsShape4 d =
+    let frame : List ℕ = 0x00 ∷ 0x03 ∷ 0x00 ∷ 0x00 ∷ 0x00 ∷ 0x00 ∷ 0x00 ∷ [] in
+    ⊎-elim (λ x. omega arith) (λ x. omega arith) (d .short frame (bytes-of frame refl) refl (omega arith) 300)
+
+pub readsLe254 : ResponsesServed Wrong.readsShape4 → ⊥
+unfolding frameLimit limitOf readBy sayOf lengthsOf shortOf extendedOf afterData
+readsLe254 d = ⊎-elim (λ x. omega arith) (λ x. omega arith) (d .in-256 (0x00 ∷ 0x03 ∷ 0x00 ∷ 0x00 ∷ []) refl (omega arith) .1 (omega arith, omega arith) 300)
+
+-- the whole body's room is asked for of a frame that takes 256 bytes at a time
+pub roomUncutAsked : ResponsesServed Wrong.roomUncut → ⊥
+unfolding frameLimit limitOf readBy sayOf lengthsOf shortOf extendedOf afterData
+roomUncutAsked d = let e : 1002 ≤ 258 = d .asked (0x00 ∷ 0x03 ∷ 0x00 ∷ 0x00 ∷ []) 1000 258 refl refl .1 (inr (omega arith, omega arith)) in omega arith

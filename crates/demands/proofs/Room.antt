@@ -149,11 +149,19 @@ module _ (n h c : ℕ) where
     pub is-enrolled : h ≤ 255 → 139 + h + c ≤ n → P .decide (enrolling n h c) .said .answer ≡ 0x0100
     is-enrolled most room = answer ∙ ap decidedNo (enrols most room)
 
+-- the frame is a Register
+enrolment-read : (P : Panel) → Meets P → P .read-command (enrolling 393 255 0 .frame) .command ≡ 1
+enrolment-read P M = ap (λ (s : CommandSaid). s .command) (M .read-command (enrolling 393 255 0 .frame) ∙ ap commandNumbers (comes 393 255 0 .1))
+
 pub no-more-fits : (P : Panel) → Meets P → NoMoreFits P
 no-more-fits P M = record {
   refused = λ n least. is-refused n 255 (n - 393) P M (omega arith);
   fits = λ n least. is-enrolled n 255 (n - 394) P M (omega arith) (omega arith);
   at-254 = λ n least. is-enrolled n 254 (n - 393) P M (omega arith) (omega arith);
+  least = λ beside serves.
+      let enough : beside < 394 → ⊥ =
+      λ less. serves .register 393 (enrolling 393 255 0) (record { reply = refl; certificate = omega (arith, less); handle = omega arith }) (enrolment-read P M) (is-refused 393 255 0 P M (omega arith)) in
+      omega (arith, enough);
   of-1024 = (is-enrolled 1024 255 630 P M (omega arith) (omega arith), is-refused 1024 255 631 P M (omega arith));
   of-393 = λ c. is-refused 393 255 c P M (omega arith);
 }

@@ -56,12 +56,17 @@ enrolling n h c =
       part = replicate 258 0;
     }
 
--- "For each such n show a certificate one byte longer that is refused at handle length 255": so no number under 394 would do
+-- "For each such n show a certificate one byte longer that is refused at handle length 255"; ours: 393 too, where it is the empty one
+abbrev pub RefusedAt : (h : ℕ) → Panel → Type 0
+RefusedAt h P = (n : ℕ) → 393 ≤ n → P .decide (enrolling n h (n - 393)) .said .answer ≡ 2
+
 pub record NoMoreFits (P : Panel) : Type 0 where
-  pub refused : (n : ℕ) → 393 ≤ n → P .decide (enrolling n 255 (n - 393)) .said .answer ≡ 2
+  pub refused : RefusedAt 255 P
   -- it passes every check before its room, and after: with a byte less of certificate, or of handle, there is an order
   pub fits : (n : ℕ) → 394 ≤ n → P .decide (enrolling n 255 (n - 394)) .said .answer ≡ 0x0100
   pub at-254 : (n : ℕ) → 393 ≤ n → P .decide (enrolling n 254 (n - 393)) .said .answer ≡ 0x0100
+  -- so no number under 394 would do
+  pub least : (beside : ℕ) → ReplyServes beside P → 394 ≤ beside
   -- "630 for our 1,024"
   pub of-1024 : (P .decide (enrolling 1024 255 630) .said .answer ≡ 0x0100) × (P .decide (enrolling 1024 255 631) .said .answer ≡ 2)
   -- 393 bytes serve no certificate, not even an empty one

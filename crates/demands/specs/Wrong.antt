@@ -3,7 +3,7 @@
 use Prim.Native.Nat.{ℕ, _+_, _-_, _%_}
 use mathlib.Core.List.{List, [], _∷_, _++_}
 use mathlib.Core.Bool.{Bool, false, not}
-use lib.Dec.{eqb}
+use lib.Dec.{eqb, ltb}
 use lib.ListN.{length, take, drop, replicate}
 use Rattle.outcome.specs.Notation.{if_then_else_}
 use Rattle.outcome.specs.Outcome.{R, SW}
@@ -317,3 +317,72 @@ fieldsExchanged =
 -- and in an Authenticate's
 abbrev pub loginExchanged : Panel
 loginExchanged = panelWith makesOf touchesOf checksOf asksOf (λ i. signing 2 (λ s. drop 37 s ++ take 5 (drop 32 s) ++ take 32 s) (decidesOf i)) rightFinish
+
+-- ---- 02, E10: a decision by another length of the reply buffer
+abbrev roomed : (change : List ℕ → List ℕ) → ToDecide → AfterDeciding
+roomed change i =
+    let d = decidesOf (lending (i .presence) (i .session) (change (i .reply)) i) in
+    record { said = d .said; presence = d .presence; session = d .session; reply = i .reply; block = d .block; part = d .part }
+
+-- what a decision left, with another answer and another length
+abbrev saying : (answer length : ℕ) → AfterDeciding → AfterDeciding
+saying answer length d =
+    record {
+      said = record { answer = answer; fault = d .said .fault; taken = d .said .taken; length = length; order = d .said .order; place = d .said .place };
+      presence = d .presence;
+      session = d .session;
+      reply = d .reply;
+      block = d .block;
+      part = d .part;
+    }
+
+-- room is asked for without the signature's 72; and for a byte more than it takes
+abbrev pub signatureForgotten : Panel
+signatureForgotten = panelWith makesOf touchesOf checksOf asksOf (roomed (λ l. l ++ replicate 72 0)) rightFinish
+
+abbrev pub asksOneMore : Panel
+asksOneMore = panelWith makesOf touchesOf checksOf asksOf (roomed (drop 1)) rightFinish
+
+-- a guessed length: less than 1,024 bytes are never enough
+abbrev pub guesses1024 : Panel
+guesses1024 = panelWith makesOf touchesOf checksOf asksOf (λ i. if ltb (length (i .reply)) 1024 then saying 2 0 (decidesOf i) else decidesOf i) rightFinish
+
+-- finishing says a byte more than it wrote; and every body of a decision is said to have 1,024
+abbrev pub finishOneMore : Panel
+finishOneMore =
+    panelWith makesOf touchesOf checksOf asksOf decidesOf
+    (λ i. record { said = record { answer = rightFinish i .said .answer; length = rightFinish i .said .length + 1 }; buffer = rightFinish i .buffer })
+
+abbrev pub says1024 : Panel
+says1024 = panelWith makesOf touchesOf checksOf asksOf (λ i. saying (decidesOf i .said .answer) 1024 (decidesOf i)) rightFinish
+
+-- a part is refused where the whole body would not go; a part, and a response, want a byte more than they take
+abbrev pub partWantsBody : Panel
+partWantsBody =
+    panelWith makesOf touchesOf checksOf asksOf (λ i. if ltb (length (i .part)) (length (i .reply) + 2) then saying 2 0 (decidesOf i) else decidesOf i) rightFinish
+
+abbrev pub partWants3 : Panel
+partWants3 =
+    framesWith (readsOf Ordinary) (readsOf Ordinary) (readsOf Strict) (readsOf Strict) (writesOf Ordinary) (writesOf Strict) rightCommand respondsOf rightResponse (λ session body part. nextsOf session body (drop 1 part))
+
+abbrev pub responseWants3 : Panel
+responseWants3 =
+    framesWith (readsOf Ordinary) (readsOf Ordinary) (readsOf Strict) (readsOf Strict) (writesOf Ordinary) (writesOf Strict) rightCommand (λ body status old. respondsOf body status (drop 1 old)) rightResponse nextsOf
+
+-- a decision leaves no limit
+abbrev pub limitForgotten : Panel
+limitForgotten =
+    panelWith makesOf touchesOf checksOf asksOf
+    (λ i.
+    let d = decidesOf i in
+    record { said = d .said; presence = d .presence; session = remainderIn (d .session) .place ∷ remainderIn (d .session) .count ∷ 0 ∷ []; reply = d .reply; block = d .block; part = d .part })
+    rightFinish
+
+-- every frame is said to be in shape 4, with an Le of 254
+abbrev pub readsShape4 : Panel
+readsShape4 =
+    framesWith
+    (λ frame.
+    let said = readsOf Ordinary frame in
+    record { answer = 0x9000; fault = 0; cla = said .cla; ins = said .ins; p1 = said .p1; p2 = said .p2; shape = 4; lc = said .lc; le = 254; start = said .start; end = said .end; place = 0 })
+    (readsOf Ordinary) (readsOf Strict) (readsOf Strict) (writesOf Ordinary) (writesOf Strict) rightCommand respondsOf rightResponse nextsOf
