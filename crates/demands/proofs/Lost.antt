@@ -1,20 +1,20 @@
 -- No touch is lost to a length: of a panel that meets its contracts by session_stated's theorem on the definitions.
 use Prim.Native.Nat.{ℕ, _+_, _≤_}
-use mathlib.Core.Path.{_≡_, refl, ap, ap₂, sym, subst, _∙_}
-use mathlib.Core.Bool.{Bool, true, false}
+use mathlib.Core.Path.{_≡_, ap, ap₂, sym, subst, _∙_}
+use mathlib.Core.Bool.{true}
 use mathlib.Core.List.{List, [], _∷_}
-use mathlib.Core.Logic.{_⊎_, inl, inr, ⊎-elim}
+use mathlib.Core.Logic.{_⊎_, ⊎-elim}
 use native.Mathlib.Omega.{arith}
 use borrow.Author.Tests.{eq-eqb, ne-eqb}
 use lib.ListN.{length, take}
-use Rattle.outcome.specs.Outcome.{Outcome, R, Word, SW, Gives}
+use Rattle.outcome.specs.Outcome.{Outcome, Gives}
 use Rattle.apdu_stated.specs.Answers.{Says}
 use Rattle.apdu_stated.specs.Reading.{readOf}
-use Rattle.command_stated.specs.Command.{Command, Register, Authenticate, commandOf}
+use Rattle.command_stated.specs.Command.{Register, Authenticate, commandOf}
 use Rattle.command_stated.proofs.Laws.{RegisterExactly, AuthenticateExactly}
 use Rattle.response_stated.specs.Words.{Sent, rest}
 use Rattle.response_stated.specs.Parts.{partLength}
-use Rattle.response_stated.specs.Terms.{Goes, Sends, spelled, sendingOf, writingOf}
+use Rattle.response_stated.specs.Terms.{Goes, Sends, sendingOf}
 use Rattle.response_stated.specs.Responses.{responseBodyOf}
 use Rattle.response_stated.proofs.Laws.{write-room, front-of, cut-back}
 use lib.Dec.{eqb}
@@ -23,9 +23,9 @@ use Rattle.demands.specs.Sessions.{firstBytes}
 use Rattle.signing_stated.specs.Orders.{isOfLayout, kindNo, certificateLength}
 use Rattle.signing_stated.specs.Words.{Order}
 use Rattle.signing_stated.proofs.Laws.{finish-gives, body-full}
-use Rattle.signing_stated.specs.Finishing.{Finishing, Ended, endOf, finishOf, lengthOf, replyOf, roomNeeded, bodyOf}
+use Rattle.signing_stated.specs.Finishing.{Finishing, Ended, endOf, lengthOf, replyOf, roomNeeded, bodyOf}
 use Rattle.u2f_up_stated.specs.Numbers.{presenceIn}
-use Rattle.ctap1_stated.specs.Words.{Inputs, DecisionGives, Ordered, DecisionResult}
+use Rattle.ctap1_stated.specs.Words.{Inputs, DecisionGives, DecisionResult}
 use Rattle.ctap1_stated.specs.Terms.{roomOfRegister}
 use Rattle.ctap1_stated.specs.Path.{frameLimit}
 use Rattle.ctap1_stated.specs.Decision.{decisionOf}
@@ -33,12 +33,12 @@ use Rattle.ctap1_stated.proofs.Laws.{AskedWith, of-register, of-authenticate, a
 use Rattle.session_stated.specs.declared.Session.{Session}
 use Rattle.session_stated.specs.Held.{sessionIn, sessionAfter, frameRoomOf}
 use Rattle.session_stated.specs.Contracts.{inputsIn}
-use Rattle.session_stated.specs.Terms.{FirstPart, Answered}
+use Rattle.session_stated.specs.Terms.{Answered}
 use Rattle.session_stated.proofs.Laws.{by-order, ordered-limit}
 use Rattle.panel_stated.specs.declared.CommandSaid.{CommandSaid}
 use Rattle.panel_stated.specs.declared.RoomSaid.{RoomSaid}
 use Rattle.panel_stated.specs.declared.Wrote.{Wrote}
-use Rattle.panel_stated.specs.Exports.{ToDecide, ToFinish, AfterPart, commandNumbers, lengthNumbers, sentNumbers, roomNumbers, nextsOf}
+use Rattle.panel_stated.specs.Exports.{ToDecide, ToFinish, commandNumbers, lengthNumbers, sentNumbers, roomNumbers, nextsOf}
 use Rattle.demands.specs.Panel.{Panel, Meets}
 use Rattle.demands.specs.Answers.{toEnd}
 use Rattle.demands.specs.Demands.{ToFinishOf, LongestBody, NoTouchIsLost, firstOf}

@@ -2,7 +2,7 @@
 use Prim.Native.Nat.{ℕ}
 use mathlib.Core.Path.{_≡_, refl, ap, sym, _∙_}
 use mathlib.Core.Bool.{Bool, true, false, false≢true}
-use mathlib.Core.List.{List, [], _∷_, _++_}
+use mathlib.Core.List.{List, [], _∷_}
 use native.Mathlib.Omega.{arith}
 use Rattle.u2f_up_stated.specs.Moments.{newOf, settleOf, grantedOf, checkedOf, touchOf, checkOf, askOf}
 use Rattle.u2f_up_stated.specs.History.{RefusedBy, TouchFound, NoTouchFound, PromptStands, NoPromptStands, foretold, latestPrompt, unspent, latestTouch, isPromptStanding, lastMoment, servers, accepted}
@@ -29,7 +29,6 @@ use Rattle.signing_stated.specs.Finishing.{finishOf}
 use Rattle.panel_stated.specs.declared.Wrote.{Wrote}
 use Rattle.panel_stated.specs.declared.CommandSaid.{CommandSaid}
 use Rattle.panel_stated.specs.declared.ResponseSaid.{ResponseSaid}
-use Rattle.panel_stated.specs.declared.RoomSaid.{RoomSaid}
 use Rattle.u2f_up_stated.specs.declared.Presence.{Presence}
 use Rattle.u2f_up_stated.specs.declared.Window.{Window}
 use Rattle.u2f_up_stated.specs.declared.Window.the-variants.{Closed, Opened}

@@ -1,16 +1,16 @@
 -- Room, for the data sheet: of a panel that meets its contracts, by what R2 tells (ctap1_stated's `short`, signing_stated's `finish-short`).
 use Prim.Native.Nat.{ℕ, _+_, _-_, _<_, _≤_}
-use mathlib.Core.Path.{_≡_, refl, ap, ap₂, sym, subst, _∙_}
+use mathlib.Core.Path.{_≡_, refl, ap, sym, _∙_}
 use mathlib.Core.Logic.{_↔_, _⊎_, inl, inr, ⊎-elim}
-use mathlib.Core.List.{List, [], _∷_}
+use mathlib.Core.List.{List}
 use native.Mathlib.Omega.{arith}
 use native.Mathlib.Decide.{decLt, ℕ-discrete}
-use lib.ListN.{length, replicate, length-replicate}
+use lib.ListN.{length, length-replicate}
 use Rattle.outcome.specs.Outcome.{Outcome, R, Word, Gives, lastRefusal}
 use Rattle.octets.specs.Bytes.{AreBytes}
 use Rattle.apdu_stated.specs.Answers.{Says}
 use Rattle.apdu_stated.specs.Reading.{readOf, readBy, sayOf, lengthsOf, shortOf, extendedOf, afterData}
-use Rattle.command_stated.specs.Command.{Command, GetResponse, Register, commandOf, onReading, byInstruction, registerOf}
+use Rattle.command_stated.specs.Command.{GetResponse, Register, commandOf, onReading, byInstruction, registerOf}
 use Rattle.response_stated.specs.declared.Remainder.{Remainder}
 use Rattle.response_stated.specs.Words.{Sent}
 use Rattle.response_stated.specs.Parts.{limitOf, partLength, nextPartOf}
@@ -20,7 +20,7 @@ use Rattle.signing_stated.specs.Finishing.{finishOf, lengthOf, roomNeeded}
 use Rattle.signing_stated.proofs.Laws.{finish-short, finish-within}
 use Rattle.u2f_up_stated.specs.declared.Presence.{Presence}
 use Rattle.u2f_up_stated.specs.Numbers.{presenceIn}
-use Rattle.ctap1_stated.specs.Words.{Inputs, DecisionGives, Body, Ordered, DecisionResult}
+use Rattle.ctap1_stated.specs.Words.{Inputs, DecisionGives, Ordered, DecisionResult}
 use Rattle.ctap1_stated.specs.Path.{frameLimit, limitOn}
 use Rattle.ctap1_stated.specs.Numbers.{allowedOf, attestationOf}
 use Rattle.ctap1_stated.specs.Terms.{Comes}
@@ -36,14 +36,14 @@ use Rattle.panel_stated.specs.declared.DecisionSaid.{DecisionSaid}
 use Rattle.panel_stated.specs.declared.FrameSaid.{FrameSaid}
 use Rattle.panel_stated.specs.declared.RoomSaid.{RoomSaid}
 use Rattle.panel_stated.specs.declared.Wrote.{Wrote}
-use Rattle.panel_stated.specs.Numbers.{answerNo, decidedNo}
+use Rattle.panel_stated.specs.Numbers.{decidedNo}
 use Rattle.panel_stated.specs.Terms.{IsNumbered}
-use Rattle.panel_stated.specs.Exports.{ToDecide, ToFinish, frameNumbers, commandNumbers, lengthNumbers, finishNumbered, bodyLength, sentNumbers, roomNumbers, decidedBy}
+use Rattle.panel_stated.specs.Exports.{ToDecide, ToFinish, frameNumbers, commandNumbers, lengthNumbers, bodyLength, sentNumbers, roomNumbers, decidedBy}
 use Rattle.panel_stated.proofs.Outcomes as Outcomes
 use Rattle.panel_stated.proofs.Theorems as Panel′
 use Rattle.demands.specs.Panel.{Panel, Meets}
 use Rattle.demands.specs.Answers.{toEnd}
-use Rattle.demands.specs.Room.{Serves, FinishesIn, ReplyServes, enrolling, NoMoreFits, Holds, ResponsesServed, RoomServes}
+use Rattle.demands.specs.Room.{Fits, FinishesIn, ReplyServes, enrolling, NoMoreFits, Holds, ResponsesServed, DataSheet}
 use Rattle.demands.proofs.Fetched.{room-is}
 use Rattle.demands.proofs.Answers.{ends, order-given, is-its, its-kind}
 
@@ -71,14 +71,14 @@ module _ (P : Panel) (M : Meets P) where
   is-c0 frame c = ap (λ (s : CommandSaid). s .command) (M .read-command frame ∙ ap commandNumbers c)
 
   -- ---- the reply buffer
-  served : (n : ℕ) (i : ToDecide) → Serves 394 n i → (P .read-command (i .frame) .command ≡ 0xC0 → ⊥) → Short (inputsIn i) → ⊥
+  served : (n : ℕ) (i : ToDecide) → Fits 394 n i → (P .read-command (i .frame) .command ≡ 0xC0 → ⊥) → Short (inputsIn i) → ⊥
   served n i s other (for-version c h) = omega (arith, s .reply, s .certificate, h)
   served n i s other (for-register said c h) = omega (arith, s .reply, s .certificate, s .handle, h)
   served n i s other (for-login p1 said c h) = omega (arith, s .reply, s .certificate, h)
   served n i s other (for-rest c h) = other (is-c0 (i .frame) c)
   served n i s other (for-part c h) = other (is-c0 (i .frame) c)
 
-  module _ (n : ℕ) (i : ToDecide) (f : ToFinish) (s : Serves 394 n i) (lent : FinishesIn P n i f) where
+  module _ (n : ℕ) (i : ToDecide) (f : ToFinish) (s : Fits 394 n i) (lent : FinishesIn P n i f) where
     abbrev ending : Outcome (List ℕ)
     ending = finishOf (toEnd (decidedBy i .order .kind) f)
 
@@ -273,7 +273,7 @@ module _ (P : Panel) (M : Meets P) (frame : List ℕ) (taken : P .read frame .an
       (λ h. holds-part m (frameLimit frame) n .1 (omega (arith, room, h)), λ h. omega (arith, room, holds-part m (frameLimit frame) n .0 h))
 
 module _ (P : Panel) (M : Meets P) where
-  all-served : (n : ℕ) (i : ToDecide) → Serves 394 n i → remainderIn (i .session) .place + remainderIn (i .session) .count ≤ n
+  all-served : (n : ℕ) (i : ToDecide) → Fits 394 n i → remainderIn (i .session) .place + remainderIn (i .session) .count ≤ n
       → Holds (length (i .part)) (frameLimit (i .frame)) n → Short (inputsIn i) → ⊥
   all-served n i s left h (for-version c x) = omega (arith, s .reply, s .certificate, x)
   all-served n i s left h (for-register said c x) = omega (arith, s .reply, s .certificate, s .handle, x)
@@ -307,5 +307,5 @@ module _ (P : Panel) (M : Meets P) where
       by (yes h) none = h
       by (no h) none = absurd (none (omega arith))
 
-pub room-serves : (P : Panel) → Meets P → RoomServes P
-room-serves P M = record { serves = reply-serves P M; no-more = no-more-fits P M; responses = responses-served P M }
+pub data-sheet : (P : Panel) → Meets P → DataSheet P
+data-sheet P M = record { serves = reply-serves P M; no-more = no-more-fits P M; responses = responses-served P M }

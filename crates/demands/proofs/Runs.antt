@@ -1,6 +1,6 @@
 -- The run that C's calls make of a panel that meets its contracts is the run of the definitions (ctap1_stated's `panelCalls`): the same history, and the
 -- numbers in C's hand stand for the record there.
-use Prim.Native.Nat.{ℕ, suc, _+_, _<_, _≤_}
+use Prim.Native.Nat.{ℕ, suc, _<_, _≤_}
 use mathlib.Core.Path.{_≡_, refl, ap, ap₂, sym, _∙_}
 use mathlib.Core.Bool.{Bool, true}
 use mathlib.Core.List.{List, [], _∷_, _++_}

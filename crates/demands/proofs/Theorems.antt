@@ -37,7 +37,7 @@ use Rattle.demands.proofs.Reached.{reached}
 use Rattle.demands.proofs.Answers.{commands, responses, finishing, finishes, presences, sides, keeps}
 use Rattle.demands.proofs.Lost.{none-lost}
 use Rattle.demands.proofs.Carried.{none-carries-over, signs-lent}
-use Rattle.demands.proofs.Room.{room-serves}
+use Rattle.demands.proofs.Room.{data-sheet}
 use Rattle.demands.proofs.Runs.{asPanel, allAs, all-append, all-length, there, record-in, came-same, call-same, history-same}
 
 -- a window's number, opened
@@ -148,7 +148,7 @@ OnTop P M = record {
   finished = finishes P M;
   none-lost = none-lost P M;
   carried = none-carries-over P M;
-  room = room-serves P M;
+  room = data-sheet P M;
   answers = record {
     makes = Panel′.ContractsAsClaimed .new (P .new) (M .new);
     presences = presences P M;

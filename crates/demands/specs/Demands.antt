@@ -105,7 +105,7 @@ pub record Demands (P : Panel) : Type 0 where
   pub finished : OrdersAreFinished P
   pub none-lost : NoTouchIsLost P
   pub carried : NoneCarriesOver P  -- Carried.antt
-  pub room : RoomServes P  -- Room.antt
+  pub room : DataSheet P  -- 02, E10: a reply buffer of c + 394 bytes serves a certificate of c, and none shorter (Room.antt)
   pub bodies : BodiesAreFetched P
   -- each call by itself: Answers.antt. That every input is answered: P is a function
   pub answers : CallsAnswer P

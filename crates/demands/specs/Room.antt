@@ -3,7 +3,7 @@
 use Prim.Native.Nat.{ℕ, _+_, _-_, _<_, _≤_}
 use mathlib.Core.Path.{_≡_}
 use mathlib.Core.Logic.{_↔_, _⊎_}
-use mathlib.Core.List.{List, [], _∷_, _++_}
+use mathlib.Core.List.{List, [], _∷_}
 use lib.ListN.{length, replicate}
 use Rattle.outcome.specs.Outcome.{lastRefusal}
 use Rattle.octets.specs.Bytes.{AreBytes}
@@ -16,7 +16,7 @@ use Rattle.demands.specs.Panel.{Panel}
 
 -- "For every reply buffer of n bytes .. a certificate of at most n - 394 bytes (630 for our 1,024) and a handle of at most 255". `beside` is 394, 139 + 255: what the buffer
 -- has beside the certificate; so n is at least 394
-pub record Serves (beside n : ℕ) (i : ToDecide) : Type 0 where
+pub record Fits (beside n : ℕ) (i : ToDecide) : Type 0 where
   pub reply : length (i .reply) ≡ n
   pub certificate : length (i .certificate) + beside ≤ n
   pub handle : length (i .newHandle) ≤ 255
@@ -31,11 +31,11 @@ pub record FinishesIn (P : Panel) (n : ℕ) (i : ToDecide) (f : ToFinish) : Type
 -- The line itself, for every n and whatever else is lent: "the decision and the finish of its order never give Register or Authenticate R2 for the reply buffer, and no
 -- body is longer than n". The other bodies are Version's, which a decision gives
 pub record ReplyServes (beside : ℕ) (P : Panel) : Type 0 where
-  pub register : (n : ℕ) (i : ToDecide) → Serves beside n i → P .read-command (i .frame) .command ≡ 1 → P .decide i .said .answer ≡ 2 → ⊥
-  pub authenticate : (n : ℕ) (i : ToDecide) → Serves beside n i → P .read-command (i .frame) .command ≡ 2 → P .decide i .said .answer ≡ 2 → ⊥
-  pub finish : (n : ℕ) (i : ToDecide) (f : ToFinish) → Serves beside n i → FinishesIn P n i f → P .finish f .said .answer ≡ 2 → ⊥
-  pub body : (n : ℕ) (i : ToDecide) (f : ToFinish) → Serves beside n i → FinishesIn P n i f → P .finish f .said .length ≤ n
-  pub version : (n : ℕ) (i : ToDecide) → Serves beside n i → P .decide i .said .answer ≡ 0x9000 → P .decide i .said .length ≤ n
+  pub register : (n : ℕ) (i : ToDecide) → Fits beside n i → P .read-command (i .frame) .command ≡ 1 → P .decide i .said .answer ≡ 2 → ⊥
+  pub authenticate : (n : ℕ) (i : ToDecide) → Fits beside n i → P .read-command (i .frame) .command ≡ 2 → P .decide i .said .answer ≡ 2 → ⊥
+  pub finish : (n : ℕ) (i : ToDecide) (f : ToFinish) → Fits beside n i → FinishesIn P n i f → P .finish f .said .answer ≡ 2 → ⊥
+  pub body : (n : ℕ) (i : ToDecide) (f : ToFinish) → Fits beside n i → FinishesIn P n i f → P .finish f .said .length ≤ n
+  pub version : (n : ℕ) (i : ToDecide) → Fits beside n i → P .decide i .said .answer ≡ 0x9000 → P .decide i .said .length ≤ n
 
 -- an enrolment in n bytes, with a handle of h and a certificate of c bytes, on a record with a live touch: nothing stands against it but, where it is missing, the room
 abbrev pub enrolling : (n h c : ℕ) → ToDecide
@@ -81,7 +81,7 @@ Holds m limit n = (n + 2 ≤ m) ⊎ ((1 ≤ limit) × (limit + 2 ≤ m))
 -- `frameLimit frame` is what a frame takes at a time: 0, no limit, in an extended shape
 pub record ResponsesServed (P : Panel) : Type 0 where
   -- no decision at all is R2, GET RESPONSE's among them, where n bytes serve it, what remains stands within them, and a part has its room: n + 2, in any shape
-  pub decided : (n : ℕ) (i : ToDecide) → Serves 394 n i → remainderIn (i .session) .place + remainderIn (i .session) .count ≤ n
+  pub decided : (n : ℕ) (i : ToDecide) → Fits 394 n i → remainderIn (i .session) .place + remainderIn (i .session) .count ≤ n
       → Holds (length (i .part)) (frameLimit (i .frame)) n → P .decide i .said .answer ≡ 2 → ⊥
   -- a part of a body in its buffer is R2 exactly where it has not its room, by the session's limit, which after a decision is its frame's
   pub sent : (session body part : List ℕ) → remainderIn session .place + remainderIn session .count ≤ length body
@@ -99,7 +99,7 @@ pub record ResponsesServed (P : Panel) : Type 0 where
       → (P .response-room frame n .length ≤ m) ↔ Holds m (frameLimit frame) n
 
 -- ---- all of it
-pub record RoomServes (P : Panel) : Type 0 where
+pub record DataSheet (P : Panel) : Type 0 where
   pub serves : ReplyServes 394 P
   pub no-more : NoMoreFits P
   pub responses : ResponsesServed P

@@ -14,7 +14,6 @@ use Rattle.response_stated.specs.declared.Remainder.{Remainder}
 use Rattle.response_stated.specs.Words.{rest}
 use Rattle.response_stated.specs.Responses.{readResponseOf}
 use Rattle.ctap1_stated.specs.Path.{frameLimit}
-use Rattle.session_stated.specs.declared.Session.{Session}
 use Rattle.session_stated.specs.Held.{remainderIn, sessionIn}
 use Rattle.session_stated.specs.Contracts.{lending}
 use Rattle.u2f_up_stated.specs.declared.Presence.{Presence}

@@ -17,6 +17,6 @@ pub use Rattle.panel_stated.specs.Exports.{ToDecide, ToFinish, AfterDeciding, A
 pub use Rattle.demands.specs.Panel.{Panel, Meets}
 pub use Rattle.demands.specs.Answers.{CallsAnswer}
 pub use Rattle.demands.specs.Carried.{NoneCarriesOver}
-pub use Rattle.demands.specs.Room.{RoomServes}
+pub use Rattle.demands.specs.Room.{DataSheet}
 pub use Rattle.demands.specs.Sessions.{IsC0, IsGetResponse, Unhindered, Each, bytesOf, firstBytes, fetch, fetched, leftAfter}
 pub use Rattle.demands.specs.Calls.{CCall, Decide, on, asCall, Reaches, touchNumber, askerNumber, recordAfter, cameNext, historyOf}
