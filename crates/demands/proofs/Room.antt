@@ -43,7 +43,7 @@ use Rattle.panel_stated.proofs.Outcomes as Outcomes
 use Rattle.panel_stated.proofs.Theorems as Panel′
 use Rattle.demands.specs.Panel.{Panel, Meets}
 use Rattle.demands.specs.Answers.{toEnd}
-use Rattle.demands.specs.Room.{Fits, FinishesIn, ReplyServes, enrolling, NoMoreFits, Holds, ResponsesServed, DataSheet}
+use Rattle.demands.specs.Room.{Fits, FinishesIn, ReplyServes, enrolling, NoMoreFits, GoesIn, ResponsesServed, DataSheet}
 use Rattle.demands.proofs.Fetched.{room-is}
 use Rattle.demands.proofs.Answers.{ends, order-given, is-its, its-kind}
 
@@ -179,21 +179,21 @@ reply-serves P M = record {
 }
 
 -- ---- the buffer for part and status
-holds-part : (m limit n : ℕ) → Holds m limit n ↔ (partLength limit n + 2 ≤ m)
+holds-part : (m limit n : ℕ) → GoesIn m limit n ↔ (partLength limit n + 2 ≤ m)
 holds-part m limit n = (λ h. enough (part-way limit n) h, λ h. back (part-way limit n) h)
   where
-    enough : {k : ℕ} → PartWay limit n k → Holds m limit n → k + 2 ≤ m
+    enough : {k : ℕ} → PartWay limit n k → GoesIn m limit n → k + 2 ≤ m
     enough (whole z) = ⊎-elim (λ x. x) (λ x. absurd (omega (arith, z, x .0)))
     enough (cut some less) = ⊎-elim (λ x. omega arith) (λ x. x .1)
     enough (last some most) = ⊎-elim (λ x. x) (λ x. omega (arith, most, x .1))
 
-    back : {k : ℕ} → PartWay limit n k → k + 2 ≤ m → Holds m limit n
+    back : {k : ℕ} → PartWay limit n k → k + 2 ≤ m → GoesIn m limit n
     back (whole z) h = inl h
     back (cut some less) h = inr (some, h)
     back (last some most) h = inl h
 
 -- and what holds n holds less
-holds-less : (m limit n k : ℕ) → Holds m limit n → k ≤ n → partLength limit k + 2 ≤ m
+holds-less : (m limit n k : ℕ) → GoesIn m limit n → k ≤ n → partLength limit k + 2 ≤ m
 holds-less m limit n k h less = omega (arith, holds-part m limit n .0 h, part-monotone limit k n less)
 
 -- a part, in numbers
@@ -254,19 +254,19 @@ module _ (P : Panel) (M : Meets P) (frame : List ℕ) (taken : P .read frame .an
         by (yes z) = inr (z, limit-read ∙ limit-absent (says .0) is-short z)
         by (no n) = let some : 1 ≤ says .0 .le = omega (arith, n) in inl (some, limit-read ∙ limit-said (says .0) is-short some)
 
-    in-258 : AreBytes frame → (n : ℕ) → Holds 258 (frameLimit frame) n
+    in-258 : AreBytes frame → (n : ℕ) → GoesIn 258 (frameLimit frame) n
     in-258 bytes n =
         let most : limitOf (says .0) ≤ 256 = limit-of-frames .most frame (says .0) bytes (says .1) in
         inr (⊎-elim (λ x. omega (arith, x .0, x .1)) (λ x. omega (arith, x .1)) by-le, omega (arith, most, limit-read))
 
-    in-256 : ((n : ℕ) → Holds 256 (frameLimit frame) n) ↔ ((1 ≤ P .read frame .le) × (P .read frame .le ≤ 254))
+    in-256 : ((n : ℕ) → GoesIn 256 (frameLimit frame) n) ↔ ((1 ≤ P .read frame .le) × (P .read frame .le ≤ 254))
     in-256 = rw numbers (
       λ h. ⊎-elim (λ x. absurd (omega arith)) (λ x. ⊎-elim (λ y. (y .0, omega (arith, x .1, y .1))) (λ y. absurd (omega (arith, x .1, y .1))) by-le) (h 255),
       λ h n. inr (⊎-elim (λ y. (omega (arith, y .0, y .1), omega (arith, h .1, y .1))) (λ y. absurd (omega (arith, h .0, y .0))) by-le),
     )
 
   -- the room that is said is the least
-  asked : (n m : ℕ) → P .response-room frame n .answer ≡ 0x9000 → (P .response-room frame n .length ≤ m) ↔ Holds m (frameLimit frame) n
+  asked : (n m : ℕ) → P .response-room frame n .answer ≡ 0x9000 → (P .response-room frame n .length ≤ m) ↔ GoesIn m (frameLimit frame) n
   asked n m e =
       let room : P .response-room frame n .length ≡ partLength (frameLimit frame) n + 2 =
       ap (λ (r : RoomSaid). r .length) (M .response-room frame n ∙ ap roomNumbers (room-is frame (says .0) n (says .1) (ap (λ (r : RoomSaid). r .answer) (sym (M .response-room frame n)) ∙ e))) in
@@ -274,7 +274,7 @@ module _ (P : Panel) (M : Meets P) (frame : List ℕ) (taken : P .read frame .an
 
 module _ (P : Panel) (M : Meets P) where
   all-served : (n : ℕ) (i : ToDecide) → Fits 394 n i → remainderIn (i .session) .place + remainderIn (i .session) .count ≤ n
-      → Holds (length (i .part)) (frameLimit (i .frame)) n → Short (inputsIn i) → ⊥
+      → GoesIn (length (i .part)) (frameLimit (i .frame)) n → Short (inputsIn i) → ⊥
   all-served n i s left h (for-version c x) = omega (arith, s .reply, s .certificate, x)
   all-served n i s left h (for-register said c x) = omega (arith, s .reply, s .certificate, s .handle, x)
   all-served n i s left h (for-login p1 said c x) = omega (arith, s .reply, s .certificate, x)

@@ -1,5 +1,5 @@
 -- ROOM, FOR THE DATA SHEET: document 02, E10, of the reply buffer, and (ours) of the buffer for part and status. Of any panel that meets the contracts; R2 is answer 2.
--- docs/DATASHEET.md says it in words, and for some lengths in numbers (sheet_stated).
+-- docs/DATASHEET.md says it in words, and for some lengths in numbers (datasheet_stated).
 use Prim.Native.Nat.{ℕ, _+_, _-_, _<_, _≤_}
 use mathlib.Core.Path.{_≡_}
 use mathlib.Core.Logic.{_↔_, _⊎_}
@@ -75,28 +75,28 @@ pub record NoMoreFits (P : Panel) : Type 0 where
 -- ---- the buffer for part and status
 
 -- in m bytes goes what a limit (0 is none) lets out of n at once, and its status
-abbrev pub Holds : (m limit n : ℕ) → Type 0
-Holds m limit n = (n + 2 ≤ m) ⊎ ((1 ≤ limit) × (limit + 2 ≤ m))
+abbrev pub GoesIn : (m limit n : ℕ) → Type 0
+GoesIn m limit n = (n + 2 ≤ m) ⊎ ((1 ≤ limit) × (limit + 2 ≤ m))
 
 -- `frameLimit frame` is what a frame takes at a time: 0, no limit, in an extended shape
 pub record ResponsesServed (P : Panel) : Type 0 where
   -- no decision at all is R2, GET RESPONSE's among them, where n bytes serve it, what remains stands within them, and a part has its room: n + 2, in any shape
   pub decided : (n : ℕ) (i : ToDecide) → Fits 394 n i → remainderIn (i .session) .place + remainderIn (i .session) .count ≤ n
-      → Holds (length (i .part)) (frameLimit (i .frame)) n → P .decide i .said .answer ≡ 2 → ⊥
+      → GoesIn (length (i .part)) (frameLimit (i .frame)) n → P .decide i .said .answer ≡ 2 → ⊥
   -- a part of a body in its buffer is R2 exactly where it has not its room, by the session's limit, which after a decision is its frame's
   pub sent : (session body part : List ℕ) → remainderIn session .place + remainderIn session .count ≤ length body
-      → (P .next-part session body part .said .answer ≡ 2) ↔ (Holds (length part) (sessionIn session .limit) (remainderIn session .count) → ⊥)
+      → (P .next-part session body part .said .answer ≡ 2) ↔ (GoesIn (length part) (sessionIn session .limit) (remainderIn session .count) → ⊥)
   pub limit : (i : ToDecide) → lastRefusal < P .decide i .said .answer → sessionIn (P .decide i .session) .limit ≡ frameLimit (i .frame)
   -- a body with any status, and a status word alone, is R2 exactly in fewer bytes than these
   pub written : (body : List ℕ) (status : ℕ) (part : List ℕ) → (P .write-response body status part .said .answer ≡ 2) ↔ (length part < length body + 2)
   -- in shapes 1 to 4 258 bytes hold every part
-  pub short : (frame : List ℕ) → AreBytes frame → P .read frame .answer ≡ 0x9000 → P .read frame .shape ≤ 4 → (n : ℕ) → Holds 258 (frameLimit frame) n
-  -- and 256, "in all", exactly where Le is given and at most 254: for a reader that carries no more
+  pub short : (frame : List ℕ) → AreBytes frame → P .read frame .answer ≡ 0x9000 → P .read frame .shape ≤ 4 → (n : ℕ) → GoesIn 258 (frameLimit frame) n
+  -- and 256 in all exactly where Le is given and at most 254: for a reader that carries no more
   pub in-256 : (frame : List ℕ) → P .read frame .answer ≡ 0x9000 → P .read frame .shape ≤ 4
-      → ((n : ℕ) → Holds 256 (frameLimit frame) n) ↔ ((1 ≤ P .read frame .le) × (P .read frame .le ≤ 254))
+      → ((n : ℕ) → GoesIn 256 (frameLimit frame) n) ↔ ((1 ≤ P .read frame .le) × (P .read frame .le ≤ 254))
   -- the call that says the room says the least that holds
   pub asked : (frame : List ℕ) (n m : ℕ) → P .read frame .answer ≡ 0x9000 → P .response-room frame n .answer ≡ 0x9000
-      → (P .response-room frame n .length ≤ m) ↔ Holds m (frameLimit frame) n
+      → (P .response-room frame n .length ≤ m) ↔ GoesIn m (frameLimit frame) n
 
 -- ---- all of it
 pub record DataSheet (P : Panel) : Type 0 where
