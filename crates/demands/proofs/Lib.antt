@@ -2,6 +2,7 @@ pub mod Runs
 pub mod Fetched
 pub mod Lost
 pub mod Room
+pub mod RoomForParts
 pub mod Carried
 pub mod Examples
 pub mod Answers
