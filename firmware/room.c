@@ -1,6 +1,6 @@
-/* For firmware/test: BRINECANDLE_SERVES held to the archive, for every reply buffer of 393 to 2,048 bytes and two longer ones. What is expected
- * are the documents' numbers: a Register's room is 139 + h + c, its body 67 + h + c and the signature, an Authenticate's 77, 5 and the
- * signature. It says how many certificates were served and refused, at a handle of 255; the first that is not so is named, with the buffer.
+/* For firmware/test: BRINECANDLE_SERVES held to the archive, for every reply buffer of 393 to 2,048 bytes and two longer ones. The numbers
+ * are the documents': a Register asks for 139 + h + c bytes and has 67 + h + c and its signature, an Authenticate for 77 and has 5 and its
+ * signature. It says how many certificates were served and refused, at a handle of 255; what is not so is named, with the buffer.
  */
 #include <unistd.h>
 
@@ -193,7 +193,8 @@ static void wrapped(size_t c)
         .y = y,
     };
     struct brinecandle_outcome said = brinecandle_panel_decide(&panel, 0, lent);
-    held(said.answer == BRINECANDLE_R2 && same(&panel.presence, &touched, sizeof touched), "the wrapper asks for no room, or spends a touch");
+    held(said.answer == BRINECANDLE_R2, "the wrapper asks for no room");
+    held(same(&panel.presence, &touched, sizeof touched), "the wrapper's R2 has spent the touch");
     panel.transport[0].buffers.part_length = n + 2;
     said = brinecandle_panel_decide(&panel, 0, lent);
     held(said.answer == BRINECANDLE_ORDER, "two bytes more are not enough for the wrapper");
