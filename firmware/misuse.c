@@ -81,6 +81,7 @@ static void then_left(bool is)
 
 /* ---- a panel with USB and a reader, guarded on both ends */
 
+/* the reply is just what these lengths ask for, not what every handle would: a byte less is too short */
 enum { USB = 0, WIRELESS = 1, HANDLE = 64, CERTIFICATE = 600, REPLY = 139 + HANDLE + CERTIFICATE, GUARD = 64 };
 
 static struct {

@@ -35,7 +35,7 @@ enum {
     HANDLE = 64,    /* our handles: the application, and what our key store wants to know */
     SIGNATURE = 72, /* DER over P-256 */
     CERTIFICATE = 24,
-    REPLY = 139 + HANDLE + CERTIFICATE,
+    REPLY = BRINECANDLE_REPLY(CERTIFICATE),
     PART = REPLY + 2 /* a frame may take the whole body, and its status word */
 };
 
@@ -98,6 +98,9 @@ static struct {
 } token;
 
 _Static_assert(sizeof token < 4096, "the token is meant to be small");
+/* Where this holds, no enrolment and no login is refused for the reply buffer (docs/DATASHEET.md). It looks at the two as they are, however
+ * their lengths were come by. */
+_Static_assert(BRINECANDLE_SERVES(sizeof token.reply[0], sizeof certificate), "the reply buffer is too short for the certificate");
 
 /* The moment that it is. To be asked at least once in 49 days. */
 static uint64_t now(void)

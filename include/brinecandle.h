@@ -54,8 +54,8 @@
 
 /* docs/CHANGES.md says when these move */
 #define BRINECANDLE_VERSION_MAJOR 0
-#define BRINECANDLE_VERSION_MINOR 11
-#define BRINECANDLE_VERSION "0.11"
+#define BRINECANDLE_VERSION_MINOR 12
+#define BRINECANDLE_VERSION "0.12"
 
 #include <stdbool.h>
 #include <stddef.h>
@@ -104,8 +104,8 @@ extern "C" {
 #endif
 
 /* An archive of another version has another symbol here: it does not link with this header. */
-extern const char brinecandle_is_0_11;
-static const char *const brinecandle_meets BRINECANDLE_KEPT = &brinecandle_is_0_11;
+extern const char brinecandle_is_0_12;
+static const char *const brinecandle_meets BRINECANDLE_KEPT = &brinecandle_is_0_12;
 
 BRINECANDLE_NUMBERS(answer, 16, HI) {
     BRINECANDLE_NO_ANSWER = 0,
@@ -452,6 +452,20 @@ struct brinecandle_wrote brinecandle_finish(struct brinecandle_order order, cons
                                             enum brinecandle_yes is_signed,
                                             const uint8_t *signature, size_t signature_length,
                                             uint8_t *reply, size_t reply_length);
+
+/* ---- room, for whoever chooses a reply buffer: in an array's length, a static assertion or an #if, or while the firmware runs. Lengths
+ * may be of any integer type and are taken more than once. Nothing wraps, and a negative length serves nothing and is not served. */
+
+/* The least reply buffer that serves a certificate of so many bytes whatever the new handle's length, up to 255: the certificate and 394,
+ * that is 139 and 255. SIZE_MAX, which is no buffer's length, where no size_t can say it. */
+#define BRINECANDLE_REPLY(certificate) ((certificate) <= SIZE_MAX - 394 ? 394ull + (certificate) : SIZE_MAX)
+
+/* Whether a reply buffer of `reply` bytes serves a certificate of so many. Where it does, neither a decision nor the finish of its order
+ * gives a Register with a handle of at most 255 bytes, or an Authenticate, R2 for that buffer, and no body is longer than it. Where it does
+ * not, a Register with a handle of 255 bytes gets R2, unless another answer comes first; so with less than 394 bytes no certificate is
+ * served, not even an empty one. What is served goes out, whatever the frame's shape, in `reply` and two bytes for part and status; in
+ * shapes 1 to 4 in 258. (It is not written with <=, of which gcc says at a length of 0 that it is always so.) */
+#define BRINECANDLE_SERVES(reply, certificate) ((reply) >= 394 && (certificate) < (reply) - 394ull + 1)
 
 /* ---- every number is as wide as in the archive, and every struct laid out as there; record, session and hardware's answers are as many
  * numbers of 64 and 32 bits in a row */
