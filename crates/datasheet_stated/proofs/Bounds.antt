@@ -192,8 +192,8 @@ unfolding finishOf
 body-most i b e =
     let body = bodyOf (i .order .kind) (i .order) (i .certificate) (i .signature) in
     let t =
-        passed (isOfLayout (i .order)) (eqb (length (i .certificate)) (certificateLength (i .order))) (ltb (length (i .reply)) (roomNeeded (i .order)))
-        (i .signed) (ltb 72 (length (i .signature))) body b e in
+    passed (isOfLayout (i .order)) (eqb (length (i .certificate)) (certificateLength (i .order))) (ltb (length (i .reply)) (roomNeeded (i .order)))
+    (i .signed) (ltb 72 (length (i .signature))) body b e in
     let its = eqb-true (length (i .certificate)) (certificateLength (i .order)) (t .is-its) in
     let room = ltb-false (length (i .reply)) (roomNeeded (i .order)) (t .has-room) in
     let fits = ltb-false 72 (length (i .signature)) (t .fits) in

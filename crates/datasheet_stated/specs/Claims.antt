@@ -70,7 +70,7 @@ pub record NeededExactly (needed : ℕ → RoomNeeded) : Type 0 where
 
 -- ---- the contracts
 
--- Whatever meets a contract meets the claim on it. A contract of `row` that names the room without the signature fails it, with code to match.
+-- Whatever meets a contract meets the claim on it. A contract of `row` that leaves no room for a signature fails it, with code to match.
 pub record ContractsAsClaimed : Type 0 where
   pub row : (f : ℕ → Sheet) → ((room : ℕ) → RowSaid room (f room)) → RowExactly f
   pub needed : (f : ℕ → RoomNeeded) → ((certificate : ℕ) → NeededSaid certificate (f certificate)) → NeededExactly f
