@@ -1,5 +1,5 @@
 // The data sheet's figures: of a reply buffer, and the buffer that a certificate needs (datasheet_stated's specs/Sheet.antt).
-ghost use Rattle.datasheet_stated.specs.Contracts.{RowSaid, NeededSaid};
+ghost use Rattle.datasheet_stated.specs.Contracts.{SheetSaid, NeededSaid};
 pub use datasheet_stated::Figures;
 pub use datasheet_stated::RoomNeeded;
 pub use datasheet_stated::Sheet;
@@ -11,7 +11,7 @@ const MOST: u64 = 0xffff_ffff_ffff_fffd;
 
 // The figures for a reply buffer of `room` bytes.
 pub fn row(room: u64) -> Sheet
-    ensures { λ r. ⌜ RowSaid room r ⌝ }
+    ensures { λ r. ⌜ SheetSaid room r ⌝ }
 {
     if room < LEAST {
         return Sheet::TooShort;

@@ -1,4 +1,4 @@
--- Two sheets that meet `RowExactly` are alike: each column is a bound, and a bound is one number. What meets the core's claims is there: the definitions do.
+-- Two sheets that meet `SheetExactly` are alike: each column is a bound, and a bound is one number. What meets the core's claims is there: the definitions do.
 use Prim.Native.Nat.{ℕ, _+_, _≤_}
 use mathlib.Core.Path.{_≡_, refl, sym, _∙_}
 use mathlib.Core.Bool.{Bool}
@@ -42,7 +42,7 @@ one-longest a b p q =
     omega arith
 
 -- ---- and so is a row
-module _ (f g : ℕ → Sheet) (p : Claims.RowExactly f) (q : Claims.RowExactly g) (n : ℕ) where
+module _ (f g : ℕ → Sheet) (p : Claims.SheetExactly f) (q : Claims.SheetExactly g) (n : ℕ) where
   figures : (a b : Figures) → f n ≡ Row a → g n ≡ Row b → a ≡ b
   figures a b x y =
       let room = p .has-row .its-own n a x ∙ sym (q .has-row .its-own n b y) in

@@ -1,17 +1,17 @@
 -- What bounds each figure: a response by its frame, a command's frame by its Lc, a body by the buffer; and the orders and frames that reach the bounds.
-use Prim.Native.Nat.{ℕ, _+_, _<_, _≤_}
+use Prim.Native.Nat.{ℕ, _+_, _-_, _<_, _≤_}
 use mathlib.Core.Path.{_≡_, refl, sym, ap, subst, _∙_}
-use mathlib.Core.Bool.{Bool, true, false, not}
+use mathlib.Core.Bool.{Bool, true, false, not, _&&_}
 use mathlib.Core.List.{List, [], _∷_, _++_}
 use native.Mathlib.Omega.{arith}
-use borrow.Author.Tests.{eqb-true, ltb-false}
-use lib.Dec.{eqb, ltb}
-use lib.ListN.{length, replicate, length-append, length-replicate, List·getD-eq-default}
+use borrow.Author.Tests.{eqb-true, ltb-true, ltb-false, leb-true}
+use lib.Dec.{eqb, ltb, leb}
+use lib.ListN.{length, drop, replicate, length-append, length-replicate, List·getD-eq-default}
 use Rattle.outcome.specs.Notation.{if_then_else_}
 use Rattle.outcome.specs.Outcome.{Outcome, R, Word, SW, Gives}
-use Rattle.outcome.proofs.Laws.{gives-same, r-gives, word-gives}
-use Rattle.octets.specs.Bytes.{byte, AreBytes, partOf}
-use Rattle.octets.proofs.Laws.{part-byte}
+use Rattle.outcome.proofs.Laws.{gives-same, r-gives, r-word, word-gives}
+use Rattle.octets.specs.Bytes.{byte, allZero, AreBytes}
+use Rattle.octets.proofs.Laws.{both, part-byte}
 use Rattle.apdu_stated.specs.declared.ApduHeader.{ApduHeader}
 use Rattle.apdu_stated.specs.declared.Entry.the-variants.{Ordinary}
 use Rattle.apdu_stated.specs.Answers.{Says}
@@ -20,9 +20,10 @@ use Rattle.apdu_stated.specs.Terms.{OneByteLe, full, plain, frameWith, saying, 
 use Rattle.apdu_stated.specs.Terms as Apdu
 use Rattle.apdu_stated.proofs.Laws.{read-exactly, reads-entry, of-table, data-within}
 use Rattle.command_stated.specs.Command.{Command, Register, Authenticate, Version, GetResponse}
+use Rattle.signing_stated.specs.declared.Kind.{Kind}
 use Rattle.signing_stated.specs.declared.Kind.the-variants as Kind′
-use Rattle.signing_stated.specs.Orders.{Order, certificateLength, isOfLayout}
-use Rattle.signing_stated.specs.Finishing.{Finishing, finishOf, lengthOf, bodyOf, roomNeeded}
+use Rattle.signing_stated.specs.Orders.{Order, headOf, toSign, certificateLength, isRegisterLayout, isLayout, isOfLayout}
+use Rattle.signing_stated.specs.Finishing.{Finishing, finishOf, lengthOf, bodyOf, roomOf, roomNeeded}
 use Rattle.signing_stated.specs.Terms.{RegisterShaped}
 use Rattle.signing_stated.proofs.Laws.{finish-gives}
 use Rattle.session_stated.specs.Terms.{TakesAtATime, given, absent, CanTake, whole, cut, extended, no-shape}
@@ -161,6 +162,9 @@ longest-taken command takes =
     )
 
 -- ---- a body
+r-same : (a b : ℕ) → _≡_ {A = Outcome ℕ} (R a) (R b) → a ≡ b
+r-same a b e = cc
+
 -- the answers of finishing, by what its tests come to
 abbrev ends : (layout its short signed long : Bool) → List ℕ → Outcome (List ℕ)
 ends layout its short signed long body =
@@ -200,6 +204,39 @@ body-most i b e =
     let within = finish-gives i (t .is-layout) its room (t .is-signed) fits .1 in
     let counts = t .counts in
     omega (arith, within, counts, room)
+
+-- R2 comes of the room alone, once the order is of its layout
+short-of : (layout its short signed long : Bool) (body : List ℕ) → lengthOf (ends layout its short signed long body) ≡ R 2 → (layout ≡ true) × (short ≡ true)
+short-of false its short signed long body e = let z : _≡_ {A = ℕ} 7 2 = r-same _ _ e in absurd (omega arith)
+short-of true false short signed long body e = let z : _≡_ {A = ℕ} 4 2 = r-same _ _ e in absurd (omega arith)
+short-of true true true signed long body e = (refl, refl)
+short-of true true false false long body e = absurd (r-word _ _ (sym e))
+short-of true true false true true body e = let z : _≡_ {A = ℕ} 3 2 = r-same _ _ e in absurd (omega arith)
+short-of true true false true false body e = absurd (r-gives _ _ (sym e))
+
+second : (a b c d e : Bool) → (a && b && c && d && e) ≡ true → b ≡ true
+second a b c d e x = both a b (both (a && b) c (both (a && b && c) d (both (a && b && c && d) e x .0) .0) .0) .1
+
+-- an order of its layout asks for no more than 394 bytes and its certificate
+asks-most : (k : Kind) (o : Order) → isLayout k o ≡ true → roomOf k (headOf o) ≤ 394 + certificateLength o
+unfolding isRegisterLayout
+asks-most Kind′.Register o e =
+    let within =
+    second (leb 130 (toSign o)) (leb (toSign o) 385) (eqb (byte (o .bytes) 0) 0x00) (eqb (byte (o .bytes) (toSign o - 65)) 0x04) (allZero (drop (toSign o) (o .bytes))) e in
+    let size = leb-true (toSign o) 385 within in
+    omega arith
+asks-most Kind′.Authenticate o e = omega arith
+
+pub never-short : (i : Finishing) → 394 + certificateLength (i .order) ≤ length (i .reply) → lengthOf (finishOf i) ≡ R 2 → ⊥
+unfolding finishOf
+never-short i room e =
+    let body = bodyOf (i .order .kind) (i .order) (i .certificate) (i .signature) in
+    let t =
+    short-of (isOfLayout (i .order)) (eqb (length (i .certificate)) (certificateLength (i .order))) (ltb (length (i .reply)) (roomNeeded (i .order)))
+    (i .signed) (ltb 72 (length (i .signature))) body e in
+    let short = ltb-true (length (i .reply)) (roomNeeded (i .order)) (t .1) in
+    let most = asks-most (i .order .kind) (i .order) (t .0) in
+    omega (arith, short, most, room)
 
 -- a Register order with a handle of 255 bytes: 385 to sign, the 04 at 320
 abbrev fullBlock : List ℕ

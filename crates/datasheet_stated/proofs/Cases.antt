@@ -1,4 +1,4 @@
--- Each case of `rowOf` and `neededOf`, in the form that the functions return them, and every way through `rowOf`.
+-- Each case of `sheetOf` and `neededOf`, in the form that the functions return them, and every way through `sheetOf`.
 use Prim.Native.Nat.{ℕ, _+_, _<_, _≤_}
 use mathlib.Core.Path.{_≡_, refl, sym}
 use native.Mathlib.Omega.{arith}
@@ -8,15 +8,15 @@ use Rattle.datasheet_stated.specs.declared.Figures.{Figures}
 use Rattle.datasheet_stated.specs.declared.Sheet.{Sheet}
 use Rattle.datasheet_stated.specs.declared.Sheet.the-variants.{Row, TooShort, TooLong}
 use Rattle.datasheet_stated.specs.declared.RoomNeeded.the-variants.{Room, NoBuffer}
-use Rattle.datasheet_stated.specs.Sheet.{longestRoom, figuresOf, rowOf, neededOf}
+use Rattle.datasheet_stated.specs.Sheet.{longestRoom, figuresOf, sheetOf, neededOf}
 
-pub row-short : (n : ℕ) → n < 394 → TooShort ≡ rowOf n
+pub row-short : (n : ℕ) → n < 394 → TooShort ≡ sheetOf n
 row-short n h = rw (lt-ltb n 394 h)
 
-pub row-long : (n : ℕ) → 394 ≤ n → longestRoom < n → TooLong ≡ rowOf n
+pub row-long : (n : ℕ) → 394 ≤ n → longestRoom < n → TooLong ≡ sheetOf n
 row-long n h g = rw (le-ltb n 394 h, lt-ltb longestRoom n g)
 
-pub row-within : (n : ℕ) → 394 ≤ n → n ≤ longestRoom → Row (figuresOf n) ≡ rowOf n
+pub row-within : (n : ℕ) → 394 ≤ n → n ≤ longestRoom → Row (figuresOf n) ≡ sheetOf n
 row-within n h g = rw (le-ltb n 394 h, le-ltb longestRoom n g)
 
 pub needed-none : (c : ℕ) → longestRoom < c + 394 → NoBuffer ≡ neededOf c
@@ -31,10 +31,10 @@ pub data Way (n : ℕ) : Sheet → Type 0 where
   long : 394 ≤ n → longestRoom < n → Way n TooLong
   within : 394 ≤ n → n ≤ longestRoom → Way n (Row (figuresOf n))
 
-pub way : (n : ℕ) → Way n (rowOf n)
+pub way : (n : ℕ) → Way n (sheetOf n)
 way n = by (decLt n 394) (decLt longestRoom n)
   where
-    by : Dec (n < 394) → Dec (longestRoom < n) → Way n (rowOf n)
+    by : Dec (n < 394) → Dec (longestRoom < n) → Way n (sheetOf n)
     by (yes h) g = rw (← row-short n h) (short h)
     by (no h) (yes g) = rw (← row-long n (omega arith) g) (long (omega arith) g)
     by (no h) (no g) = rw (← row-within n (omega arith) (omega arith)) (within (omega arith) (omega arith))
@@ -57,7 +57,7 @@ long-not-row f e = let z : _≡_ {A = ℕ} 0 1 = cc in omega arith
 pub short-not-long : TooShort ≡ TooLong → ⊥
 short-not-long e = let z : _≡_ {A = ℕ} 0 1 = cc in omega arith
 
-pub row-is : (n : ℕ) (f : Figures) → rowOf n ≡ Row f → Within n f
+pub row-is : (n : ℕ) (f : Figures) → sheetOf n ≡ Row f → Within n f
 row-is n f e = go (way n) e
   where
     go : {s : Sheet} → Way n s → s ≡ Row f → Within n f

@@ -9,8 +9,8 @@ use Rattle.session_stated.specs.Held.{frameRoomOf}
 use Rattle.session_stated.proofs.Laws.{frame-room-exactly}
 use Rattle.datasheet_stated.specs.declared.Sheet.the-variants.{Row, TooShort, TooLong}
 use Rattle.datasheet_stated.specs.declared.RoomNeeded.the-variants.{Room, NoBuffer}
-use Rattle.datasheet_stated.specs.Sheet.{rowOf, figuresOf}
-use Rattle.datasheet_stated.specs.Terms.{HandleOf, Longest, Least, Holds, BodyOf, ShortResponse, AnyResponse, CommandOf}
+use Rattle.datasheet_stated.specs.Sheet.{sheetOf, figuresOf}
+use Rattle.datasheet_stated.specs.Terms.{HandleOf, Longest, Least, HasCertificate, BodyOf, ShortResponse, AnyResponse, CommandOf}
 use Rattle.datasheet_stated.specs.Claims
 use Rattle.datasheet_stated.specs.Wrong
 use Rattle.datasheet_stated.proofs.Cases.{not-row, long-not-row}
@@ -39,6 +39,13 @@ pub withoutSignature : Claims.CertificateColumn Wrong.withoutSignature → ⊥
 withoutSignature claim =
     let room = has-room-exactly 394 255 72 .0 (claim .up-to hasRoom has-room-exactly 394 _ refl 72 .0 (omega arith) 255 (omega arith)) in
     omega arith
+
+-- and when it is finished
+pub certificateOneMoreFinished : Claims.FinishColumn Wrong.certificateOneMore → ⊥
+certificateOneMoreFinished claim = claim .never-r2 endOf finishes-exactly 394 _ refl 1 (omega arith) (Theorems.FinishColumn .one-more endOf finishes-exactly 394 (figuresOf 394) refl .r2)
+
+pub certificateOneLessFinished : Claims.FinishColumn Wrong.certificateOneLess → ⊥
+certificateOneLessFinished claim = Theorems.FinishColumn .never-r2 endOf finishes-exactly 395 (figuresOf 395) refl 1 (omega arith) (claim .one-more endOf finishes-exactly 395 _ refl .r2)
 
 pub handleOf256 : Claims.HandleColumn Wrong.handleOf256 → ⊥
 handleOf256 claim =
@@ -84,12 +91,12 @@ shortFramesOnly claim =
 
 -- ---- the buffer for a certificate: for none at all 394 bytes; 2^64 of them have no buffer
 pub neededOneLess : Claims.NeededExactly Wrong.neededOneLess → ⊥
-neededOneLess claim = not-row _ (claim .room rowOf Theorems.RowExactly 0 393 .0 refl .serves .its-row)
+neededOneLess claim = not-row _ (claim .room sheetOf Theorems.SheetExactly 0 393 .0 refl .serves .its-row)
 
 pub neededOneMore : Claims.NeededExactly Wrong.neededOneMore → ⊥
 neededOneMore claim =
-    let least : 395 ≤ 394 = claim .room rowOf Theorems.RowExactly 0 395 .0 refl .at-least 394 (record { figures = figuresOf 394; its-row = refl; within = omega arith }) in
+    let least : 395 ≤ 394 = claim .room sheetOf Theorems.SheetExactly 0 395 .0 refl .at-least 394 (record { figures = figuresOf 394; its-row = refl; within = omega arith }) in
     omega arith
 
 pub neededWithoutEnd : Claims.NeededExactly Wrong.neededWithoutEnd → ⊥
-neededWithoutEnd claim = long-not-row _ (claim .room rowOf Theorems.RowExactly 0x10000000000000000 0x1000000000000018a .0 refl .serves .its-row)
+neededWithoutEnd claim = long-not-row _ (claim .room sheetOf Theorems.SheetExactly 0x10000000000000000 0x1000000000000018a .0 refl .serves .its-row)

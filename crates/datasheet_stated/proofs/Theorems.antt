@@ -15,6 +15,7 @@ use Rattle.command_stated.specs.Command.{Authenticate}
 use Rattle.signing_stated.specs.Layouts.{RegisterFields}
 use Rattle.signing_stated.specs.Finishing.{Finishing, Ended, endOf}
 use Rattle.signing_stated.specs.Claims.{RegisterRoomExactly, FinishesExactly}
+use Rattle.signing_stated.specs.Terms.{IsWhole, register}
 use Rattle.signing_stated.proofs.Laws.{finishes-exactly, finishes-only}
 use Rattle.session_stated.specs.Terms.{FrameRoom}
 use Rattle.session_stated.specs.Claims.{FrameRoomExactly}
@@ -23,15 +24,15 @@ use Rattle.datasheet_stated.specs.declared.Sheet.{Sheet}
 use Rattle.datasheet_stated.specs.declared.Sheet.the-variants.{Row, TooShort, TooLong}
 use Rattle.datasheet_stated.specs.declared.RoomNeeded.{RoomNeeded}
 use Rattle.datasheet_stated.specs.declared.RoomNeeded.the-variants.{Room, NoBuffer}
-use Rattle.datasheet_stated.specs.Sheet.{longestRoom, figuresOf, rowOf, neededOf}
-use Rattle.datasheet_stated.specs.Terms.{UpTo, Longest, Least, HasRoom, HandleOf, BodyOf, ShortResponse, AnyResponse, CommandOf, Holds}
+use Rattle.datasheet_stated.specs.Sheet.{longestRoom, figuresOf, sheetOf, neededOf}
+use Rattle.datasheet_stated.specs.Terms.{UpTo, Longest, Least, HasRoom, FinishR2, FinishR2At255, HandleOf, BodyOf, ShortResponse, AnyResponse, CommandOf, HasCertificate}
 use Rattle.datasheet_stated.specs.Claims
 use Rattle.datasheet_stated.proofs.Cases.{row-short, row-long, row-within, needed-none, needed-room, Way, short, long, within, way, row-is, not-row, long-not-row, short-not-long}
 use Rattle.datasheet_stated.proofs.Alike.{rows-alike}
-use Rattle.datasheet_stated.proofs.Bounds.{short-most, any-most, withoutLe, saysNoLe, reads-no-le, extendedLe, takes-no-le, takes-all, command-most, longestFrame, longestSays, longest-taken, body-most, fullFinish, full-shaped}
+use Rattle.datasheet_stated.proofs.Bounds.{short-most, any-most, withoutLe, saysNoLe, reads-no-le, extendedLe, takes-no-le, takes-all, command-most, longestFrame, longestSays, longest-taken, body-most, never-short, fullFinish, full-shaped}
 
 -- ---- which buffers have a row
-is-short : (n : ℕ) → (rowOf n ≡ TooShort) ↔ (n < 394)
+is-short : (n : ℕ) → (sheetOf n ≡ TooShort) ↔ (n < 394)
 is-short n = (go (way n), λ h. sym (row-short n h))
   where
     go : {s : Sheet} → Way n s → s ≡ TooShort → n < 394
@@ -39,7 +40,7 @@ is-short n = (go (way n), λ h. sym (row-short n h))
     go (long h g) e = absurd (short-not-long (sym e))
     go (within h g) e = absurd (not-row _ (sym e))
 
-is-long : (n : ℕ) → (rowOf n ≡ TooLong) ↔ (longestRoom < n)
+is-long : (n : ℕ) → (sheetOf n ≡ TooLong) ↔ (longestRoom < n)
 is-long n = (go (way n), λ h. sym (row-long n (omega arith) h))
   where
     go : {s : Sheet} → Way n s → s ≡ TooLong → longestRoom < n
@@ -65,7 +66,7 @@ refused has exact n h c = (
     by e (yes less) = less
     by e (no more) = absurd (not-both (has n h c) (exact n h c .1 (omega arith)) e)
 
-pub HasRow : Claims.HasRow rowOf
+pub HasRow : Claims.HasRow sheetOf
 HasRow =
     record {
       too-short = is-short;
@@ -88,7 +89,7 @@ has-room has exact n low c = (
   λ all. let asked = exact n 255 c .0 (all 255 (omega arith)) in omega arith,
 )
 
-pub CertificateColumn : Claims.CertificateColumn rowOf
+pub CertificateColumn : Claims.CertificateColumn sheetOf
 CertificateColumn =
     record {
       up-to = λ has exact n f e. let r = row-is n f e in subst (λ (g : Figures). UpTo (HasRoom has n) (g .certificate)) (r .is) (has-room has exact n (r .low));
@@ -96,6 +97,39 @@ CertificateColumn =
           let r = row-is n f e in
           let low = r .low in
           subst (λ (g : Figures). has n 255 (g .certificate + 1) ≡ false) (r .is) (refused has exact n 255 (n - 394 + 1) .1 (omega arith));
+    }
+
+finish-as : (finish : Finishing → Ended) → FinishesExactly finish → (i : Finishing) → IsWhole (i .order) → finish i .answer ≡ endOf i .answer
+finish-as finish exact i whole = ap (λ (x : Ended). x .answer) (finishes-only finish endOf exact finishes-exactly i whole)
+
+-- one byte more than there is room for, at a handle of 255
+one-more-r2 : (finish : Finishing → Ended) → FinishesExactly finish → (n : ℕ) → 394 ≤ n → FinishR2At255 finish n (n - 394 + 1)
+one-more-r2 finish exact n low =
+    let c = n - 394 + 1 in
+    let i = fullFinish n c in
+    let certificate = length-replicate {A = ℕ} c 0 in
+    let reply = length-replicate {A = ℕ} n 0 in
+    record {
+      r2 = record {
+        lent = i;
+        whole = refl;
+        buffer = reply;
+        certificate = refl;
+        is-r2 = ap (λ (x : Ended). x .answer) (exact .r2 i _ (register 255 (full-shaped c)) certificate (omega (arith, reply)));
+      };
+      longest = full-shaped c;
+    }
+
+pub FinishColumn : Claims.FinishColumn sheetOf
+FinishColumn =
+    record {
+      never-r2 = λ finish exact n f e c most x.
+          let r = row-is n f e in
+          let is = ap (λ (g : Figures). g .certificate) (r .is) in
+          never-short (x .lent) (omega (arith, x .buffer, x .certificate, most, is, r .low)) (sym (finish-as finish exact (x .lent) (x .whole)) ∙ x .is-r2);
+      one-more = λ finish exact n f e.
+          let r = row-is n f e in
+          subst (λ (g : Figures). FinishR2At255 finish n (g .certificate + 1)) (r .is) (one-more-r2 finish exact n (r .low));
     }
 
 handles : UpTo HandleOf 255
@@ -107,7 +141,7 @@ handles h = (
     fields : RegisterFields
     fields = record { application = replicate 32 0; challenge = replicate 32 0; handle = replicate h 0; x = replicate 32 0; y = replicate 32 0 }
 
-pub HandleColumn : Claims.HandleColumn rowOf
+pub HandleColumn : Claims.HandleColumn sheetOf
 HandleColumn n f e = subst (λ (g : Figures). UpTo HandleOf (g .handle)) (row-is n f e .is) handles
 
 -- by the definition, since whatever finishes exactly gives what it gives
@@ -128,12 +162,11 @@ bodies finish exact n low =
             ∙ ap Gives counts;
       };
       at-most = λ k b.
-          let same = finishes-only finish endOf exact finishes-exactly (b .lent) (b .whole) in
-          let most = body-most (b .lent) k (ap (λ (x : Ended). x .answer) (sym same) ∙ b .gives) in
+          let most = body-most (b .lent) k (sym (finish-as finish exact (b .lent) (b .whole)) ∙ b .gives) in
           omega (arith, most, b .buffer);
     }
 
-pub BodyColumn : Claims.BodyColumn rowOf
+pub BodyColumn : Claims.BodyColumn sheetOf
 BodyColumn finish exact n f e = let r = row-is n f e in subst (λ (g : Figures). Longest (BodyOf finish n) (g .body)) (r .is) (bodies finish exact n (r .low))
 
 short-responses : (room : FrameRoom) → FrameRoomExactly room → (n : ℕ) → 394 ≤ n → Longest (ShortResponse room n) 258
@@ -153,7 +186,7 @@ short-responses room exact n low =
       at-most = λ m s. short-most (s .frame) (s .said) (s .longest) m (s .bytes) (s .is-read) (s .short) (exact .says (s .frame) (s .longest) m .0 (s .takes) .0);
     }
 
-pub ShortColumn : Claims.ShortColumn rowOf
+pub ShortColumn : Claims.ShortColumn sheetOf
 ShortColumn room exact n f e = let r = row-is n f e in subst (λ (g : Figures). Longest (ShortResponse room n) (g .short)) (r .is) (short-responses room exact n (r .low))
 
 any-responses : (room : FrameRoom) → FrameRoomExactly room → (n : ℕ) → n ≤ longestRoom → Longest (AnyResponse room n) (n + 2)
@@ -163,10 +196,10 @@ any-responses room exact n high =
       at-most = λ m s. let most = any-most (s .frame) (s .longest) m (exact .says (s .frame) (s .longest) m .0 (s .takes) .0) in omega (arith, most, s .within);
     }
 
-pub ExtendedColumn : Claims.ExtendedColumn rowOf
+pub ExtendedColumn : Claims.ExtendedColumn sheetOf
 ExtendedColumn room exact n f e = let r = row-is n f e in subst (λ (g : Figures). Longest (AnyResponse room n) (g .extended)) (r .is) (any-responses room exact n (r .high))
 
-pub CommandColumn : Claims.CommandColumn rowOf
+pub CommandColumn : Claims.CommandColumn sheetOf
 unfolding small
 CommandColumn command takes n f e =
     subst (λ (g : Figures). Longest (CommandOf command) (g .command)) (row-is n f e .is)
@@ -175,11 +208,12 @@ CommandColumn command takes n f e =
       at-most = λ k c. let most = command-most (c .frame) (c .bytes) command takes (c .which) (c .is-taken) in omega (arith, most, c .long);
     })
 
-pub RowExactly : Claims.RowExactly rowOf
-RowExactly =
+pub SheetExactly : Claims.SheetExactly sheetOf
+SheetExactly =
     record {
       has-row = HasRow;
       certificate = CertificateColumn;
+      finish = FinishColumn;
       handle = HandleColumn;
       body = BodyColumn;
       short = ShortColumn;
@@ -206,46 +240,46 @@ need-way c = by (decLt longestRoom (c + 394))
     by (no h) = rw (← needed-room c (omega arith)) (some (omega arith))
 
 -- of any sheet that meets the claim
-module _ (row : ℕ → Sheet) (exact : Claims.RowExactly row) (c : ℕ) where
-  is-row : (n : ℕ) → row n ≡ rowOf n
-  is-row n = rows-alike row rowOf exact RowExactly n
+module _ (row : ℕ → Sheet) (exact : Claims.SheetExactly row) (c : ℕ) where
+  is-row : (n : ℕ) → row n ≡ sheetOf n
+  is-row n = rows-alike row sheetOf exact SheetExactly n
 
   -- a buffer that holds it has 394 bytes more
-  holds-so : (n : ℕ) → Holds row c n → (c + 394 ≤ n) × (n ≤ longestRoom)
+  holds-so : (n : ℕ) → HasCertificate row c n → (c + 394 ≤ n) × (n ≤ longestRoom)
   holds-so n h =
       let r = row-is n (h .figures) (sym (is-row n) ∙ h .its-row) in
       let is = ap (λ (g : Figures). g .certificate) (r .is) in
       (omega (arith, is, h .within, r .low), r .high)
 
   -- and the one of so many has it
-  holds-at : c + 394 ≤ longestRoom → Holds row c (c + 394)
+  holds-at : c + 394 ≤ longestRoom → HasCertificate row c (c + 394)
   holds-at h = record { figures = figuresOf (c + 394); its-row = is-row (c + 394) ∙ sym (row-within (c + 394) (omega arith) h); within = omega arith }
 
-  least-at : c + 394 ≤ longestRoom → Least (Holds row c) (c + 394)
+  least-at : c + 394 ≤ longestRoom → Least (HasCertificate row c) (c + 394)
   least-at h = record { serves = holds-at h; at-least = λ k x. holds-so k x .0 }
 
-  room-needed : (n : ℕ) → (neededOf c ≡ Room n) ↔ Least (Holds row c) n
+  room-needed : (n : ℕ) → (neededOf c ≡ Room n) ↔ Least (HasCertificate row c) n
   room-needed n = (forth (need-way c), back (need-way c))
     where
-      forth : {o : RoomNeeded} → NeedWay c o → o ≡ Room n → Least (Holds row c) n
+      forth : {o : RoomNeeded} → NeedWay c o → o ≡ Room n → Least (HasCertificate row c) n
       forth (none h) e = absurd (room-some n e)
-      forth (some h) e = subst (Least (Holds row c)) (room-same _ _ e) (least-at h)
+      forth (some h) e = subst (Least (HasCertificate row c)) (room-same _ _ e) (least-at h)
 
-      back : {o : RoomNeeded} → NeedWay c o → Least (Holds row c) n → o ≡ Room n
+      back : {o : RoomNeeded} → NeedWay c o → Least (HasCertificate row c) n → o ≡ Room n
       back (none h) l = let so = holds-so n (l .serves) in absurd (omega (arith, so .0, so .1))
       back (some h) l =
           let low = holds-so n (l .serves) .0 in
           let high = l .at-least (c + 394) (holds-at h) in
           ap Room (omega (arith, low, high))
 
-  none-needed : (neededOf c ≡ NoBuffer) ↔ ((n : ℕ) → Holds row c n → ⊥)
+  none-needed : (neededOf c ≡ NoBuffer) ↔ ((n : ℕ) → HasCertificate row c n → ⊥)
   none-needed = (forth (need-way c), back (need-way c))
     where
-      forth : {o : RoomNeeded} → NeedWay c o → o ≡ NoBuffer → (n : ℕ) → Holds row c n → ⊥
+      forth : {o : RoomNeeded} → NeedWay c o → o ≡ NoBuffer → (n : ℕ) → HasCertificate row c n → ⊥
       forth (none h) e n x = let so = holds-so n x in omega (arith, so .0, so .1)
       forth (some h) e n x = room-some _ (sym e)
 
-      back : {o : RoomNeeded} → NeedWay c o → ((n : ℕ) → Holds row c n → ⊥) → o ≡ NoBuffer
+      back : {o : RoomNeeded} → NeedWay c o → ((n : ℕ) → HasCertificate row c n → ⊥) → o ≡ NoBuffer
       back (none h) nowhere = refl
       back (some h) nowhere = absurd (nowhere (c + 394) (holds-at h))
 
@@ -256,7 +290,7 @@ NeededExactly = record { room = λ row exact c n. room-needed row exact c n; no-
 pub ContractsAsClaimed : Claims.ContractsAsClaimed
 ContractsAsClaimed =
     record {
-      row = λ f is. subst Claims.RowExactly (λ d room. sym (is room) d) RowExactly;
+      row = λ f is. subst Claims.SheetExactly (λ d room. sym (is room) d) SheetExactly;
       needed = λ f is. subst Claims.NeededExactly (λ d certificate. sym (is certificate) d) NeededExactly;
     }
 

@@ -1,10 +1,10 @@
 -- What each public function of `datasheet` promises of its result.
 use Rattle.datasheet_stated.specs.Words.{ℕ, _≡_, Sheet, RoomNeeded}
-use Rattle.datasheet_stated.specs.Sheet.{rowOf, neededOf}
+use Rattle.datasheet_stated.specs.Sheet.{sheetOf, neededOf}
 
 -- `row`
-abbrev pub RowSaid : ℕ → Sheet → Type 0
-RowSaid room r = r ≡ rowOf room
+abbrev pub SheetSaid : ℕ → Sheet → Type 0
+SheetSaid room r = r ≡ sheetOf room
 
 -- `needed`
 abbrev pub NeededSaid : ℕ → RoomNeeded → Type 0

@@ -20,8 +20,8 @@ figuresOf n =
       command = 329;  -- an Authenticate in shape 7 with a handle of 255: 4 + 3 + 320 + 2
     }
 
-abbrev pub rowOf : ℕ → Sheet
-rowOf n =
+abbrev pub sheetOf : ℕ → Sheet
+sheetOf n =
     if ltb n 394 then TooShort  -- "n at least 394"
     else if ltb longestRoom n then TooLong
     else Row (figuresOf n)

@@ -1,5 +1,5 @@
 -- Words that only the claims use: how a figure bounds what it is a figure of, and what comes of a buffer, a frame or a command.
-use Rattle.datasheet_stated.specs.Words.{ℕ, _≤_, _≡_, Bool, true, List, length, _↔_, Outcome, Gives, AreBytes, Says, readOf, Command, RegisterExactly, AuthenticateExactly, VersionExactly, GetResponseExactly, RegisterFields, Finishing, Ended, RegisterLengths, IsWhole, FrameRoom, Figures, Sheet, Row}
+use Rattle.datasheet_stated.specs.Words.{ℕ, _≤_, _≡_, Bool, true, List, length, _↔_, Outcome, R, Gives, AreBytes, Says, readOf, Command, RegisterExactly, AuthenticateExactly, VersionExactly, GetResponseExactly, RegisterFields, Finishing, Ended, certificateLength, RegisterLengths, RegisterShaped, IsWhole, FrameRoom, Figures, Sheet, Row}
 
 -- ---- bounds
 -- `UpTo Fits m`: of the numbers just those up to m fit
@@ -20,6 +20,18 @@ pub record Least (Serves : ℕ → Type 0) (m : ℕ) : Type 0 where
 -- a certificate of c bytes has room in a buffer of n, whatever the new handle. 01: "h in one byte"
 abbrev pub HasRoom : (has : (room h c : ℕ) → Bool) → (n c : ℕ) → Type 0
 HasRoom has n c = (h : ℕ) → h ≤ 255 → has n h c ≡ true
+
+-- finishing an order for a certificate of c bytes into a buffer of n is R2; and so it is at the longest handle
+pub record FinishR2 (finish : Finishing → Ended) (n c : ℕ) : Type 0 where
+  pub lent : Finishing
+  pub whole : IsWhole (lent .order)
+  pub buffer : length (lent .reply) ≡ n
+  pub certificate : certificateLength (lent .order) ≡ c
+  pub is-r2 : finish lent .answer ≡ R 2
+
+pub record FinishR2At255 (finish : Finishing → Ended) (n c : ℕ) : Type 0 where
+  pub r2 : FinishR2 finish n c
+  pub longest : RegisterShaped 255 (r2 .lent .order)
 
 -- there are fields of a Register order whose handle has h bytes
 abbrev pub HandleOf : (h : ℕ) → Type 0
@@ -66,7 +78,7 @@ pub record TakesCommands (command : List ℕ → Outcome Command) : Type 0 where
   pub get-response : GetResponseExactly command
 
 -- a buffer of n bytes has a row, and a certificate of c bytes is within it
-pub record Holds (row : ℕ → Sheet) (c n : ℕ) : Type 0 where
+pub record HasCertificate (row : ℕ → Sheet) (c n : ℕ) : Type 0 where
   pub figures : Figures
   pub its-row : row n ≡ Row figures
   pub within : c ≤ figures .certificate

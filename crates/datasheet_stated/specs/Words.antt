@@ -15,7 +15,8 @@ pub use Rattle.command_stated.specs.Command.{Command}
 pub use Rattle.command_stated.specs.Claims.{RegisterExactly, AuthenticateExactly, VersionExactly, GetResponseExactly}
 pub use Rattle.signing_stated.specs.Layouts.{RegisterFields}
 pub use Rattle.signing_stated.specs.Finishing.{Finishing, Ended}
-pub use Rattle.signing_stated.specs.Terms.{RegisterLengths, IsWhole}
+pub use Rattle.signing_stated.specs.Orders.{certificateLength}
+pub use Rattle.signing_stated.specs.Terms.{RegisterLengths, RegisterShaped, IsWhole}
 pub use Rattle.signing_stated.specs.Claims.{RegisterRoomExactly, FinishesExactly}
 pub use Rattle.session_stated.specs.Terms.{FrameRoom}
 pub use Rattle.session_stated.specs.Claims.{FrameRoomExactly}

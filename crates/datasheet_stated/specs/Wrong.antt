@@ -1,6 +1,6 @@
 -- Wrong data sheets, one fault each. proofs/Refuted.antt shows the claim that is false of each.
 use Rattle.datasheet_stated.specs.Words.{ℕ, _+_, _-_, ltb, if_then_else_, Figures, Sheet, Row, TooShort, TooLong, RoomNeeded, Room, NoBuffer}
-use Rattle.datasheet_stated.specs.Sheet.{longestRoom, figuresOf, rowOf, neededOf}
+use Rattle.datasheet_stated.specs.Sheet.{longestRoom, figuresOf, sheetOf, neededOf}
 
 -- a sheet with other figures
 abbrev changed : (Figures → Figures) → Sheet → Sheet
@@ -36,38 +36,38 @@ withoutEnd n = if ltb n 394 then TooShort else Row (figuresOf n)
 -- ---- the columns
 -- "at most n - 394 bytes": here n - 393, n - 395, and n - 322, which has no room for a signature
 abbrev pub certificateOneMore : ℕ → Sheet
-certificateOneMore n = changed (withCertificate (n - 393)) (rowOf n)
+certificateOneMore n = changed (withCertificate (n - 393)) (sheetOf n)
 
 abbrev pub certificateOneLess : ℕ → Sheet
-certificateOneLess n = changed (withCertificate (n - 395)) (rowOf n)
+certificateOneLess n = changed (withCertificate (n - 395)) (sheetOf n)
 
 abbrev pub withoutSignature : ℕ → Sheet
-withoutSignature n = changed (withCertificate (n - 322)) (rowOf n)
+withoutSignature n = changed (withCertificate (n - 322)) (sheetOf n)
 
 -- "a handle of at most 255"
 abbrev pub handleOf256 : ℕ → Sheet
-handleOf256 n = changed (withHandle 256) (rowOf n)
+handleOf256 n = changed (withHandle 256) (sheetOf n)
 
 abbrev pub handleOf254 : ℕ → Sheet
-handleOf254 n = changed (withHandle 254) (rowOf n)
+handleOf254 n = changed (withHandle 254) (sheetOf n)
 
 -- "no body is longer than n"
 abbrev pub bodyWithoutSignature : ℕ → Sheet
-bodyWithoutSignature n = changed (withBody (n - 72)) (rowOf n)
+bodyWithoutSignature n = changed (withBody (n - 72)) (sheetOf n)
 
 abbrev pub bodyOneMore : ℕ → Sheet
-bodyOneMore n = changed (withBody (n + 1)) (rowOf n)
+bodyOneMore n = changed (withBody (n + 1)) (sheetOf n)
 
 -- a response counts its status
 abbrev pub shortWithoutStatus : ℕ → Sheet
-shortWithoutStatus n = changed (withResponses 256 (n + 2)) (rowOf n)
+shortWithoutStatus n = changed (withResponses 256 (n + 2)) (sheetOf n)
 
 abbrev pub extendedWithoutStatus : ℕ → Sheet
-extendedWithoutStatus n = changed (withResponses 258 n) (rowOf n)
+extendedWithoutStatus n = changed (withResponses 258 n) (sheetOf n)
 
 -- the longest frame of shapes 1 to 4: 4 + 1 + 255 + 1
 abbrev pub shortFramesOnly : ℕ → Sheet
-shortFramesOnly n = changed (withCommand 261) (rowOf n)
+shortFramesOnly n = changed (withCommand 261) (sheetOf n)
 
 -- ---- the buffer for a certificate
 abbrev pub neededOneLess : ℕ → RoomNeeded

@@ -18,9 +18,9 @@ pub fn print(good: bool, figures: Figures) -> bool {
     words(command, b"\n")
 }
 
-// Before them, what the certificate needs.
-pub fn print_needed(certificate: u64, figures: Figures) -> bool {
+// Before them, what a certificate needs.
+pub fn print_needed(certificate: u64, room: u64) -> bool {
     let asked = number(true, b"a certificate of ", certificate);
-    let needs = number(asked, b" needs a reply buffer of ", figures.room);
-    print(words(needs, b" or more\n"), figures)
+    let needs = number(asked, b" needs a reply buffer of ", room);
+    words(needs, b" or more\n")
 }

@@ -21,14 +21,16 @@ fn length(i: usize) -> Said {
     program_text::number(octets::part(&space, 0, n), u64::MAX)
 }
 
-fn no_length() {
-    refuse(b"a length is expected in bytes: decimal digits alone, less than 2^64\n");
+fn not_asked_so() {
+    refuse(
+        b"expected: nothing, the length of a reply buffer, or the word certificate and a certificate's length; a length is decimal digits, less than 2^64\n",
+    );
 }
 
-// The figures for a buffer of this length.
-fn for_buffer(room: u64) {
+// The figures for a buffer of this length, behind what was said of it before.
+fn for_buffer(good: bool, room: u64) {
     match datasheet::row(room) {
-        Sheet::Row(figures) => program_spell::close(lines::print(true, figures)),
+        Sheet::Row(figures) => program_spell::close(lines::print(good, figures)),
         Sheet::TooShort => refuse(b"too short: a reply buffer of 394 bytes or more is expected\n"),
         Sheet::TooLong => refuse(
             b"too long: a reply buffer of at most 18446744073709551613 bytes is expected\n",
@@ -38,14 +40,12 @@ fn for_buffer(room: u64) {
 
 // The buffer for a certificate of this length, and its figures.
 fn for_certificate(certificate: u64) {
-    let RoomNeeded::Room(room) = datasheet::needed(certificate) else {
-        refuse(b"too long: a certificate of at most 18446744073709551219 bytes is expected\n");
-        return;
-    };
-    let Sheet::Row(figures) = datasheet::row(room) else {
-        return;
-    };
-    program_spell::close(lines::print_needed(certificate, figures));
+    match datasheet::needed(certificate) {
+        RoomNeeded::Room(room) => for_buffer(lines::print_needed(certificate, room), room),
+        RoomNeeded::NoBuffer => refuse(
+            b"too long: a certificate of at most 18446744073709551219 bytes is expected\n",
+        ),
+    }
 }
 
 fn is_certificate() -> bool {
@@ -62,20 +62,18 @@ fn main() {
     }
     if count == 2 {
         let Said::Is(room) = length(1) else {
-            no_length();
+            not_asked_so();
             return;
         };
-        for_buffer(room);
+        for_buffer(true, room);
         return;
     }
     if count != 3 || !is_certificate() {
-        refuse(
-            b"expected: nothing, the length of a reply buffer, or the word certificate and its length\n",
-        );
+        not_asked_so();
         return;
     }
     let Said::Is(certificate) = length(2) else {
-        no_length();
+        not_asked_so();
         return;
     };
     for_certificate(certificate);
