@@ -1,5 +1,5 @@
 -- Two sheets that meet `SheetExactly` are alike: each column is a bound, and a bound is one number. What meets the core's claims is there: the definitions do.
-use Prim.Native.Nat.{ℕ, _+_, _≤_}
+use Prim.Native.Nat.{ℕ}
 use mathlib.Core.Path.{_≡_, refl, sym, _∙_}
 use mathlib.Core.Bool.{Bool}
 use native.Mathlib.Omega.{arith}

@@ -1,5 +1,7 @@
 pub mod Cases
-pub mod Bounds
+pub mod Responses
+pub mod Commands
+pub mod Bodies
 pub mod Alike
 pub mod Theorems
 pub mod Only

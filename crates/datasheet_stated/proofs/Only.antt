@@ -1,5 +1,4 @@
 -- Only the definitions meet the claims: two that meet one agree on every buffer, and on every certificate.
-use Prim.Native.Nat.{ℕ}
 use mathlib.Core.Path.{_≡_, refl, sym, _∙_}
 use Rattle.outcome.specs.Notation.{Determines}
 use Rattle.datasheet_stated.specs.declared.RoomNeeded.{RoomNeeded}

@@ -1,16 +1,14 @@
 -- The claim that is false of each wrong sheet, at a buffer or a certificate where it bites.
-use Prim.Native.Nat.{ℕ, _+_, _≤_, _<_}
-use mathlib.Core.Path.{_≡_, refl, sym, _∙_}
+use Prim.Native.Nat.{_≤_}
+use mathlib.Core.Path.{refl, sym}
 use native.Mathlib.Omega.{arith}
 use Rattle.command_stated.specs.Command.{commandOf}
 use Rattle.signing_stated.specs.Finishing.{endOf}
 use Rattle.signing_stated.proofs.Laws.{finishes-exactly}
 use Rattle.session_stated.specs.Held.{frameRoomOf}
 use Rattle.session_stated.proofs.Laws.{frame-room-exactly}
-use Rattle.datasheet_stated.specs.declared.Sheet.the-variants.{Row, TooShort, TooLong}
-use Rattle.datasheet_stated.specs.declared.RoomNeeded.the-variants.{Room, NoBuffer}
 use Rattle.datasheet_stated.specs.Sheet.{sheetOf, figuresOf}
-use Rattle.datasheet_stated.specs.Terms.{HandleOf, Longest, Least, HasCertificate, BodyOf, ShortResponse, AnyResponse, CommandOf}
+use Rattle.datasheet_stated.specs.Terms.{HandleOf, Longest, BodyOf, ShortResponse, AnyResponse, CommandOf}
 use Rattle.datasheet_stated.specs.Claims
 use Rattle.datasheet_stated.specs.Wrong
 use Rattle.datasheet_stated.proofs.Cases.{not-row, long-not-row}

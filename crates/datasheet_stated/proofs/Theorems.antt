@@ -2,12 +2,11 @@
 use Prim.Native.Nat.{ℕ, _+_, _-_, _<_, _≤_}
 use mathlib.Core.Path.{_≡_, refl, sym, ap, subst, _∙_}
 use mathlib.Core.Bool.{Bool, true, false, true≢false}
-use mathlib.Core.List.{List}
 use mathlib.Core.Logic.{_↔_}
 use native.Mathlib.Omega.{arith}
 use native.Mathlib.Decide.{decLt}
 use lib.ListN.{length, replicate, length-replicate}
-use Rattle.outcome.specs.Outcome.{Outcome, R, Gives}
+use Rattle.outcome.specs.Outcome.{Gives}
 use Rattle.outcome.proofs.Laws.{both-are}
 use Rattle.octets.proofs.Laws.{bytes-of}
 unfoldable use Rattle.octets.proofs.Laws.{small}
@@ -21,15 +20,17 @@ use Rattle.session_stated.specs.Terms.{FrameRoom}
 use Rattle.session_stated.specs.Claims.{FrameRoomExactly}
 use Rattle.datasheet_stated.specs.declared.Figures.{Figures}
 use Rattle.datasheet_stated.specs.declared.Sheet.{Sheet}
-use Rattle.datasheet_stated.specs.declared.Sheet.the-variants.{Row, TooShort, TooLong}
+use Rattle.datasheet_stated.specs.declared.Sheet.the-variants.{TooShort, TooLong}
 use Rattle.datasheet_stated.specs.declared.RoomNeeded.{RoomNeeded}
 use Rattle.datasheet_stated.specs.declared.RoomNeeded.the-variants.{Room, NoBuffer}
 use Rattle.datasheet_stated.specs.Sheet.{longestRoom, figuresOf, sheetOf, neededOf}
-use Rattle.datasheet_stated.specs.Terms.{UpTo, Longest, Least, HasRoom, FinishR2, FinishR2At255, HandleOf, BodyOf, ShortResponse, AnyResponse, CommandOf, HasCertificate}
+use Rattle.datasheet_stated.specs.Terms.{UpTo, Longest, Least, HasRoom, FinishR2At255, HandleOf, BodyOf, ShortResponse, AnyResponse, CommandOf, HasCertificate}
 use Rattle.datasheet_stated.specs.Claims
 use Rattle.datasheet_stated.proofs.Cases.{row-short, row-long, row-within, needed-none, needed-room, Way, short, long, within, way, row-is, not-row, long-not-row, short-not-long}
 use Rattle.datasheet_stated.proofs.Alike.{rows-alike}
-use Rattle.datasheet_stated.proofs.Bounds.{short-most, any-most, withoutLe, saysNoLe, reads-no-le, extendedLe, takes-no-le, takes-all, command-most, longestFrame, longestSays, longest-taken, body-most, never-short, fullFinish, full-shaped}
+use Rattle.datasheet_stated.proofs.Responses.{short-most, any-most, withoutLe, saysNoLe, reads-no-le, extendedLe, takes-no-le, takes-all}
+use Rattle.datasheet_stated.proofs.Commands.{command-most, longestFrame, longestSays, longest-taken}
+use Rattle.datasheet_stated.proofs.Bodies.{body-most, never-short, fullFinish, full-shaped}
 
 -- ---- which buffers have a row
 is-short : (n : ℕ) → (sheetOf n ≡ TooShort) ↔ (n < 394)

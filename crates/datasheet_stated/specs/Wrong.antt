@@ -1,6 +1,6 @@
 -- Wrong data sheets, one fault each. proofs/Refuted.antt shows the claim that is false of each.
 use Rattle.datasheet_stated.specs.Words.{ℕ, _+_, _-_, ltb, if_then_else_, Figures, Sheet, Row, TooShort, TooLong, RoomNeeded, Room, NoBuffer}
-use Rattle.datasheet_stated.specs.Sheet.{longestRoom, figuresOf, sheetOf, neededOf}
+use Rattle.datasheet_stated.specs.Sheet.{longestRoom, figuresOf, sheetOf}
 
 -- a sheet with other figures
 abbrev changed : (Figures → Figures) → Sheet → Sheet
