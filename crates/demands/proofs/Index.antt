@@ -6,6 +6,7 @@ use Rattle.signing_fields.proofs.Theorems as Fields
 use Rattle.apdu_stated.proofs.Theorems as Frames
 use Rattle.apdu_table_stated.proofs.Theorems as Tables
 use Rattle.convert_stated.proofs.Theorems as Converter
+use Rattle.datasheet_stated.proofs.Theorems as Datasheet
 use Rattle.command_stated.proofs.Theorems as Commands
 use Rattle.response_stated.proofs.Theorems as Responses
 use Rattle.session_stated.proofs.Theorems as Sessions
@@ -31,6 +32,7 @@ answered =
       signing-determined = Signing.ResultsDetermined;
       decision-determined = Decision.ResultsDetermined;
       sessions-determined = Sessions.ResultsDetermined;
+      sheet-determined = Datasheet.ResultsDetermined;
       exports-determined = Panel.ResultsDetermined;
       records = Presence.MakesExactly;
       moments = Presence.SettlesExactly;
@@ -59,6 +61,9 @@ answered =
       rooms = Sessions.FrameRoomExactly;
       rooms-serve = Sessions.FrameRoomServes;
       none-lost = Sessions.NoTouchIsLost;
+      sheet = Datasheet.SheetExactly;
+      sheet-needed = Datasheet.NeededExactly;
+      sheet-as-claimed = Datasheet.ContractsAsClaimed;
       readings-said = Frames.ReadingSaidExactly;
       commands-said = Commands.SaidExactly;
       writings-said = Frames.WrittenSaidExactly;

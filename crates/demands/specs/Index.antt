@@ -43,6 +43,8 @@ use Rattle.session_stated.specs.Claims as Sessions
 use Rattle.session_stated.specs.Held.{remainderIn, sessionIn, hardwareIn, sessionAfter, frameRoomOf}
 use Rattle.u2f_up_stated.specs.Numbers.{presenceIn, checkedIn, grantedIn}
 use Rattle.ctap1_stated.specs.OneSide.{baseDecisionOf}
+use Rattle.datasheet_stated.specs.Claims as Datasheet
+use Rattle.datasheet_stated.specs.Sheet.{sheetOf, neededOf}
 use Rattle.panel_stated.specs.Claims as Panel
 use Rattle.panel_stated.specs.Exports.{frameNumbers, commandNumbers}
 
@@ -63,6 +65,7 @@ pub record EveryInputIsAnswered : Type 0 where
   pub signing-determined : Signing.ResultsDetermined
   pub decision-determined : Decision.ResultsDetermined
   pub sessions-determined : Sessions.ResultsDetermined
+  pub sheet-determined : Datasheet.ResultsDetermined
   pub exports-determined : Panel.ResultsDetermined
   -- each refusal comes exactly under its condition: R6, R8 (02, E7) and R1, making and settling a record; touch, check, ask
   pub records : Presence.MakesExactly newOf
@@ -97,6 +100,10 @@ pub record EveryInputIsAnswered : Type 0 where
   pub rooms : Sessions.FrameRoomExactly frameRoomOf
   pub rooms-serve : Sessions.FrameRoomServes frameRoomOf frameLimit sendingOf
   pub none-lost : Sessions.NoTouchIsLost decisionOf endOf frameRoomOf frameLimit sendingOf
+  -- the data sheet's row of every reply buffer, and the buffer for a certificate: 02, E10
+  pub sheet : Datasheet.SheetExactly sheetOf
+  pub sheet-needed : Datasheet.NeededExactly neededOf
+  pub sheet-as-claimed : Datasheet.ContractsAsClaimed
   -- every answer of the source's types has its value
   pub readings-said : Frames.ReadingSaidExactly readingOf
   pub commands-said : Commands.SaidExactly commandSaid
