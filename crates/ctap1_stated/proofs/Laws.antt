@@ -18,7 +18,7 @@ pub use Rattle.ctap1_stated.proofs.Theorems.{RefusalChangesNothing, Kee
 pub use Rattle.ctap1_stated.proofs.Theorems.{LimitsExactly as limits-exactly, RemainderExactly as remainder-exactly, RepliesExactly as replies-exactly, PartsExactly as parts-exactly, SideRefusedExactly as side-refused-exactly}
 pub use Rattle.ctap1_stated.proofs.Theorems.{AskedWith, of-register, of-authenticate, asked-with, order-has-room, order-whole, OrdersOfLayout as orders-of-layout, DecidesExactly as decides-exactly, left-apart}
 pub use Rattle.ctap1_stated.proofs.Orders.{enrolmentIn, loginIn, MadeOf, of-enrolment, of-login, made-of}
-pub use Rattle.ctap1_stated.proofs.Rooms.{Short, for-version, for-register, for-login, for-rest, for-part, short}
+pub use Rattle.ctap1_stated.proofs.Rooms.{RoomMissing, for-version, for-register, for-login, for-rest, for-part, room-missing}
 pub use Rattle.ctap1_stated.proofs.RoleKept.{panel-keeps}
 pub use Rattle.ctap1_stated.proofs.Cases.{alone, leaves, beside, with-block, stays, handed, with-record, with-head}
 pub use Rattle.ctap1_stated.proofs.Ways.{sound}

@@ -15,12 +15,12 @@ use Rattle.ctap1_stated.specs.Table
 use Rattle.ctap1_stated.specs.Table.{Answers}
 use Rattle.ctap1_stated.proofs.Ways.{row}
 
-pub data Short (a : Inputs) : Type 0 where
-  for-version : commandOf (a .frame) ≡ Gives Version → a .room < 6 → Short a
-  for-register : (said : Says) → commandOf (a .frame) ≡ Gives (Register said) → a .room < roomOfRegister a → Short a
-  for-login : (p1 : ℕ) (said : Says) → commandOf (a .frame) ≡ Gives (Authenticate p1 said) → a .room < 77 → Short a
-  for-rest : commandOf (a .frame) ≡ Gives GetResponse → a .room < a .remainder .place + a .remainder .count → Short a
-  for-part : commandOf (a .frame) ≡ Gives GetResponse → a .partRoom < partLength (frameLimit (a .frame)) (a .remainder .count) + 2 → Short a
+pub data RoomMissing (a : Inputs) : Type 0 where
+  for-version : commandOf (a .frame) ≡ Gives Version → a .room < 6 → RoomMissing a
+  for-register : (said : Says) → commandOf (a .frame) ≡ Gives (Register said) → a .room < roomOfRegister a → RoomMissing a
+  for-login : (p1 : ℕ) (said : Says) → commandOf (a .frame) ≡ Gives (Authenticate p1 said) → a .room < 77 → RoomMissing a
+  for-rest : commandOf (a .frame) ≡ Gives GetResponse → a .room < a .remainder .place + a .remainder .count → RoomMissing a
+  for-part : commandOf (a .frame) ≡ Gives GetResponse → a .partRoom < partLength (frameLimit (a .frame)) (a .remainder .count) + 2 → RoomMissing a
 
 -- a refusal's number, and one that is none's
 abbrev refusalIn : Outcome DecisionGives → ℕ
@@ -31,13 +31,13 @@ refusalIn (Gives g) = 0
 other : (o : Outcome DecisionGives) → (refusalIn o ≡ 2 → ⊥) → o ≡ R 2 → ⊥
 other o not e = not (ap refusalIn e)
 
-pub short : (p : Presence) (t : ℕ) (a : Inputs) → decisionOf p t a .answer ≡ R 2 → Short a
-short p t a = by (decisionOf p t a) (row p t a)
+pub room-missing : (p : Presence) (t : ℕ) (a : Inputs) → decisionOf p t a .answer ≡ R 2 → RoomMissing a
+room-missing p t a = by (decisionOf p t a) (row p t a)
   where
-    none : (r : DecisionResult) → (refusalIn (r .answer) ≡ 2 → ⊥) → r .answer ≡ R 2 → Short a
+    none : (r : DecisionResult) → (refusalIn (r .answer) ≡ 2 → ⊥) → r .answer ≡ R 2 → RoomMissing a
     none r not e = absurd (other (r .answer) not e)
 
-    by : (r : DecisionResult) → Answers p t a r → r .answer ≡ R 2 → Short a
+    by : (r : DecisionResult) → Answers p t a r → r .answer ≡ R 2 → RoomMissing a
     by r (Table.r6 b) = none r (λ z. omega arith)
     by r (Table.r8 g b) = none r (λ z. omega arith)
     by r (Table.r1 g h b) = none r (λ z. omega arith)

@@ -1,4 +1,4 @@
--- Room, for the data sheet: of a panel that meets its contracts, by what R2 tells (ctap1_stated's `short`, signing_stated's `finish-short`).
+-- Room, for the data sheet: of a panel that meets its contracts, by what R2 tells (ctap1_stated's `room-missing`, signing_stated's `finish-short`).
 use Prim.Native.Nat.{ℕ, _+_, _-_, _<_, _≤_}
 use mathlib.Core.Path.{_≡_, refl, ap, sym, _∙_}
 use mathlib.Core.Logic.{_⊎_, inl, inr, ⊎-elim}
@@ -21,7 +21,7 @@ use Rattle.ctap1_stated.specs.Terms.{Comes}
 use Rattle.u2f_up_stated.specs.Terms.{NotRefused}
 use Rattle.ctap1_stated.specs.Decision.{decisionOf}
 use Rattle.ctap1_stated.specs.Table
-use Rattle.ctap1_stated.proofs.Laws.{Short, for-version, for-register, for-login, for-rest, for-part, short, order-has-room, sound, every-answer}
+use Rattle.ctap1_stated.proofs.Laws.{RoomMissing, for-version, for-register, for-login, for-rest, for-part, room-missing, order-has-room, sound, every-answer}
 use Rattle.session_stated.specs.Held.{remainderIn}
 use Rattle.session_stated.specs.Contracts.{inputsIn}
 use Rattle.panel_stated.specs.declared.CommandSaid.{CommandSaid}
@@ -51,9 +51,9 @@ length-told (Gives body) n within = within body refl
 
 module _ (P : Panel) (M : Meets P) where
   -- R2 of a decision tells which room was not there
-  missing : (i : ToDecide) → P .decide i .said .answer ≡ 2 → Short (inputsIn i)
+  missing : (i : ToDecide) → P .decide i .said .answer ≡ 2 → RoomMissing (inputsIn i)
   missing i e =
-      short (presenceIn (i .presence)) (i .moment) (inputsIn i)
+      room-missing (presenceIn (i .presence)) (i .moment) (inputsIn i)
       (Panel′.DecisionTells .refused (decidedBy i .answer) (Outcomes.decision-said (presenceIn (i .presence)) (i .moment) (inputsIn i)) 2 (omega arith) (omega arith) .0
       (ap (λ (s : DecisionSaid). s .answer) (sym (M .decide i .0)) ∙ e))
 
@@ -66,7 +66,7 @@ module _ (P : Panel) (M : Meets P) where
       × ((n < remainderIn (i .session) .place + remainderIn (i .session) .count) ⊎ (length (i .part) < partLength (frameLimit (i .frame)) (remainderIn (i .session) .count) + 2))
   only-fetches n i s e = by (missing i e)
     where
-      by : Short (inputsIn i) → (commandOf (i .frame) ≡ Gives GetResponse)
+      by : RoomMissing (inputsIn i) → (commandOf (i .frame) ≡ Gives GetResponse)
           × ((n < remainderIn (i .session) .place + remainderIn (i .session) .count) ⊎ (length (i .part) < partLength (frameLimit (i .frame)) (remainderIn (i .session) .count) + 2))
       by (for-version c h) = absurd (omega (arith, s .reply, s .certificate, h))
       by (for-register said c h) = absurd (omega (arith, s .reply, s .certificate, s .handle, h))

@@ -19,7 +19,6 @@ use Rattle.u2f_up_stated.specs.Numbers.{presenceIn}
 use Rattle.ctap1_stated.specs.Words.{DecisionGives}
 use Rattle.ctap1_stated.specs.Path.{frameLimit, limitOn}
 use Rattle.ctap1_stated.specs.Table
-use Rattle.ctap1_stated.proofs.Laws.{short}
 use Rattle.session_stated.specs.declared.Session.{Session}
 use Rattle.session_stated.specs.Held.{remainderIn, sessionIn, sessionAfter}
 use Rattle.session_stated.specs.Contracts.{inputsIn}

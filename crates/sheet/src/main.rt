@@ -31,7 +31,9 @@ fn not_asked_so() {
 fn for_buffer(good: bool, room: u64) {
     match datasheet::row(room) {
         Sheet::Row(figures) => program_spell::close(lines::print(good, figures)),
-        Sheet::TooShort => refuse(b"too short: a reply buffer of 394 bytes or more is expected\n"),
+        Sheet::TooShort => refuse(
+            b"too short: a reply buffer of 394 bytes or more is expected; a shorter one has no room for a handle of 255 bytes, even without a certificate\n",
+        ),
         Sheet::TooLong => refuse(
             b"too long: a reply buffer of at most 18446744073709551613 bytes is expected\n",
         ),
