@@ -188,6 +188,19 @@ order-has-room p t a = go (decisionOf p t a) (way p t a)
     go _ (signed-03 said m y l k) x = rw (Commands.room-is a 0x03 said true m (y .1 .1)) (y .3)
     go _ (signed-08 said m y k) x = rw (Commands.room-is a 0x08 said false m (y .1 .1)) (y .3)
 
+-- and its frame is in a shape
+pub order-read : (p : Presence) (t : ℕ) (a : Inputs) → decisionOf p t a .answer ≡ Gives Ordered → (said : Says) × (readOf (a .frame) ≡ Gives said)
+order-read p t a = go (decisionOf p t a) (way p t a)
+  where
+    go : (r : DecisionResult) → Way p t a r → r .answer ≡ Gives Ordered → (said : Says) × (readOf (a .frame) ≡ Gives said)
+    go _ (refused m) x = absurd (r-gives _ _ x)
+    go _ (stated m q w) x = absurd (word-gives _ _ x)
+    go _ (versioned c room) x = absurd (body-order _ x)
+    go _ (fetched c sent) x = absurd (part-order _ _ x)
+    go _ (enrolled said y l h) x = (said, RegisterExactly (a .frame) said .0 (y .1 .1) .0)
+    go _ (signed-03 said m y l k) x = (said, AuthenticateExactly (a .frame) 0x03 said .0 (y .1 .1) .0)
+    go _ (signed-08 said m y k) x = (said, AuthenticateExactly (a .frame) 0x08 said .0 (y .1 .1) .0)
+
 -- what an order was asked for with: its command, by which kind and room are known, and that the room was there
 pub data AskedWith (a : Inputs) : (kind room : ℕ) → Type 0 where
   of-register : (said : Says) → commandOf (a .frame) ≡ Gives (Register said) → AskedWith a 0x01 (registerRoom (length (a .newHandle)) (length (a .certificate)))

@@ -19,7 +19,7 @@ use Rattle.response_stated.specs.Responses.{responseBodyOf}
 use Rattle.response_stated.proofs.Laws.{write-room, front-of, cut-back}
 use lib.Dec.{eqb}
 use Rattle.outcome.specs.Notation.{if_then_else_}
-use Rattle.demands.specs.Sessions.{firstBytes}
+use Rattle.demands.specs.Sessions.{firstOf, firstBytes}
 use Rattle.signing_stated.specs.Orders.{isOfLayout, kindNo, certificateLength}
 use Rattle.signing_stated.specs.Words.{Order}
 use Rattle.signing_stated.proofs.Laws.{finish-gives, body-full}
@@ -41,7 +41,7 @@ use Rattle.panel_stated.specs.declared.Wrote.{Wrote}
 use Rattle.panel_stated.specs.Exports.{ToDecide, ToFinish, commandNumbers, lengthNumbers, sentNumbers, roomNumbers, nextsOf}
 use Rattle.demands.specs.Panel.{Panel, Meets}
 use Rattle.demands.specs.Answers.{toEnd}
-use Rattle.demands.specs.Demands.{ToFinishOf, LongestBody, NoTouchIsLost, firstOf}
+use Rattle.demands.specs.Demands.{ToFinishOf, LongestBody, NoTouchIsLost}
 use Rattle.demands.proofs.Answers.{ends, is-order, the-order, the-kind, the-length}
 use Rattle.demands.proofs.Fetched.{room-is}
 

@@ -43,7 +43,9 @@ use Rattle.demands.specs.Sessions.{none as no-more, also, fetched, leftA
 use Rattle.demands.specs.Demands.{Demands}
 use Rattle.demands.specs.Carried.{NoneCarriesOver}
 use Rattle.demands.specs.Answers.{SignsLent}
-use Rattle.demands.specs.Room.{ReplyServes, RefusedAt, NoMoreFits, ResponsesServed, enrolling}
+use Rattle.session_stated.specs.Contracts.{lending}
+use Rattle.datasheet_stated.specs.Wrong as Sheets
+use Rattle.demands.specs.Room.{Fits, ReplyServes, RefusedAt, NoMoreFits, ResponsesServed, RowsServe, enrolling}
 use Rattle.demands.specs.NotRuledOut.{lend, enrol, logIn, posing, posedAs, handleless, unhandled, handled, NotRuledOut}
 use Rattle.demands.proofs.Examples.{other-bytes}
 use Rattle.demands.proofs.Room.{no-more-fits}
@@ -349,7 +351,10 @@ inExtended =
       part = [];
     }
 
--- what finishes the order of an enrolment in 394 bytes
+-- an enrolment with no certificate fits in 394 bytes, and what finishes its order
+abbrev fits394 : Fits 394 394 (enrolling 394 255 0)
+fits394 = record { reply = refl; certificate = omega arith; handle = omega arith }
+
 abbrev finishing : (signature : List ℕ) → ToFinish
 finishing signature =
     record { order = decidesOf (enrolling 394 255 0) .said .order; block = decidesOf (enrolling 394 255 0) .block; certificate = []; signed = 1; signature = signature; reply = replicate 394 0 }
@@ -465,7 +470,7 @@ claimedWithout72 d = let e = no-more-fits Wrong.defined meets .least 322 d in om
 pub witnessAt254 : RefusedAt 254 Wrong.defined → ⊥
 witnessAt254 d = let e : _≡_ {A = ℕ} 0x0100 2 = sym (no-more-fits Wrong.defined meets .at-254 393 (omega arith)) ∙ d 393 (omega arith) in omega arith
 
--- and panels that ask for other room: without the signature's 72 there is an order where R2 is due, and finishing it is R2, the touch spent
+-- and panels that ask for other room: without the signature's 72 there is an order where R2 is due
 pub signatureForgotten : NoMoreFits Wrong.signatureForgotten → ⊥
 unfolding decisionOf pathOf allowedPath commandPath registerPath registerEnding enrolmentOrder registerOrderOf isRegisterLayout kindOf block partOf dataOf commandOf onReading byInstruction registerOf challengeOf applicationOf readBy sayOf lengthsOf shortOf extendedOf afterData allowedOf attestationOf settleOf checkedOf finishOf
 signatureForgotten d = let e : _≡_ {A = ℕ} 0x0100 2 = d .refused 393 (omega arith) in omega arith
@@ -473,9 +478,9 @@ signatureForgotten d = let e : _≡_ {A = ℕ} 0x0100 2 = d .refused 393 (omega 
 -- a byte more is asked for than a certificate of none takes
 pub asksOneMore : ReplyServes 394 Wrong.asksOneMore → ⊥
 unfolding decisionOf pathOf allowedPath commandPath registerPath registerEnding enrolmentOrder registerOrderOf isRegisterLayout kindOf block partOf dataOf commandOf onReading byInstruction registerOf challengeOf applicationOf readBy sayOf lengthsOf shortOf extendedOf afterData allowedOf attestationOf settleOf checkedOf finishOf
-asksOneMore d = d .register 394 (enrolling 394 255 0) (record { reply = refl; certificate = omega arith; handle = omega arith }) refl refl
+asksOneMore d = d .register 394 (enrolling 394 255 0) fits394 refl refl
 
--- a login in 394 bytes is refused for a guess
+-- a login in 512 bytes is refused for a guess
 pub guesses1024 : ReplyServes 394 Wrong.guesses1024 → ⊥
 unfolding commandOf onReading byInstruction authenticateOf readBy sayOf lengthsOf shortOf extendedOf afterData dataOf partOf
 guesses1024 d =
@@ -484,13 +489,13 @@ guesses1024 d =
 -- an order is finished with R2, whatever the room
 pub finishRefusesRoom : ReplyServes 394 Wrong.finishRefuses → ⊥
 unfolding decisionOf pathOf allowedPath commandPath registerPath registerEnding enrolmentOrder registerOrderOf isRegisterLayout kindOf block partOf dataOf commandOf onReading byInstruction registerOf challengeOf applicationOf readBy sayOf lengthsOf shortOf extendedOf afterData allowedOf attestationOf settleOf checkedOf finishOf
-finishRefusesRoom d = d .finish 394 (enrolling 394 255 0) (finishing (replicate 72 0)) (record { reply = refl; certificate = omega arith; handle = omega arith }) (record { ordered = refl; order = refl; block = refl; reply = omega arith }) refl
+finishRefusesRoom d = d .finish 394 (enrolling 394 255 0) (finishing (replicate 72 0)) fits394 (record { ordered = refl; order = refl; block = refl; reply = omega arith }) refl
 
 -- with 72 bytes of signature the body is said to be longer than the buffer
 pub finishOneMore : ReplyServes 394 Wrong.finishOneMore → ⊥
 unfolding decisionOf pathOf allowedPath commandPath registerPath registerEnding enrolmentOrder registerOrderOf isRegisterLayout kindOf block partOf dataOf commandOf onReading byInstruction registerOf challengeOf applicationOf readBy sayOf lengthsOf shortOf extendedOf afterData allowedOf attestationOf settleOf checkedOf finishOf
 finishOneMore d =
-    let e : 395 ≤ 394 = d .body 394 (enrolling 394 255 0) (finishing (replicate 72 0)) (record { reply = refl; certificate = omega arith; handle = omega arith }) (record { ordered = refl; order = refl; block = refl; reply = omega arith }) in
+    let e : 395 ≤ 394 = d .body 394 (enrolling 394 255 0) (finishing (replicate 72 0)) fits394 (record { ordered = refl; order = refl; block = refl; reply = omega arith }) in
     omega arith
 
 -- Version's body
@@ -504,7 +509,8 @@ says1024 d =
 pub partWantsBody : ResponsesServed Wrong.partWantsBody → ⊥
 unfolding frameLimit limitOf readBy sayOf lengthsOf shortOf extendedOf afterData
 partWantsBody d =
-    d .decided 512 (lend (0x00 ∷ 0xC0 ∷ 0x00 ∷ 0x00 ∷ []) 7 [] [] [] []) (record { reply = refl; certificate = omega arith; handle = omega arith }) (omega arith) (inr (omega arith, omega arith)) refl
+    let oneLeft : ToDecide = lending (1000 ∷ 0 ∷ 0 ∷ 0 ∷ 0 ∷ []) (511 ∷ 1 ∷ 0 ∷ []) (replicate 512 0) (lend (0x00 ∷ 0xC0 ∷ 0x00 ∷ 0x00 ∷ []) 7 [] [] [] []) in
+    d .decided 512 oneLeft (record { reply = refl; certificate = omega arith; handle = omega arith }) (omega arith) (inr (omega arith, omega arith)) refl
 
 -- a part of no bytes, in 2
 pub partWants3 : ResponsesServed Wrong.partWants3 → ⊥
@@ -516,23 +522,41 @@ pub responseWants3 : ResponsesServed Wrong.responseWants3 → ⊥
 unfolding writeResponseOf
 responseWants3 d = let e : 2 < 2 = d .written [] 0x6985 (0 ∷ 0 ∷ []) .0 refl in omega arith
 
--- a Version without Le takes 256
+-- a Version without Le takes 256; and with an Le of 10 a reader of 256 bytes in all is served
 pub limitForgotten : ResponsesServed Wrong.limitForgotten → ⊥
-unfolding decisionOf pathOf allowedPath commandPath versionPath commandOf onReading byInstruction versionOf readBy sayOf lengthsOf shortOf extendedOf afterData allowedOf settleOf frameLimit limitOf
-limitForgotten d = let e : _≡_ {A = ℕ} 0 256 = d .limit (lend (0x00 ∷ 0x03 ∷ 0x00 ∷ 0x00 ∷ []) 7 [] [] [] []) (omega arith) in omega arith
+unfolding decisionOf pathOf allowedPath commandPath versionPath commandOf onReading byInstruction versionOf readBy sayOf lengthsOf shortOf extendedOf afterData allowedOf settleOf
+limitForgotten d = let e : _≡_ {A = ℕ} 0 256 = d .limit (lend (0x00 ∷ 0x03 ∷ 0x00 ∷ 0x00 ∷ []) 7 [] [] [] []) refl (omega arith) in omega arith
 
--- an extended frame has no limit, and one without Le takes 256
+pub limitForgottenIn256 : ResponsesServed Wrong.limitForgotten → ⊥
+unfolding decisionOf pathOf allowedPath commandPath versionPath commandOf onReading byInstruction versionOf readBy sayOf lengthsOf shortOf extendedOf afterData allowedOf settleOf nextPartOf partLength
+limitForgottenIn256 d =
+    d .in-256 (lend (0x00 ∷ 0x03 ∷ 0x00 ∷ 0x00 ∷ 10 ∷ []) 7 [] [] [] []) refl (omega arith) (omega arith) .1 (omega arith, omega arith) (replicate 300 0) (replicate 256 0) refl refl
+
+-- a decision on an extended frame leaves no limit
 pub readsShape4 : ResponsesServed Wrong.readsShape4 → ⊥
-unfolding small frameLimit limitOf readBy sayOf lengthsOf shortOf extendedOf afterData
-readsShape4 d =
-    let frame : List ℕ = 0x00 ∷ 0x03 ∷ 0x00 ∷ 0x00 ∷ 0x00 ∷ 0x00 ∷ 0x00 ∷ [] in
-    ⊎-elim (λ x. omega arith) (λ x. omega arith) (d .short frame (bytes-of frame refl) refl (omega arith) 300)
+unfolding decisionOf pathOf allowedPath commandPath versionPath commandOf onReading byInstruction versionOf readBy sayOf lengthsOf shortOf extendedOf afterData allowedOf settleOf limitOf
+readsShape4 d = let e : _≡_ {A = ℕ} 0 300 = d .limit (lend (0x00 ∷ 0x03 ∷ 0x00 ∷ 0x00 ∷ 0x00 ∷ 0x00 ∷ 0x00 ∷ []) 7 [] [] [] []) refl (omega arith) in omega arith
 
-pub readsLe254 : ResponsesServed Wrong.readsShape4 → ⊥
-unfolding frameLimit limitOf readBy sayOf lengthsOf shortOf extendedOf afterData
-readsLe254 d = ⊎-elim (λ x. omega arith) (λ x. omega arith) (d .in-256 (0x00 ∷ 0x03 ∷ 0x00 ∷ 0x00 ∷ []) refl (omega arith) .1 (omega arith, omega arith) 300)
+-- no short frame says an Le of 300
+pub readsLe300 : ResponsesServed Wrong.readsShape4 → ⊥
+unfolding small readBy sayOf lengthsOf shortOf extendedOf afterData
+readsLe300 d =
+    let frame : List ℕ = 0x00 ∷ 0x03 ∷ 0x00 ∷ 0x00 ∷ [] in
+    ⊎-elim (λ x. omega arith) (λ x. omega arith) (d .short frame (bytes-of frame refl) refl (omega arith) 300)
 
 -- the whole body's room is asked for of a frame that takes 256 bytes at a time
 pub roomUncutAsked : ResponsesServed Wrong.roomUncut → ⊥
-unfolding frameLimit limitOf readBy sayOf lengthsOf shortOf extendedOf afterData
+unfolding readBy sayOf lengthsOf shortOf extendedOf afterData
 roomUncutAsked d = let e : 1002 ≤ 258 = d .asked (0x00 ∷ 0x03 ∷ 0x00 ∷ 0x00 ∷ []) 1000 258 refl refl .1 (inr (omega arith, omega arith)) in omega arith
+
+-- nor does the first part of a finished body go out in 258 bytes
+pub partWants3First : ResponsesServed Wrong.partWants3 → ⊥
+unfolding decisionOf pathOf allowedPath commandPath registerPath registerEnding enrolmentOrder registerOrderOf isRegisterLayout kindOf block partOf dataOf commandOf onReading byInstruction registerOf challengeOf applicationOf readBy sayOf lengthsOf shortOf extendedOf afterData allowedOf attestationOf settleOf checkedOf finishOf nextPartOf partLength limitOf
+partWants3First d =
+    d .first 394 (enrolling 394 255 0) (finishing (replicate 72 0)) (replicate 258 0) fits394 (record { ordered = refl; order = refl; block = refl; reply = omega arith })
+    (inr (omega arith, omega arith)) refl
+
+-- ---- a row that is printed: a certificate of n - 393 bytes
+pub rowOneMore : RowsServe Sheets.certificateOneMore Wrong.defined → ⊥
+unfolding decisionOf pathOf allowedPath commandPath registerPath registerEnding enrolmentOrder registerOrderOf isRegisterLayout kindOf block partOf dataOf commandOf onReading byInstruction registerOf challengeOf applicationOf readBy sayOf lengthsOf shortOf extendedOf afterData allowedOf attestationOf settleOf checkedOf finishOf nextPartOf partLength limitOf
+rowOneMore d = d .register 394 _ (enrolling 394 255 1) refl (refl, omega arith, omega arith) refl refl

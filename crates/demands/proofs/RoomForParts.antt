@@ -14,22 +14,38 @@ use Rattle.response_stated.specs.declared.Remainder.{Remainder}
 use Rattle.response_stated.specs.Words.{Sent}
 use Rattle.response_stated.specs.Parts.{limitOf, partLength, nextPartOf}
 use Rattle.response_stated.specs.Responses.{writeResponseOf}
-use Rattle.response_stated.proofs.Laws.{PartWay, whole, cut, last, part-way, part-monotone, NextWay, short-body, short-buffer, given, next-way, write-room, write-short, limit-said, limit-absent, limit-of-frames}
+use Rattle.response_stated.proofs.Laws.{PartWay, whole, cut, last, part-way, part-monotone, NextWay, short-body, short-buffer, given, next-way, write-room, write-short, limit-of-frames}
 use Rattle.u2f_up_stated.specs.Numbers.{presenceIn}
 use Rattle.ctap1_stated.specs.Words.{DecisionGives}
 use Rattle.ctap1_stated.specs.Path.{frameLimit, limitOn}
-use Rattle.ctap1_stated.specs.Table
 use Rattle.session_stated.specs.declared.Session.{Session}
 use Rattle.session_stated.specs.Held.{remainderIn, sessionIn, sessionAfter}
 use Rattle.session_stated.specs.Contracts.{inputsIn}
 use Rattle.panel_stated.specs.declared.FrameSaid.{FrameSaid}
 use Rattle.panel_stated.specs.declared.RoomSaid.{RoomSaid}
-use Rattle.panel_stated.specs.declared.Wrote.{Wrote}
 use Rattle.panel_stated.specs.Numbers.{decidedNo}
 use Rattle.panel_stated.specs.Terms.{IsNumbered}
 use Rattle.panel_stated.specs.Exports.{frameNumbers, lengthNumbers, sentNumbers, roomNumbers, decidedBy}
 use Rattle.panel_stated.proofs.Outcomes as Outcomes
-use Rattle.panel_stated.proofs.Theorems as Panel′
+use borrow.Author.Tests.{le-leb, eq-eqb, ne-eqb}
+use mathlib.Core.List.{[], _∷_}
+use Rattle.octets.proofs.Laws.{length-laid}
+use Rattle.command_stated.specs.Command.{Command, commandOf}
+use Rattle.command_stated.proofs.Laws.{RegisterExactly, AuthenticateExactly, VersionExactly, GetResponseExactly}
+use Rattle.signing_stated.specs.Finishing.{replyOf}
+use Rattle.ctap1_stated.proofs.Laws.{order-read}
+use Rattle.panel_stated.specs.declared.CommandSaid.{CommandSaid}
+use Rattle.panel_stated.specs.Exports.{ToDecide, ToFinish, commandNumbers, finishNumbered}
+use Rattle.datasheet_stated.specs.declared.Figures.{Figures}
+use Rattle.datasheet_stated.specs.declared.Sheet.the-variants.{Row}
+use Rattle.datasheet_stated.specs.Sheet.{sheetOf}
+use Rattle.datasheet_stated.specs.Terms.{TakesCommands}
+use Rattle.datasheet_stated.proofs.Laws.{row-is}
+use Rattle.datasheet_stated.proofs.Theorems as Datasheet
+use lib.ListN.{replicate}
+use Rattle.demands.specs.Sessions.{firstOf}
+use Rattle.demands.specs.Room.{Fits, FinishesIn, takes, FitsRow, RowsServe}
+use Rattle.demands.proofs.Answers.{order-given}
 use Rattle.demands.specs.Panel.{Panel, Meets}
 use Rattle.demands.specs.Room.{GoesIn, ResponsesServed, DataSheet}
 use Rattle.demands.proofs.Fetched.{room-is}
@@ -77,86 +93,153 @@ is-read (R n) h e = absurd (omega arith)
 is-read (Word s) h e = absurd (omega arith)
 is-read (Gives said) h e = (said, refl)
 
+is-command : (o : Outcome Command) → IsNumbered o → commandNumbers o .answer ≡ 0x9000 → (c : Command) × (o ≡ Gives c)
+is-command (R n) h e = absurd (omega arith)
+is-command (Word s) h e = absurd (omega arith)
+is-command (Gives c) h e = (c, refl)
+
+takes-commands : TakesCommands commandOf
+takes-commands = record { register = RegisterExactly; authenticate = AuthenticateExactly; version = VersionExactly; get-response = GetResponseExactly }
+
 -- what a decision that is not refused leaves for its limit
 limit-left : (o : Outcome DecisionGives) (read : Outcome Says) (s : Session) → IsNumbered o → lastRefusal < decidedNo o → sessionAfter o read s .limit ≡ limitOn read
 limit-left (R n) read s h e = absurd (omega arith)
 limit-left (Word w) read s h e = refl
 limit-left (Gives g) read s h e = refl
 
--- how much a frame that is read takes at a time
-limit-is : (frame : List ℕ) (said : Says) → readOf frame ≡ Gives said → frameLimit frame ≡ limitOf said
-unfolding frameLimit
-limit-is frame said r = rw r
+-- how much a frame takes at a time
+by-le : (s : FrameSaid) → s .shape ≤ 4 → ((1 ≤ s .le) × (takes s ≡ s .le)) ⊎ ((s .le ≡ 0) × (takes s ≡ 256))
+by-le s few = by (ℕ-discrete (s .le) 0)
+  where
+    by : Dec (s .le ≡ 0) → ((1 ≤ s .le) × (takes s ≡ s .le)) ⊎ ((s .le ≡ 0) × (takes s ≡ 256))
+    by (yes z) = inr (z, rw (le-leb (s .shape) 4 few, eq-eqb (s .le) 0 z))
+    by (no n) = inl (omega (arith, n), rw (le-leb (s .shape) 4 few, ne-eqb (s .le) 0 n))
 
-module _ (P : Panel) (M : Meets P) (frame : List ℕ) (taken : P .read frame .answer ≡ 0x9000) where
-  says : (said : Says) × (readOf frame ≡ Gives said)
-  says = is-read (readOf frame) (Outcomes.read-said frame) (ap (λ (s : FrameSaid). s .answer) (sym (M .read frame)) ∙ taken)
+-- 256 bytes take every part exactly where that is 1 to 254; a body of 300 shows it
+in-all : (s : FrameSaid) → s .shape ≤ 4 → GoesIn 256 (takes s) 300 → (1 ≤ s .le) × (s .le ≤ 254)
+in-all s few = ⊎-elim (λ x. absurd (omega arith)) (λ x. ⊎-elim (λ y. (y .0, omega (arith, x .1, y .1))) (λ y. absurd (omega (arith, x .1, y .1))) (by-le s few))
 
-  numbers : P .read frame ≡ frameNumbers (Gives (says .0))
-  numbers = M .read frame ∙ ap frameNumbers (says .1)
+all-in : (s : FrameSaid) → s .shape ≤ 4 → (1 ≤ s .le) × (s .le ≤ 254) → (n : ℕ) → GoesIn 256 (takes s) n
+all-in s few h n = inr (⊎-elim (λ y. (omega (arith, y .0, y .1), omega (arith, h .1, y .1))) (λ y. absurd (omega (arith, h .0, y .0))) (by-le s few))
 
-  limit-read : frameLimit frame ≡ limitOf (says .0)
-  limit-read = limit-is frame (says .0) (says .1)
+at-most : {m k : ℕ} → (m < k → ⊥) → k ≤ m
+at-most not = omega (arith, not)
 
-  module _ (few : P .read frame .shape ≤ 4) where
-    is-short : says .0 .shape ≤ 4
-    is-short = rw numbers at few
+less-than : {m k : ℕ} → (k ≤ m → ⊥) → m < k
+less-than not = omega (arith, not)
 
-    -- Le, where it is given; else 256
-    by-le : ((1 ≤ says .0 .le) × (frameLimit frame ≡ says .0 .le)) ⊎ ((says .0 .le ≡ 0) × (frameLimit frame ≡ 256))
-    by-le = by (ℕ-discrete (says .0 .le) 0)
-      where
-        by : Dec (says .0 .le ≡ 0) → ((1 ≤ says .0 .le) × (frameLimit frame ≡ says .0 .le)) ⊎ ((says .0 .le ≡ 0) × (frameLimit frame ≡ 256))
-        by (yes z) = inr (z, limit-read ∙ limit-absent (says .0) is-short z)
-        by (no n) = let some : 1 ≤ says .0 .le = omega (arith, n) in inl (some, limit-read ∙ limit-said (says .0) is-short some)
-
-    in-258 : AreBytes frame → (n : ℕ) → GoesIn 258 (frameLimit frame) n
-    in-258 bytes n =
-        let most : limitOf (says .0) ≤ 256 = limit-of-frames .most frame (says .0) bytes (says .1) in
-        inr (⊎-elim (λ x. omega (arith, x .0, x .1)) (λ x. omega (arith, x .1)) by-le, omega (arith, most, limit-read))
-
-    in-256 : ((n : ℕ) → GoesIn 256 (frameLimit frame) n) ↔ ((1 ≤ P .read frame .le) × (P .read frame .le ≤ 254))
-    in-256 = rw numbers (
-      λ h. ⊎-elim (λ x. absurd (omega arith)) (λ x. ⊎-elim (λ y. (y .0, omega (arith, x .1, y .1))) (λ y. absurd (omega (arith, x .1, y .1))) by-le) (h 255),
-      λ h n. inr (⊎-elim (λ y. (omega (arith, y .0, y .1), omega (arith, h .1, y .1))) (λ y. absurd (omega (arith, h .0, y .0))) by-le),
-    )
-
-  -- the room that is said is the least
-  asked : (n m : ℕ) → P .response-room frame n .answer ≡ 0x9000 → (P .response-room frame n .length ≤ m) ↔ GoesIn m (frameLimit frame) n
-  asked n m e =
-      let room : P .response-room frame n .length ≡ partLength (frameLimit frame) n + 2 =
-      ap (λ (r : RoomSaid). r .length) (M .response-room frame n ∙ ap roomNumbers (room-is frame (says .0) n (says .1) (ap (λ (r : RoomSaid). r .answer) (sym (M .response-room frame n)) ∙ e))) in
-      (λ h. holds-part m (frameLimit frame) n .1 (omega (arith, room, h)), λ h. omega (arith, room, holds-part m (frameLimit frame) n .0 h))
+-- a finished body is in its buffer
+same-length : (o : Outcome (List ℕ)) (old : List ℕ) → length (replyOf o old) ≡ length old
+same-length (R n) old = refl
+same-length (Word s) old = refl
+same-length (Gives body) old = length-laid body old
 
 module _ (P : Panel) (M : Meets P) where
-  pub responses-served : ResponsesServed P
+  takes-is : (frame : List ℕ) (said : Says) → readOf frame ≡ Gives said → takes (P .read frame) ≡ frameLimit frame
+  unfolding frameLimit limitOf
+  takes-is frame said r = ap takes (M .read frame) ∙ rw r
+
+  module _ (frame : List ℕ) (taken : P .read frame .answer ≡ 0x9000) where
+    says : (said : Says) × (readOf frame ≡ Gives said)
+    says = is-read (readOf frame) (Outcomes.read-said frame) (ap (λ (s : FrameSaid). s .answer) (sym (M .read frame)) ∙ taken)
+
+    limit-is : takes (P .read frame) ≡ frameLimit frame
+    limit-is = takes-is frame (says .0) (says .1)
+
+    in-258 : AreBytes frame → P .read frame .shape ≤ 4 → (n : ℕ) → GoesIn 258 (takes (P .read frame)) n
+    unfolding frameLimit
+    in-258 bytes few n =
+        let limit : takes (P .read frame) ≡ limitOf (says .0) = limit-is ∙ ap limitOn (says .1) in
+        let most : limitOf (says .0) ≤ 256 = limit-of-frames .most frame (says .0) bytes (says .1) in
+        inr (⊎-elim (λ x. omega (arith, x .0, x .1)) (λ x. omega (arith, x .1)) (by-le (P .read frame) few), omega (arith, most, limit))
+
+    -- the room that is said is the least
+    asked : (n m : ℕ) → P .response-room frame n .answer ≡ 0x9000 → (P .response-room frame n .length ≤ m) ↔ GoesIn m (takes (P .read frame)) n
+    asked n m e =
+        let room : P .response-room frame n .length ≡ partLength (takes (P .read frame)) n + 2 =
+        ap (λ (r : RoomSaid). r .length) (M .response-room frame n ∙ ap roomNumbers (room-is frame (says .0) n (says .1) (ap (λ (r : RoomSaid). r .answer) (sym (M .response-room frame n)) ∙ e)))
+        ∙ ap (λ (k : ℕ). partLength k n + 2) (sym limit-is) in
+        (λ h. holds-part m (takes (P .read frame)) n .1 (omega (arith, room, h)), λ h. omega (arith, room, holds-part m (takes (P .read frame)) n .0 h))
+
+  -- what a decision that is not refused leaves
+  left-limit : (i : ToDecide) → lastRefusal < P .decide i .said .answer → sessionIn (P .decide i .session) .limit ≡ frameLimit (i .frame)
   unfolding frameLimit
+  left-limit i above =
+      ap (λ (s : Session). s .limit) (M .decide i .2)
+      ∙ limit-left (decidedBy i .answer) (readOf (i .frame)) (sessionIn (i .session)) (Outcomes.decision-said (presenceIn (i .presence)) (i .moment) (inputsIn i)) (rw (M .decide i .0) at above)
+
+  part-exactly : (session body part : List ℕ) → remainderIn session .place + remainderIn session .count ≤ length body
+      → (P .next-part session body part .said .answer ≡ 2) ↔ (length part < partLength (sessionIn session .limit) (remainderIn session .count) + 2)
+  part-exactly session body part in-body = rw (M .next-part session body part .0) (part-refused (length body) (remainderIn session) (sessionIn session .limit) (length part) in-body)
+
+  -- of an order that is finished in n bytes
+  first-goes : (n : ℕ) (i : ToDecide) (f : ToFinish) (part : List ℕ) → Fits 394 n i → FinishesIn P n i f
+      → GoesIn (length part) (takes (P .read (i .frame))) n → firstOf P i f part .said .answer ≡ 2 → ⊥
+  first-goes n i f part s lent h e =
+      let ordered = lent .ordered in
+      let read = order-read (presenceIn (i .presence)) (i .moment) (inputsIn i) (order-given P M i ordered) in
+      let limit : sessionIn (P .decide i .session) .limit ≡ takes (P .read (i .frame)) = left-limit i (omega (arith, ordered)) ∙ sym (takes-is (i .frame) (read .0) (read .1)) in
+      let most : P .finish f .said .length ≤ n = reply-serves P M .body n i f s lent in
+      let whole : length (P .finish f .buffer) ≡ length (f .reply) = ap length (M .finish f .1) ∙ same-length (finishNumbered f) (f .reply) in
+      let x = part-exactly (0 ∷ P .finish f .said .length ∷ sessionIn (P .decide i .session) .limit ∷ []) (P .finish f .buffer) part (omega (arith, most, whole, lent .reply)) .0 e in
+      let room : length part < partLength (takes (P .read (i .frame))) (P .finish f .said .length) + 2 = rw (← limit) x in
+      omega (arith, room, holds-less (length part) (takes (P .read (i .frame))) n (P .finish f .said .length) h most)
+
+  pub responses-served : ResponsesServed P
   responses-served = record {
     decided = λ n i s left h e.
-        ⊎-elim (λ x. omega (arith, left, x))
-        (λ x. omega (arith, x, holds-less (length (i .part)) (frameLimit (i .frame)) n (remainderIn (i .session) .count) h (omega (arith, left))))
-        (only-fetches P M n i s e .1);
+        let fetches = only-fetches P M n i s e in
+        let read = GetResponseExactly (i .frame) .0 (fetches .0) in
+        let less = holds-less (length (i .part)) (takes (P .read (i .frame))) n (remainderIn (i .session) .count) h (omega (arith, left)) in
+        let room : partLength (frameLimit (i .frame)) (remainderIn (i .session) .count) + 2 ≤ length (i .part) = rw (← takes-is (i .frame) (read .0) (read .1)) less in
+        ⊎-elim (λ x. omega (arith, left, x)) (λ x. omega (arith, x, room)) (fetches .1);
+    first = first-goes;
     sent = λ session body part in-body.
-        let r = remainderIn session in
-        let limit = sessionIn session .limit in
-        let same = ap (λ (w : Wrote). w .answer) (M .next-part session body part .0) in
-        let exact = part-refused (length body) r limit (length part) in-body in
-        let part-is = holds-part (length part) limit (r .count) in (
-          λ e h. let x = exact .0 (sym same ∙ e) in omega (arith, x, part-is .0 h),
-          λ none. same ∙ exact .1 (by (decLt (length part) (partLength limit (r .count) + 2)) (λ fits. none (part-is .1 fits))),
+        let exact = part-exactly session body part in-body in
+        let part-is = holds-part (length part) (sessionIn session .limit) (remainderIn session .count) in (
+          λ e h. omega (arith, exact .0 e, part-is .0 h),
+          λ none. exact .1 (less-than (λ fits. none (part-is .1 fits))),
         );
-    limit = λ i above.
-        ap (λ (s : Session). s .limit) (M .decide i .2)
-        ∙ limit-left (decidedBy i .answer) (readOf (i .frame)) (sessionIn (i .session)) (Outcomes.decision-said (presenceIn (i .presence)) (i .moment) (inputsIn i)) (rw (M .decide i .0) at above);
+    limit = λ i taken above. left-limit i above ∙ sym (limit-is (i .frame) taken);
     written = λ body status part. rw (M .write-response body status part .0) (write-refused body (length part));
-    short = λ frame bytes taken few. in-258 P M frame taken few bytes;
-    in-256 = λ frame taken few. in-256 P M frame taken few;
-    asked = λ frame n m taken e. asked P M frame taken n m e;
+    short = λ frame bytes taken few. in-258 frame taken bytes few;
+    in-256 = λ i taken few above.
+        let limit : sessionIn (P .decide i .session) .limit ≡ takes (P .read (i .frame)) = left-limit i above ∙ sym (limit-is (i .frame) taken) in
+        let k = takes (P .read (i .frame)) in (
+          λ none.
+              let exact = part-exactly (0 ∷ 300 ∷ sessionIn (P .decide i .session) .limit ∷ []) (replicate 300 0) (replicate 256 0) (omega arith) in
+              let fits : partLength k 300 + 2 ≤ 256 = rw (← limit) (at-most (λ less. none (replicate 300 0) (replicate 256 0) refl (exact .1 less))) in
+              in-all (P .read (i .frame)) few (holds-part 256 k 300 .1 fits),
+          λ h body part long e.
+              let less = part-exactly (0 ∷ length body ∷ sessionIn (P .decide i .session) .limit ∷ []) body part (omega arith) .0 e in
+              let room : length part < partLength k (length body) + 2 = rw (← limit) less in
+              omega (arith, room, long, holds-part 256 k (length body) .0 (all-in (P .read (i .frame)) few h (length body))),
+        );
+    asked = λ frame n m taken e. asked frame taken n m e;
   }
-    where
-      by : {m k : ℕ} → Dec (m < k) → (k ≤ m → ⊥) → m < k
-      by (yes h) none = h
-      by (no h) none = absurd (none (omega arith))
+
+  -- ---- the rows that are printed
+  line : (n : ℕ) (f : Figures) (i : ToDecide) → sheetOf n ≡ Row f → FitsRow f i → Fits 394 (f .room) i
+  line n f i e fits =
+      let w = row-is n f e in
+      let certificate : f .certificate + 394 ≡ f .room = rw (← w .is) (omega (arith, w .low)) in
+      let handle : f .handle ≡ 255 = ap (λ (g : Figures). g .handle) (sym (w .is)) in
+      record { reply = fits .0; certificate = omega (arith, certificate, fits .1); handle = omega (arith, handle, fits .2) }
+
+  pub rows-serve : RowsServe sheetOf P
+  rows-serve = record {
+    own = λ n f e. ap (λ (g : Figures). g .room) (sym (row-is n f e .is));
+    register = λ n f i e fits. reply-serves P M .register (f .room) i (line n f i e fits);
+    authenticate = λ n f i e fits. reply-serves P M .authenticate (f .room) i (line n f i e fits);
+    body = λ n f i g e fits lent.
+        let same : f .body ≡ f .room = rw (← row-is n f e .is) refl in
+        omega (arith, same, reply-serves P M .body (f .room) i g (line n f i e fits) lent);
+    extended = λ n f limit m e most. let same : f .extended ≡ f .body + 2 = rw (← row-is n f e .is) refl in inl (omega (arith, same, most));
+    short = λ n f frame m e bytes taken few. let same : f .short ≡ 258 = rw (← row-is n f e .is) refl in rw same (in-258 frame taken bytes few m);
+    command = λ n f frame e bytes taken.
+        let c = is-command (commandOf frame) (Outcomes.command-said frame) (ap (λ (s : CommandSaid). s .answer) (sym (M .read-command frame)) ∙ taken) in
+        Datasheet.CommandColumn commandOf takes-commands n f e .at-most (length frame) (record { frame = frame; bytes = bytes; which = c .0; is-taken = c .1; long = refl });
+  }
 
 pub data-sheet : (P : Panel) → Meets P → DataSheet P
-data-sheet P M = record { serves = reply-serves P M; no-more = no-more-fits P M; responses = responses-served P M }
+data-sheet P M = record { serves = reply-serves P M; no-more = no-more-fits P M; responses = responses-served P M; rows = rows-serve P M }

@@ -74,10 +74,6 @@ LongestBody P i longest =
     ((P .read-command (i .frame) .command ≡ 1) × (longest ≡ 139 + length (i .newHandle) + length (i .certificate)))
     ⊎ ((P .read-command (i .frame) .command ≡ 2) × (longest ≡ 77))
 
--- what C sends first of the body that finishing gave
-abbrev pub firstOf : Panel → ToDecide → ToFinish → (part : List ℕ) → AfterPart
-firstOf P i f part = P .next-part (0 ∷ P .finish f .said .length ∷ sessionIn (P .decide i .session) .limit ∷ []) (P .finish f .buffer) part
-
 pub record NoTouchIsLost (P : Panel) : Type 0 where
   pub served : (i : ToDecide) (f : ToFinish) (part : List ℕ) (longest : ℕ) → ToFinishOf P i f → LongestBody P i longest
       → P .response-room (i .frame) longest .answer ≡ 0x9000 → P .response-room (i .frame) longest .length ≤ length part

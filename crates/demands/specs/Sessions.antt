@@ -24,6 +24,10 @@ pub record Unhindered (P : Panel) (n : ℕ) (i : ToDecide) : Type 0 where
   -- nor R2: as much room for part and status as a response of n bytes to this frame can take
   pub room : (P .response-room (i .frame) n .answer ≡ 0x9000) × (P .response-room (i .frame) n .length ≤ length (i .part))
 
+-- what C sends first of the body that finishing gave
+abbrev pub firstOf : Panel → ToDecide → ToFinish → (part : List ℕ) → AfterPart
+firstOf P i f part = P .next-part (0 ∷ P .finish f .said .length ∷ sessionIn (P .decide i .session) .limit ∷ []) (P .finish f .buffer) part
+
 -- each of them is so
 pub data Each (Is : ToDecide → Type 0) : List ToDecide → Type 0 where
   none : Each Is []

@@ -377,11 +377,11 @@ limitForgotten =
     record { said = d .said; presence = d .presence; session = remainderIn (d .session) .place ∷ remainderIn (d .session) .count ∷ 0 ∷ []; reply = d .reply; block = d .block; part = d .part })
     rightFinish
 
--- every frame is said to be in shape 4, with an Le of 254
+-- every frame is said to be in shape 4, with an Le of 300
 abbrev pub readsShape4 : Panel
 readsShape4 =
     framesWith
     (λ frame.
     let said = readsOf Ordinary frame in
-    record { answer = 0x9000; fault = 0; cla = said .cla; ins = said .ins; p1 = said .p1; p2 = said .p2; shape = 4; lc = said .lc; le = 254; start = said .start; end = said .end; place = 0 })
+    record { answer = 0x9000; fault = 0; cla = said .cla; ins = said .ins; p1 = said .p1; p2 = said .p2; shape = 4; lc = said .lc; le = 300; start = said .start; end = said .end; place = 0 })
     (readsOf Ordinary) (readsOf Strict) (readsOf Strict) (writesOf Ordinary) (writesOf Strict) rightCommand respondsOf rightResponse nextsOf

@@ -13,10 +13,10 @@ pub use Rattle.response_stated.specs.Terms.{Goes}
 pub use Rattle.u2f_up_stated.specs.Demand.{RunMeets}
 pub use Rattle.u2f_up_stated.specs.History.{Checking, Mark, heldAt, serverOf}
 pub use Rattle.session_stated.specs.Held.{remainderIn, sessionIn}
-pub use Rattle.panel_stated.specs.Exports.{ToDecide, ToFinish, AfterDeciding, AfterPart}
+pub use Rattle.panel_stated.specs.Exports.{ToDecide, ToFinish, AfterDeciding}
 pub use Rattle.demands.specs.Panel.{Panel, Meets}
 pub use Rattle.demands.specs.Answers.{CallsAnswer}
 pub use Rattle.demands.specs.Carried.{NoneCarriesOver}
 pub use Rattle.demands.specs.Room.{DataSheet}
-pub use Rattle.demands.specs.Sessions.{IsC0, IsGetResponse, Unhindered, Each, bytesOf, firstBytes, fetch, fetched, leftAfter}
+pub use Rattle.demands.specs.Sessions.{firstOf, IsC0, IsGetResponse, Unhindered, Each, bytesOf, firstBytes, fetch, fetched, leftAfter}
 pub use Rattle.demands.specs.Calls.{CCall, Decide, on, asCall, Reaches, touchNumber, askerNumber, recordAfter, cameNext, historyOf}

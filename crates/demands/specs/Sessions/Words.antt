@@ -11,5 +11,5 @@ pub use Rattle.response_stated.specs.Responses.{responseBodyOf}
 pub use Rattle.u2f_up_stated.specs.Numbers.{presenceIn}
 pub use Rattle.session_stated.specs.Held.{remainderIn, sessionIn, hardwareIn}
 pub use Rattle.session_stated.specs.Contracts.{lending}
-pub use Rattle.panel_stated.specs.Exports.{ToDecide, AfterDeciding, AfterPart}
+pub use Rattle.panel_stated.specs.Exports.{ToDecide, ToFinish, AfterDeciding, AfterPart}
 pub use Rattle.demands.specs.Panel.{Panel}
