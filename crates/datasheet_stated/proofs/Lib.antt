@@ -6,4 +6,3 @@ pub mod Alike
 pub mod Theorems
 pub mod Only
 pub mod Refuted
-pub mod Laws
