@@ -6,3 +6,4 @@ pub mod Alike
 pub mod Theorems
 pub mod Only
 pub mod Refuted
+pub mod Laws
