@@ -8,8 +8,9 @@ use lib.Dec.{leb}
 use Rattle.command_stated.specs.Command.{commandOf}
 use Rattle.command_stated.proofs.Laws.{RegisterExactly, AuthenticateExactly, VersionExactly, GetResponseExactly}
 use Rattle.signing_stated.specs.Claims.{RegisterRoomExactly}
+use Rattle.signing_stated.specs.Orders.{registerOrderOf}
 use Rattle.signing_stated.specs.Finishing.{registerRoom, endOf}
-use Rattle.signing_stated.proofs.Laws.{finishes-exactly}
+use Rattle.signing_stated.proofs.Laws.{makes-register, finishes-exactly}
 use Rattle.session_stated.specs.Held.{frameRoomOf}
 use Rattle.session_stated.proofs.Laws.{frame-room-exactly}
 use Rattle.datasheet_stated.specs.declared.Figures.{Figures}
@@ -47,7 +48,7 @@ module _ (f g : ℕ → Sheet) (p : Claims.SheetExactly f) (q : Claims.SheetExac
   figures a b x y =
       let room = p .has-row .its-own n a x ∙ sym (q .has-row .its-own n b y) in
       let certificate = one-bound _ _ (p .certificate .up-to hasRoom has-room-exactly n a x) (q .certificate .up-to hasRoom has-room-exactly n b y) in
-      let handle = one-bound _ _ (p .handle n a x) (q .handle n b y) in
+      let handle = one-bound _ _ (p .handle registerOrderOf makes-register n a x) (q .handle registerOrderOf makes-register n b y) in
       let body = one-longest _ _ (p .body endOf finishes-exactly n a x) (q .body endOf finishes-exactly n b y) in
       let short = one-longest _ _ (p .short frameRoomOf frame-room-exactly n a x) (q .short frameRoomOf frame-room-exactly n b y) in
       let extended = one-longest _ _ (p .extended frameRoomOf frame-room-exactly n a x) (q .extended frameRoomOf frame-room-exactly n b y) in

@@ -3,8 +3,9 @@ use Prim.Native.Nat.{_≤_}
 use mathlib.Core.Path.{refl, sym}
 use native.Mathlib.Omega.{arith}
 use Rattle.command_stated.specs.Command.{commandOf}
+use Rattle.signing_stated.specs.Orders.{registerOrderOf}
 use Rattle.signing_stated.specs.Finishing.{endOf}
-use Rattle.signing_stated.proofs.Laws.{finishes-exactly}
+use Rattle.signing_stated.proofs.Laws.{makes-register, finishes-exactly}
 use Rattle.session_stated.specs.Held.{frameRoomOf}
 use Rattle.session_stated.proofs.Laws.{frame-room-exactly}
 use Rattle.datasheet_stated.specs.Sheet.{sheetOf, figuresOf}
@@ -47,13 +48,13 @@ certificateOneLessFinished claim = Theorems.FinishColumn .never-r2 endOf finishe
 
 pub handleOf256 : Claims.HandleColumn Wrong.handleOf256 → ⊥
 handleOf256 claim =
-    let t = claim 394 _ refl 256 .0 (omega arith) in
-    omega (arith, t .1 .handle, t .2)
+    let within : 256 ≤ 255 = Theorems.HandleColumn registerOrderOf makes-register 394 (figuresOf 394) refl 256 .1 (claim registerOrderOf makes-register 394 _ refl 256 .0 (omega arith)) in
+    omega arith
 
 pub handleOf254 : Claims.HandleColumn Wrong.handleOf254 → ⊥
 handleOf254 claim =
-    let fits : HandleOf 255 = Theorems.HandleColumn 394 (figuresOf 394) refl 255 .0 (omega arith) in
-    let within = claim 394 _ refl 255 .1 fits in
+    let fits : HandleOf registerOrderOf 255 = Theorems.HandleColumn registerOrderOf makes-register 394 (figuresOf 394) refl 255 .0 (omega arith) in
+    let within = claim registerOrderOf makes-register 394 _ refl 255 .1 fits in
     omega arith
 
 -- the longest of each, as the definition has it, is above or below

@@ -13,8 +13,9 @@ unfoldable use Rattle.octets.proofs.Laws.{small}
 use Rattle.command_stated.specs.Command.{Authenticate}
 use Rattle.signing_stated.specs.Layouts.{RegisterFields}
 use Rattle.signing_stated.specs.Finishing.{Finishing, Ended, endOf}
-use Rattle.signing_stated.specs.Claims.{RegisterRoomExactly, FinishesExactly}
-use Rattle.signing_stated.specs.Terms.{IsWhole, register}
+use Rattle.signing_stated.specs.Orders.{Order}
+use Rattle.signing_stated.specs.Claims.{MakesRegister, RegisterRoomExactly, FinishesExactly}
+use Rattle.signing_stated.specs.Terms.{RegisterLengths, IsWhole, IsBlank, register}
 use Rattle.signing_stated.proofs.Laws.{finishes-exactly, finishes-only}
 use Rattle.session_stated.specs.Terms.{FrameRoom}
 use Rattle.session_stated.specs.Claims.{FrameRoomExactly}
@@ -133,17 +134,30 @@ FinishColumn =
           subst (λ (g : Figures). FinishR2At255 finish n (g .certificate + 1)) (r .is) (one-more-r2 finish exact n (r .low));
     }
 
-handles : UpTo HandleOf 255
-handles h = (
-  λ most. (fields, record { application = length-replicate {A = ℕ} 32 0; challenge = length-replicate {A = ℕ} 32 0; handle = let is = length-replicate {A = ℕ} h 0 in omega arith; x = length-replicate {A = ℕ} 32 0; y = length-replicate {A = ℕ} 32 0 }, length-replicate {A = ℕ} h 0),
-  λ t. let lengths = t .1 in let is = t .2 in omega (arith, lengths .handle, is),
+-- a handle of up to 255 bytes has something to sign, and a longer one fits no order
+handles : (make : RegisterFields → ℕ → Order) → MakesRegister make → UpTo (HandleOf make) 255
+handles make exact h = (
+  λ most. (fields, 0, long, λ blank. omega (arith, exact .counts fields 0 (fits most), blank .counts)),
+  λ t. let (of, c, is, made) = t in by of c is made (decLt 255 h),
 )
   where
     fields : RegisterFields
     fields = record { application = replicate 32 0; challenge = replicate 32 0; handle = replicate h 0; x = replicate 32 0; y = replicate 32 0 }
 
+    long : length (fields .handle) ≡ h
+    long = length-replicate {A = ℕ} h 0
+
+    fits : h ≤ 255 → RegisterLengths fields
+    fits most =
+        let is = length-replicate {A = ℕ} 32 0 in
+        record { application = is; challenge = is; handle = omega (arith, long, most); x = is; y = is }
+
+    by : (of : RegisterFields) (c : ℕ) → length (of .handle) ≡ h → (IsBlank (make of c) → ⊥) → Dec (255 < h) → h ≤ 255
+    by of c is made (yes over) = absurd (made (exact .unfit of c (λ lengths. omega (arith, lengths .handle, is, over))))
+    by of c is made (no most) = omega (arith, most)
+
 pub HandleColumn : Claims.HandleColumn sheetOf
-HandleColumn n f e = subst (λ (g : Figures). UpTo HandleOf (g .handle)) (row-is n f e .is) handles
+HandleColumn make exact n f e = subst (λ (g : Figures). UpTo (HandleOf make) (g .handle)) (row-is n f e .is) (handles make exact)
 
 -- by the definition, since whatever finishes exactly gives what it gives
 bodies : (finish : Finishing → Ended) → FinishesExactly finish → (n : ℕ) → 394 ≤ n → Longest (BodyOf finish n) n

@@ -1,8 +1,8 @@
 -- What is promised of the data sheet. `row` gives the figures of a reply buffer, `needed` the buffer for a certificate, and both are any functions: the
 -- definitions of Sheet.antt meet the claims by proofs/Theorems.antt, nothing else meets `SheetExactly` or `NeededExactly` by proofs/Only.antt, and the
--- programs of Wrong.antt do not by proofs/Refuted.antt. A column is claimed without its number, as the bound of what whatever meets the core's own claims
--- does: so for every buffer, and not for those alone that are printed. Words: Terms.antt.
-use Rattle.datasheet_stated.specs.Words.{ℕ, _+_, _≤_, _<_, _≡_, Bool, false, List, _↔_, AtMostOne, Outcome, R, Command, Finishing, Ended, RegisterRoomExactly, FinishesExactly, FrameRoom, FrameRoomExactly, Figures, Sheet, Row, TooShort, TooLong, RoomNeeded, Room, NoBuffer}
+-- programs of Wrong.antt do not by proofs/Refuted.antt. A column is claimed without its number, as a bound: of any function that meets the core's own claim
+-- on it, and in every buffer, not in those alone that are printed. Words: Terms.antt.
+use Rattle.datasheet_stated.specs.Words.{ℕ, _+_, _≤_, _<_, _≡_, Bool, false, List, _↔_, AtMostOne, Outcome, R, Command, RegisterFields, Order, Finishing, Ended, MakesRegister, RegisterRoomExactly, FinishesExactly, FrameRoom, FrameRoomExactly, Figures, Sheet, Row, TooShort, TooLong, RoomNeeded, Room, NoBuffer}
 use Rattle.datasheet_stated.specs.Contracts.{SheetSaid, NeededSaid}
 use Rattle.datasheet_stated.specs.Terms.{UpTo, Longest, Least, HasRoom, FinishR2, FinishR2At255, HandleOf, BodyOf, ShortResponse, AnyResponse, CommandOf, TakesCommands, HasCertificate}
 
@@ -34,9 +34,10 @@ pub record FinishColumn (row : ℕ → Sheet) : Type 0 where
   pub never-r2 : (finish : Finishing → Ended) → FinishesExactly finish → (n : ℕ) (f : Figures) → row n ≡ Row f → (c : ℕ) → c ≤ f .certificate → FinishR2 finish n c → ⊥
   pub one-more : (finish : Finishing → Ended) → FinishesExactly finish → (n : ℕ) (f : Figures) → row n ≡ Row f → FinishR2At255 finish n (f .certificate + 1)
 
--- New handles of exactly these lengths have fields that make an order. `handleOf256` fails it at a handle of 256 bytes, `handleOf254` at one of 255.
+-- "a handle of at most 255": whatever makes the orders of Registers, new handles of exactly these lengths come to one. `handleOf256` fails it at a handle
+-- of 256 bytes, `handleOf254` at one of 255.
 abbrev pub HandleColumn : (ℕ → Sheet) → Type 0
-HandleColumn row = (n : ℕ) (f : Figures) → row n ≡ Row f → UpTo HandleOf (f .handle)
+HandleColumn row = (make : RegisterFields → ℕ → Order) → MakesRegister make → (n : ℕ) (f : Figures) → row n ≡ Row f → UpTo (HandleOf make) (f .handle)
 
 -- "no body is longer than n", and one is as long: what finishing gives into a buffer of n bytes, whatever the order, certificate and signature.
 -- `bodyWithoutSignature` fails it, and `bodyOneMore`, at 394 bytes.

@@ -1,5 +1,5 @@
 -- Words that only the claims use: how a figure bounds what it is a figure of, and what comes of a buffer, a frame or a command.
-use Rattle.datasheet_stated.specs.Words.{ℕ, _≤_, _≡_, Bool, true, List, length, _↔_, Outcome, R, Gives, AreBytes, Says, readOf, Command, RegisterExactly, AuthenticateExactly, VersionExactly, GetResponseExactly, RegisterFields, Finishing, Ended, certificateLength, RegisterLengths, RegisterShaped, IsWhole, FrameRoom, Figures, Sheet, Row}
+use Rattle.datasheet_stated.specs.Words.{ℕ, _≤_, _≡_, Bool, true, List, length, _↔_, Outcome, R, Gives, AreBytes, Says, readOf, Command, RegisterExactly, AuthenticateExactly, VersionExactly, GetResponseExactly, RegisterFields, Order, Finishing, Ended, certificateLength, RegisterShaped, IsWhole, IsBlank, FrameRoom, Figures, Sheet, Row}
 
 -- ---- bounds
 -- `UpTo Fits m`: of the numbers just those up to m fit
@@ -33,9 +33,9 @@ pub record FinishR2At255 (finish : Finishing → Ended) (n c : ℕ) : Type 0 whe
   pub r2 : FinishR2 finish n c
   pub longest : RegisterShaped 255 (r2 .lent .order)
 
--- there are fields of a Register order whose handle has h bytes
-abbrev pub HandleOf : (h : ℕ) → Type 0
-HandleOf h = (fields : RegisterFields) × RegisterLengths fields × (length (fields .handle) ≡ h)
+-- a new handle of h bytes can come to a Register order, for a certificate of some length c: one that is not blank
+abbrev pub HandleOf : (make : RegisterFields → ℕ → Order) → (h : ℕ) → Type 0
+HandleOf make h = (fields : RegisterFields) × (c : ℕ) × (length (fields .handle) ≡ h) × (IsBlank (make fields c) → ⊥)
 
 -- finishing an order into a buffer of n bytes can give a body of b
 pub record BodyOf (finish : Finishing → Ended) (n b : ℕ) : Type 0 where

@@ -15,9 +15,9 @@ pub use Rattle.command_stated.specs.Command.{Command}
 pub use Rattle.command_stated.specs.Claims.{RegisterExactly, AuthenticateExactly, VersionExactly, GetResponseExactly}
 pub use Rattle.signing_stated.specs.Layouts.{RegisterFields}
 pub use Rattle.signing_stated.specs.Finishing.{Finishing, Ended}
-pub use Rattle.signing_stated.specs.Orders.{certificateLength}
-pub use Rattle.signing_stated.specs.Terms.{RegisterLengths, RegisterShaped, IsWhole}
-pub use Rattle.signing_stated.specs.Claims.{RegisterRoomExactly, FinishesExactly}
+pub use Rattle.signing_stated.specs.Orders.{Order, certificateLength}
+pub use Rattle.signing_stated.specs.Terms.{RegisterShaped, IsWhole, IsBlank}
+pub use Rattle.signing_stated.specs.Claims.{MakesRegister, RegisterRoomExactly, FinishesExactly}
 pub use Rattle.session_stated.specs.Terms.{FrameRoom}
 pub use Rattle.session_stated.specs.Claims.{FrameRoomExactly}
 pub use Rattle.datasheet_stated.specs.declared.Figures.{Figures}

@@ -1,6 +1,7 @@
 // Prints the data sheet's figures for a reply buffer. Without an argument it is the table of the data sheet, as Markdown; with a length, the
 // figures for a buffer of so many bytes; with the word `certificate` and a length, the buffer that such a certificate needs, and its figures.
-// Every figure comes from the two proved functions of crate datasheet. What has none is answered on standard error alone.
+// Every figure comes from the two proved functions of crate datasheet. What has none is answered on standard error alone: the bounds in those sentences
+// are written out, and .ci/sheet holds them to where the functions answer so.
 mod grouped;
 mod lines;
 mod table;
