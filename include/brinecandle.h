@@ -457,12 +457,12 @@ struct brinecandle_wrote brinecandle_finish(struct brinecandle_order order, cons
 /* ---- room, for whoever chooses a reply buffer: in an array's length, a static assertion or an #if, or while the firmware runs. Lengths
  * may be of any standard integer type and are taken more than once; in an #if they are literals or macros, since an enumerator is 0 there.
  * Nothing wraps. A negative length serves nothing, and as a certificate's it is taken for 2^64 more, which no buffer that there is serves.
- * Of variables no compiler that this is tried with tells anything at -Wall -Wextra. -Wsign-conversion tells of a signed one, and so does
- * -Wconversion in C: cast it. Constants may be told of: a negative one of its sign, and a reply of 393 bytes, that it never serves. */
+ * At -Wall -Wextra no compiler that this is tried with tells anything of variables. -Wsign-conversion, which -Wconversion may bring along,
+ * tells of signed ones: cast them. Constants may be told of, too: a negative one of its sign, and a reply of 393, that it never serves. */
 
 /* The least reply buffer that serves a certificate of so many bytes whatever the new handle's length, up to 255: the certificate and 394,
  * that is 139 and 255. SIZE_MAX, which is no buffer's length, where no size_t can say it. */
-#define BRINECANDLE_REPLY(certificate) ((certificate) + 0ull < SIZE_MAX - 394 + 1 ? 394ull + (certificate) : SIZE_MAX)
+#define BRINECANDLE_REPLY(certificate) ((certificate) + 0ull < SIZE_MAX - 394 ? 394ull + (certificate) : SIZE_MAX)
 
 /* Whether a reply buffer of `reply` bytes serves a certificate of so many. Where it does, neither a decision nor the finish of its order
  * gives a Register with a handle of at most 255 bytes, or an Authenticate, R2 for that buffer, and no body is longer than it. Where it does
