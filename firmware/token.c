@@ -98,8 +98,8 @@ static struct {
 } token;
 
 _Static_assert(sizeof token < 4096, "the token is meant to be small");
-/* Where this holds, no enrolment and no login is refused for the reply buffer (docs/DATASHEET.md). It looks at the two as they are, however
- * their lengths were come by. */
+/* Where this holds, no enrolment with a handle of at most 255 bytes, as ours are, and no login is refused for the reply buffer
+ * (docs/DATASHEET.md). It looks at the two arrays as they are, however their lengths were come by. */
 _Static_assert(BRINECANDLE_SERVES(sizeof token.reply[0], sizeof certificate), "the reply buffer is too short for the certificate");
 
 /* The moment that it is. To be asked at least once in 49 days. */

@@ -405,9 +405,10 @@ struct brinecandle_decision {
  * is written, all of it, where the answer is BRINECANDLE_ORDER, and stays as it was otherwise. With 0x9000 the body is at the front of
  * `reply` and the rest of it is left.
  * R2 where `reply` is too short for the longest reply to this command: 6 for Version, 139 and the lengths of handle and
- * certificate for Register, 77 for Authenticate. It comes before a touch is spent or the counter is taken. Whether `part` can carry the
- * response is not looked at here but for a GET RESPONSE: ask brinecandle_response_room first, or the touch is spent on a response that
- * does not fit.
+ * certificate for Register, 77 for Authenticate. It comes before a touch is spent or the counter is taken, and before the new handle's
+ * length is looked at: one above 255 bytes gets R2 where there is no room for it, else 0x6f00 with the touch spent, where there is one.
+ * Whether `part` can carry the response is not looked at here but for a GET RESPONSE: ask brinecandle_response_room first, or the touch is
+ * spent on a response that does not fit.
  *
  * `reply` is the buffer of uncut bodies: a Version writes it, brinecandle_finish writes it, and a GET RESPONSE reads it, all of its
  * reply_length bytes being the lent body. `part` is the buffer for part and status: a GET RESPONSE alone writes it, and with
@@ -454,18 +455,23 @@ struct brinecandle_wrote brinecandle_finish(struct brinecandle_order order, cons
                                             uint8_t *reply, size_t reply_length);
 
 /* ---- room, for whoever chooses a reply buffer: in an array's length, a static assertion or an #if, or while the firmware runs. Lengths
- * may be of any integer type and are taken more than once. Nothing wraps, and a negative length serves nothing and is not served. */
+ * may be of any standard integer type and are taken more than once; in an #if they are literals or macros, since an enumerator is 0 there.
+ * Nothing wraps. A negative length serves nothing, and as a certificate's it is taken for 2^64 more, which no buffer that there is serves.
+ * At -Wall -Wextra no compiler that this is tried with tells anything of variables. -Wsign-conversion, which -Wconversion may bring along,
+ * tells of signed ones: cast them. Constants may be told of, too: a negative one of its sign, and a reply of 393, that it never serves. */
 
 /* The least reply buffer that serves a certificate of so many bytes whatever the new handle's length, up to 255: the certificate and 394,
  * that is 139 and 255. SIZE_MAX, which is no buffer's length, where no size_t can say it. */
-#define BRINECANDLE_REPLY(certificate) ((certificate) <= SIZE_MAX - 394 ? 394ull + (certificate) : SIZE_MAX)
+#define BRINECANDLE_REPLY(certificate) ((certificate) + 0ull < SIZE_MAX - 394 ? 394ull + (certificate) : SIZE_MAX)
 
 /* Whether a reply buffer of `reply` bytes serves a certificate of so many. Where it does, neither a decision nor the finish of its order
  * gives a Register with a handle of at most 255 bytes, or an Authenticate, R2 for that buffer, and no body is longer than it. Where it does
  * not, a Register with a handle of 255 bytes gets R2, unless another answer comes first; so with less than 394 bytes no certificate is
- * served, not even an empty one. What is served goes out, whatever the frame's shape, in `reply` and two bytes for part and status; in
- * shapes 1 to 4 in 258. (It is not written with <=, of which gcc says at a length of 0 that it is always so.) */
-#define BRINECANDLE_SERVES(reply, certificate) ((reply) >= 394 && (certificate) < (reply) - 394ull + 1)
+ * served, not even an empty one. Of a longer handle it says nothing: no order comes of one, see brinecandle_decide. What is served goes
+ * out, whatever the frame's shape, in `reply` and two bytes for part and status, up to a `reply` of SIZE_MAX - 2; in shapes 1 to 4 in 258.
+ * (Neither macro has <=, of which gcc says at a length of 0 that it is always so. 0ll keeps the sign of a negative reply, as 0ull would
+ * not, and both keep compilers from telling what a narrow variable cannot be.) */
+#define BRINECANDLE_SERVES(reply, certificate) ((reply) + 0ll >= 394 && (certificate) + 0ull < (reply) - 394ull + 1)
 
 /* ---- every number is as wide as in the archive, and every struct laid out as there; record, session and hardware's answers are as many
  * numbers of 64 and 32 bits in a row */
