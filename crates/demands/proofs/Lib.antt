@@ -3,6 +3,7 @@ pub mod Fetched
 pub mod Lost
 pub mod Room
 pub mod RoomForParts
+pub mod RoomRows
 pub mod Carried
 pub mod Examples
 pub mod Answers

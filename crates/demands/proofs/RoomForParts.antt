@@ -1,4 +1,4 @@
--- The room for part and status, of a panel that meets its contracts; and with the reply buffer's (Room.antt) all of the data sheet.
+-- The room for part and status, of a panel that meets its contracts.
 use Prim.Native.Nat.{ℕ, _+_, _<_, _≤_}
 use mathlib.Core.Path.{_≡_, refl, ap, sym, _∙_}
 use mathlib.Core.Logic.{_↔_, _⊎_, inl, inr, ⊎-elim}
@@ -30,26 +30,18 @@ use Rattle.panel_stated.proofs.Outcomes as Outcomes
 use borrow.Author.Tests.{le-leb, eq-eqb, ne-eqb}
 use mathlib.Core.List.{[], _∷_}
 use Rattle.octets.proofs.Laws.{length-laid}
-use Rattle.command_stated.specs.Command.{Command, commandOf}
-use Rattle.command_stated.proofs.Laws.{RegisterExactly, AuthenticateExactly, VersionExactly, GetResponseExactly}
+use Rattle.command_stated.proofs.Laws.{GetResponseExactly}
 use Rattle.signing_stated.specs.Finishing.{replyOf}
 use Rattle.ctap1_stated.proofs.Laws.{order-read}
-use Rattle.panel_stated.specs.declared.CommandSaid.{CommandSaid}
-use Rattle.panel_stated.specs.Exports.{ToDecide, ToFinish, commandNumbers, finishNumbered}
-use Rattle.datasheet_stated.specs.declared.Figures.{Figures}
-use Rattle.datasheet_stated.specs.declared.Sheet.the-variants.{Row}
-use Rattle.datasheet_stated.specs.Sheet.{sheetOf}
-use Rattle.datasheet_stated.specs.Terms.{TakesCommands}
-use Rattle.datasheet_stated.proofs.Laws.{row-is}
-use Rattle.datasheet_stated.proofs.Theorems as Datasheet
+use Rattle.panel_stated.specs.Exports.{ToDecide, ToFinish, finishNumbered}
 use lib.ListN.{replicate}
 use Rattle.demands.specs.Sessions.{firstOf}
-use Rattle.demands.specs.Room.{Fits, FinishesIn, takes, FitsRow, RowsServe}
+use Rattle.demands.specs.Room.{Fits, FinishesIn, takes}
 use Rattle.demands.proofs.Answers.{order-given}
 use Rattle.demands.specs.Panel.{Panel, Meets}
-use Rattle.demands.specs.Room.{GoesIn, ResponsesServed, DataSheet}
+use Rattle.demands.specs.Room.{GoesIn, ResponsesServed}
 use Rattle.demands.proofs.Fetched.{room-is}
-use Rattle.demands.proofs.Room.{only-fetches, reply-serves, no-more-fits}
+use Rattle.demands.proofs.Room.{only-fetches, reply-serves}
 
 holds-part : (m limit n : ℕ) → GoesIn m limit n ↔ (partLength limit n + 2 ≤ m)
 holds-part m limit n = (λ h. enough (part-way limit n) h, λ h. back (part-way limit n) h)
@@ -92,14 +84,6 @@ is-read : (o : Outcome Says) → IsNumbered o → frameNumbers o .answer ≡ 0x9
 is-read (R n) h e = absurd (omega arith)
 is-read (Word s) h e = absurd (omega arith)
 is-read (Gives said) h e = (said, refl)
-
-is-command : (o : Outcome Command) → IsNumbered o → commandNumbers o .answer ≡ 0x9000 → (c : Command) × (o ≡ Gives c)
-is-command (R n) h e = absurd (omega arith)
-is-command (Word s) h e = absurd (omega arith)
-is-command (Gives c) h e = (c, refl)
-
-takes-commands : TakesCommands commandOf
-takes-commands = record { register = RegisterExactly; authenticate = AuthenticateExactly; version = VersionExactly; get-response = GetResponseExactly }
 
 -- what a decision that is not refused leaves for its limit
 limit-left : (o : Outcome DecisionGives) (read : Outcome Says) (s : Session) → IsNumbered o → lastRefusal < decidedNo o → sessionAfter o read s .limit ≡ limitOn read
@@ -146,7 +130,7 @@ module _ (P : Panel) (M : Meets P) where
     limit-is : takes (P .read frame) ≡ frameLimit frame
     limit-is = takes-is frame (says .0) (says .1)
 
-    in-258 : AreBytes frame → P .read frame .shape ≤ 4 → (n : ℕ) → GoesIn 258 (takes (P .read frame)) n
+    pub in-258 : AreBytes frame → P .read frame .shape ≤ 4 → (n : ℕ) → GoesIn 258 (takes (P .read frame)) n
     unfolding frameLimit
     in-258 bytes few n =
         let limit : takes (P .read frame) ≡ limitOf (says .0) = limit-is ∙ ap limitOn (says .1) in
@@ -217,29 +201,3 @@ module _ (P : Panel) (M : Meets P) where
         );
     asked = λ frame n m taken e. asked frame taken n m e;
   }
-
-  -- ---- the rows that are printed
-  line : (n : ℕ) (f : Figures) (i : ToDecide) → sheetOf n ≡ Row f → FitsRow f i → Fits 394 (f .room) i
-  line n f i e fits =
-      let w = row-is n f e in
-      let certificate : f .certificate + 394 ≡ f .room = rw (← w .is) (omega (arith, w .low)) in
-      let handle : f .handle ≡ 255 = ap (λ (g : Figures). g .handle) (sym (w .is)) in
-      record { reply = fits .0; certificate = omega (arith, certificate, fits .1); handle = omega (arith, handle, fits .2) }
-
-  pub rows-serve : RowsServe sheetOf P
-  rows-serve = record {
-    own = λ n f e. ap (λ (g : Figures). g .room) (sym (row-is n f e .is));
-    register = λ n f i e fits. reply-serves P M .register (f .room) i (line n f i e fits);
-    authenticate = λ n f i e fits. reply-serves P M .authenticate (f .room) i (line n f i e fits);
-    body = λ n f i g e fits lent.
-        let same : f .body ≡ f .room = rw (← row-is n f e .is) refl in
-        omega (arith, same, reply-serves P M .body (f .room) i g (line n f i e fits) lent);
-    extended = λ n f limit m e most. let same : f .extended ≡ f .body + 2 = rw (← row-is n f e .is) refl in inl (omega (arith, same, most));
-    short = λ n f frame m e bytes taken few. let same : f .short ≡ 258 = rw (← row-is n f e .is) refl in rw same (in-258 frame taken bytes few m);
-    command = λ n f frame e bytes taken.
-        let c = is-command (commandOf frame) (Outcomes.command-said frame) (ap (λ (s : CommandSaid). s .answer) (sym (M .read-command frame)) ∙ taken) in
-        Datasheet.CommandColumn commandOf takes-commands n f e .at-most (length frame) (record { frame = frame; bytes = bytes; which = c .0; is-taken = c .1; long = refl });
-  }
-
-pub data-sheet : (P : Panel) → Meets P → DataSheet P
-data-sheet P M = record { serves = reply-serves P M; no-more = no-more-fits P M; responses = responses-served P M; rows = rows-serve P M }

@@ -37,7 +37,7 @@ use Rattle.demands.proofs.Reached.{reached}
 use Rattle.demands.proofs.Answers.{commands, responses, finishing, finishes, presences, sides, keeps}
 use Rattle.demands.proofs.Lost.{none-lost}
 use Rattle.demands.proofs.Carried.{none-carries-over, signs-lent}
-use Rattle.demands.proofs.RoomForParts.{data-sheet}
+use Rattle.demands.proofs.RoomRows.{data-sheet}
 use Rattle.demands.proofs.Runs.{asPanel, allAs, all-append, all-length, there, record-in, came-same, call-same, history-same}
 
 -- a window's number, opened
