@@ -2,7 +2,7 @@
 use Prim.Native.Nat.{ℕ}
 use mathlib.Core.Path.{_≡_, refl, ap, sym, _∙_}
 use mathlib.Core.Bool.{Bool, true, false, false≢true}
-use mathlib.Core.List.{List, [], _∷_}
+use mathlib.Core.List.{List, [], _∷_, _++_}
 use native.Mathlib.Omega.{arith}
 use Rattle.u2f_up_stated.specs.Moments.{newOf, settleOf, grantedOf, checkedOf, touchOf, checkOf, askOf}
 use Rattle.u2f_up_stated.specs.History.{RefusedBy, TouchFound, NoTouchFound, PromptStands, NoPromptStands, foretold, latestPrompt, unspent, latestTouch, isPromptStanding, lastMoment, servers, accepted}
@@ -556,7 +556,40 @@ partWants3First d =
     d .first 394 (enrolling 394 255 0) (finishing (replicate 72 0)) (replicate 258 0) fits394 (record { ordered = refl; order = refl; block = refl; reply = omega arith })
     (inr (omega arith, omega arith)) refl
 
--- ---- a row that is printed: a certificate of n - 393 bytes
+-- ---- a row that is printed, figure by figure: of another buffer; a certificate of n - 393 bytes; a login in 76
+pub rowOfAnother : RowsServe Wrong.rowOfAnother Wrong.defined → ⊥
+rowOfAnother d = let e : _≡_ {A = ℕ} 395 394 = d .own 394 _ refl in omega arith
+
 pub rowOneMore : RowsServe Sheets.certificateOneMore Wrong.defined → ⊥
 unfolding decisionOf pathOf allowedPath commandPath registerPath registerEnding enrolmentOrder registerOrderOf isRegisterLayout kindOf block partOf dataOf commandOf onReading byInstruction registerOf challengeOf applicationOf readBy sayOf lengthsOf shortOf extendedOf afterData allowedOf attestationOf settleOf checkedOf finishOf nextPartOf partLength limitOf
 rowOneMore d = d .register 394 _ (enrolling 394 255 1) refl (refl, omega arith, omega arith) refl refl
+
+pub rowForAny : RowsServe Wrong.rowForAny Wrong.defined → ⊥
+unfolding decisionOf pathOf allowedPath commandPath loginPath commandOf onReading byInstruction authenticateOf readBy sayOf lengthsOf shortOf extendedOf afterData dataOf partOf allowedOf settleOf
+rowForAny d =
+    let i : ToDecide = logIn (replicate 32 0xA1) (replicate 32 0xC1) [] 7 in
+    d .authenticate 76 _ (lending (i .presence) (i .session) (replicate 76 0) i) refl (refl, omega arith, omega arith) refl refl
+
+-- a body without its signature, and responses without their status
+pub rowBody : RowsServe Sheets.bodyWithoutSignature Wrong.defined → ⊥
+unfolding decisionOf pathOf allowedPath commandPath registerPath registerEnding enrolmentOrder registerOrderOf isRegisterLayout kindOf block partOf dataOf commandOf onReading byInstruction registerOf challengeOf applicationOf readBy sayOf lengthsOf shortOf extendedOf afterData allowedOf attestationOf settleOf checkedOf finishOf nextPartOf partLength limitOf
+rowBody d =
+    let e : 394 ≤ 322 = d .body 394 _ (enrolling 394 255 0) (finishing (replicate 72 0)) refl (refl, omega arith, omega arith) (record { ordered = refl; order = refl; block = refl; reply = omega arith }) in
+    omega arith
+
+pub rowExtended : RowsServe Sheets.extendedWithoutStatus Wrong.defined → ⊥
+rowExtended d = ⊎-elim (λ x. omega arith) (λ x. omega arith) (d .extended 394 _ 0 394 refl (omega arith))
+
+pub rowShort : RowsServe Sheets.shortWithoutStatus Wrong.defined → ⊥
+unfolding small readBy sayOf lengthsOf shortOf extendedOf afterData
+rowShort d =
+    let frame : List ℕ = 0x00 ∷ 0x03 ∷ 0x00 ∷ 0x00 ∷ [] in
+    ⊎-elim (λ x. omega arith) (λ x. omega arith) (d .short 394 _ frame 300 refl (bytes-of frame refl) refl (omega arith))
+
+-- the longest command is an Authenticate in shape 7, with a handle of 255 bytes
+pub rowCommand : RowsServe Sheets.shortFramesOnly Wrong.defined → ⊥
+unfolding small commandOf onReading byInstruction authenticateOf readBy sayOf lengthsOf shortOf extendedOf afterData dataOf partOf
+rowCommand d =
+    let frame : List ℕ = 0x00 ∷ 0x02 ∷ 0x03 ∷ 0x00 ∷ 0x00 ∷ 0x01 ∷ 0x40 ∷ [] ++ replicate 64 0 ++ 0xFF ∷ [] ++ replicate 255 0 ++ 0x00 ∷ 0x00 ∷ [] in
+    let e : 329 ≤ 261 = d .command 394 _ frame refl (bytes-of frame refl) refl in
+    omega arith

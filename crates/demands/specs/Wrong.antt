@@ -29,6 +29,9 @@ use Rattle.panel_stated.specs.declared.Asked.{Asked}
 use Rattle.panel_stated.specs.Numbers.{presenceNumbers, sessionNumbers}
 use Rattle.panel_stated.specs.Exports.{ToWrite, ToDecide, ToFinish, AfterMaking, AfterStep, AfterDeciding, AfterWriting, AfterPart, makesOf, stepNumbers, touchesOf, checksOf, asksOf, decidesOf, finishNumbered, lengthNumbers, readsOf, writesOf, commandNumbers, respondsOf, responseNumbers, nextsOf, roomsOf}
 use Rattle.panel_stated.specs.Wrong as Exports
+use Rattle.datasheet_stated.specs.declared.Sheet.{Sheet}
+use Rattle.datasheet_stated.specs.declared.Sheet.the-variants.{Row}
+use Rattle.datasheet_stated.specs.Sheet.{figuresOf, sheetOf}
 use Rattle.demands.specs.Panel.{Panel}
 
 abbrev pub rightCommand : List ℕ → CommandSaid
@@ -385,3 +388,10 @@ readsShape4 =
     let said = readsOf Ordinary frame in
     record { answer = 0x9000; fault = 0; cla = said .cla; ins = said .ins; p1 = said .p1; p2 = said .p2; shape = 4; lc = said .lc; le = 300; start = said .start; end = said .end; place = 0 })
     (readsOf Ordinary) (readsOf Strict) (readsOf Strict) (writesOf Ordinary) (writesOf Strict) rightCommand respondsOf rightResponse nextsOf
+
+-- ---- rows of the data sheet: for every buffer, however short; and of a buffer that is one byte longer
+abbrev pub rowForAny : ℕ → Sheet
+rowForAny n = Row (figuresOf n)
+
+abbrev pub rowOfAnother : ℕ → Sheet
+rowOfAnother n = sheetOf (n + 1)
