@@ -5,7 +5,8 @@ usage: python3 tools/respell.py [--landed FOLDER]
 
 A name of ours is a word in a file of crates/*/specs or crates/*/proofs that the file does not import from elsewhere: a definition, a
 field, a lemma, a constructor, a variable. `someName` becomes `some_name`, and `some-name` becomes `some_name`; types, facts and modules
-keep their capital. The same words are turned in clauses of src/, and in comments. The file specs/Contracts.antt of a crate becomes
+keep their capital. A lemma or a variable that would then have the name of a definition that its file knows gets `_lem`. The same words are
+turned in clauses of src/, and in comments. The file specs/Contracts.antt of a crate becomes
 specs/Promises.antt, since Rattle makes a module `specs.contracts` now.
 
 With --landed, a folder that holds the tree from before port.py, the must-fail edits are turned too, and every place in them that no
@@ -28,13 +29,26 @@ APART_IN = {
 }
 for _p in "proofs/Lost proofs/RoomForParts proofs/Refuted proofs/Reached specs/Room specs/Sessions specs/Demands/Words specs/Demands specs/Demands/Bodies".split():
     APART_IN[f"crates/demands/{_p}.antt"] = {"first_of": "first_part_of"}
-HERE = {}
+HERE = {}  # the names of the file at hand that go another way
+FIELDS = set()
 
 
-def snake(word):
+def is_field(code, m):
+    """Whether the word stands as a record's field: behind a dot, or before `=` in a record that is written out, or where it is declared."""
+    before, after = code[: m.start()], code[m.end() :]
+    if before.endswith(".") and not before.endswith(" ."):
+        return True
+    if re.match(r"\s+=\s", after) and (re.search(r"[{;]\s*$", before) or (not before.strip() and code.rstrip().endswith(";"))):
+        return True
+    return bool(re.match(r"^\s+pub $", before) and after.startswith(" :"))
+
+
+def snake(word, here=None):
     """The word as it is to be spelled, or the word itself."""
-    if word in HERE:
-        return HERE[word]
+    if here is None:
+        here = HERE
+    if word in here:
+        return here[word]
     if word in APART:
         return APART[word]
     first = word[0]
@@ -85,6 +99,8 @@ def words(code, keep, fields):
         w = m.group(0)
         if w in keep:
             return w
+        if w in HERE and w in FIELDS and is_field(code, m):
+            return snake(w, {})
         before = code[m.start() - 1 : m.start()]
         if before == "." and code[: m.start()].rstrip(".")[-1:] != " " and w not in fields:
             return w
@@ -179,9 +195,12 @@ def main(argv):
     for text in texts.values():
         libs |= imported(text)
     ALL.difference_update(libs - fields)
+    together(texts)
     for p, text in texts.items():
         keep = imported(text)
         HERE.clear()
+        HERE.update(LEMMAS)
+        HERE.update(LOCAL.get(p, {}))
         HERE.update(APART_IN.get(p.replace("Contracts", "Promises"), {}))
         new = turn(text, keep, fields)
         HERE.clear()
@@ -192,6 +211,37 @@ def main(argv):
     if landed:
         edits(landed, fields)
     return 0
+
+
+def together(texts):
+    """Finds the lemmas and variables, spelled with a dash, that would fall together with a definition that some file of theirs knows."""
+    for text in texts.values():
+        for block in re.findall(r"(?m)^pub record .*\n((?:(?: .*)?\n)*)", text):
+            FIELDS.update(re.findall(r"(?m)^  pub ([^\s(){}:;,.]+) :", block))
+    lemmas = set()
+    for p, text in texts.items():
+        if "/proofs/" in p:
+            lemmas |= {w for w in re.findall(r"(?m)^ {0,4}(?:pub |abbrev |unfoldable )*([^\s(){}:;,.]+) :", text) if "-" in w}
+    for p, text in texts.items():
+        keep = imported(text)
+        code = "\n".join(line.partition("-- ")[0] for line in text.split("\n"))
+        known, dashed = set(), set()
+        for m in WORD.finditer(code):
+            w = m.group(0)
+            line = code[code.rfind("\n", 0, m.start()) + 1 :].partition("\n")[0]
+            if w in keep or w[0].isupper() or snake(w, {}) == w:
+                continue
+            if "-" in w:
+                dashed.add(w)
+            elif not (code[m.start() - 1 : m.start()] == "."):
+                known.add(snake(w, {}))
+        for w in dashed:
+            if snake(w, {}) in known and w not in APART:
+                (LEMMAS if w in lemmas else LOCAL.setdefault(p, {}))[w] = snake(w, {}) + "_lem"
+
+
+LEMMAS = {}
+LOCAL = {}
 
 
 def clash(path, text, new, keep):

@@ -5,6 +5,8 @@
 //    | CLA | INS | P1 | P2 | Lc field | data, Lc bytes | Le field |
 //    +-----+-----+----+----+----------+----------------+----------+
 //                            0, 1, 3                     0, 1, 2, 3 bytes
+#![tactic(auto)]
+
 ghost use Rattle.std.specs.Prelude.{◌≡◌};
 ghost use Rattle.outcome.specs.Outcome.{wrong_length, fault_kind};
 ghost use Rattle.apdu_stated.specs.Answers.{reading_of};

@@ -2,13 +2,13 @@
 -- reads as 0". Its bytes as the table has them: none, Le (1), Le (2), and 00 before Le (2) in shape 8. What is written for an Le
 -- is `le_bytes` of apdu_stated's Table.antt: 256 is written 00, and 65536 is written 00 00.
 use Rattle.std.specs.Prelude.{ℕ, Bool, ◌&&◌, List, length, eqb, leb}
-use Rattle.outcome.specs.Notation.{if◌then◌else◌}
+use Rattle.outcome.specs.Notation.{when◌then◌else◌}
 use Rattle.octets.specs.Bytes.{byte, pair_at, laid}
 use Rattle.apdu_stated.specs.Table.{by_length, le_least, le_most, le_read, le_bytes}
 
 -- the number that stands in a field: its only byte, its two, or the two behind a first one
 abbrev pub written_in : List ℕ → ℕ
-written_in field = by_length (length field) 0 (byte field 0) (if eqb (length field) 2 then pair_at field 0 else pair_at field 1)
+written_in field = by_length (length field) 0 (byte field 0) (when eqb (length field) 2 then pair_at field 0 else pair_at field 1)
 
 -- what the field says: the zero rule over its length
 abbrev pub said_of : List ℕ → ℕ

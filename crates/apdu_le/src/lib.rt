@@ -4,6 +4,8 @@
 //    1                     1 .. 255                 256
 //    2                     1 .. 65535               65536
 //    3: 00, then two       1 .. 65535               65536
+#![tactic(auto)]
+
 ghost use Rattle.std.specs.Prelude.{◌≡◌, ◌<◌, ◌%◌};
 ghost use Rattle.apdu_stated.specs.Table.{le_most, le_read};
 ghost use Rattle.apdu_le.specs.Promises.{Fits, Read, Put};

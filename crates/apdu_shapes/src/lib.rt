@@ -1,6 +1,8 @@
 // The seven shapes in code: a shape's row of the table, what a shape can carry, which rows the strict table has, and which shape a
 // payload is in by either table. Reading and writing of whole frames stand on it (apdu, apdu_write). The tables themselves are
 // apdu_stated's specs/Table.antt.
+#![tactic(auto)]
+
 ghost use Rattle.std.specs.Prelude.{◌+◌, ◌<◌, ◌≤◌, ◌≡◌, length};
 ghost use Rattle.octets.specs.Bytes.{byte};
 ghost use Rattle.apdu_stated.specs.Table.{lc_most, lc_under};

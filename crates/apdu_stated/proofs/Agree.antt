@@ -12,11 +12,11 @@ use Rattle.octets.specs.Bytes.{AreBytes}
 use Rattle.apdu_stated.specs.Answers.{Says}
 use Rattle.apdu_stated.specs.Table.{carried_by}
 use Rattle.apdu_stated.specs.Reading.{Entry, read_by}
-use Rattle.apdu_stated.specs.Writing.{Parts, frame_of}
+use Rattle.apdu_stated.specs.Writing.{frame_of}
 use Rattle.apdu_stated.specs.Claims
 use Rattle.apdu_stated.proofs.Ways.{TableOf, CarryOf, FrameWay, under, found, ends, goes_on, frame_way}
 use Rattle.apdu_stated.proofs.Readings.{reading_exactly}
-use Rattle.apdu_stated.proofs.Writings.{fits_exactly, frame_of}
+use Rattle.apdu_stated.proofs.Writings.{fits_exactly, frame_of_lem}
 
 pub same_reading : (entry : Entry) (read : List ℕ → Outcome Says) → Claims.ReadingExactly (TableOf entry) read → (frame : List ℕ) → AreBytes frame → read frame ≡ read_by entry frame
 same_reading entry read exact frame bytes = by (read_by entry frame) (frame_way entry frame) refl
@@ -40,5 +40,5 @@ same_writing entry f g p q w old = go (carried_by entry w.shape (length w.conten
     go false c d =
         let never : CarryOf entry w.shape (length w.content) w.le → ⊥ = λ k. true≢false (sym ((fits_exactly entry w.shape (length w.content) w.le).1 k) ∙ c) in
         refusing 5 ((p.r5 w old).1 never) ((q.r5 w old).1 never)
-    go true c (yes h) = refusing 2 ((p.r2 w old).1 (frame_of w, frame_of entry w c, h)) ((q.r2 w old).1 (frame_of w, frame_of entry w c, h))
-    go true c (no n) = p.writes w old (frame_of w) (frame_of entry w c) (omega arith) ∙ sym (q.writes w old (frame_of w) (frame_of entry w c) (omega arith))
+    go true c (yes h) = refusing 2 ((p.r2 w old).1 (frame_of w, frame_of_lem entry w c, h)) ((q.r2 w old).1 (frame_of w, frame_of_lem entry w c, h))
+    go true c (no n) = p.writes w old (frame_of w) (frame_of_lem entry w c) (omega arith) ∙ sym (q.writes w old (frame_of w) (frame_of_lem entry w c) (omega arith))

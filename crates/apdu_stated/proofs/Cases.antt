@@ -170,9 +170,9 @@ pub data_is : (frame : List ℕ) (said : Says) (at : Place) (part : List ℕ) �
 unfolding data_of
 data_is frame said at part e f = f ∙ rw e
 
-pub read_by : (entry : Entry) (frame : List ℕ) → 4 ≤ length frame → read_by entry frame ≡ say_of frame (lengths_of entry (drop 4 frame))
+pub read_by_lem : (entry : Entry) (frame : List ℕ) → 4 ≤ length frame → read_by entry frame ≡ say_of frame (lengths_of entry (drop 4 frame))
 unfolding read_by
-read_by entry frame long = rw (le-ltb (length frame) 4 long)
+read_by_lem entry frame long = rw (le-ltb (length frame) 4 long)
 
 pub say_found : (frame : List ℕ) (s : Case) (lc le : ℕ) → say_of frame (Found s lc le) ≡ Gives (record { header = header_of frame; shape = shape_no s; data_at = 4 + lc_field s; lc = lc; le = le })
 unfolding say_of

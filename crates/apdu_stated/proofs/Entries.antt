@@ -1,5 +1,5 @@
 -- The table of the claims (specs/Terms.antt) and the table of the definitions (specs/Table.antt) are one.
-use Prim.Native.Nat.{ℕ, ◌+◌, ◌*◌, ◌/◌, ◌%◌, ◌<◌, ◌≤◌}
+use Prim.Native.Nat.{ℕ, ◌/◌, ◌%◌, ◌≤◌}
 use mathlib.Core.Path.{◌≡◌, refl, ap, ap₂, sym, subst, ◌∙◌}
 use mathlib.Core.Bool.{true}
 use mathlib.Core.List.{List, [], ◌∷◌, ◌++◌, append-nil}
@@ -11,7 +11,7 @@ use Rattle.apdu_stated.specs.Words.{ApduHeader, Case, Instruction, Le1, Lc1Data,
 use Rattle.apdu_stated.specs.Answers.{Says}
 use Rattle.apdu_stated.specs.Table.{can_carry}
 use Rattle.apdu_stated.specs.Writing.{Parts, parts_of, payload_of, frame_of}
-use Rattle.apdu_stated.specs.Terms.{IsPair, OneByteLe, full, plain, TwoByteLe, whole, pair, frame_with, InTable, row1, row2, row3, row4, row5, row7, row8, IsFrameOf, Carries, shape1, shape2, shape3, shape4, shape5, shape7, shape8}
+use Rattle.apdu_stated.specs.Terms.{IsPair, OneByteLe, full, plain, TwoByteLe, whole, pair, frame_with, InTable, row1, row2, row3, row4, row5, row7, row8, Carries, shape1, shape2, shape3, shape4, shape5, shape7, shape8}
 use Rattle.apdu_stated.proofs.LaidOut.{Carried, carried}
 use Rattle.apdu_stated.proofs.Sound.{carry}
 use Rattle.apdu_stated.proofs.Frames.{Built, said}

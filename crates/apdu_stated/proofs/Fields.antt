@@ -1,15 +1,15 @@
 -- The fields of a frame as they are written one after the other, and the writer's answers.
-use Prim.Native.Nat.{ℕ, ◌+◌, ◌-◌, ◌*◌, ◌/◌, ◌%◌, ◌<◌, ◌≤◌}
+use Prim.Native.Nat.{ℕ, ◌+◌, ◌-◌, ◌/◌, ◌%◌, ◌<◌, ◌≤◌}
 use mathlib.Core.Path.{◌≡◌, refl, ap, sym, ◌∙◌}
 use mathlib.Core.Bool.{Bool, true, false, not}
 use mathlib.Core.List.{List, [], ◌∷◌, ◌++◌}
 use native.Mathlib.Omega.{arith}
-use borrow.Author.Tests.{lt-ltb, le-ltb, eq-eqb, ne_eqb, not-true, not-false}
+use borrow.Author.Tests.{lt-ltb, le-ltb, ne_eqb, not-true, not-false}
 use lib.Dec.{ltb}
 use lib.ListN.{length, take, drop, length-append}
-use Rattle.outcome.specs.Notation.{if◌then◌else◌}
+use Rattle.outcome.specs.Notation.{when◌then◌else◌}
 use Rattle.outcome.specs.Outcome.{Outcome, R, Gives}
-use Rattle.octets.specs.Bytes.{laid, bytes2}
+use Rattle.octets.specs.Bytes.{laid}
 use Rattle.octets.proofs.Laws.{laid_then}
 use Rattle.apdu_stated.specs.Words.{Case, ApduHeader, Instruction, Le1, Lc1Data, Lc1DataLe1, Lc3Data, Lc3DataLe2, Le3}
 use Rattle.apdu_stated.specs.Table.{Ordinary, Strict, lc_field, le_field, lc_most, can_carry, in_row, carried_by, lc_bytes, le_bytes}
@@ -34,23 +34,23 @@ module _ (count long : ℕ) (old : List ℕ) (within : count ≤ lc_most long) w
         let same : count / 256 % 256 ≡ count / 256 = omega arith in
         e ∙ rw (ne_eqb long 0 n0, ne_eqb long 1 n1, same)
 
-pub lc_long : (s : Case) (count : ℕ) → length (lc_bytes (lc_field s) count) ≡ lc_field s
-lc_long Instruction count = refl
-lc_long Le1 count = refl
-lc_long Lc1Data count = refl
-lc_long Lc1DataLe1 count = refl
-lc_long Lc3Data count = refl
-lc_long Lc3DataLe2 count = refl
-lc_long Le3 count = refl
+pub lc_long_lem : (s : Case) (count : ℕ) → length (lc_bytes (lc_field s) count) ≡ lc_field s
+lc_long_lem Instruction count = refl
+lc_long_lem Le1 count = refl
+lc_long_lem Lc1Data count = refl
+lc_long_lem Lc1DataLe1 count = refl
+lc_long_lem Lc3Data count = refl
+lc_long_lem Lc3DataLe2 count = refl
+lc_long_lem Le3 count = refl
 
-pub le_long : (s : Case) (le : ℕ) → length (le_bytes (le_field s) le) ≡ le_field s
-le_long Instruction le = refl
-le_long Le1 le = refl
-le_long Lc1Data le = refl
-le_long Lc1DataLe1 le = refl
-le_long Lc3Data le = refl
-le_long Lc3DataLe2 le = refl
-le_long Le3 le = refl
+pub le_long_lem : (s : Case) (le : ℕ) → length (le_bytes (le_field s) le) ≡ le_field s
+le_long_lem Instruction le = refl
+le_long_lem Le1 le = refl
+le_long_lem Lc1Data le = refl
+le_long_lem Lc1DataLe1 le = refl
+le_long_lem Lc3Data le = refl
+le_long_lem Lc3DataLe2 le = refl
+le_long_lem Le3 le = refl
 
 -- ---- the payload, and the frame
 module _ (s : Case) (content : List ℕ) (le : ℕ) (old xs ys : List ℕ) where
@@ -59,7 +59,7 @@ module _ (s : Case) (content : List ℕ) (le : ℕ) (old xs ys : List ℕ) where
       → take lc_long xs ++ (ys ++ drop (length xs - lc_long) (drop lc_long xs)) ≡ laid (payload_of s content le) old
   unfolding payload_of
   payload_then lc_long le_long is_lc is_le first rest =
-      laid_then (lc_bytes lc_long (length content)) (content ++ le_bytes le_long le) old xs ys lc_long (rw is_lc (lc_long s (length content))) first rest
+      laid_then (lc_bytes lc_long (length content)) (content ++ le_bytes le_long le) old xs ys lc_long (rw is_lc (lc_long_lem s (length content))) first rest
       ∙ rw (is_lc, is_le)
 
   pub frame_then : (h : ApduHeader) → xs ≡ laid (header_bytes h) old → ys ≡ laid (payload_of s content le) (take (length xs - 4) (drop 4 xs))
@@ -70,8 +70,8 @@ module _ (s : Case) (content : List ℕ) (le : ℕ) (old xs ys : List ℕ) where
 pub frame_long : (h : ApduHeader) (s : Case) (content : List ℕ) (le : ℕ) → length (frame_of (parts_of h s content le)) ≡ 4 + lc_field s + length content + le_field s
 unfolding frame_of payload_of
 frame_long h s content le =
-    let lc = lc_long s (length content) in
-    let l = le_long s le in
+    let lc = lc_long_lem s (length content) in
+    let l = le_long_lem s le in
     simp length-append (omega arith)
 
 -- ---- the writer's answers
@@ -110,7 +110,7 @@ module _ (h : ApduHeader) (s : Case) (content : List ℕ) (le room : ℕ) (a : B
 module _ (w : Parts) (alike : carried_by Ordinary w.shape (length w.content) w.le ≡ carried_by Strict w.shape (length w.content) w.le) where
   pub write_alike : (room : ℕ) → write_by Ordinary w room ≡ write_by Strict w room
   unfolding write_by
-  write_alike room = ap (λ (b : Bool). if not b then R 5 else if ltb room (length (frame_of w)) then R 2 else Gives (length (frame_of w))) alike
+  write_alike room = ap (λ (b : Bool). when not b then R 5 else when ltb room (length (frame_of w)) then R 2 else Gives (length (frame_of w))) alike
 
   pub buffer_alike : (old : List ℕ) → buffer_by Ordinary w old ≡ buffer_by Strict w old
   unfolding buffer_by

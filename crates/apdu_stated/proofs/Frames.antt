@@ -1,26 +1,25 @@
 -- Frames and the table: what the theorems are put together from.
 use Prim.Native.Nat.{ℕ, zero, suc, ◌+◌, ◌-◌, ◌/◌, ◌%◌, ◌<◌, ◌≤◌}
 use mathlib.Core.Path.{◌≡◌, refl, ap, ap₂, sym, subst, ◌∙◌}
-use mathlib.Core.Bool.{true, false}
+use mathlib.Core.Bool.{true}
 use mathlib.Core.List.{List, [], ◌∷◌, ◌++◌}
 use native.Mathlib.Omega.{arith}
 use native.Mathlib.Nat.{not-suc-le-zero, le_of_suc-le-suc}
-use native.Mathlib.Decide.{dec_lt}
 use lib.ListN.{length, take, drop, length-drop}
 use lib.Seq.{drop-drop, drop_at, take_at, get_or-drop}
 use Rattle.outcome.specs.Outcome.{StatusWord, Outcome, R, Word, Gives}
 use Rattle.outcome.proofs.Laws.{gives_same, word_same, word_gives, r_word, r_gives}
-use Rattle.octets.specs.Bytes.{byte, pair_at, bytes2, AreBytes, part_of}
+use Rattle.octets.specs.Bytes.{byte, pair_at, bytes2, AreBytes}
 use Rattle.octets.proofs.Laws.{part_within, part_length}
-use Rattle.apdu_stated.specs.Words.{Case, Instruction, Le1, Lc1Data, Lc1DataLe1, Lc3Data, Lc3DataLe2, Le3, shape_no}
+use Rattle.apdu_stated.specs.Words.{Case, Instruction, Le1, Lc1Data, Lc1DataLe1, Lc3Data, Lc3DataLe2, Le3}
 use Rattle.apdu_stated.specs.Answers.{Says, says_of}
 use Rattle.apdu_stated.specs.Table.{lc_field, le_field, can_carry, lc_bytes, le_bytes}
 use Rattle.apdu_stated.specs.Reading.{Entry, Ordinary, read_by, read_of, lengths_of, header_of, say_of, data_of}
 use Rattle.apdu_stated.specs.Writing.{Parts, parts_of, header_bytes, payload_of, frame_of}
 use Rattle.apdu_stated.specs.declared.Lengths.{Lengths}
-use Rattle.apdu_stated.specs.declared.Lengths.TheVariants.{Found, Missing, Surplus}
+use Rattle.apdu_stated.specs.declared.Lengths.TheVariants.{Found}
 use Rattle.apdu_stated.proofs.Cases
-use Rattle.apdu_stated.proofs.Fields.{lc_long, frame_long}
+use Rattle.apdu_stated.proofs.Fields.{lc_long_lem, frame_long}
 use Rattle.apdu_stated.specs.Terms.{AreParts}
 use Rattle.apdu_stated.proofs.LaidOut.{Carried, carried, row_read}
 use Rattle.apdu_stated.proofs.Ways.{Way, way, none, le1, short, short_le, le3, wide, wide_le2, missing, short_surplus, le1_surplus, wide_surplus, zero_surplus, said_by, FrameWay, frame_way}
@@ -69,23 +68,23 @@ bytes_pair n h = bytes_on (n / 256) (n % 256 ∷ []) (omega arith) (bytes_one (n
 bytes_three : (n : ℕ) → n ≤ 65535 → AreBytes (0 ∷ bytes2 n)
 bytes_three n h = bytes_on 0 (bytes2 n) (omega arith) (bytes_pair n h)
 
-lc_bytes : (s : Case) (n le : ℕ) → Carried s n le → AreBytes (lc_bytes (lc_field s) n)
-lc_bytes Instruction n le k = bytes_none
-lc_bytes Le1 n le k = bytes_none
-lc_bytes Lc1Data n le k = bytes_one n (omega (arith, k.lc_high))
-lc_bytes Lc1DataLe1 n le k = bytes_one n (omega (arith, k.lc_high))
-lc_bytes Lc3Data n le k = bytes_three n k.lc_high
-lc_bytes Lc3DataLe2 n le k = bytes_three n k.lc_high
-lc_bytes Le3 n le k = bytes_none
+lc_bytes_lem : (s : Case) (n le : ℕ) → Carried s n le → AreBytes (lc_bytes (lc_field s) n)
+lc_bytes_lem Instruction n le k = bytes_none
+lc_bytes_lem Le1 n le k = bytes_none
+lc_bytes_lem Lc1Data n le k = bytes_one n (omega (arith, k.lc_high))
+lc_bytes_lem Lc1DataLe1 n le k = bytes_one n (omega (arith, k.lc_high))
+lc_bytes_lem Lc3Data n le k = bytes_three n k.lc_high
+lc_bytes_lem Lc3DataLe2 n le k = bytes_three n k.lc_high
+lc_bytes_lem Le3 n le k = bytes_none
 
-le_bytes : (s : Case) (le : ℕ) → AreBytes (le_bytes (le_field s) le)
-le_bytes Instruction le = bytes_none
-le_bytes Le1 le = bytes_one (le % 256) (omega arith)
-le_bytes Lc1Data le = bytes_none
-le_bytes Lc1DataLe1 le = bytes_one (le % 256) (omega arith)
-le_bytes Lc3Data le = bytes_none
-le_bytes Lc3DataLe2 le = bytes_pair (le % 65536) (omega arith)
-le_bytes Le3 le = bytes_three (le % 65536) (omega arith)
+le_bytes_lem : (s : Case) (le : ℕ) → AreBytes (le_bytes (le_field s) le)
+le_bytes_lem Instruction le = bytes_none
+le_bytes_lem Le1 le = bytes_one (le % 256) (omega arith)
+le_bytes_lem Lc1Data le = bytes_none
+le_bytes_lem Lc1DataLe1 le = bytes_one (le % 256) (omega arith)
+le_bytes_lem Lc3Data le = bytes_none
+le_bytes_lem Lc3DataLe2 le = bytes_pair (le % 65536) (omega arith)
+le_bytes_lem Le3 le = bytes_three (le % 65536) (omega arith)
 
 pub frame_bytes : (w : Parts) → AreParts w → can_carry w.shape (length w.content) w.le ≡ true → AreBytes (frame_of w)
 unfolding frame_of payload_of
@@ -95,7 +94,7 @@ frame_bytes w b c =
     let lc = lc_bytes (lc_field w.shape) n in
     let le = le_bytes (le_field w.shape) w.le in
     let p = lc ++ (w.content ++ le) in
-    let payload : AreBytes p = bytes_then lc (w.content ++ le) (lc_bytes w.shape n w.le (carried w.shape n w.le c)) (bytes_then w.content le b.content (le_bytes w.shape w.le)) in
+    let payload : AreBytes p = bytes_then lc (w.content ++ le) (lc_bytes_lem w.shape n w.le (carried w.shape n w.le c)) (bytes_then w.content le b.content (le_bytes_lem w.shape w.le)) in
     bytes_on h.cla (h.ins ∷ h.p1 ∷ h.p2 ∷ p) b.cla (bytes_on h.ins (h.p1 ∷ h.p2 ∷ p) b.ins (bytes_on h.p1 (h.p2 ∷ p) b.p1 (bytes_on h.p2 p b.p2 payload)))
 
 -- ---- read, so in the table
@@ -114,7 +113,7 @@ pub table_read : (entry : Entry) (frame : List ℕ) (w : Parts) → Built frame 
 unfolding frame_of
 table_read entry frame w t takes =
     let row = row_read entry w.shape w.content w.le takes (carried w.shape (length w.content) w.le t.carried) in
-    ap (read_by entry) t.layout ∙ Cases.read_by entry (frame_of w) (omega (arith, frame_long w.header w.shape w.content w.le))
+    ap (read_by entry) t.layout ∙ Cases.read_by_lem entry (frame_of w) (omega (arith, frame_long w.header w.shape w.content w.le))
     ∙ ap (say_of (frame_of w)) (sym row) ∙ Cases.say_found (frame_of w) w.shape (length w.content) w.le
 
 pub table_cut : (frame : List ℕ) (w : Parts) → Built frame w → data_of frame (said w) ≡ w.content
@@ -126,7 +125,7 @@ table_cut frame w t =
     let long = frame_long w.header w.shape w.content w.le in
     let whole : length frame ≡ length (frame_of w) = ap length t.layout in
     let width : 4 + a + n - (4 + a) ≡ n = omega arith in
-    let from : drop (4 + a) frame ≡ rest = ap (drop (4 + a)) t.layout ∙ sym (drop-drop a 4 (frame_of w)) ∙ drop_at (lc_bytes (lc_field w.shape) n) rest a (lc_long w.shape n) in
+    let from : drop (4 + a) frame ≡ rest = ap (drop (4 + a)) t.layout ∙ sym (drop-drop a 4 (frame_of w)) ∙ drop_at (lc_bytes (lc_field w.shape) n) rest a (lc_long_lem w.shape n) in
     sym (part_within frame (4 + a) (4 + a + n) (omega arith) (omega arith))
     ∙ ap₂ (λ (k : ℕ) (l : List ℕ). take k l) width from ∙ take_at w.content (le_bytes (le_field w.shape) w.le) n refl
 

@@ -1,10 +1,10 @@
 -- ISO's seven cases and the reading, case by case, by either table.
-use Prim.Native.Nat.{ℕ, ◌+◌, ◌-◌, ◌*◌, ◌<◌, ◌≤◌}
-use mathlib.Core.Path.{◌≡◌, refl, ap, sym, subst, ◌∙◌}
-use mathlib.Core.Bool.{Bool, true, false, not, ◌&&◌, ◌||◌, and-eq-true_iff, true≢false}
+use Prim.Native.Nat.{ℕ, ◌+◌, ◌-◌, ◌≤◌}
+use mathlib.Core.Path.{◌≡◌, refl, ap, sym, ◌∙◌}
+use mathlib.Core.Bool.{Bool, true, false, not, ◌&&◌, and-eq-true_iff}
 use mathlib.Core.List.{List}
 use native.Mathlib.Omega.{arith}
-use borrow.Author.Tests.{le-leb, lt-leb, leb-true, eq-eqb, ne_eqb, eqb-true, eqb-false, not-true}
+use borrow.Author.Tests.{le-leb, leb-true, eq-eqb, ne_eqb, eqb-true, eqb-false, not-true}
 use lib.Dec.{leb, eqb}
 use lib.ListN.{length, drop}
 use Rattle.octets.specs.Bytes.{byte, pair_at}
@@ -162,26 +162,26 @@ module _ (p : List ℕ) where
   iso_back Case4E _ _ (wide_le2 d z e) t = extended_holds p 5 (record { some = omega arith; marker = z; not_zero = eqb-false (pair_at p 1) 0 t; long = e })
 
 pub iso_said : (frame : List ℕ) (c : IsoCase) → 4 ≤ length frame → (r : ReadIn (drop 4 frame) c) (entry : Entry) → read_by entry frame ≡ Gives (said_by frame (shape_for c) r.lc r.le)
-iso_said frame c long r entry = Cases.read_by entry frame long ∙ ap (say_of frame) (sym (r.is entry)) ∙ Cases.say_found frame (shape_for c) r.lc r.le
+iso_said frame c long r entry = Cases.read_by_lem entry frame long ∙ ap (say_of frame) (sym (r.is entry)) ∙ Cases.say_found frame (shape_for c) r.lc r.le
 
 -- ISO's Nc and Ne are what is said
-lc_before : (c : IsoCase) → lc_field (shape_for c) ≡ lc_before c
-lc_before Case1 = refl
-lc_before Case2S = refl
-lc_before Case3S = refl
-lc_before Case4S = refl
-lc_before Case2E = refl
-lc_before Case3E = refl
-lc_before Case4E = refl
+lc_before_lem : (c : IsoCase) → lc_field (shape_for c) ≡ lc_before c
+lc_before_lem Case1 = refl
+lc_before_lem Case2S = refl
+lc_before_lem Case3S = refl
+lc_before_lem Case4S = refl
+lc_before_lem Case2E = refl
+lc_before_lem Case3E = refl
+lc_before_lem Case4E = refl
 
 pub says_iso : (c : IsoCase) (frame : List ℕ) → says_of (apdu_of (iso_header frame) (shape_for c) (nc_of c (drop 4 frame)) (ne_of c (drop 4 frame))) ≡ iso_says c frame
-says_iso c frame = ap (λ (k : ℕ). saying (iso_header frame) (shape_no (shape_for c)) (4 + k) (nc_of c (drop 4 frame)) (ne_of c (drop 4 frame))) (lc_before c)
+says_iso c frame = ap (λ (k : ℕ). saying (iso_header frame) (shape_no (shape_for c)) (4 + k) (nc_of c (drop 4 frame)) (ne_of c (drop 4 frame))) (lc_before_lem c)
 
 pub iso_counts : (entry : Entry) (frame : List ℕ) (c : IsoCase) → IsIso c frame → read_by entry frame ≡ Gives (iso_says c frame)
 iso_counts entry frame c i =
     let r = iso_read (drop 4 frame) c i.1 in
     iso_said frame c i.0 r entry
-    ∙ λ d. Gives (saying (iso_header frame) (shape_no (shape_for c)) (4 + lc_before c d) (r.nc d) (r.ne d))
+    ∙ λ d. Gives (saying (iso_header frame) (shape_no (shape_for c)) (4 + lc_before_lem c d) (r.nc d) (r.ne d))
 
 -- every shape but 6 is a case's
 pub case_for : (s : Case) (lc : ℕ) → is_tolerated (shape_no s) lc ≡ false → (c : IsoCase) × (shape_for c ≡ s)

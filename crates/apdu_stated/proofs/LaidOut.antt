@@ -1,24 +1,24 @@
 -- A payload that is laid out as its row says is read as that row.
-use Prim.Native.Nat.{ℕ, suc, ◌+◌, ◌-◌, ◌*◌, ◌/◌, ◌%◌, ◌<◌, ◌≤◌}
+use Prim.Native.Nat.{ℕ, suc, ◌+◌, ◌*◌, ◌/◌, ◌%◌, ◌<◌, ◌≤◌}
 use mathlib.Core.Path.{◌≡◌, refl, ap, ap₂, sym, ◌∙◌}
-use mathlib.Core.Bool.{Bool, true, false, ◌&&◌, and-false, and-eq-true_iff, true≢false}
+use mathlib.Core.Bool.{Bool, true, false, ◌&&◌, and-false, and-eq-true_iff}
 use mathlib.Core.List.{List, [], ◌∷◌, ◌++◌, append-nil}
 use native.Mathlib.Omega.{arith}
 use native.Mathlib.Nat.{not-suc-le-zero}
 use native.Mathlib.Decide.{ℕ_discrete}
 use borrow.Author.Tests.{ne_eqb, leb-true}
 use lib.Dec.{leb}
-use lib.ListN.{length, take, drop, get_or, length-append}
+use lib.ListN.{length, length-append}
 use lib.Seq.{get_or-append_seam, get_or-append-add}
-use Rattle.octets.specs.Bytes.{byte, pair_at, bytes2}
+use Rattle.octets.specs.Bytes.{byte, bytes2}
 use Rattle.apdu_stated.specs.Words.{Case, Instruction, Le1, Lc1Data, Lc1DataLe1, Lc3Data, Lc3DataLe2, Le3}
-use Rattle.apdu_stated.specs.Table.{lc_field, le_field, lc_least, lc_most, le_least, le_most, lc_fits, le_fits, can_carry, le_read, lc_bytes, le_bytes, lc_under, carried_by}
-use Rattle.apdu_stated.specs.Reading.{Entry, Ordinary, Strict, lengths_of, after_data}
+use Rattle.apdu_stated.specs.Table.{lc_field, le_field, lc_least, lc_most, le_least, le_most, lc_fits, le_fits, can_carry, le_read, lc_under, carried_by}
+use Rattle.apdu_stated.specs.Reading.{Entry, Ordinary, lengths_of, after_data}
 use Rattle.apdu_stated.specs.Writing.{payload_of}
 use Rattle.apdu_stated.specs.declared.Lengths.{Lengths}
 use Rattle.apdu_stated.specs.declared.Lengths.TheVariants.{Found}
 use Rattle.apdu_stated.proofs.Cases
-use Rattle.apdu_stated.proofs.Rows.{RowIn, carried_by}
+use Rattle.apdu_stated.proofs.Rows.{RowIn, carried_by_lem}
 
 -- what 'can carry' says, as orders
 pub record Carried (s : Case) (n le : ℕ) : Type 0 where
@@ -46,7 +46,7 @@ unfolding carried_by
 carried_ordinary s n le = go (can_carry s n le) refl
   where
     go : (b : Bool) → can_carry s n le ≡ b → carried_by Ordinary s n le ≡ can_carry s n le
-    go true e = carried_by Ordinary s n le (record { least = (carried s n le e).lc_low }) e ∙ sym e
+    go true e = carried_by_lem Ordinary s n le (record { least = (carried s n le e).lc_low }) e ∙ sym e
     go false e = rw (e, and-false)
 
 -- an Le that is written and read again

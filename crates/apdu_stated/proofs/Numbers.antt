@@ -2,7 +2,7 @@
 use Prim.Native.Nat.{ℕ}
 use mathlib.Core.Path.{◌≡◌, refl, ap, ap₂, ◌∙◌}
 use lib.Dec.{eqb}
-use Rattle.outcome.specs.Notation.{if◌then◌else◌}
+use Rattle.outcome.specs.Notation.{when◌then◌else◌}
 use Rattle.outcome.specs.Outcome.{Outcome, R, Word, Gives}
 use Rattle.outcome.specs.declared.ApduStatusCode.TheVariants.{Success}
 use Rattle.outcome.proofs.Laws.{one_to_one}
@@ -15,12 +15,12 @@ use Rattle.apdu_stated.specs.declared.Written.TheVariants
 
 case_of : ℕ → Case
 case_of n =
-    if eqb n 1 then Instruction
-    else if eqb n 2 then Le1
-    else if eqb n 3 then Lc1Data
-    else if eqb n 4 then Lc1DataLe1
-    else if eqb n 5 then Lc3Data
-    else if eqb n 7 then Lc3DataLe2
+    when eqb n 1 then Instruction
+    else when eqb n 2 then Le1
+    else when eqb n 3 then Lc1Data
+    else when eqb n 4 then Lc1DataLe1
+    else when eqb n 5 then Lc3Data
+    else when eqb n 7 then Lc3DataLe2
     else Le3
 
 case_back : (s : Case) → case_of (shape_no s) ≡ s

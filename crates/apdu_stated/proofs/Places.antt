@@ -1,19 +1,19 @@
 -- Where a frame goes on too long: the length of the longest part from its front that is itself in the table. One proof for every
 -- entry, by the four ways to a surplus.
-use Prim.Native.Nat.{ℕ, zero, suc, ◌+◌, ◌-◌, ◌*◌, ◌<◌, ◌≤◌}
-use mathlib.Core.Path.{◌≡◌, refl, ap, ap₂, sym, subst, ◌∙◌}
+use Prim.Native.Nat.{ℕ, zero, suc, ◌+◌, ◌*◌, ◌<◌, ◌≤◌}
+use mathlib.Core.Path.{◌≡◌, refl, ap, ap₂, sym, ◌∙◌}
 use mathlib.Core.Bool.{true, false}
 use mathlib.Core.List.{List, [], ◌∷◌}
 use native.Mathlib.Omega.{arith}
 use native.Mathlib.Decide.{ℕ_discrete}
-use lib.ListN.{length, take, drop, length-drop}
+use lib.ListN.{length, take, drop}
 use lib.Seq.{length-take-le, get_or-take, take_all, take-add, drop_at}
 use Rattle.octets.specs.Bytes.{byte, pair_at, AreBytes}
 use Rattle.apdu_stated.specs.Words.{Case, Lc1DataLe1, Lc3Data, Lc3DataLe2, Le3}
 use Rattle.apdu_stated.specs.Table.{le_read, lc_under}
 use Rattle.apdu_stated.specs.Reading.{Entry, short_of, extended_of, after_data, lengths_of}
 use Rattle.apdu_stated.specs.declared.Lengths.{Lengths}
-use Rattle.apdu_stated.specs.declared.Lengths.TheVariants.{Found, Missing, Surplus}
+use Rattle.apdu_stated.specs.declared.Lengths.TheVariants.{Found, Surplus}
 use Rattle.apdu_stated.proofs.Cases
 use Rattle.apdu_stated.proofs.Ways.{Way, way, none, le1, short, short_le, le3, wide, wide_le2, missing, short_surplus, le1_surplus, wide_surplus, zero_surplus}
 

@@ -181,7 +181,7 @@ missing_exactly entry frame k = (λ e. go (read_by entry frame) (frame_way entry
 
     back : 4 ≤ length frame → EndsEarly (drop 4 frame) → k ≡ length frame → read_by entry frame ≡ missing_at k
     back long early is =
-        Cases.read_by entry frame long ∙ ap (say_of frame) (early_missing entry (drop 4 frame) early) ∙ Cases.say_missing frame ∙ ap missing_at (sym is)
+        Cases.read_by_lem entry frame long ∙ ap (say_of frame) (early_missing entry (drop 4 frame) early) ∙ Cases.say_missing frame ∙ ap missing_at (sym is)
 
 -- ---- too many bytes
 pub longest_one : (Table : List ℕ → Says → List ℕ → Type 0) (frame : List ℕ) (a b : ℕ) → LongestFront Table frame a → LongestFront Table frame b → a ≡ b
@@ -208,7 +208,7 @@ module _ (entry : Entry) (frame : List ℕ) (bytes : AreBytes (drop 4 frame)) (l
     part_out place f says content i =
         let same = front_payload frame m long in
         word_gives _ _
-        (sym (Cases.read_by entry (take (4 + m) frame) part_long ∙ ap (λ (l : List ℕ). say_of (take (4 + m) frame) (lengths_of entry l)) same ∙ ap (say_of (take (4 + m) frame)) (sym f)
+        (sym (Cases.read_by_lem entry (take (4 + m) frame) part_long ∙ ap (λ (l : List ℕ). say_of (take (4 + m) frame) (lengths_of entry l)) same ∙ ap (say_of (take (4 + m) frame)) (sym f)
         ∙ Cases.say_surplus (take (4 + m) frame) place)
         ∙ reads_entry entry (take (4 + m) frame) content says i)
 
@@ -262,7 +262,7 @@ surplus_exactly entry frame bytes k = (λ e. go (read_by entry frame) (frame_way
         let part = given_long entry (take k frame) _ (reads_entry entry (take k frame) f.in_table.1 f.in_table.0 f.in_table.2) in
         let long : 4 ≤ length frame = omega (arith, length-take-le k frame f.within) in
         let is = too_long entry frame (payload_bytes frame bytes) long k (lengths_of entry (drop 4 frame)) refl early more f in
-        Cases.read_by entry frame long ∙ ap (say_of frame) is ∙ Cases.say_surplus frame k
+        Cases.read_by_lem entry frame long ∙ ap (say_of frame) is ∙ Cases.say_surplus frame k
 
 -- the four together
 pub reading_exactly : (entry : Entry) → Claims.ReadingExactly (TableOf entry) (read_by entry)
@@ -288,7 +288,7 @@ found_same s t a b c d p q r = cc
 
 module _ (entry : Entry) (p : List ℕ) (h : ApduHeader) where
   pub of_frame : (says : Says) (content : List ℕ) → TableOf entry (frame_with h p) says content → say_of (frame_with h p) (lengths_of entry p) ≡ Gives says
-  of_frame says content i = sym (Cases.read_by entry (frame_with h p) (omega arith)) ∙ reads_entry entry (frame_with h p) content says i
+  of_frame says content i = sym (Cases.read_by_lem entry (frame_with h p) (omega arith)) ∙ reads_entry entry (frame_with h p) content says i
 
   pub shape_back : (s : Case) (lc le data_at : ℕ) (content : List ℕ) → TableOf entry (frame_with h p) (saying h (shape_no s) data_at lc le) content → lengths_of entry p ≡ Found s lc le
   shape_back s lc le data_at content i = go (lengths_of entry p) (of_frame _ content i)

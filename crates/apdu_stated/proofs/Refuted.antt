@@ -1,22 +1,22 @@
 -- The claim that is false of each wrong program, at an input where it bites.
-use Prim.Native.Nat.{ℕ, ◌+◌, ◌<◌, ◌≤◌}
+use Prim.Native.Nat.{ℕ, ◌<◌}
 use mathlib.Core.Path.{◌≡◌, refl, sym, ap, ◌∙◌}
-use mathlib.Core.Bool.{Bool, true, false, true≢false}
+use mathlib.Core.Bool.{false, true≢false}
 use mathlib.Core.List.{List, [], ◌∷◌}
 use native.Mathlib.Omega.{arith}
 use lib.ListN.{length, get_or}
 use Rattle.outcome.specs.Outcome.{StatusWord, Outcome, R, Word, SW, Gives}
 use Rattle.outcome.proofs.Laws.{gives_same, word_same, sw_same, word_gives, r_gives}
-use Rattle.octets.specs.Bytes.{byte, AreBytes, part_of}
+use Rattle.octets.specs.Bytes.{byte, part_of}
 use Rattle.octets.proofs.Laws.{small, bytes_of}
-use Rattle.apdu_stated.specs.Words.{ApduHeader, Case, Instruction, Le1, Lc3Data, Lc1DataLe1, Lc1Data, Lc3DataLe2}
-use Rattle.apdu_stated.specs.Answers.{Apdu, Place, Says}
+use Rattle.apdu_stated.specs.Words.{ApduHeader, Case, Instruction, Le1, Lc1Data, Lc3DataLe2}
+use Rattle.apdu_stated.specs.Answers.{Place, Says}
 use Rattle.apdu_stated.specs.Table.{TableRow, lc_fits, le_fits, carried_by}
 use Rattle.apdu_stated.specs.Reading.{Ordinary, Strict, read_by, read_of, say_of, lengths_of, short_of, extended_of, after_data, strict_of, data_of}
 use Rattle.apdu_stated.specs.Writing.{Parts, parts_of, frame_of, payload_of, write_by, buffer_by, writing_of}
 use Rattle.apdu_stated.specs.Iso.{IsoCase, Case1, Case2S, Case3S, Case4S, Case2E, Case3E, Case4E, is_case}
-use Rattle.apdu_stated.specs.Terms.{full, plain, whole, pair, frame_with, saying, InTable, InStrictTable, LcZero, OldForm, LongestFront, EndsEarly, in_lc, in_short_data, in_extended_data, row1, row2, row4, row5, row8, IsFrameOf, Carries, shape2, shape3, CarriesStrictly, AreParts, apdu_of}
-use Rattle.apdu_stated.specs.declared.Lengths.TheVariants.{Found, Missing, Surplus}
+use Rattle.apdu_stated.specs.Terms.{full, plain, whole, pair, frame_with, saying, InTable, InStrictTable, OldForm, LongestFront, EndsEarly, in_lc, in_short_data, in_extended_data, row1, row2, row4, row8, IsFrameOf, Carries, shape2, shape3, CarriesStrictly, AreParts, apdu_of}
+use Rattle.apdu_stated.specs.declared.Lengths.TheVariants.{Missing, Surplus}
 use Rattle.outcome.specs.declared.ApduStatusCode.TheVariants as Status'
 use Rattle.apdu_stated.specs.declared.Reading.TheVariants as Reading'
 use Rattle.apdu_stated.specs.declared.Written.TheVariants as Written'
@@ -136,8 +136,8 @@ surplus_at_the_end exact = omega (arith, place_is _ _ ((exact too_long (bytes_of
 abbrev old6 : List ℕ
 old6 = try (0 ∷ 0 ∷ 0 ∷ 5 ∷ [])
 
-is_old : OldForm old6
-is_old = record { extended = refl; one_behind = refl }
+is_old_lem : OldForm old6
+is_old_lem = record { extended = refl; one_behind = refl }
 
 of_no_row : (says : Says) (content : List ℕ) → InTable old6 says content → ⊥
 unfolding read_by say_of lengths_of extended_of after_data
@@ -151,16 +151,16 @@ pub old_form_still_read_in_examples : Claims.ExamplesRead Wrong.old_form_still_r
 old_form_still_read_in_examples exact = word_gives _ _ (sym (ap (λ (answers : List (Outcome Says)). get_or answers 8 (SW 0x9000)) exact))
 
 pub old_form_still_read_places : Claims.PlacesExactly Wrong.old_form_still_read strict_of → ⊥
-old_form_still_read_places exact = word_gives _ _ (sym (exact.old_form old6 is_old).0)
+old_form_still_read_places exact = word_gives _ _ (sym (exact.old_form old6 is_old_lem).0)
 
 pub old_form_still_read_beside : Claims.DifferExactly Wrong.old_form_still_read strict_of → ⊥
 old_form_still_read_beside exact = word_gives _ _ (sym (exact.at_eight old6 (record { longer = omega arith; extended = refl; zero_lc = refl }) refl).0)
 
 pub old_form_one_late : Claims.PlacesExactly Wrong.old_form_one_late strict_of → ⊥
-old_form_one_late exact = omega (arith, place_is _ _ (exact.old_form old6 is_old).0)
+old_form_one_late exact = omega (arith, place_is _ _ (exact.old_form old6 is_old_lem).0)
 
 pub strict_old_form_at9 : Claims.PlacesExactly read_of Wrong.strict_old_form_at9 → ⊥
-strict_old_form_at9 exact = omega (arith, place_is _ _ (exact.old_form old6 is_old).1)
+strict_old_form_at9 exact = omega (arith, place_is _ _ (exact.old_form old6 is_old_lem).1)
 
 old_not_early : EndsEarly (0 ∷ 0 ∷ 0 ∷ 5 ∷ []) → ⊥
 old_not_early (in_lc a b c) = omega arith

@@ -1,11 +1,11 @@
 -- The rows of the two tables, and what each can carry: as they are defined, and as the claims say ISO's.
-use Prim.Native.Nat.{ℕ, ◌-◌, ◌≤◌}
-use mathlib.Core.Path.{◌≡◌, refl}
+use Prim.Native.Nat.{ℕ, ◌≤◌}
+use mathlib.Core.Path.{◌≡◌}
 use mathlib.Core.Bool.{Bool, true, false, and-eq-true_iff}
 use native.Mathlib.Omega.{arith}
-use borrow.Author.Tests.{le-leb, leb-true, eq-eqb, ne_eqb}
-use lib.Dec.{leb, eqb}
-use Rattle.outcome.specs.Notation.{if◌then◌else◌}
+use borrow.Author.Tests.{le-leb, leb-true, eq-eqb}
+use lib.Dec.{eqb}
+use Rattle.outcome.specs.Notation.{when◌then◌else◌}
 use Rattle.apdu_stated.specs.Words.{Case, Instruction, Le1, Lc1Data, Lc1DataLe1, Lc3Data, Lc3DataLe2, Le3, shape_no}
 use Rattle.apdu_stated.specs.Table.{lc_field, lc_least, can_carry, least_of, in_row, carried_by}
 use Rattle.apdu_stated.specs.Reading.{Entry, Ordinary, Strict}
@@ -15,8 +15,8 @@ use Rattle.apdu_stated.specs.Terms.{IsoRow}
 pub record RowIn (entry : Entry) (s : Case) (lc : ℕ) : Type 0 where
   pub least : least_of entry s ≤ lc
 
-pub in_row : (entry : Entry) (s : Case) (lc : ℕ) → RowIn entry s lc → in_row entry s lc ≡ true
-in_row entry s lc r = le-leb (least_of entry s) lc r.least
+pub in_row_lem : (entry : Entry) (s : Case) (lc : ℕ) → RowIn entry s lc → in_row entry s lc ≡ true
+in_row_lem entry s lc r = le-leb (least_of entry s) lc r.least
 
 pub row_in : (entry : Entry) (s : Case) (lc : ℕ) → in_row entry s lc ≡ true → RowIn entry s lc
 row_in entry s lc e = record { least = leb-true (least_of entry s) lc e }
@@ -35,7 +35,7 @@ pub least_one : (entry : Entry) (s : Case) → least_of entry s ≤ 1
 least_one Ordinary s = least_row s
 least_one Strict s = go (eqb (lc_field s) 0)
   where
-    go : (b : Bool) → (if b then 0 else 1) ≤ 1
+    go : (b : Bool) → (when b then 0 else 1) ≤ 1
     go true = omega arith
     go false = omega arith
 
@@ -44,9 +44,9 @@ least_none Ordinary s lc f l = omega arith
 least_none Strict s lc f l = rw (eq-eqb (lc_field s) 0 f) (omega arith)
 
 -- what a table can carry: a row, and what its shape can
-pub carried_by : (entry : Entry) (s : Case) (n le : ℕ) → RowIn entry s n → can_carry s n le ≡ true → carried_by entry s n le ≡ true
+pub carried_by_lem : (entry : Entry) (s : Case) (n le : ℕ) → RowIn entry s n → can_carry s n le ≡ true → carried_by entry s n le ≡ true
 unfolding carried_by
-carried_by entry s n le a b = (and-eq-true_iff (in_row entry s n) (can_carry s n le)).1 (in_row entry s n a, b)
+carried_by_lem entry s n le a b = (and-eq-true_iff (in_row entry s n) (can_carry s n le)).1 (in_row_lem entry s n a, b)
 
 pub carried_of : (entry : Entry) (s : Case) (n le : ℕ) → carried_by entry s n le ≡ true → RowIn entry s n × (can_carry s n le ≡ true)
 unfolding carried_by

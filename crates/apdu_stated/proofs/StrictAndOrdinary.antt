@@ -1,5 +1,5 @@
 -- The strict entry beside the ordinary one: where bytes are too many, by the document's numbers, and where the two differ.
-use Prim.Native.Nat.{ℕ, ◌+◌, ◌-◌, ◌*◌, ◌<◌, ◌≤◌}
+use Prim.Native.Nat.{ℕ, ◌+◌, ◌*◌, ◌<◌, ◌≤◌}
 use mathlib.Core.Path.{◌≡◌, refl, ap, ap₂, sym, ◌∙◌}
 use mathlib.Core.Bool.{Bool, true, false, and-false}
 use mathlib.Core.List.{List}
@@ -33,7 +33,7 @@ under_zero entry lc d =
 -- ---- too many bytes, by the numbers: a short Lc, and an extended one, after four bytes of header
 module _ (frame : List ℕ) where
   pub surplus_by : (entry : Entry) (k : ℕ) → 4 ≤ length frame → Surplus k ≡ lengths_of entry (drop 4 frame) → read_by entry frame ≡ surplus_at k
-  surplus_by entry k long e = Cases.read_by entry frame long ∙ ap (say_of frame) (sym e) ∙ Cases.say_surplus frame k
+  surplus_by entry k long e = Cases.read_by_lem entry frame long ∙ ap (say_of frame) (sym e) ∙ Cases.say_surplus frame k
 
   pub lc_at : pair_at frame 5 ≡ byte (drop 4 frame) 1 * 256 + byte (drop 4 frame) 2
   lc_at = ap₂ (λ (a b : ℕ). a * 256 + b) (sym (get_or-drop 4 frame 1 0)) (sym (get_or-drop 4 frame 2 0))
@@ -90,7 +90,7 @@ module _ (frame : List ℕ) where
   read_nine_at z empty e =
       let all = length-drop 4 frame in (
         le_read 2 (byte (drop 4 frame) (3 + pair_at frame 5) * 256 + byte (drop 4 frame) (4 + pair_at frame 5)),
-        Cases.read_by Ordinary frame (omega arith)
+        Cases.read_by_lem Ordinary frame (omega arith)
             ∙ ap (say_of frame) (sym (extended_at Ordinary z (omega arith) _ (Cases.ordinary_has (pair_at frame 5)) (Cases.after_le2 (drop 4 frame) (pair_at frame 5) _ _ (omega arith) refl refl)))
             ∙ Cases.say_found frame Lc3DataLe2 _ _,
       )
@@ -133,7 +133,7 @@ otherwise_alike frame same = go (dec_lt (length frame) 4)
 
     go : Dec (length frame < 4) → strict_of frame ≡ read_of frame
     go (yes h) = sym (Cases.read_under Strict frame h) ∙ Cases.read_under Ordinary frame h
-    go (no h) = Cases.read_by Strict frame (omega arith) ∙ ap (say_of frame) (payload_alike (omega arith)) ∙ sym (Cases.read_by Ordinary frame (omega arith))
+    go (no h) = Cases.read_by_lem Strict frame (omega arith) ∙ ap (say_of frame) (payload_alike (omega arith)) ∙ sym (Cases.read_by_lem Ordinary frame (omega arith))
 
 -- eight bytes with an Lc of 0 are of the old form
 pub eight_old : (frame : List ℕ) → LcZero frame → length frame ≡ 8 → OldForm frame

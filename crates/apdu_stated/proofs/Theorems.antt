@@ -1,23 +1,23 @@
 -- The definitions meet the claims of specs/Claims.antt, each under its claim's name.
-use Prim.Native.Nat.{ℕ, ◌+◌, ◌-◌, ◌≤◌}
+use Prim.Native.Nat.{ℕ, ◌+◌, ◌≤◌}
 use mathlib.Core.Path.{◌≡◌, refl, ap, ap₂, sym, subst, ◌∙◌}
 use mathlib.Core.Bool.{Bool, true, false, true≢false}
-use mathlib.Core.List.{List, [], ◌∷◌, ◌++◌}
+use mathlib.Core.List.{List, [], ◌++◌}
 use native.Mathlib.Omega.{arith}
 use native.Mathlib.Decide.{ℕ_discrete}
-use lib.ListN.{length, take, drop, length-append}
+use lib.ListN.{length, take, drop}
 use Rattle.outcome.specs.Notation.{AtMostOne}
 use Rattle.outcome.specs.Outcome.{Outcome, R, Gives, surplus_at}
 use Rattle.outcome.proofs.Laws.{gives_same, word_gives, both_are}
 use Rattle.octets.specs.Bytes.{AreBytes, pair_at}
 use Rattle.octets.proofs.Laws.{part_length, part_byte, part_past}
-use Rattle.apdu_stated.specs.Words.{ApduHeader, shape_no}
-use Rattle.apdu_stated.specs.Answers.{Apdu, Reading, Written, Says, says_of, reading_of, written_of}
+use Rattle.apdu_stated.specs.Words.{shape_no}
+use Rattle.apdu_stated.specs.Answers.{Written, Says, says_of, reading_of, written_of}
 use Rattle.apdu_stated.specs.Table.{row_of, can_carry, in_row, carried_by}
 use Rattle.apdu_stated.specs.Reading.{Entry, Ordinary, Strict, read_by, read_of, lengths_of, short_of, extended_of, after_data, say_of, strict_of, place_of, data_of}
 use Rattle.apdu_stated.specs.Iso.{IsoCase, is_case, nc_of, ne_of, shape_for, is_tolerated}
 use Rattle.apdu_stated.specs.Writing.{Parts, parts_of, writing_of, strict_writing_of}
-use Rattle.apdu_stated.specs.Terms.{IsPair, row7, frame_with, InTable, LcZero, Differ, Carries, CarriesStrictly, apdu_of, IsIso, iso_header, iso_says, iso_data}
+use Rattle.apdu_stated.specs.Terms.{IsPair, row7, InTable, LcZero, Differ, Carries, CarriesStrictly, apdu_of, IsIso, iso_header, iso_says, iso_data}
 use Rattle.apdu_stated.specs.Promises.{WriteBy}
 use Rattle.apdu_stated.specs.Claims
 use Rattle.apdu_stated.proofs.Cases
@@ -28,7 +28,7 @@ use Rattle.apdu_stated.proofs.Only.{DataExactly as only_data}
 use Rattle.apdu_stated.proofs.Frames.{said}
 use Rattle.apdu_stated.proofs.Entries.{can, carried_carries}
 use Rattle.apdu_stated.proofs.Numbers.{shape_same, says_same, reading_same, written_same, row_same}
-use Rattle.apdu_stated.proofs.Rows.{in_row, row_in, iso_row, row_iso}
+use Rattle.apdu_stated.proofs.Rows.{in_row_lem, row_in, iso_row, row_iso}
 use Rattle.apdu_stated.proofs.Readings.{place_is, reads_entry, read_exactly, short_exactly, no_shape_exactly, pairs_exactly, missing_exactly, given_long, surplus_exactly, payload_exactly, of_table, iso_exactly, of_case, reading_exactly}
 use Rattle.apdu_stated.proofs.StrictAndOrdinary.{short_at, wide_at, strict_zero_at, old_at, read_nine_at, otherwise_alike, eight_old, alike, strict_row}
 use Rattle.apdu_stated.proofs.Writings.{fits_exactly, write_r5, write_refused, write_exactly, same_carried, read_then_written, written_then_read, accepts_what_is_read}
@@ -142,7 +142,7 @@ pub FitsExactly : Claims.FitsExactly Carries can_carry
 FitsExactly s n le = (λ e. carried_carries s n le (carried s n le e), can s n le)
 
 pub StrictRowExactly : Claims.StrictRowExactly (in_row Strict)
-StrictRowExactly s n = (λ e. iso_row s n (row_in Strict s n e), λ r. in_row Strict s n (row_iso s n r))
+StrictRowExactly s n = (λ e. iso_row s n (row_in Strict s n e), λ r. in_row_lem Strict s n (row_iso s n r))
 
 pub StrictFitsExactly : Claims.StrictFitsExactly (carried_by Strict)
 StrictFitsExactly = fits_exactly Strict

@@ -1,5 +1,5 @@
 -- Every way through the reading's tests, with the plain facts that it shows: of a payload, and of a frame.
-use Prim.Native.Nat.{ℕ, ◌+◌, ◌-◌, ◌<◌, ◌≤◌}
+use Prim.Native.Nat.{ℕ, ◌+◌, ◌<◌, ◌≤◌}
 use mathlib.Core.Path.{◌≡◌, refl, sym, subst}
 use mathlib.Core.Bool.{Bool, true, false}
 use mathlib.Core.List.{List, ◌++◌}
@@ -145,7 +145,7 @@ frame_way entry frame = go (dec_lt (length frame) 4)
   where
     go : Dec (length frame < 4) → FrameWay entry frame (read_by entry frame)
     go (yes h) = subst (FrameWay entry frame) (Cases.read_under entry frame h) (under h)
-    go (no h) = subst (FrameWay entry frame) (sym (Cases.read_by entry frame (omega arith))) (by_lengths entry frame (omega arith) (lengths_of entry (drop 4 frame)) refl)
+    go (no h) = subst (FrameWay entry frame) (sym (Cases.read_by_lem entry frame (omega arith))) (by_lengths entry frame (omega arith) (lengths_of entry (drop 4 frame)) refl)
 
 -- ---- writing: every way through it, with the answer and the buffer, by either table
 pub data WriteWay (entry : Entry) (w : Parts) (old : List ℕ) : Outcome ℕ × List ℕ → Type 0 where

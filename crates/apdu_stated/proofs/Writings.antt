@@ -1,5 +1,5 @@
 -- Writing by either table, and the way there and back: the theorems on both writers at once.
-use Prim.Native.Nat.{ℕ, ◌+◌, ◌-◌, ◌<◌, ◌≤◌}
+use Prim.Native.Nat.{ℕ, ◌<◌, ◌≤◌}
 use mathlib.Core.Path.{◌≡◌, refl, ap, ap₂, sym, subst, ◌∙◌}
 use mathlib.Core.Bool.{Bool, true, false, and-false, true≢false}
 use mathlib.Core.List.{List, ◌++◌}
@@ -22,7 +22,7 @@ use Rattle.apdu_stated.proofs.LaidOut.{carried, carried_ordinary}
 use Rattle.apdu_stated.proofs.Frames.{Built, said, frame_bytes, table_read, table_cut}
 use Rattle.apdu_stated.proofs.Entries.{built_entry, entry_built, can, carried_carries}
 use Rattle.apdu_stated.proofs.Numbers.{shape_same}
-use Rattle.apdu_stated.proofs.Rows.{RowIn, carried_by, carried_of, iso_row, row_iso}
+use Rattle.apdu_stated.proofs.Rows.{RowIn, carried_by_lem, carried_of, iso_row, row_iso}
 use Rattle.apdu_stated.proofs.Readings.{table_of, row_of, in_table_of, low_of, read_exactly, of_table}
 
 -- ---- writing, by either table
@@ -32,13 +32,13 @@ carries_of Strict s n le e = let c = carried_of Strict s n le e in record { carr
 
 pub carries_by : (entry : Entry) (s : Case) (n le : ℕ) → CarryOf entry s n le → carried_by entry s n le ≡ true
 carries_by Ordinary s n le c = carried_ordinary s n le ∙ can s n le c
-carries_by Strict s n le c = carried_by Strict s n le (row_iso s n c.row) (can s n le c.carries)
+carries_by Strict s n le c = carried_by_lem Strict s n le (row_iso s n c.row) (can s n le c.carries)
 
 pub fits_exactly : (entry : Entry) → Claims.FitsExactly (CarryOf entry) (carried_by entry)
 fits_exactly entry s n le = (carries_of entry s n le, carries_by entry s n le)
 
-pub frame_of : (entry : Entry) (w : Parts) → carried_by entry w.shape (length w.content) w.le ≡ true → IsFrameOf (TableOf entry) w (frame_of w)
-frame_of entry w c =
+pub frame_of_lem : (entry : Entry) (w : Parts) → carried_by entry w.shape (length w.content) w.le ≡ true → IsFrameOf (TableOf entry) w (frame_of w)
+frame_of_lem entry w c =
     let t = carried_of entry w.shape (length w.content) w.le c in
     record {
       says = said w;
@@ -67,7 +67,7 @@ is_built entry w frame i =
     let lc : i.says.lc ≡ length w.content = sym (ap (λ (x : Says). x.lc) same) ∙ ap length f.holds in
     let low : lc_least w.shape ≤ i.says.lc = rw lc (low_of frame w built) in
     let row : RowIn entry w.shape (length w.content) = rw (← lc) (row_of entry frame w.content i.says i.table w.shape (sym i.shape) low) in
-    record { built = built; carried = carried_by entry w.shape (length w.content) w.le row built.carried }
+    record { built = built; carried = carried_by_lem entry w.shape (length w.content) w.le row built.carried }
 
 pub two_five : {A : Type 0} → ◌≡◌ {A = Outcome ℕ} (R 2) (R 5) → A
 two_five e = let z : ◌≡◌ {A = ℕ} 2 5 = cc in absurd (omega arith)
@@ -91,7 +91,7 @@ module _ (entry : Entry) (w : Parts) (old : List ℕ) where
     where
       go : (o : Outcome ℕ × List ℕ) → WriteWay entry w old o → o.0 ≡ R 2 → (frame : List ℕ) × IsFrameOf (TableOf entry) w frame × (length old < length frame)
       go _ (unfit c) e = two_five (sym e)
-      go _ (no_room c h) e = (frame_of w, frame_of entry w c, h)
+      go _ (no_room c h) e = (frame_of w, frame_of_lem entry w c, h)
       go _ (written c h) e = absurd (r_gives _ _ (sym e))
 
       back : (o : Outcome ℕ × List ℕ) → WriteWay entry w old o → (frame : List ℕ) → IsFrameOf (TableOf entry) w frame → length old < length frame → o.0 ≡ R 2
@@ -140,7 +140,7 @@ module _ (s : Case) (n le : ℕ) (some_data : shape_no s ≡ 7 → 1 ≤ n) wher
   same_carried = carried_ordinary s n le ∙ go (can_carry s n le) refl
     where
       go : (b : Bool) → can_carry s n le ≡ b → can_carry s n le ≡ carried_by Strict s n le
-      go true c = c ∙ sym (carried_by Strict s n le (row_carried c) c)
+      go true c = c ∙ sym (carried_by_lem Strict s n le (row_carried c) c)
       go false c = rw (c, and-false)
 
 -- ---- there and back, by either table

@@ -3,14 +3,14 @@
 -- proofs/Theorems.antt, nothing else does by proofs/Only.antt, and the programs of Wrong.antt do not by proofs/Refuted.antt. The words
 -- `LongestFront`, `Carries`, `CarriesStrictly`, `OldForm`, `Differ`: Terms.antt. A claim that takes a table is made of both: of `read_of` and `writing_of` with `InTable`,
 -- of `strict_of` and `strict_writing_of` with `InStrictTable`.
-use Rattle.std.specs.Prelude.{◌↔◌}
+use Rattle.std.specs.Prelude.{◌↔◌, ◌+◌, ◌≤◌, ◌<◌, ◌≡◌, ◌∷◌, ◌++◌}
 use Rattle.outcome.specs.Notation.{AtMostOne}
-use Rattle.outcome.specs.Outcome.{Outcome, R, Word, SW, Gives, wrong_length, word_of, refusal_no}
+use Rattle.outcome.specs.Outcome.{Outcome, R, Word, Gives, wrong_length, word_of, refusal_no}
 use Rattle.outcome.specs.declared.Refusal.{Refusal}
 use Rattle.outcome.specs.declared.ApduStatusCode.{ApduStatusCode}
-use Rattle.outcome.specs.Terms.{PairsExactly, HasStatus}
+use Rattle.outcome.specs.Terms.{PairsExactly}
 use Rattle.octets.specs.Bytes.{AreBytes, byte, pair_at}
-use Rattle.apdu_stated.specs.Words.{ℕ, ◌+◌, ◌≤◌, ◌<◌, ◌≡◌, Bool, true, false, List, [], ◌∷◌, ◌++◌, map, length, take, drop, ApduHeader, Case, Instruction, Le1, Lc1Data, Lc1DataLe1, Lc3Data, Lc3DataLe2, Le3, shape_no}
+use Rattle.apdu_stated.specs.Words.{ℕ, Bool, true, false, List, [], map, length, take, drop, ApduHeader, Case, Instruction, Le1, Lc1Data, Lc1DataLe1, Lc3Data, Lc3DataLe2, Le3, shape_no}
 use Rattle.apdu_stated.specs.Answers.{Apdu, Place, Reading, Written, Says, says_of, reading_of, written_of}
 use Rattle.apdu_stated.specs.Table.{TableRow, columns}
 use Rattle.apdu_stated.specs.Reading.{Entry, Ordinary, Strict}
@@ -24,7 +24,7 @@ use Rattle.apdu_stated.specs.Examples.{Example, examples}
 use Rattle.apdu_stated.specs.Promises.{Row, Fits, StrictHas, Payload, ShapeNumber, Read, ReadStrict, DataPlace, Data, Write, WriteStrict}
 use Rattle.apdu_stated.specs.declared.Lengths.{Lengths}
 use Rattle.apdu_stated.specs.declared.Lengths.TheVariants.{Found, Missing, Surplus}
-use Rattle.apdu_stated.specs.Terms.{IsPair, OneByteLe, TwoByteLe, frame_with, saying, InTable, IsoRow, InStrictTable, LcZero, OldForm, Differ, EndsEarly, LongestFront, IsFrameOf, Carries, CarriesStrictly, AreParts, apdu_of, span, IsIso, iso_header, iso_says, iso_data}
+use Rattle.apdu_stated.specs.Terms.{TwoByteLe, frame_with, saying, InTable, IsoRow, InStrictTable, LcZero, OldForm, Differ, EndsEarly, LongestFront, IsFrameOf, Carries, CarriesStrictly, AreParts, apdu_of, span, IsIso, iso_header, iso_data}
 
 -- ---- where the length went wrong: 02, E1
 

@@ -2,7 +2,6 @@
 -- their pairs, document 02, E1: kind (1 missing, 2 surplus) and place.
 use Rattle.std.specs.Prelude.{ℕ, List, [], ◌∷◌}
 use Rattle.outcome.specs.Outcome.{Outcome, SW, Gives, wrong_length}
-use Rattle.apdu_stated.specs.Words.{ApduHeader}
 use Rattle.apdu_stated.specs.Answers.{Says}
 
 pub record Example : Type 0 where

@@ -38,10 +38,10 @@ lc_before Case4E = 3
 
 -- a short Le field of 00 stands for 256, an extended one of 0000 for 65536
 abbrev pub short_ne : ℕ → ℕ
-short_ne le = if eqb le 0 then 256 else le
+short_ne le = when eqb le 0 then 256 else le
 
 abbrev pub extended_ne : ℕ → ℕ
-extended_ne le = if eqb le 0 then 65536 else le
+extended_ne le = when eqb le 0 then 65536 else le
 
 -- Ne: the Le field is the body's end, BL in a short case, the two bytes before and at BL in an extended one; 0 without one
 abbrev pub ne_of : IsoCase → List ℕ → ℕ

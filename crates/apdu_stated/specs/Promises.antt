@@ -1,6 +1,6 @@
 -- What each public function of `apdu_shapes`, `apdu_write` and `apdu` promises of its result, and of what is lent to it for writing, on every input.
-use Rattle.outcome.specs.Outcome.{Outcome}
-use Rattle.apdu_stated.specs.Words.{ℕ, ◌≤◌, ◌≡◌, Bool, List, length, Case, shape_no}
+use Rattle.std.specs.Prelude.{◌≤◌, ◌≡◌}
+use Rattle.apdu_stated.specs.Words.{ℕ, Bool, List, length, Case, shape_no}
 use Rattle.apdu_stated.specs.Table.{TableRow, lc_field, lc_least, le_field, can_carry, in_row}
 use Rattle.apdu_stated.specs.Answers.{Apdu, Place, Reading, Written, says_of, reading_of, written_of}
 use Rattle.apdu_stated.specs.Reading.{Entry, Ordinary, Strict, lengths_of, read_of, strict_of, place_of, data_of}

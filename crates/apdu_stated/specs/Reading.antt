@@ -3,10 +3,10 @@
 -- length of a frame in no shape went wrong; E4: the strict entry reads ISO's seven cases; E13: shape 6 is retired. That this is the table, and nothing else, is
 -- claimed in Claims.antt.
 use Rattle.std.specs.Prelude.{ℕ, ◌+◌, List, length, drop, ltb, eqb}
-use Rattle.outcome.specs.Notation.{if◌then◌else◌}
+use Rattle.outcome.specs.Notation.{when◌then◌else◌}
 use Rattle.outcome.specs.Outcome.{Outcome, SW, Gives, missing_at, surplus_at}
 use Rattle.octets.specs.Bytes.{byte, pair_at, part_of}
-use Rattle.apdu_stated.specs.Words.{Case, Instruction, Le1, Lc1Data, Lc1DataLe1, Lc3Data, Lc3DataLe2, Le3, shape_no, ApduHeader}
+use Rattle.apdu_stated.specs.Words.{Instruction, Le1, Lc1Data, Lc1DataLe1, Lc3Data, Lc3DataLe2, Le3, shape_no, ApduHeader}
 use Rattle.apdu_stated.specs.Answers.{Says, Place}
 use Rattle.apdu_stated.specs.Table.{lc_field, le_read, lc_under}
 pub use Rattle.apdu_stated.specs.Table.{Entry, Ordinary, Strict}
@@ -17,36 +17,36 @@ use Rattle.apdu_stated.specs.declared.Lengths.TheVariants.{Found, Missing, Surpl
 -- claim, 6 + Lc from the frame's start in the short form"
 unfoldable pub short_of : List ℕ → Lengths
 short_of p =
-    if ltb (length p) (1 + byte p 0) then Missing
-    else if eqb (length p) (1 + byte p 0) then Found Lc1Data (byte p 0) 0
-    else if eqb (length p) (2 + byte p 0) then Found Lc1DataLe1 (byte p 0) (le_read 1 (byte p (1 + byte p 0)))
+    when ltb (length p) (1 + byte p 0) then Missing
+    else when eqb (length p) (1 + byte p 0) then Found Lc1Data (byte p 0) 0
+    else when eqb (length p) (2 + byte p 0) then Found Lc1DataLe1 (byte p 0) (le_read 1 (byte p (1 + byte p 0)))
     else Surplus (6 + byte p 0)
 
 -- rows 5 and 7, of a payload p of more than three bytes that begins with 00 and Lc: data, and perhaps Le; "9 + Lc in the extended". A lone
 -- byte behind the data was shape 6's Le; 02, E13: "E1's kind for the old form is surplus at its Le byte", 7 + Lc from the frame's start
 unfoldable pub after_data : List ℕ → ℕ → Lengths
 after_data p lc =
-    if ltb (length p) (3 + lc) then Missing
-    else if eqb (length p) (3 + lc) then Found Lc3Data lc 0
-    else if eqb (length p) (4 + lc) then Surplus (7 + lc)
-    else if eqb (length p) (5 + lc) then Found Lc3DataLe2 lc (le_read 2 (pair_at p (3 + lc)))
+    when ltb (length p) (3 + lc) then Missing
+    else when eqb (length p) (3 + lc) then Found Lc3Data lc 0
+    else when eqb (length p) (4 + lc) then Surplus (7 + lc)
+    else when eqb (length p) (5 + lc) then Found Lc3DataLe2 lc (le_read 2 (pair_at p (3 + lc)))
     else Surplus (9 + lc)
 
 -- row 8, and rows 5 and 7, of a payload p of two bytes or more whose first byte is 00; 02, E4: "every strict frame longer than 7 bytes with
 -- an extended Lc of 0 is surplus, at byte 7"
 unfoldable pub extended_of : Entry → List ℕ → Lengths
 extended_of entry p =
-    if ltb (length p) 3 then Missing
-    else if eqb (length p) 3 then Found Le3 0 (le_read 3 (pair_at p 1))
-    else if lc_under entry (pair_at p 1) then Surplus 7
+    when ltb (length p) 3 then Missing
+    else when eqb (length p) 3 then Found Le3 0 (le_read 3 (pair_at p 1))
+    else when lc_under entry (pair_at p 1) then Surplus 7
     else after_data p (pair_at p 1)
 
 -- the payload: the bytes after the header
 unfoldable pub lengths_of : Entry → List ℕ → Lengths
 lengths_of entry p =
-    if eqb (length p) 0 then Found Instruction 0 0
-    else if eqb (length p) 1 then Found Le1 0 (le_read 1 (byte p 0))
-    else if eqb (byte p 0) 0x00 then extended_of entry p
+    when eqb (length p) 0 then Found Instruction 0 0
+    else when eqb (length p) 1 then Found Le1 0 (le_read 1 (byte p 0))
+    else when eqb (byte p 0) 0x00 then extended_of entry p
     else short_of p
 
 -- "A frame is CLA INS P1 P2 and a payload"
@@ -63,7 +63,7 @@ say_of frame (Surplus place) = surplus_at place
 -- "The payload is handed on as the part of the frame from byte 4"
 unfoldable pub read_by : Entry → List ℕ → Outcome Says
 read_by entry frame =
-    if ltb (length frame) 4 then SW 0x6a80
+    when ltb (length frame) 4 then SW 0x6a80
     else say_of frame (lengths_of entry (drop 4 frame))
 
 abbrev pub read_of : List ℕ → Outcome Says

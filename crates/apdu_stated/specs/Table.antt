@@ -2,7 +2,7 @@
 -- Covered: the payload and condition of each row; "Data is exactly Lc bytes"; "A written Le of 0 means 256 in one byte and
 -- 65536 in two; an absent Le reads as 0"; which data length and Le a shape can carry. Document 02, E4: what of it the strict table has.
 use Rattle.std.specs.Prelude.{ℕ, ◌%◌, Bool, ◌&&◌, List, [], ◌∷◌, leb, ltb, eqb}
-use Rattle.outcome.specs.Notation.{if◌then◌else◌}
+use Rattle.outcome.specs.Notation.{when◌then◌else◌}
 use Rattle.octets.specs.Bytes.{bytes2}
 pub use Rattle.apdu_stated.specs.declared.TableRow.{TableRow}
 pub use Rattle.apdu_stated.specs.declared.Entry.{Entry}
@@ -33,7 +33,7 @@ le_field s = (row_of s).le_field
 
 -- by a field's length: no field, one byte, or more (the extended form)
 abbrev pub by_length : {A : Type 0} → ℕ → A → A → A → A
-by_length long none one more = if eqb long 0 then none else if eqb long 1 then one else more
+by_length long none one more = when eqb long 0 then none else when eqb long 1 then one else more
 
 -- the most that a field can say: an Lc field of one byte 255, of three (00, then two) 65535
 abbrev pub lc_most : ℕ → ℕ
@@ -45,7 +45,7 @@ le_most long = by_length long 0 256 65536
 
 -- where there is an Le field, it says at least 1
 abbrev pub le_least : ℕ → ℕ
-le_least long = if eqb long 0 then 0 else 1
+le_least long = when eqb long 0 then 0 else 1
 
 -- "data as long as the shape's Lc allows, empty where there is no Lc"
 unfoldable pub lc_fits : Case → ℕ → Bool
@@ -63,7 +63,7 @@ can_carry s data_length le = lc_fits s data_length && le_fits s le
 -- 02, E4: "In ISO 7816-3 a case with an Lc field carries at least one byte of data": so row 7 begins at Lc 1, as rows 3, 4 and 5 do in both
 abbrev pub least_of : Entry → Case → ℕ
 least_of Ordinary s = lc_least s
-least_of Strict s = if eqb (lc_field s) 0 then 0 else 1
+least_of Strict s = when eqb (lc_field s) 0 then 0 else 1
 
 -- whether a table has its row for so much data: from the row's least on
 abbrev pub in_row : Entry → Case → ℕ → Bool
@@ -79,7 +79,7 @@ lc_under entry lc = ltb lc (least_of entry Lc3DataLe2)
 
 -- "A written Le of 0 means 256 in one byte and 65536 in two": the rule once, over the number of bytes
 abbrev pub le_read : ℕ → ℕ → ℕ
-le_read long written = if eqb written 0 then le_most long else written
+le_read long written = when eqb written 0 then le_most long else written
 
 -- the bytes of an Lc field of so many bytes, and of an Le field: 256 is written 00, and 65536 is written 00 00
 abbrev pub lc_bytes : ℕ → ℕ → List ℕ
@@ -88,4 +88,4 @@ lc_bytes long lc = by_length long [] (lc ∷ []) (0x00 ∷ bytes2 lc)
 abbrev pub le_bytes : ℕ → ℕ → List ℕ
 le_bytes long le =
     by_length long [] (le % 256 ∷ [])
-    (if eqb long 2 then bytes2 (le % 65536) else 0x00 ∷ bytes2 (le % 65536))
+    (when eqb long 2 then bytes2 (le % 65536) else 0x00 ∷ bytes2 (le % 65536))

@@ -1,8 +1,8 @@
 -- Words that only the claims use: those of InTable.antt; where the two readings differ; when a payload ends early, and how much of a frame's
 -- front is in a table; which data length and Le a shape can carry, once more, and what the strict writer takes of it.
-use Rattle.std.specs.Prelude.{ℕ, ◌+◌, ◌*◌, ◌≤◌, ◌<◌}
+use Rattle.std.specs.Prelude.{ℕ, ◌+◌, ◌*◌, ◌≤◌, ◌<◌, ◌≡◌}
 use Rattle.octets.specs.Bytes.{AreBytes, byte, pair_at, part_of}
-use Rattle.apdu_stated.specs.Words.{◌≡◌, List, length, take, drop, ApduHeader, Case, Instruction, Le1, Lc1Data, Lc1DataLe1, Lc3Data, Lc3DataLe2, Le3, shape_no}
+use Rattle.apdu_stated.specs.Words.{List, length, take, drop, ApduHeader, Case, Instruction, Le1, Lc1Data, Lc1DataLe1, Lc3Data, Lc3DataLe2, Le3, shape_no}
 use Rattle.apdu_stated.specs.Answers.{Says, Apdu, Place}
 use Rattle.apdu_stated.specs.Writing.{Parts}
 use Rattle.apdu_stated.specs.Iso.{IsoCase, nc_of, lc_before}

@@ -3,7 +3,7 @@
 -- Document 02, E4: "a strict writer is added that refuses .. Lc 0 in shape 7, with R5 and is otherwise the writer": one writer
 -- by two tables, as the reading is. E13: no shape has number 6 here; over plain numbers it gets R5.
 use Rattle.std.specs.Prelude.{ℕ, not, List, [], ◌∷◌, ◌++◌, length, ltb}
-use Rattle.outcome.specs.Notation.{if◌then◌else◌}
+use Rattle.outcome.specs.Notation.{when◌then◌else◌}
 use Rattle.outcome.specs.Outcome.{Outcome, R, Word, Gives}
 use Rattle.octets.specs.Bytes.{laid}
 use Rattle.apdu_stated.specs.Words.{Case, ApduHeader}
@@ -33,8 +33,8 @@ frame_of w = header_bytes w.header ++ payload_of w.shape w.content w.le
 -- what a writer answers, by its table: the frame's length, for a buffer of so many bytes (room)
 unfoldable pub write_by : Entry → Parts → ℕ → Outcome ℕ
 write_by entry w room =
-    if not (carried_by entry w.shape (length w.content) w.le) then R 5
-    else if ltb room (length (frame_of w)) then R 2
+    when not (carried_by entry w.shape (length w.content) w.le) then R 5
+    else when ltb room (length (frame_of w)) then R 2
     else Gives (length (frame_of w))
 
 -- what the buffer holds afterwards: the frame at its front; after a refusal, what it held before

@@ -1,14 +1,14 @@
 -- Wrong programs, one fault each. proofs/Refuted.antt shows the claim that is false of each.
-use Rattle.std.specs.Prelude.{ℕ, ◌+◌, ◌-◌, ◌%◌, replicate}
-use Rattle.outcome.specs.Notation.{if◌then◌else◌}
-use Rattle.outcome.specs.Outcome.{StatusWord, Outcome, R, Word, SW, Gives, missing_at, surplus_at, word_of, refusal_no}
+use Rattle.std.specs.Prelude.{ℕ, ◌+◌, ◌-◌, replicate, ◌&&◌, ◌++◌}
+use Rattle.outcome.specs.Notation.{when◌then◌else◌}
+use Rattle.outcome.specs.Outcome.{Outcome, R, Word, SW, Gives, missing_at, surplus_at, word_of, refusal_no}
 use Rattle.octets.specs.Bytes.{byte, pair_at, part_of, laid}
-use Rattle.apdu_stated.specs.Words.{Bool, not, ◌&&◌, List, [], ◌∷◌, ◌++◌, length, drop, leb, ltb, eqb, Case, Instruction, Le1, Lc1Data, Lc1DataLe1, Lc3Data, Lc3DataLe2, Le3, shape_no}
+use Rattle.apdu_stated.specs.Words.{Bool, List, [], length, leb, ltb, eqb, Case, shape_no}
 use Rattle.apdu_stated.specs.Answers.{Apdu, Place, Reading, Written, Says, says_of}
 use Rattle.apdu_stated.specs.declared.Reading.TheVariants as Reading'
 use Rattle.apdu_stated.specs.declared.Written.TheVariants as Written'
 use Rattle.apdu_stated.specs.Table.{TableRow, columns, row_of, lc_least, lc_fits, le_read, can_carry, carried_by}
-use Rattle.apdu_stated.specs.Reading.{Ordinary, Strict, lengths_of, read_of, strict_of, header_of, place_of}
+use Rattle.apdu_stated.specs.Reading.{Ordinary, Strict, lengths_of, read_of, strict_of, header_of}
 use Rattle.apdu_stated.specs.Writing.{Parts, parts_of, frame_of, write_by, buffer_by, writing_of, strict_writing_of}
 use Rattle.apdu_stated.specs.declared.Lengths.{Lengths}
 use Rattle.apdu_stated.specs.declared.Lengths.TheVariants.{Found, Missing, Surplus}
@@ -26,7 +26,7 @@ always_instruction frame = Gives (saying (header_of frame) 1 4 0 0)
 
 -- "A written Le of 0 means 256 in one byte": here it expects nothing back
 abbrev le_zero : Outcome Says → Outcome Says
-le_zero (Gives s) = Gives (saying s.header s.shape s.data_at s.lc (if eqb s.le 256 then 0 else s.le))
+le_zero (Gives s) = Gives (saying s.header s.shape s.data_at s.lc (when eqb s.le 256 then 0 else s.le))
 le_zero (Word s) = Word s
 le_zero (R n) = R n
 
@@ -36,19 +36,19 @@ le_zero_as_zero frame = le_zero (read_of frame)
 
 -- "`00 00 00` read as Lc 0", a mistake that a quick port makes. Fails `ReadExactly`, at 00 03 00 00 | 00 00 00.
 abbrev pub le3_as_lc_zero : List ℕ → Outcome Says
-le3_as_lc_zero frame = if eqb (length frame) 7 && eqb (byte frame 4) 0 && eqb (pair_at frame 5) 0 then Gives (saying (header_of frame) 5 7 0 0) else read_of frame
+le3_as_lc_zero frame = when eqb (length frame) 7 && eqb (byte frame 4) 0 && eqb (pair_at frame 5) 0 then Gives (saying (header_of frame) 5 7 0 0) else read_of frame
 
 -- "A frame under 4 bytes gives 6a80". Fails `ShortExactly`, at 00 03 00.
 abbrev pub short_gets6700 : List ℕ → Outcome Says
-short_gets6700 frame = if ltb (length frame) 4 then SW 0x6700 else read_of frame
+short_gets6700 frame = when ltb (length frame) 4 then SW 0x6700 else read_of frame
 
 -- "Lc 1..255": here `00 01` is a short Lc of 0 and an Le of 1. Fails `NoShapeExactly`, at 00 03 00 00 | 00 01.
 abbrev pub short_lc_zero : List ℕ → Outcome Says
-short_lc_zero frame = if eqb (length frame) 6 && eqb (byte frame 4) 0 then Gives (saying (header_of frame) 4 5 0 (byte frame 5)) else read_of frame
+short_lc_zero frame = when eqb (length frame) 6 && eqb (byte frame 4) 0 then Gives (saying (header_of frame) 4 5 0 (byte frame 5)) else read_of frame
 
 -- ISO's case 3E left out of the table
 abbrev without3_e : Outcome Says → Outcome Says
-without3_e (Gives s) = if eqb s.shape 5 then SW 0x6700 else Gives s
+without3_e (Gives s) = when eqb s.shape 5 then SW 0x6700 else Gives s
 without3_e (Word s) = Word s
 without3_e (R n) = R n
 
@@ -57,7 +57,7 @@ without_case3_e frame = without3_e (read_of frame)
 
 -- a row that ISO lacks: `00 01` is a shape numbered 9
 abbrev pub ninth_shape : List ℕ → Outcome Says
-ninth_shape frame = if eqb (length frame) 6 && eqb (byte frame 4) 0 then Gives (saying (header_of frame) 9 4 0 0) else read_of frame
+ninth_shape frame = when eqb (length frame) 6 && eqb (byte frame 4) 0 then Gives (saying (header_of frame) 9 4 0 0) else read_of frame
 
 -- too few bytes are taken for too many, and the other way round
 abbrev short_as_long : Lengths → Lengths
@@ -81,7 +81,7 @@ surplus_as_missing p = long_as_short (lengths_of Ordinary p)
 -- a reading whose pair is another one
 abbrev with_pair : (kind : ℕ) → (pair : ℕ → Outcome Says) → Outcome Says → Outcome Says
 with_pair kind pair (R n) = R n
-with_pair kind pair (Word w) = if eqb w.number 0x6700 && eqb w.kind kind then pair w.place else Word w
+with_pair kind pair (Word w) = when eqb w.number 0x6700 && eqb w.kind kind then pair w.place else Word w
 with_pair kind pair (Gives s) = Gives s
 
 -- "for missing bytes the frame's length": here the last byte that is there
@@ -97,7 +97,7 @@ surplus_at_the_end frame = with_pair 2 (λ place. surplus_at (length frame)) (re
 
 -- "A short payload of `00 x` counts as missing": here x is surplus, behind an Le of 00
 abbrev pub short00_as_surplus : List ℕ → Outcome Says
-short00_as_surplus frame = if eqb (length frame) 6 && eqb (byte frame 4) 0x00 then surplus_at 5 else read_of frame
+short00_as_surplus frame = when eqb (length frame) 6 && eqb (byte frame 4) 0x00 then surplus_at 5 else read_of frame
 
 -- ---- the old form: "surplus at its Le byte", 7 + Lc
 -- an extended Lc with one byte behind the data
@@ -110,22 +110,22 @@ old_said frame = Gives (saying (header_of frame) 6 7 (pair_at frame 5) (le_read 
 
 -- fails `ReadExactly`, at 00 03 00 00 | 00 00 00 05
 abbrev pub old_form_still_read : List ℕ → Outcome Says
-old_form_still_read frame = if is_old frame then old_said frame else read_of frame
+old_form_still_read frame = when is_old frame then old_said frame else read_of frame
 
 -- fails `StrictIsIso`, at 00 03 00 00 | 00 00 00 05
 abbrev pub strict_still_reads_old_form : List ℕ → Outcome Says
-strict_still_reads_old_form frame = if is_old frame then old_said frame else strict_of frame
+strict_still_reads_old_form frame = when is_old frame then old_said frame else strict_of frame
 
 -- here the place is one byte late, behind the Le byte; and here it is 9 + Lc, as for every other extended frame
 abbrev pub old_form_one_late : List ℕ → Outcome Says
-old_form_one_late frame = if is_old frame then surplus_at (8 + pair_at frame 5) else read_of frame
+old_form_one_late frame = when is_old frame then surplus_at (8 + pair_at frame 5) else read_of frame
 
 abbrev pub strict_old_form_at9 : List ℕ → Outcome Says
-strict_old_form_at9 frame = if is_old frame then surplus_at (9 + pair_at frame 5) else strict_of frame
+strict_old_form_at9 frame = when is_old frame then surplus_at (9 + pair_at frame 5) else strict_of frame
 
 -- here the old form counts as a frame that misses its second byte of Le
 abbrev pub old_form_missing : List ℕ → Outcome Says
-old_form_missing frame = if is_old frame then missing_at (length frame) else read_of frame
+old_form_missing frame = when is_old frame then missing_at (length frame) else read_of frame
 
 -- the number alone
 abbrev without_pair : Outcome Says → Outcome Says
@@ -144,23 +144,23 @@ strict_refuses_everything frame = SW 0x6700
 -- "Strict shape 7 needs Lc 1..65535": here it takes Lc 0, as it did before.
 -- Fails `StrictIsIso`, at the certification house's frame, 00 03 00 00 | 00 00 00 00 05.
 abbrev pub strict_takes_lc_zero : List ℕ → Outcome Says
-strict_takes_lc_zero frame = if eqb (length frame) 9 && eqb (byte frame 4) 0x00 && eqb (pair_at frame 5) 0 then read_of frame else strict_of frame
+strict_takes_lc_zero frame = when eqb (length frame) 9 && eqb (byte frame 4) 0x00 && eqb (pair_at frame 5) 0 then read_of frame else strict_of frame
 
 -- "surplus, at byte 7": here at 9, as in the ordinary reading
 abbrev pub strict_lc_zero_at9 : List ℕ → Outcome Says
-strict_lc_zero_at9 frame = if ltb 9 (length frame) && eqb (byte frame 4) 0x00 && eqb (pair_at frame 5) 0 then surplus_at 9 else strict_of frame
+strict_lc_zero_at9 frame = when ltb 9 (length frame) && eqb (byte frame 4) 0x00 && eqb (pair_at frame 5) 0 then surplus_at 9 else strict_of frame
 
 -- "longer than 7 bytes": here an extended Le of 65536, in 7 bytes, is refused with the Lc of 0. Fails `StrictIsIso`, at 00 03 00 00 | 00 00 00.
 abbrev pub strict_refuses_le3 : List ℕ → Outcome Says
-strict_refuses_le3 frame = if eqb (length frame) 7 && eqb (byte frame 4) 0x00 && eqb (pair_at frame 5) 0 then missing_at 7 else strict_of frame
+strict_refuses_le3 frame = when eqb (length frame) 7 && eqb (byte frame 4) 0x00 && eqb (pair_at frame 5) 0 then missing_at 7 else strict_of frame
 
 -- "The ordinary reading still takes it, as the Rust does": here it does not
 abbrev pub read_refuses_lc_zero : List ℕ → Outcome Says
-read_refuses_lc_zero frame = if eqb (length frame) 9 && eqb (byte frame 4) 0x00 && eqb (pair_at frame 5) 0 then surplus_at 7 else read_of frame
+read_refuses_lc_zero frame = when eqb (length frame) 9 && eqb (byte frame 4) 0x00 && eqb (pair_at frame 5) 0 then surplus_at 7 else read_of frame
 
 -- "otherwise it equals the first": here a short frame gets 6700 of the strict entry
 abbrev pub strict_short_gets6700 : List ℕ → Outcome Says
-strict_short_gets6700 frame = if ltb (length frame) 4 then SW 0x6700 else strict_of frame
+strict_short_gets6700 frame = when ltb (length frame) 4 then SW 0x6700 else strict_of frame
 
 -- ---- data, places, numbers
 
@@ -179,7 +179,7 @@ place_with_le a = record { start = 4 + (row_of a.shape).lc_field; end = 4 + (row
 
 -- two shapes with one number
 abbrev pub shape8_numbered7 : Case → ℕ
-shape8_numbered7 s = if eqb (shape_no s) 8 then 7 else shape_no s
+shape8_numbered7 s = when eqb (shape_no s) 8 then 7 else shape_no s
 
 -- the numbers begin at 1
 abbrev pub numbered_from0 : Case → ℕ
@@ -187,47 +187,47 @@ numbered_from0 s = shape_no s - 1
 
 -- ours, after E13: the other shapes keep their numbers. Here 7 and 8 move up, where 6 was
 abbrev pub numbers_moved_up : Case → ℕ
-numbers_moved_up s = if ltb 6 (shape_no s) then shape_no s - 1 else shape_no s
+numbers_moved_up s = when ltb 6 (shape_no s) then shape_no s - 1 else shape_no s
 
 -- row 7: "Lc 0..65535"; row 8: "00, Le (2)"
 abbrev pub shape7_from_lc1 : Case → TableRow
-shape7_from_lc1 s = if eqb (shape_no s) 7 then columns 3 1 2 else row_of s
+shape7_from_lc1 s = when eqb (shape_no s) 7 then columns 3 1 2 else row_of s
 
 abbrev pub shape8_of_two_bytes : Case → TableRow
-shape8_of_two_bytes s = if eqb (shape_no s) 8 then columns 0 0 2 else row_of s
+shape8_of_two_bytes s = when eqb (shape_no s) 8 then columns 0 0 2 else row_of s
 
 -- "Le 0 where absent, else 1..256 or 1..65536": here every shape carries any Le; "Lc 1..255": here shape 3 carries no data
 abbrev pub carries_any_le : Case → ℕ → ℕ → Bool
 carries_any_le s count le = lc_fits s count
 
 abbrev pub carries_no_data : Case → ℕ → ℕ → Bool
-carries_no_data s count le = if eqb (shape_no s) 3 && eqb count 0 then eqb le 0 else can_carry s count le
+carries_no_data s count le = when eqb (shape_no s) 3 && eqb count 0 then eqb le 0 else can_carry s count le
 
 -- "00, Lc (2), data": here the data of an extended frame starts one byte early
 abbrev pub extended_lc_of_two : Apdu → Says
-extended_lc_of_two a = if leb 5 (shape_no a.shape) && ltb (shape_no a.shape) 8 then saying a.header (shape_no a.shape) 6 a.lc a.le else says_of a
+extended_lc_of_two a = when leb 5 (shape_no a.shape) && ltb (shape_no a.shape) 8 then saying a.header (shape_no a.shape) 6 a.lc a.le else says_of a
 
 -- ---- writing
 
 -- "Le .. 1..256": here every shape is let write any Le
 abbrev pub le257_in_one_byte : Parts → List ℕ → Outcome ℕ × List ℕ
-le257_in_one_byte w old = if ltb (length old) (length (frame_of w)) then (R 2, old) else (Gives (length (frame_of w)), laid (frame_of w) old)
+le257_in_one_byte w old = when ltb (length old) (length (frame_of w)) then (R 2, old) else (Gives (length (frame_of w)), laid (frame_of w) old)
 
 -- "R2 exactly when the buffer is shorter than the frame": here one byte early, and one byte late
 abbrev pub r2_one_byte_early : Parts → List ℕ → Outcome ℕ × List ℕ
-r2_one_byte_early w old = if eqb (length old) (length (frame_of w)) then (R 2, old) else writing_of w old
+r2_one_byte_early w old = when eqb (length old) (length (frame_of w)) then (R 2, old) else writing_of w old
 
 abbrev pub r2_one_byte_late : Parts → List ℕ → Outcome ℕ × List ℕ
-r2_one_byte_late w old = if eqb (length old + 1) (length (frame_of w)) then (Gives (length (frame_of w)), laid (frame_of w) old) else writing_of w old
+r2_one_byte_late w old = when eqb (length old + 1) (length (frame_of w)) then (Gives (length (frame_of w)), laid (frame_of w) old) else writing_of w old
 
 -- "(R5) .. else R2": here R2 first
 abbrev pub r2_before_r5 : Parts → List ℕ → Outcome ℕ × List ℕ
-r2_before_r5 w old = if ltb (length old) (length (frame_of w)) then (R 2, old) else writing_of w old
+r2_before_r5 w old = when ltb (length old) (length (frame_of w)) then (R 2, old) else writing_of w old
 
 -- "leaves the rest": here it becomes 0. Behind the test, the frame is no longer than the buffer
 abbrev pub clears_the_rest : Parts → List ℕ → Outcome ℕ × List ℕ
 clears_the_rest w old =
-    if ltb (length old) (length (frame_of w)) then writing_of w old
+    when ltb (length old) (length (frame_of w)) then writing_of w old
     else (write_by Ordinary w (length old), frame_of w ++ replicate (length old - length (frame_of w)) 0)
 
 -- "An R refusal changes no buffer"
@@ -236,41 +236,41 @@ refusal_writes w old = (write_by Ordinary w (length old), laid (frame_of w) old)
 
 -- writes the frame, and says a length of its own
 abbrev pub length_invented : Parts → List ℕ → Outcome ℕ × List ℕ
-length_invented w old = (if ltb (length old) (length (frame_of w)) then write_by Ordinary w (length old) else Gives (length old), buffer_by Ordinary w old)
+length_invented w old = (when ltb (length old) (length (frame_of w)) then write_by Ordinary w (length old) else Gives (length old), buffer_by Ordinary w old)
 
 -- "A written Le of 0 means 256 in one byte": here 256 is written 01
 abbrev pub le256_as01 : Parts → List ℕ → Outcome ℕ × List ℕ
-le256_as01 w old = if eqb w.le 256 then (write_by Ordinary w (length old), laid (frame_of (parts_of w.header w.shape w.content 1)) old) else writing_of w old
+le256_as01 w old = when eqb w.le 256 then (write_by Ordinary w (length old), laid (frame_of (parts_of w.header w.shape w.content 1)) old) else writing_of w old
 
 -- "Le .. 1..256": here 257 is taken in any shape, and reads back as 1
 abbrev pub le257_taken : Parts → List ℕ → Outcome ℕ × List ℕ
-le257_taken w old = if eqb w.le 257 then (Gives (length (frame_of w)), laid (frame_of w) old) else writing_of w old
+le257_taken w old = when eqb w.le 257 then (Gives (length (frame_of w)), laid (frame_of w) old) else writing_of w old
 
 -- ---- the strict writer
 
 -- "refuses .. Lc 0 in shape 7": here it writes that, and here a table says that it can be carried
 abbrev pub strict_writes_no_data : Parts → List ℕ → Outcome ℕ × List ℕ
-strict_writes_no_data w old = if eqb (shape_no w.shape) 7 && eqb (length w.content) 0 then writing_of w old else strict_writing_of w old
+strict_writes_no_data w old = when eqb (shape_no w.shape) 7 && eqb (length w.content) 0 then writing_of w old else strict_writing_of w old
 
 abbrev pub strict_row_of_no_data : Case → ℕ → Bool
 strict_row_of_no_data s count = leb (lc_least s) count
 
 abbrev pub strict_carries_no_data : Case → ℕ → ℕ → Bool
-strict_carries_no_data s count le = if eqb (shape_no s) 7 then can_carry s count le else carried_by Strict s count le
+strict_carries_no_data s count le = when eqb (shape_no s) 7 then can_carry s count le else carried_by Strict s count le
 
 -- "with R5": here R2 where the buffer is short as well
 abbrev pub strict_r2_before_r5 : Parts → List ℕ → Outcome ℕ × List ℕ
-strict_r2_before_r5 w old = if ltb (length old) (length (frame_of w)) then (R 2, old) else strict_writing_of w old
+strict_r2_before_r5 w old = when ltb (length old) (length (frame_of w)) then (R 2, old) else strict_writing_of w old
 
 -- "and is otherwise the writer": here it wants data in every shape
 abbrev pub strict_wants_data : Parts → List ℕ → Outcome ℕ × List ℕ
-strict_wants_data w old = if eqb (length w.content) 0 then (R 5, old) else strict_writing_of w old
+strict_wants_data w old = when eqb (length w.content) 0 then (R 5, old) else strict_writing_of w old
 
 -- ---- ISO's Ne: here 7 for every case 2S; and here Nc for every case 4S
 abbrev saying_le : (Says → ℕ) → (shape : ℕ) → Outcome Says → Outcome Says
 saying_le le shape (R n) = R n
 saying_le le shape (Word w) = Word w
-saying_le le shape (Gives s) = if eqb s.shape shape then Gives (saying s.header s.shape s.data_at s.lc (le s)) else Gives s
+saying_le le shape (Gives s) = when eqb s.shape shape then Gives (saying s.header s.shape s.data_at s.lc (le s)) else Gives s
 
 abbrev pub le7_for_case2_s : List ℕ → Outcome Says
 le7_for_case2_s frame = saying_le (λ (s : Says). 7) 2 (strict_of frame)

@@ -1,7 +1,9 @@
 // Command frames of ISO 7816-3: what a frame says. No function: apdu has them.
+#![tactic(auto)]
+
 use outcome::{ApduStatusCode, Refusal};
 
-#[derive(Drop)]
+#[derive(Clone, Copy)]
 pub struct ApduHeader {
     pub cla: u8,
     pub ins: u8,
@@ -10,7 +12,7 @@ pub struct ApduHeader {
 }
 
 // The seven shapes; the sixth of document 01 is retired. The names say the fields after the header: Lc3DataLe2 has three bytes of Lc, data and two of Le.
-#[derive(Drop)]
+#[derive(Clone, Copy)]
 pub enum Case {
     Instruction,
     Le1,
@@ -22,7 +24,7 @@ pub enum Case {
 }
 
 // A row of the table: how many bytes the Lc field has, the least Lc, and how many bytes the Le field has.
-#[derive(Drop)]
+#[derive(Clone, Copy)]
 pub struct TableRow {
     pub lc_field: usize,
     pub lc_least: usize,
@@ -30,7 +32,7 @@ pub struct TableRow {
 }
 
 // What a frame says. Its data stays in the frame: `data` hands out that part.
-#[derive(Drop)]
+#[derive(Clone, Copy)]
 pub struct Apdu {
     pub header: ApduHeader,
     pub shape: Case,
@@ -38,14 +40,14 @@ pub struct Apdu {
     pub le: u32,
 }
 
-#[derive(Drop)]
+#[derive(Clone, Copy)]
 pub enum Reading {
     Frame(Apdu),
     Status(ApduStatusCode),
 }
 
 // Which table a frame is read by: the seven shapes, or ISO 7816-3's seven cases, which have no Lc of 0.
-#[derive(Drop)]
+#[derive(Clone, Copy)]
 pub enum Entry {
     Ordinary,
     Strict,
@@ -53,7 +55,7 @@ pub enum Entry {
 
 // What the bytes after the header say: shape, Lc and Le; or too few bytes; or too many, from a place on that is counted from the
 // frame's start. Lc is as wide as a length: all of it in one word would be packed and taken apart again by every reading.
-#[derive(Drop)]
+#[derive(Clone, Copy)]
 pub enum Lengths {
     Found(Case, usize, u32),
     Missing,
@@ -61,13 +63,13 @@ pub enum Lengths {
 }
 
 // Where data stands in its frame: from start, up to and without end.
-#[derive(Drop)]
+#[derive(Clone, Copy)]
 pub struct Place {
     pub start: usize,
     pub end: usize,
 }
 
-#[derive(Drop)]
+#[derive(Clone, Copy)]
 pub enum Written {
     Refused(Refusal),
     Frame(usize),

@@ -3,6 +3,8 @@
 // (apdu_table_stated's specs/Claims.antt, SameReading).
 //
 //    a row, four numbers:   shape's number | length of the Lc field | least Lc | length of the Le field
+#![tactic(auto)]
+
 mod rows;
 
 ghost use Rattle.std.specs.Prelude.{◌+◌, ◌≤◌, ◌<◌, ◌≡◌, ◌||◌, [], length, get_or};

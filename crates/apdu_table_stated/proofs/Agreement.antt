@@ -11,7 +11,7 @@ use lib.ListN.{length, drop}
 use Rattle.outcome.specs.Outcome.{missing_at, surplus_at}
 use Rattle.apdu_stated.specs.Reading.{read_by, lengths_of, say_of}
 use Rattle.apdu_stated.specs.declared.Lengths.{Lengths}
-use Rattle.apdu_stated.proofs.Laws.{way, read_under, read_by, say_missing, say_surplus}
+use Rattle.apdu_stated.proofs.Laws.{way, read_under, read_by_lem, say_missing, say_surplus}
 use Rattle.apdu_table_stated.specs.Words.{Entry, Ordinary, Strict, Row, Tried, UnderFour}
 use Rattle.apdu_table_stated.specs.Rows.{table_of}
 use Rattle.apdu_table_stated.specs.Trying.{ends_early, claimed, in_turn, tried_of}
@@ -74,7 +74,7 @@ module _ (entry : Entry) (frame : List ℕ) (long : 4 ≤ length frame) where
           → missing_at (length frame) ≡ read_by entry frame
       go (inl never) l e b = absurd (true≢false (sym never))
       go (inr x) _ e (fit r is f) = absurd (true≢false (sym f ∙ no_fit r (is_has entry is)))
-      go (inr x) _ e (early r is f) = sym (read_by entry frame long ∙ ap (say_of frame) (sym e) ∙ say_missing frame)
+      go (inr x) _ e (early r is f) = sym (read_by_lem entry frame long ∙ ap (say_of frame) (sym e) ∙ say_missing frame)
       go (inr x) _ e (on k no_early bound r is at) = absurd (no_early x.0 x.2)
   answered (past_all k no_fit none no_early low bound at) l e b = go l e b
     where
@@ -85,7 +85,7 @@ module _ (entry : Entry) (frame : List ℕ) (long : 4 ≤ length frame) where
           let up : claimed r frame ≤ k = bound r (is_has entry is) in
           let down : k ≤ m = under at in
           let same : k ≡ m = omega arith in
-          ap surplus_at same ∙ sym (read_by entry frame long ∙ ap (say_of frame) (sym e) ∙ say_surplus frame m)
+          ap surplus_at same ∙ sym (read_by_lem entry frame long ∙ ap (say_of frame) (sym e) ∙ say_surplus frame m)
         where
           under : (k ≡ 0) ⊎ ((x : Row) × Has (table_of entry) x × (claimed x frame ≡ k)) → k ≤ m
           under (inl z) = omega arith

@@ -208,35 +208,35 @@ same_tries try x rows frame bytes = go (tried_of rows frame) refl
 
 -- ---- what is answered, each exactly when
 module _ (rows : List Row) (frame : List ℕ) where
-  answer_of : (t : Tried) → tried_of rows frame ≡ t → answer_of frame t ≡ read_by_rows rows frame
+  answer_of_lem : (t : Tried) → tried_of rows frame ≡ t → answer_of frame t ≡ read_by_rows rows frame
   unfolding read_by_rows
-  answer_of t e = ap (answer_of frame) (sym e)
+  answer_of_lem t e = ap (answer_of frame) (sym e)
 
   short_answer : (read_by_rows rows frame ≡ SW 0x6a80) ↔ (length frame < 4)
-  short_answer = (λ e. go (tried_of rows frame) refl e, λ h. sym (answer_of UnderFour ((is_short rows frame).1 h)))
+  short_answer = (λ e. go (tried_of rows frame) refl e, λ h. sym (answer_of_lem UnderFour ((is_short rows frame).1 h)))
     where
       go : (t : Tried) → tried_of rows frame ≡ t → read_by_rows rows frame ≡ SW 0x6a80 → length frame < 4
       go UnderFour t e = (is_short rows frame).0 t
-      go (ByRow r) t e = absurd (word_gives _ _ (sym (answer_of (ByRow r) t ∙ e)))
-      go Early t e = let n = number_is _ _ (answer_of Early t ∙ e) in absurd (omega arith)
-      go (Beyond k) t e = let n = number_is _ _ (answer_of (Beyond k) t ∙ e) in absurd (omega arith)
+      go (ByRow r) t e = absurd (word_gives _ _ (sym (answer_of_lem (ByRow r) t ∙ e)))
+      go Early t e = let n = number_is _ _ (answer_of_lem Early t ∙ e) in absurd (omega arith)
+      go (Beyond k) t e = let n = number_is _ _ (answer_of_lem (Beyond k) t ∙ e) in absurd (omega arith)
 
   module _ (bytes : AreBytes frame) where
     reads_answer : (says : Says) → (read_by_rows rows frame ≡ Gives says) ↔ ((r : Row) × (content : List ℕ) × First rows frame r × OfRow r frame says content)
     reads_answer says = (λ e. go (tried_of rows frame) refl e, back)
       where
         go : (t : Tried) → tried_of rows frame ≡ t → read_by_rows rows frame ≡ Gives says → (r : Row) × (content : List ℕ) × First rows frame r × OfRow r frame says content
-        go UnderFour t e = absurd (word_gives _ _ (answer_of UnderFour t ∙ e))
+        go UnderFour t e = absurd (word_gives _ _ (answer_of_lem UnderFour t ∙ e))
         go (ByRow r) t e =
             let f = (fits_exactly rows frame bytes r).0 t in
             let o = first_row f in
-            let same : o.0 ≡ says = sym (said_of r frame o.1 o.0 o.2) ∙ gives_same _ _ (answer_of (ByRow r) t ∙ e) in
+            let same : o.0 ≡ says = sym (said_of r frame o.1 o.0 o.2) ∙ gives_same _ _ (answer_of_lem (ByRow r) t ∙ e) in
             (r, o.1, f, subst (λ (s : Says). OfRow r frame s o.1) same o.2)
-        go Early t e = absurd (word_gives _ _ (answer_of Early t ∙ e))
-        go (Beyond k) t e = absurd (word_gives _ _ (answer_of (Beyond k) t ∙ e))
+        go Early t e = absurd (word_gives _ _ (answer_of_lem Early t ∙ e))
+        go (Beyond k) t e = absurd (word_gives _ _ (answer_of_lem (Beyond k) t ∙ e))
 
         back : ((r : Row) × (content : List ℕ) × First rows frame r × OfRow r frame says content) → read_by_rows rows frame ≡ Gives says
-        back (r, content, f, o) = sym (answer_of (ByRow r) ((fits_exactly rows frame bytes r).1 f)) ∙ ap Gives (said_of r frame content says o)
+        back (r, content, f, o) = sym (answer_of_lem (ByRow r) ((fits_exactly rows frame bytes r).1 f)) ∙ ap Gives (said_of r frame content says o)
 
     missing_answer : (k : ℕ) → (read_by_rows rows frame ≡ wrong_length 1 k)
         ↔ ((4 ≤ length frame) × ((r : Row) → Has rows r → IsOf r frame → ⊥) × ((r : Row) × Has rows r × EarlyIn r frame) × (k ≡ length frame))
@@ -244,22 +244,22 @@ module _ (rows : List Row) (frame : List ℕ) where
       where
         go : (t : Tried) → tried_of rows frame ≡ t → read_by_rows rows frame ≡ wrong_length 1 k
             → (4 ≤ length frame) × ((r : Row) → Has rows r → IsOf r frame → ⊥) × ((r : Row) × Has rows r × EarlyIn r frame) × (k ≡ length frame)
-        go UnderFour t e = let n = number_is _ _ (answer_of UnderFour t ∙ e) in absurd (omega arith)
-        go (ByRow r) t e = absurd (word_gives _ _ (sym (answer_of (ByRow r) t ∙ e)))
-        go Early t e = let x = (early_exactly rows frame bytes).0 t in (x.0, x.1, x.2, sym (place_is _ _ (answer_of Early t ∙ e)))
-        go (Beyond m) t e = let n = kind_is _ _ (answer_of (Beyond m) t ∙ e) in absurd (omega arith)
+        go UnderFour t e = let n = number_is _ _ (answer_of_lem UnderFour t ∙ e) in absurd (omega arith)
+        go (ByRow r) t e = absurd (word_gives _ _ (sym (answer_of_lem (ByRow r) t ∙ e)))
+        go Early t e = let x = (early_exactly rows frame bytes).0 t in (x.0, x.1, x.2, sym (place_is _ _ (answer_of_lem Early t ∙ e)))
+        go (Beyond m) t e = let n = kind_is _ _ (answer_of_lem (Beyond m) t ∙ e) in absurd (omega arith)
 
         back : ((4 ≤ length frame) × ((r : Row) → Has rows r → IsOf r frame → ⊥) × ((r : Row) × Has rows r × EarlyIn r frame) × (k ≡ length frame)) → read_by_rows rows frame ≡ wrong_length 1 k
-        back (h, n, x, e) = sym (answer_of Early ((early_exactly rows frame bytes).1 (h, n, x))) ∙ ap (wrong_length 1) (sym e)
+        back (h, n, x, e) = sym (answer_of_lem Early ((early_exactly rows frame bytes).1 (h, n, x))) ∙ ap (wrong_length 1) (sym e)
 
     surplus_answer : (k : ℕ) → (read_by_rows rows frame ≡ wrong_length 2 k) ↔ ((4 ≤ length frame) × ((r : Row) → Has rows r → EarlyIn r frame → ⊥) × (k < length frame) × MostClaimed rows frame k)
-    surplus_answer k = (λ e. go (tried_of rows frame) refl e, λ x. sym (answer_of (Beyond k) ((goes_on_exactly rows frame bytes k).1 x)))
+    surplus_answer k = (λ e. go (tried_of rows frame) refl e, λ x. sym (answer_of_lem (Beyond k) ((goes_on_exactly rows frame bytes k).1 x)))
       where
         go : (t : Tried) → tried_of rows frame ≡ t → read_by_rows rows frame ≡ wrong_length 2 k → (4 ≤ length frame) × ((r : Row) → Has rows r → EarlyIn r frame → ⊥) × (k < length frame) × MostClaimed rows frame k
-        go UnderFour t e = let n = number_is _ _ (answer_of UnderFour t ∙ e) in absurd (omega arith)
-        go (ByRow r) t e = absurd (word_gives _ _ (sym (answer_of (ByRow r) t ∙ e)))
-        go Early t e = let n = kind_is _ _ (answer_of Early t ∙ e) in absurd (omega arith)
-        go (Beyond m) t e = let same : m ≡ k = place_is _ _ (answer_of (Beyond m) t ∙ e) in (goes_on_exactly rows frame bytes k).0 (t ∙ ap Beyond same)
+        go UnderFour t e = let n = number_is _ _ (answer_of_lem UnderFour t ∙ e) in absurd (omega arith)
+        go (ByRow r) t e = absurd (word_gives _ _ (sym (answer_of_lem (ByRow r) t ∙ e)))
+        go Early t e = let n = kind_is _ _ (answer_of_lem Early t ∙ e) in absurd (omega arith)
+        go (Beyond m) t e = let same : m ≡ k = place_is _ _ (answer_of_lem (Beyond m) t ∙ e) in (goes_on_exactly rows frame bytes k).0 (t ∙ ap Beyond same)
 
 pub answers_exactly : Claims.AnswersExactly read_by_rows
 answers_exactly = record { reads = reads_answer; short = short_answer; missing = missing_answer; surplus = surplus_answer }
@@ -269,7 +269,7 @@ pub same_answers : (read : List Row → List ℕ → Outcome Says) → Claims.An
 same_answers read x rows frame bytes = go (tried_of rows frame) refl
   where
     go : (t : Tried) → tried_of rows frame ≡ t → read rows frame ≡ read_by_rows rows frame
-    go UnderFour t = let e = sym (answer_of rows frame UnderFour t) in (x.short rows frame).1 ((answers_exactly.short rows frame).0 e) ∙ sym e
-    go (ByRow r) t = let e = sym (answer_of rows frame (ByRow r) t) in (x.reads rows frame bytes _).1 ((answers_exactly.reads rows frame bytes _).0 e) ∙ sym e
-    go Early t = let e = sym (answer_of rows frame Early t) in (x.missing rows frame bytes _).1 ((answers_exactly.missing rows frame bytes _).0 e) ∙ sym e
-    go (Beyond k) t = let e = sym (answer_of rows frame (Beyond k) t) in (x.surplus rows frame bytes k).1 ((answers_exactly.surplus rows frame bytes k).0 e) ∙ sym e
+    go UnderFour t = let e = sym (answer_of_lem rows frame UnderFour t) in (x.short rows frame).1 ((answers_exactly.short rows frame).0 e) ∙ sym e
+    go (ByRow r) t = let e = sym (answer_of_lem rows frame (ByRow r) t) in (x.reads rows frame bytes _).1 ((answers_exactly.reads rows frame bytes _).0 e) ∙ sym e
+    go Early t = let e = sym (answer_of_lem rows frame Early t) in (x.missing rows frame bytes _).1 ((answers_exactly.missing rows frame bytes _).0 e) ∙ sym e
+    go (Beyond k) t = let e = sym (answer_of_lem rows frame (Beyond k) t) in (x.surplus rows frame bytes k).1 ((answers_exactly.surplus rows frame bytes k).0 e) ∙ sym e

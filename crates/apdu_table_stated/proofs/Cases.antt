@@ -10,7 +10,7 @@ use borrow.Author.Tests.{not-true, not-false, lt-ltb, le-ltb, lt-leb, eq-eqb, ne
 use lib.ListN.{length, get_or, drop, drop_of_length-le}
 use lib.Seq.{drop-cons}
 use lib.Dec.{ltb, eqb}
-use Rattle.outcome.specs.Notation.{if◌then◌else◌}
+use Rattle.outcome.specs.Notation.{when◌then◌else◌}
 use Rattle.outcome.specs.Outcome.{Outcome, SW, Gives, missing_at, surplus_at}
 use Rattle.octets.specs.Bytes.{byte}
 use Rattle.apdu_table_stated.specs.Words.{Says, Entry, Row, Tried, UnderFour, ByRow, Early, Beyond}
@@ -47,7 +47,7 @@ module _ (long : ℕ) (frame : List ℕ) where
   unfolding lc_in
   lc_other n1 n3 = rw (ne_eqb long 1 n1, ne_eqb long 3 n3) (go (ltb (length frame) (4 + long)))
     where
-      go : (b : Bool) → ◌≡◌ {A = ℕ} 0 (if b then 0 else 0)
+      go : (b : Bool) → ◌≡◌ {A = ℕ} 0 (when b then 0 else 0)
       go true = refl
       go false = refl
 
@@ -69,7 +69,7 @@ module _ (r : Row) (frame : List ℕ) where
   opens_le h = closed (Columns.is_false (is_row r) (λ e. none (Columns.row_le r e)))
     where
       none : Columns.IsLe r.le_field → ⊥
-      none x = let m = Columns.le_most x in omega arith
+      none x = let m = Columns.le_most_lem x in omega arith
 
   module _ (le : r.le_field ≤ 3) where
     pub opens_three : (b : Bool) → r.lc_field ≡ 3 → b ≡ begins 3 4 frame → b ≡ opens r frame
@@ -141,14 +141,14 @@ module _ (table : List (List ℕ)) (frame : List ℕ) (long : 4 ≤ length frame
   at_start = record { within = omega arith; same = refl }
 
   module _ (i : ℕ) (early : Bool) (most : ℕ) (at : At table frame i early most) where
-    pub at_end : length table ≤ i → (if early then Early else Beyond most) ≡ tried_of (rows_of table) frame
+    pub at_end : length table ≤ i → (when early then Early else Beyond most) ≡ tried_of (rows_of table) frame
     at_end h = ap (λ (t : List (List ℕ)). in_turn (rows_of t) frame early most) (sym (drop_of_length-le table h)) ∙ at.same ∙ sym (tried_turn (rows_of table) frame long)
 
-    pub ends_early : length table ≤ i → early ≡ true → Early ≡ tried_of (rows_of table) frame
-    ends_early h e = ap (λ (b : Bool). if b then Early else Beyond most) (sym e) ∙ at_end h
+    pub ends_early_lem : length table ≤ i → early ≡ true → Early ≡ tried_of (rows_of table) frame
+    ends_early_lem h e = ap (λ (b : Bool). when b then Early else Beyond most) (sym e) ∙ at_end h
 
     pub goes_on : length table ≤ i → early ≡ false → Beyond most ≡ tried_of (rows_of table) frame
-    goes_on h e = ap (λ (b : Bool). if b then Early else Beyond most) (sym e) ∙ at_end h
+    goes_on h e = ap (λ (b : Bool). when b then Early else Beyond most) (sym e) ∙ at_end h
 
     module _ (h : i < length table) (r : Row) (is_r : r ≡ row_from (get_or table i [])) (n : ℕ) (is_n : n ≡ claimed r frame) where
       rows_from : rows_of (drop i table) ≡ r ∷ rows_of (drop (i + 1) table)
@@ -160,7 +160,7 @@ module _ (table : List (List ℕ)) (frame : List ℕ) (long : 4 ≤ length frame
       pub fits_at : n ≡ length frame → ByRow r ≡ tried_of (rows_of table) frame
       fits_at e =
           let f : fits r frame ≡ true = Columns.claimed_all r frame (omega arith) (sym is_n ∙ e) in
-          ap (λ (b : Bool). if b then ByRow r else in_turn (rows_of (drop (i + 1) table)) frame (early || ends_early r frame) (greater most (claimed r frame))) (sym f)
+          ap (λ (b : Bool). when b then ByRow r else in_turn (rows_of (drop (i + 1) table)) frame (early || ends_early r frame) (greater most (claimed r frame))) (sym f)
           ∙ turned ∙ sym (tried_turn (rows_of table) frame long)
 
       module _ (differs : n ≡ length frame → ⊥) (sooner : Bool) (is_sooner : sooner ≡ (early || ends_early r frame)) where
@@ -173,7 +173,7 @@ module _ (table : List (List ℕ)) (frame : List ℕ) (long : 4 ≤ length frame
               within = omega arith;
               same =
                   rw (e, is_sooner, is_n)
-                  (sym (ap (λ (b : Bool). if b then ByRow r else in_turn (rows_of (drop (i + 1) table)) frame (early || ends_early r frame) (greater most (claimed r frame))) misfit) ∙ turned);
+                  (sym (ap (λ (b : Bool). when b then ByRow r else in_turn (rows_of (drop (i + 1) table)) frame (early || ends_early r frame) (greater most (claimed r frame))) misfit) ∙ turned);
             }
 
         pub next_more : (m : ℕ) → most < n → m ≡ n → At table frame (i + 1) sooner m
@@ -225,7 +225,7 @@ module _ (rows : List Row) (frame : List ℕ) (t : Tried) (is_t : t ≡ tried_of
       small Columns.lc_3 = omega arith
 
   pub found_le : (r : Row) → t ≡ ByRow r → r.le_field ≤ 3
-  found_le r e = Columns.le_most (Columns.row_le r (Columns.fits_of r frame (found_fits r e)).0.is_row)
+  found_le r e = Columns.le_most_lem (Columns.row_le r (Columns.fits_of r frame (found_fits r e)).0.is_row)
 
   pub found_end : (r : Row) → t ≡ ByRow r → row_end r frame ≡ length frame
   found_end r e = (Columns.fits_of r frame (found_fits r e)).1

@@ -10,7 +10,7 @@ use native.Mathlib.Decide.{ℕ_discrete}
 use borrow.Author.Tests.{lt-ltb, le-ltb, ltb-true, le-leb, lt-leb, leb-true, eq-eqb, ne_eqb, eqb-true}
 use lib.ListN.{length}
 use lib.Dec.{leb, ltb, eqb}
-use Rattle.outcome.specs.Notation.{if◌then◌else◌}
+use Rattle.outcome.specs.Notation.{when◌then◌else◌}
 use Rattle.octets.specs.Bytes.{byte, pair_at}
 use Rattle.octets.proofs.Laws.{both}
 use Rattle.apdu_stated.specs.Table.{le_read}
@@ -66,7 +66,7 @@ module _ (frame : List ℕ) where
   unfolding lc_in
   lc_none = go (ltb (length frame) 4)
     where
-      go : (b : Bool) → ◌≡◌ {A = ℕ} 0 (if b then 0 else 0)
+      go : (b : Bool) → ◌≡◌ {A = ℕ} 0 (when b then 0 else 0)
       go true = refl
       go false = refl
 
@@ -122,11 +122,11 @@ lc_known n e = go (either (eqb n 0 || eqb n 1) (eqb n 3) e)
     go (inl h) = first (either (eqb n 0) (eqb n 1) h)
     go (inr h) = rw (eqb-true n 3 h) lc_3
 
-pub le_most : {n : ℕ} → IsLe n → n ≤ 3
-le_most le_0 = omega arith
-le_most le_1 = omega arith
-le_most le_2 = omega arith
-le_most le_3 = omega arith
+pub le_most_lem : {n : ℕ} → IsLe n → n ≤ 3
+le_most_lem le_0 = omega arith
+le_most_lem le_1 = omega arith
+le_most_lem le_2 = omega arith
+le_most_lem le_3 = omega arith
 
 pub le_known : (n : ℕ) → n ≤ 3 → IsLe n
 le_known n h = go (ℕ_discrete n 0) (ℕ_discrete n 1) (ℕ_discrete n 2)
@@ -150,7 +150,7 @@ module _ (r : Row) where
   row_le e = le_known r.le_field (leb-true r.le_field 3 (both lc_test (leb r.le_field 3) e).1)
 
   pub of_fields : IsLc r.lc_field → IsLe r.le_field → is_row r ≡ true
-  of_fields a b = join _ _ (lc_is r.lc_field a) (le-leb r.le_field 3 (le_most b))
+  of_fields a b = join _ _ (lc_is r.lc_field a) (le-leb r.le_field 3 (le_most_lem b))
     where
       lc_is : (n : ℕ) → IsLc n → (eqb n 0 || eqb n 1 || eqb n 3) ≡ true
       lc_is _ lc_0 = refl

@@ -39,7 +39,7 @@ module _ (entry : Entry) (frame : List ℕ) (long : 4 ≤ length frame) where
   -- what is found in a row's shape is what the row says
   by_row : (r : Row) (s : Case) (lc le : ℕ) → Found s lc le ≡ lengths_of entry (drop 4 frame) → shape_no s ≡ r.number → lc_field s ≡ r.lc_field
       → lc ≡ lc_in r.lc_field frame → le ≡ le_in r.le_field (data_end r frame) frame → read_by entry frame ≡ Gives (says_by r frame)
-  by_row r s lc le found n f a b = Frames.read_by entry frame long ∙ ap (say_of frame) (sym found) ∙ Frames.say_found frame s lc le ∙ rw (n, f, a, b)
+  by_row r s lc le found n f a b = Frames.read_by_lem entry frame long ∙ ap (say_of frame) (sym found) ∙ Frames.say_found frame s lc le ∙ rw (n, f, a, b)
 
   pub payload_pair : pair_at (drop 4 frame) 1 ≡ pair_at frame 5
   payload_pair = ap₂ (λ (a b : ℕ). a * 256 + b) (payload_byte 1) (payload_byte 2)
@@ -88,13 +88,13 @@ module _ (entry : Entry) (frame : List ℕ) (long : 4 ≤ length frame) where
           let l = one (omega (arith, n, z, p0)) in
           by_row (numbered 3 1 1 0) Lc1Data (byte (drop 4 frame) 0) 0
           (Frames.lengths_short entry (drop 4 frame) _ (omega (arith, n, z, p0)) (omega (arith, n, z, p0)) (omega (arith, n, z, p0))
-          (Frames.payload-short (drop 4 frame) (byte (drop 4 frame) 0) _ refl refl (omega (arith, n, z, p0))))
+          (Frames.payload_short (drop 4 frame) (byte (drop 4 frame) 0) _ refl refl (omega (arith, n, z, p0))))
           refl refl l (le_none frame _)
       go is_4 t e =
           let l = one (omega (arith, n, z, p0)) in
           by_row (numbered 4 1 1 1) Lc1DataLe1 (byte (drop 4 frame) 0) _
           (Frames.lengths_short entry (drop 4 frame) _ (omega (arith, n, z, p0)) (omega (arith, n, z, p0)) (omega (arith, n, z, p0))
-          (Frames.payload-short-le (drop 4 frame) (byte (drop 4 frame) 0) _ refl refl _ (omega (arith, n, z, p0)) refl))
+          (Frames.payload_short_le (drop 4 frame) (byte (drop 4 frame) 0) _ refl refl _ (omega (arith, n, z, p0)) refl))
           refl refl l (le1_at (1 + byte (drop 4 frame) 0) _ (omega (arith, n, z, p0)))
       go is_5 t e =
           let l = three (omega (arith, n, z, p0)) in

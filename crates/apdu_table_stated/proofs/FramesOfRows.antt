@@ -33,21 +33,21 @@ module _ (h : ApduHeader) (tail : List ℕ) where
   lc_begins (one_lc {lc} m) = Columns.begins_other 1 4 (frame_with h (lc ∷ tail)) (omega arith)
   lc_begins (three_lc {hi} {lo} p) = Columns.begins_zero 3 4 (frame_with h (0 ∷ hi ∷ lo ∷ tail)) refl
 
-lc_long : {n lc : ℕ} {bytes : List ℕ} → LcField n lc bytes → length bytes ≡ n
-lc_long no_lc = refl
-lc_long (one_lc m) = refl
-lc_long (three_lc p) = refl
+lc_long_lem : {n lc : ℕ} {bytes : List ℕ} → LcField n lc bytes → length bytes ≡ n
+lc_long_lem no_lc = refl
+lc_long_lem (one_lc m) = refl
+lc_long_lem (three_lc p) = refl
 
 lc_row : {n lc : ℕ} {bytes : List ℕ} → LcField n lc bytes → Columns.IsLc n
 lc_row no_lc = Columns.lc_0
 lc_row (one_lc m) = Columns.lc_1
 lc_row (three_lc p) = Columns.lc_3
 
-le_long : {n le : ℕ} {bytes : List ℕ} → LeField n le bytes → length bytes ≡ n
-le_long no_le = refl
-le_long (one_le o) = refl
-le_long (two_le o) = refl
-le_long (three_le o) = refl
+le_long_lem : {n le : ℕ} {bytes : List ℕ} → LeField n le bytes → length bytes ≡ n
+le_long_lem no_le = refl
+le_long_lem (one_le o) = refl
+le_long_lem (two_le o) = refl
+le_long_lem (three_le o) = refl
 
 le_row : {n le : ℕ} {bytes : List ℕ} → LeField n le bytes → Columns.IsLe n
 le_row no_le = Columns.le_0
@@ -117,7 +117,7 @@ module _ (r : Row) (h : ApduHeader) (lcb leb content rest : List ℕ) (le : ℕ)
 
   front_long : length front ≡ 4 + r.lc_field + length content
   unfolding front
-  front_long = let a = length-append lcb content in let b = lc_long lc_field in omega arith
+  front_long = let a = length-append lcb content in let b = lc_long_lem lc_field in omega arith
 
   whole_long : length by_lc ≡ 4 + r.lc_field + length content + r.le_field + length rest
   unfolding by_lc
@@ -125,12 +125,12 @@ module _ (r : Row) (h : ApduHeader) (lcb leb content rest : List ℕ) (le : ℕ)
       let a = length-append lcb (content ++ (leb ++ rest)) in
       let b = length-append content (leb ++ rest) in
       let c = length-append leb rest in
-      let d = lc_long lc_field in
-      let e = le_long le_field in
+      let d = lc_long_lem lc_field in
+      let e = le_long_lem le_field in
       omega arith
 
-  data_end : data_end r by_lc ≡ length front
-  data_end = let a = lc_is in let b = front_long in omega arith
+  data_end_lem : data_end r by_lc ≡ length front
+  data_end_lem = let a = lc_is in let b = front_long in omega arith
 
   begin_lc : begins r.lc_field 4 by_lc ≡ true
   unfolding by_lc
@@ -143,11 +143,11 @@ module _ (r : Row) (h : ApduHeader) (lcb leb content rest : List ℕ) (le : ℕ)
         begin = begin_lc;
         least = let a = lc_is in omega arith;
         within = let a = lc_is in let b = whole_long in omega arith;
-        le_begin = rw (data_end, ← from_le) (le_begins front rest (length front) refl le_field);
+        le_begin = rw (data_end_lem, ← from_le) (le_begins front rest (length front) refl le_field);
       }
 
   le_is : le_in r.le_field (data_end r by_lc) by_lc ≡ le
-  le_is = rw (data_end, ← from_le) (le_says front rest (length front) refl le_field)
+  le_is = rw (data_end_lem, ← from_le) (le_says front rest (length front) refl le_field)
 
   header_is : header_of by_lc ≡ h
   unfolding by_lc
@@ -157,8 +157,8 @@ module _ (r : Row) (h : ApduHeader) (lcb leb content rest : List ℕ) (le : ℕ)
   short_long =
       let a = length-append lcb (content ++ leb) in
       let b = length-append content leb in
-      let d = lc_long lc_field in
-      let e = le_long le_field in
+      let d = lc_long_lem lc_field in
+      let e = le_long_lem le_field in
       omega arith
 
   built_stands : Standing r (frame_with h (lcb ++ (content ++ leb))) rest (saying h r.number (4 + r.lc_field) (length content) le)
@@ -307,7 +307,7 @@ module _ (r : Row) (frame : List ℕ) (long : 4 ≤ length frame) where
   pub early_in : ends_early r frame ≡ true → EarlyIn r frame
   early_in e =
       let t = Columns.early_of r frame e in
-      record { le_field = Columns.le_most (Columns.row_le r t.0.is_row); ends = go r.lc_field (Columns.row_lc r t.0.is_row) t.0.begin t.1 }
+      record { le_field = Columns.le_most_lem (Columns.row_le r t.0.is_row); ends = go r.lc_field (Columns.row_lc r t.0.is_row) t.0.begin t.1 }
     where
       one : Dec (length frame < 5) → length frame < 5 + lc_in 1 frame → EndsIn frame 1
       one (yes h) l = in_one h

@@ -1,12 +1,12 @@
 -- A table of one row, on every list of numbers: a frame is read by it exactly when the row fits, and then as the row says.
 use Prim.Native.Nat.{ℕ, ◌<◌, ◌≤◌}
-use mathlib.Core.Path.{◌≡◌, refl, ap, sym, ◌∙◌}
+use mathlib.Core.Path.{◌≡◌, ap, sym, ◌∙◌}
 use mathlib.Core.Bool.{true, false}
 use mathlib.Core.List.{List, [], ◌∷◌}
 use native.Mathlib.Omega.{arith}
 use native.Mathlib.Decide.{dec_lt}
 use lib.ListN.{length}
-use Rattle.outcome.specs.Outcome.{Outcome, Gives}
+use Rattle.outcome.specs.Outcome.{Gives}
 use Rattle.outcome.proofs.Laws.{gives_same, word_gives}
 use Rattle.apdu_table_stated.specs.Words.{Says, Row, Tried, ByRow}
 use Rattle.apdu_table_stated.specs.Trying.{fits, in_turn}

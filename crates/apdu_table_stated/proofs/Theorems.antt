@@ -3,10 +3,9 @@ use Prim.Native.Nat.{ℕ, ◌≤◌}
 use mathlib.Core.Path.{◌≡◌, refl, ap, sym, subst, ◌∙◌}
 use mathlib.Core.List.{List, [], ◌∷◌, map}
 use mathlib.Core.Logic.{◌↔◌}
-use native.Mathlib.Omega.{arith}
 use lib.ListN.{length, drop}
 use lib.Dec.{eqb}
-use Rattle.outcome.specs.Notation.{if◌then◌else◌}
+use Rattle.outcome.specs.Notation.{when◌then◌else◌}
 use Rattle.outcome.specs.Outcome.{Gives}
 use Rattle.outcome.proofs.Laws.{gives_same}
 use Rattle.octets.specs.Bytes.{AreBytes}
@@ -40,7 +39,7 @@ SameReading entry frame = same entry frame
 -- a row of a table by its number
 row_numbered : List Row → ℕ → Row
 row_numbered [] n = numbered 0 0 0 0
-row_numbered (r ∷ rows) n = if eqb r.number n then r else row_numbered rows n
+row_numbered (r ∷ rows) n = when eqb r.number n then r else row_numbered rows n
 
 by_number : (entry : Entry) {r : Row} → RowIs entry r → r ≡ row_numbered (table_of entry) r.number
 unfolding row_numbered

@@ -1,5 +1,6 @@
 -- What each answer says, in the documents' numbers: of a frame by its row, and of a reading.
-use Rattle.apdu_table_stated.specs.Words.{ℕ, ◌+◌, List, length, Outcome, Word, SW, Gives, word_of, missing_at, surplus_at, Says, Row, Tried, UnderFour, ByRow, Early, Beyond}
+use Rattle.std.specs.Prelude.{◌+◌}
+use Rattle.apdu_table_stated.specs.Words.{ℕ, List, length, Outcome, Word, SW, Gives, word_of, missing_at, surplus_at, Says, Row, Tried, UnderFour, ByRow, Early, Beyond}
 use Rattle.apdu_stated.specs.Reading.{header_of}
 use Rattle.apdu_table_stated.specs.Trying.{lc_in, le_in, data_end, tried_of}
 pub use Rattle.apdu_table_stated.specs.declared.RowSays.{RowSays}

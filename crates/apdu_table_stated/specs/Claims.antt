@@ -3,8 +3,8 @@
 -- Wrong.antt do not by proofs/Refuted.antt. By proofs/Only.antt nothing else meets `TablesExactly` and `SaidExactly`, on frames of bytes `TriesExactly` and
 -- `AnswersExactly`, on rows of four numbers `ColumnsExactly`, and no other answer by these two tables `SameReading`; `OneRowFits`, `ExamplesRead` and
 -- `RowsAsTheTable` stand beside them. Words: Terms.antt.
-use Rattle.std.specs.Prelude.{◌↔◌}
-use Rattle.apdu_table_stated.specs.Words.{ℕ, ◌≤◌, ◌<◌, ◌≡◌, List, [], ◌∷◌, map, length, drop, if◌then◌else◌, AtMostOne, Outcome, Word, Gives, SW, word_of, wrong_length, AreBytes, Says, saying, Reading, reading_of, ApduStatusCode, Entry, Ordinary, Strict, ApduHeader, Case, Instruction, Le1, Lc1Data, Lc1DataLe1, Lc3Data, Lc3DataLe2, Le3, shape_no, Row, Tried, UnderFour, ByRow, Early, Beyond}
+use Rattle.std.specs.Prelude.{◌↔◌, ◌≤◌, ◌<◌, ◌≡◌, ◌∷◌}
+use Rattle.apdu_table_stated.specs.Words.{ℕ, List, [], map, length, drop, AtMostOne, Outcome, Word, Gives, SW, word_of, wrong_length, AreBytes, Says, saying, Reading, reading_of, ApduStatusCode, Entry, Ordinary, Strict, ApduHeader, Case, Instruction, Le1, Lc1Data, Lc1DataLe1, Lc3Data, Lc3DataLe2, Le3, shape_no, Row, Tried, UnderFour, ByRow, Early, Beyond}
 use Rattle.apdu_stated.specs.Promises.{Read, ReadStrict}
 use Rattle.apdu_stated.specs.Table.{lc_field, le_field, least_of}
 use Rattle.apdu_stated.specs.Reading.{read_by}

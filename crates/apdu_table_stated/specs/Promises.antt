@@ -1,5 +1,6 @@
 -- What each public function of `apdu_table` promises of its result, on every table and every frame. A table is lent as its rows, four numbers each.
-use Rattle.apdu_table_stated.specs.Words.{ℕ, ◌≡◌, List, map, Entry, Ordinary, Strict, Tried}
+use Rattle.std.specs.Prelude.{◌≡◌}
+use Rattle.apdu_table_stated.specs.Words.{ℕ, List, map, Entry, Ordinary, Strict, Tried}
 use Rattle.apdu_table_stated.specs.Rows.{rows_of, columns_of, table_of}
 use Rattle.apdu_table_stated.specs.Trying.{tried_of}
 use Rattle.apdu_table_stated.specs.Answers.{TableReading, table_reading_of, read_by_rows}

@@ -1,7 +1,8 @@
 -- Document 02, E9: the shapes of document 01, 'Eight frame shapes', "as rows (length of Lc field, least Lc, length of Le field)"; E13: "E9's
 -- ordinary table loses its row 6"; E9 again: "The strict reading is the same table with other least Lc" (its "without row 6" is true of both now). The two tables, one under the other. A row's
 -- number is its shape's in document 01, and not its place: none has number 6.
-use Rattle.apdu_table_stated.specs.Words.{ℕ, List, [], ◌∷◌, map, byte, Entry, Ordinary, Strict, Row}
+use Rattle.std.specs.Prelude.{◌∷◌}
+use Rattle.apdu_table_stated.specs.Words.{ℕ, List, [], map, byte, Entry, Ordinary, Strict, Row}
 
 -- a row: its shape's number, the length of its Lc field, the least Lc, the length of its Le field
 abbrev pub numbered : (number : ℕ) → (lc_long : ℕ) → (least : ℕ) → (le_long : ℕ) → Row

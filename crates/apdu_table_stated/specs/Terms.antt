@@ -1,6 +1,7 @@
 -- Words that only the claims use: a frame of a row, built from its fields as document 01's table spells them; a frame that ends early in a
 -- row; the rows of a table. They know a row by its columns alone.
-use Rattle.apdu_table_stated.specs.Words.{ℕ, ◌+◌, ◌≤◌, ◌<◌, ◌≡◌, List, [], ◌∷◌, ◌++◌, length, take, byte, pair_at, ApduHeader, Says, Row}
+use Rattle.std.specs.Prelude.{◌+◌, ◌≤◌, ◌<◌, ◌≡◌, ◌∷◌, ◌++◌}
+use Rattle.apdu_table_stated.specs.Words.{ℕ, List, [], length, take, byte, pair_at, ApduHeader, Says, Row}
 use Rattle.apdu_stated.specs.Terms.{IsPair, OneByteLe, TwoByteLe, frame_with, saying, LongestFront}
 
 -- `LcField long lc bytes`: the bytes of an Lc field of this length that says lc. 01: "Lc", "00, Lc (2)", or none

@@ -1,7 +1,8 @@
 -- Document 02, E9: a reader "that answers by the row that fits", over the rows of whatever table it is given. What a row makes of a frame by
 -- its three columns alone, and what comes of trying the rows in turn. Document 01, 'Eight frame shapes': "A frame is CLA INS P1 P2 and a
 -- payload", of an Lc field, data and an Le field. Document 02, E1: where the length of a frame that no row fits went wrong.
-use Rattle.apdu_table_stated.specs.Words.{ℕ, ◌+◌, Bool, false, not, ◌&&◌, ◌||◌, List, [], ◌∷◌, length, leb, ltb, eqb, if◌then◌else◌, byte, pair_at, le_read, Row, Tried, UnderFour, ByRow, Early, Beyond}
+use Rattle.std.specs.Prelude.{◌+◌, ◌&&◌, ◌||◌, ◌∷◌}
+use Rattle.apdu_table_stated.specs.Words.{ℕ, Bool, false, not, List, [], length, leb, ltb, eqb, when◌then◌else◌, byte, pair_at, le_read, Row, Tried, UnderFour, ByRow, Early, Beyond}
 
 -- the lengths that fields have: Lc in 0, 1 or 3 bytes, Le in 0 to 3. Ours: a row of other lengths fits no frame, claims no byte, and no frame ends
 -- early in it; any two of these lengths make a row
@@ -15,18 +16,18 @@ begins long place frame = not (eqb long 3) || leb (length frame) place || eqb (b
 -- what an Lc field of so many bytes says, behind the header: the byte, or the two behind 00. 0 where the frame ends before the field does
 unfoldable pub lc_in : (long : ℕ) → List ℕ → ℕ
 lc_in long frame =
-    if ltb (length frame) (4 + long) then 0
-    else if eqb long 1 then byte frame 4
-    else if eqb long 3 then pair_at frame 5
+    when ltb (length frame) (4 + long) then 0
+    else when eqb long 1 then byte frame 4
+    else when eqb long 3 then pair_at frame 5
     else 0
 
 -- what an Le field of so many bytes says, at its place: document 01's rule of the written 0, over the number of bytes. Asked only of a row that
 -- fits, so that the field stands in the frame
 unfoldable pub le_in : (long : ℕ) → (place : ℕ) → List ℕ → ℕ
 le_in long place frame =
-    if eqb long 1 then le_read 1 (byte frame place)
-    else if eqb long 2 then le_read 2 (pair_at frame place)
-    else if eqb long 3 then le_read 3 (pair_at frame (place + 1))
+    when eqb long 1 then le_read 1 (byte frame place)
+    else when eqb long 2 then le_read 2 (pair_at frame place)
+    else when eqb long 3 then le_read 3 (pair_at frame (place + 1))
     else 0
 
 -- "Data is exactly Lc bytes": where a row's data ends, and where the row does
@@ -59,20 +60,20 @@ ends_early r frame = opens r frame && ltb (length frame) (data_end r frame)
 -- how many bytes from the frame's start, header included, the row claims; 0 where it does not stand there. 02, E1: "the first byte that no field
 -- can claim" comes behind them
 abbrev pub claimed : Row → List ℕ → ℕ
-claimed r frame = if stands r frame then row_end r frame else 0
+claimed r frame = when stands r frame then row_end r frame else 0
 
 -- ours: the greater of two
 abbrev pub greater : (a : ℕ) → (b : ℕ) → ℕ
-greater a b = if ltb a b then b else a
+greater a b = when ltb a b then b else a
 
 -- The rows in turn: the first that fits. Where none does: whether the frame ends early in one of them, which outweighs the rest, else the
 -- most that one claims. `early` and `most` are what the rows before came to.
 abbrev pub in_turn : List Row → List ℕ → (early : Bool) → (most : ℕ) → Tried
-in_turn [] frame early most = if early then Early else Beyond most
+in_turn [] frame early most = when early then Early else Beyond most
 in_turn (r ∷ rows) frame early most =
-    if fits r frame then ByRow r
+    when fits r frame then ByRow r
     else in_turn rows frame (early || ends_early r frame) (greater most (claimed r frame))
 
 -- "A frame under 4 bytes gives 6a80"
 unfoldable pub tried_of : List Row → List ℕ → Tried
-tried_of rows frame = if ltb (length frame) 4 then UnderFour else in_turn rows frame false 0
+tried_of rows frame = when ltb (length frame) 4 then UnderFour else in_turn rows frame false 0

@@ -1,6 +1,6 @@
 -- The notation that the other files of specs/ are written in, and the words that they take from apdu_stated.
 pub use Rattle.std.specs.Prelude.{ℕ, ◌+◌, ◌≤◌, ◌<◌, ◌≡◌, Bool, false, not, ◌&&◌, ◌||◌, List, [], ◌∷◌, ◌++◌, map, length, take, drop, leb, ltb, eqb}
-pub use Rattle.outcome.specs.Notation.{if◌then◌else◌, AtMostOne}
+pub use Rattle.outcome.specs.Notation.{when◌then◌else◌, AtMostOne}
 pub use Rattle.outcome.specs.Outcome.{Outcome, Word, SW, Gives, word_of, missing_at, surplus_at, wrong_length}
 pub use Rattle.octets.specs.Bytes.{AreBytes, byte, pair_at}
 pub use Rattle.apdu_stated.specs.declared.ApduHeader.{ApduHeader}

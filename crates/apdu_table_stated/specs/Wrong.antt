@@ -1,6 +1,6 @@
 -- Tables and readers that are wrong: each fails a claim of Claims.antt, by proofs/Refuted.antt.
-use Rattle.std.specs.Prelude.{reverse}
-use Rattle.apdu_table_stated.specs.Words.{ℕ, ◌+◌, Bool, false, ◌&&◌, ◌||◌, List, [], ◌∷◌, length, eqb, ltb, if◌then◌else◌, byte, Outcome, Word, SW, Gives, word_of, surplus_at, missing_at, Says, Entry, Ordinary, Strict, Row, Tried, UnderFour, ByRow, Early, Beyond}
+use Rattle.std.specs.Prelude.{reverse, ◌+◌, ◌&&◌, ◌||◌, ◌∷◌}
+use Rattle.apdu_table_stated.specs.Words.{ℕ, Bool, false, List, [], length, eqb, ltb, when◌then◌else◌, byte, Outcome, Word, SW, Gives, word_of, surplus_at, missing_at, Says, Entry, Ordinary, Strict, Row, Tried, UnderFour, ByRow, Early, Beyond}
 use Rattle.apdu_stated.specs.Reading.{read_by}
 use Rattle.apdu_table_stated.specs.Rows.{numbered, table_of}
 use Rattle.apdu_table_stated.specs.Trying.{stands, row_end, ends_early, tried_of}
@@ -39,15 +39,15 @@ numbered_by_place Strict = numbered 1 0 0 0 ∷ numbered 2 0 0 1 ∷ numbered 3 
 -- "answers by the row that fits": here by the first that stands at the frame's front, also where it is too short
 abbrev first_standing : List Row → List ℕ → Tried
 first_standing [] frame = Early
-first_standing (r ∷ rows) frame = if stands r frame then ByRow r else first_standing rows frame
+first_standing (r ∷ rows) frame = when stands r frame then ByRow r else first_standing rows frame
 
 abbrev pub first_too_short : List Row → List ℕ → Outcome Says
-first_too_short rows frame = if ltb (length frame) 4 then SW 0x6a80 else answer_of frame (first_standing rows frame)
+first_too_short rows frame = when ltb (length frame) 4 then SW 0x6a80 else answer_of frame (first_standing rows frame)
 
 -- "the first byte that no field can claim": here where the first row that is too short ends
 abbrev first_end : List Row → List ℕ → ℕ
 first_end [] frame = 0
-first_end (r ∷ rows) frame = if stands r frame then row_end r frame else first_end rows frame
+first_end (r ∷ rows) frame = when stands r frame then row_end r frame else first_end rows frame
 
 abbrev placed_by : List Row → List ℕ → Tried → Tried
 placed_by rows frame UnderFour = UnderFour
@@ -68,7 +68,7 @@ seven_from0 [] = false
 seven_from0 (r ∷ rows) = (eqb r.number 7 && eqb r.lc_least 0) || seven_from0 rows
 
 abbrev pub asks_which_table : List Row → List ℕ → Outcome Says
-asks_which_table rows frame = if seven_from0 rows then read_by Ordinary frame else read_by Strict frame
+asks_which_table rows frame = when seven_from0 rows then read_by Ordinary frame else read_by Strict frame
 
 -- the rows are tried from the last to the first
 abbrev pub last_that_fits : List Row → List ℕ → Tried
@@ -81,8 +81,8 @@ any_early (r ∷ rows) frame = ends_early r frame || any_early rows frame
 
 abbrev pub early_first : List Row → List ℕ → Tried
 early_first rows frame =
-    if ltb (length frame) 4 then UnderFour
-    else if any_early rows frame then Early
+    when ltb (length frame) 4 then UnderFour
+    else when any_early rows frame then Early
     else tried_of rows frame
 
 -- "for missing bytes the frame's length": here 4, where the payload begins

@@ -1,9 +1,11 @@
 // Frames read by a table of rows: a row, and what comes of trying a table's rows on a frame. No function: table has them.
+#![tactic(auto)]
+
 use apdu_stated::ApduHeader;
 use outcome::ApduStatusCode;
 
 // A row of a table: the shape's number, the length of its Lc field, the least Lc, the length of its Le field.
-#[derive(Drop)]
+#[derive(Clone, Copy)]
 pub struct Row {
     pub number: u8,
     pub lc_field: usize,
@@ -13,7 +15,7 @@ pub struct Row {
 
 // What comes of trying a table's rows on a frame: it is under four bytes; it is of this row; it ends before a row's Lc field or data
 // does; or it goes on behind the most that a row can claim of it.
-#[derive(Drop)]
+#[derive(Clone, Copy)]
 pub enum Tried {
     UnderFour,
     ByRow(Row),
@@ -22,7 +24,7 @@ pub enum Tried {
 }
 
 // What a frame says, as its row has it. Its data stays in the frame, from `start` on.
-#[derive(Drop)]
+#[derive(Clone, Copy)]
 pub struct RowSays {
     pub header: ApduHeader,
     pub number: u8,
@@ -31,7 +33,7 @@ pub struct RowSays {
     pub le: u32,
 }
 
-#[derive(Drop)]
+#[derive(Clone, Copy)]
 pub enum TableReading {
     Frame(RowSays),
     Status(ApduStatusCode),

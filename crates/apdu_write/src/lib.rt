@@ -4,6 +4,8 @@
 //    | CLA | INS | P1 | P2 | Lc field | data, Lc bytes | Le field |
 //    +-----+-----+----+----+----------+----------------+----------+
 //                            0, 1, 3                     0, 1, 2, 3 bytes
+#![tactic(auto)]
+
 ghost use Rattle.std.specs.Prelude.{◌+◌, ◌≤◌, ◌≡◌, ◌++◌, length};
 ghost use Rattle.octets.specs.Bytes.{laid};
 ghost use Rattle.apdu_stated.specs.Table.{lc_field, lc_most, lc_bytes, le_bytes};

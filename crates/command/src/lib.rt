@@ -4,6 +4,8 @@
 // Authenticate  challenge (32) | application (32) | h | key handle (h)
 //
 // Challenge, application and handle stay in the caller's frame and are handed out as parts of it.
+#![tactic(auto)]
+
 ghost use Rattle.std.specs.Prelude.{◌<◌, ◌≡◌};
 ghost use Rattle.outcome.specs.Outcome.{against_ins};
 ghost use Rattle.octets.specs.Bytes.{byte};

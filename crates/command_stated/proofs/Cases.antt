@@ -1,12 +1,11 @@
 -- The definitions of command reading, case by case, as the code meets them. It mentions no function.
 use Prim.Native.Nat.{ℕ, ◌+◌, ◌<◌, ◌≤◌}
 use mathlib.Core.Path.{◌≡◌, refl, ap, sym, ◌∙◌}
-use mathlib.Core.Bool.{true, false, not, ◌||◌}
+use mathlib.Core.Bool.{true, not}
 use mathlib.Core.List.{List}
-use native.Mathlib.Omega.{arith}
 use borrow.Author.Tests.{lt-ltb, le-ltb, eq-eqb, ne_eqb}
 use lib.ListN.{length, get_or-eq_default}
-use Rattle.outcome.specs.Notation.{if◌then◌else◌}
+use Rattle.outcome.specs.Notation.{when◌then◌else◌}
 use Rattle.outcome.specs.Outcome.{StatusWord, Outcome, Word, SW, Gives, against_ins, word_of}
 use Rattle.outcome.specs.declared.ApduStatusCode.{ApduStatusCode}
 use Rattle.octets.specs.Bytes.{byte, part_of}
@@ -37,7 +36,7 @@ module _ (frame : List ℕ) (said : Says) where
     auth_other o is n = is ∙ rw (le-ltb said.lc 65 long, ← same_h, ne_eqb said.lc (65 + h) n)
 
     module _ (fits : said.lc ≡ 65 + h) where
-      by_control : {o : Outcome Command} → (if not (is_control said.header.p1) then SW 0x6a80 else Gives (Authenticate said.header.p1 said)) ≡ o → o ≡ authenticate_of frame said
+      by_control : {o : Outcome Command} → (when not (is_control said.header.p1) then SW 0x6a80 else Gives (Authenticate said.header.p1 said)) ≡ o → o ≡ authenticate_of frame said
       unfolding authenticate_of
       by_control e = rw (le-ltb said.lc 65 long, ← same_h, eq-eqb said.lc (65 + h) fits) (sym e)
 

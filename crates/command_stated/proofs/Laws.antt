@@ -3,7 +3,7 @@ use Prim.Native.Nat.{ℕ}
 use mathlib.Core.Path.{◌≡◌, ap, sym}
 use mathlib.Core.List.{List}
 use native.Mathlib.Omega.{arith}
-use Rattle.outcome.specs.Outcome.{StatusWord, Outcome, R, Word, Gives}
+use Rattle.outcome.specs.Outcome.{StatusWord, Outcome, R, Word}
 use Rattle.outcome.proofs.Laws.{r_word, r_gives}
 use Rattle.apdu_stated.specs.Answers.{Says}
 use Rattle.apdu_stated.proofs.Laws.{read_status}

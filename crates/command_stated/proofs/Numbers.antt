@@ -2,7 +2,7 @@
 use Prim.Native.Nat.{ℕ}
 use mathlib.Core.Path.{◌≡◌, refl, ap, ap₂}
 use lib.Dec.{eqb}
-use Rattle.outcome.specs.Notation.{if◌then◌else◌}
+use Rattle.outcome.specs.Notation.{when◌then◌else◌}
 use Rattle.outcome.specs.Outcome.{Outcome, R, Word, Gives}
 use Rattle.outcome.proofs.Laws.{one_to_one}
 use Rattle.outcome.proofs.Laws.{status_of, status_back}
@@ -12,8 +12,8 @@ use Rattle.command_stated.specs.declared.U2fCommand.TheVariants as U2fCommand'
 
 flags_of : ℕ → Ctap1Flags
 flags_of n =
-    if eqb n 0x07 then CheckOnly
-    else if eqb n 0x03 then EnforceUpAndSign
+    when eqb n 0x07 then CheckOnly
+    else when eqb n 0x03 then EnforceUpAndSign
     else DontEnforceUpAndSign
 
 flags_back : (f : Ctap1Flags) → flags_of (flags_no f) ≡ f

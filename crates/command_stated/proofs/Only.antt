@@ -1,7 +1,6 @@
 -- Only the definitions meet the claims: two programs that meet one agree on every input.
-use Prim.Native.Nat.{ℕ, ◌+◌, ◌≤◌}
+use Prim.Native.Nat.{ℕ}
 use mathlib.Core.Path.{◌≡◌, refl, ap, sym, ◌∙◌}
-use mathlib.Core.Bool.{true}
 use mathlib.Core.List.{List}
 use mathlib.Core.Logic.{inl, inr}
 use native.Mathlib.Omega.{arith}
@@ -13,7 +12,7 @@ use Rattle.apdu_stated.specs.Answers.{Says}
 use Rattle.apdu_stated.specs.declared.Entry.TheVariants.{Ordinary}
 use Rattle.apdu_stated.specs.Reading.{read_of}
 use Rattle.apdu_stated.proofs.Laws.{FrameWay, under, found, ends, goes_on, frame_way}
-use Rattle.command_stated.specs.Command.{Ctap1Flags, CheckOnly, EnforceUpAndSign, DontEnforceUpAndSign, Command, by_instruction, command_of}
+use Rattle.command_stated.specs.Command.{CheckOnly, EnforceUpAndSign, DontEnforceUpAndSign, Command, by_instruction, command_of}
 use Rattle.command_stated.specs.declared.U2fCommand.TheVariants as U2fCommand'
 use Rattle.command_stated.specs.Claims
 use Rattle.command_stated.proofs.Ways.{Why, class, instruction, parameters, lengths, control, Way, register, authenticate, version, fetch, status, way, Read, read, unread, reading}

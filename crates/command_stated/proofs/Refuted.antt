@@ -1,7 +1,6 @@
 -- The claim that is false of each wrong program, at a frame where it bites.
-use Prim.Native.Nat.{ℕ, ◌+◌, ◌≤◌, ◌<◌}
+use Prim.Native.Nat.{ℕ}
 use mathlib.Core.Path.{◌≡◌, refl, sym, ap, ◌∙◌}
-use mathlib.Core.Bool.{true, false}
 use mathlib.Core.List.{List, [], ◌∷◌, ◌++◌}
 use mathlib.Core.Logic.{inl, inr}
 use native.Mathlib.Omega.{arith}
@@ -12,13 +11,13 @@ use Rattle.outcome.proofs.Laws.{gives_same, word_same, word_gives}
 use Rattle.octets.specs.Bytes.{byte, part_of}
 use Rattle.apdu_stated.specs.Answers.{Says}
 use Rattle.apdu_stated.specs.declared.Apdu.{Apdu}
-use Rattle.apdu_stated.specs.Reading.{read_by, read_of, say_of, lengths_of, short_of, extended_of, after_data, data_of}
+use Rattle.apdu_stated.specs.Reading.{read_by, say_of, lengths_of, short_of, extended_of, after_data, data_of}
 use Rattle.apdu_stated.specs.Terms.{saying, frame_with, apdu_of}
 use Rattle.apdu_stated.specs.declared.Case.TheVariants.{Lc1Data}
 use Rattle.apdu_stated.specs.declared.ApduHeader.{ApduHeader}
 use Rattle.apdu_stated.specs.declared.Place.{Place}
 use Rattle.command_stated.specs.Command.{Command, Register, Authenticate, Version, GetResponse, register_of, authenticate_of, version_of, by_instruction, on_reading, command_of, challenge_place_of, application_place_of, challenge_of, application_of, handle_of}
-use Rattle.command_stated.specs.Terms.{WrongLc, of_register, too_short, other_handle, of_p2, UnknownInstruction}
+use Rattle.command_stated.specs.Terms.{of_register, other_handle, of_p2}
 use Rattle.outcome.specs.declared.ApduStatusCode.TheVariants as Status'
 use Rattle.outcome.specs.declared.LengthFault.TheVariants as Fault'
 use Rattle.command_stated.specs.declared.U2fCommand.TheVariants as U2fCommand'

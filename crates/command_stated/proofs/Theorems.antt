@@ -1,20 +1,20 @@
 -- The definitions meet the claims of specs/Claims.antt, each under its claim's name.
 use Prim.Native.Nat.{ℕ, ◌+◌, ◌-◌, ◌<◌, ◌≤◌}
-use mathlib.Core.Path.{◌≡◌, refl, ap, ap₂, sym, subst, ◌∙◌}
+use mathlib.Core.Path.{◌≡◌, refl, ap, sym, subst, ◌∙◌}
 use mathlib.Core.Bool.{true}
 use mathlib.Core.List.{List, [], ◌∷◌, ◌++◌, append-nil}
 use mathlib.Core.Logic.{◌↔◌, ◌⊎◌, inl, inr}
 use native.Mathlib.Omega.{arith}
 use native.Mathlib.Decide.{ℕ_discrete}
 use lib.ListN.{length}
-use Rattle.outcome.specs.Outcome.{StatusWord, Outcome, R, Word, SW, Gives, plain_word, wrong_length, against_ins}
-use Rattle.outcome.specs.Terms.{PairsExactly, HasStatus}
+use Rattle.outcome.specs.Outcome.{StatusWord, Outcome, Word, SW, Gives, plain_word, wrong_length, against_ins}
+use Rattle.outcome.specs.Terms.{HasStatus}
 use Rattle.outcome.proofs.Laws.{gives_same, word_same, word_gives, both_are}
 use Rattle.octets.specs.Bytes.{byte, part_of}
 use Rattle.octets.proofs.Laws.{part_split, part_length, part_byte, part_one}
 use Rattle.apdu_stated.specs.Answers.{Says, says_of, reading_of}
 use Rattle.apdu_stated.specs.Reading.{read_of, data_of}
-use Rattle.apdu_stated.proofs.Laws.{data_within, data_long, data_from, read_status, read_short, read_pairs, never_third}
+use Rattle.apdu_stated.proofs.Laws.{data_within, data_from, read_status, read_short, read_pairs, never_third}
 use Rattle.command_stated.specs.Command.{Command, Register, Authenticate, Version, GetResponse, flags_no, command_said, is_control, get_response_of, by_instruction, on_reading, command_of, challenge_place_of, application_place_of, handle_place_of, challenge_of, application_of, handle_of}
 use Rattle.command_stated.specs.Terms.{WrongLc, of_register, too_short, other_handle, of_version, of_get_response, WrongParameters, of_p1, of_p2, WrongControl, UnknownInstruction}
 use Rattle.command_stated.specs.Claims
@@ -216,13 +216,13 @@ third (parameters c u) e = absurd (omega arith)
 third (lengths c u) e = refl
 third (control c u) e = absurd (omega arith)
 
-wrong_length : (frame : List ℕ) (said : Says) → said.header.cla ≡ 0x00 → WrongLc frame said → against_ins ≡ by_instruction frame said
-wrong_length frame said c (of_register i n) = Cases.register_other frame said c i against_ins refl n
-wrong_length frame said c (too_short i h) = Cases.authenticates frame said c against_ins i (Cases.auth_short frame said against_ins refl h)
-wrong_length frame said c (other_handle i h n) =
+wrong_length_lem : (frame : List ℕ) (said : Says) → said.header.cla ≡ 0x00 → WrongLc frame said → against_ins ≡ by_instruction frame said
+wrong_length_lem frame said c (of_register i n) = Cases.register_other frame said c i against_ins refl n
+wrong_length_lem frame said c (too_short i h) = Cases.authenticates frame said c against_ins i (Cases.auth_short frame said against_ins refl h)
+wrong_length_lem frame said c (other_handle i h n) =
     Cases.authenticates frame said c against_ins i (Cases.auth_other frame said (data_of frame said) 0 (byte (data_of frame said) 64) refl refl h against_ins refl n)
-wrong_length frame said c (of_version i n) = Cases.version_other frame said c i against_ins refl n
-wrong_length frame said c (of_get_response i a b n) = Cases.fetches frame said c against_ins i (Cases.fetch_other frame said a b against_ins refl n)
+wrong_length_lem frame said c (of_version i n) = Cases.version_other frame said c i against_ins refl n
+wrong_length_lem frame said c (of_get_response i a b n) = Cases.fetches frame said c against_ins i (Cases.fetch_other frame said a b against_ins refl n)
 
 pub LengthExactly : Claims.LengthExactly command_of
 LengthExactly frame = (λ t. go t.word t.numbered (told frame t.word t.is), back)
@@ -233,10 +233,10 @@ LengthExactly frame = (λ t. go t.word t.numbered (told frame t.word t.is), back
 
     back : HasStatus 0x6700 (read_of frame) ⊎ ((said : Says) × (read_of frame ≡ Gives said) × (said.header.cla ≡ 0x00) × WrongLc frame said) → HasStatus 0x6700 (command_of frame)
     back (inl t) = record { word = t.word; is = Cases.by_status frame t.word t.is; numbered = t.numbered }
-    back (inr t) = record { word = _; is = Cases.by_reading frame t.0 t.1 ∙ sym (wrong_length frame t.0 t.2 t.3); numbered = refl }
+    back (inr t) = record { word = _; is = Cases.by_reading frame t.0 t.1 ∙ sym (wrong_length_lem frame t.0 t.2 t.3); numbered = refl }
 
 pub AgainstInsExactly : Claims.AgainstInsExactly command_of
-AgainstInsExactly frame = (λ e. go (told frame _ e), λ t. Cases.by_reading frame t.0 t.1 ∙ sym (wrong_length frame t.0 t.2 t.3))
+AgainstInsExactly frame = (λ e. go (told frame _ e), λ t. Cases.by_reading frame t.0 t.1 ∙ sym (wrong_length_lem frame t.0 t.2 t.3))
   where
     go : Told frame (record { number = 0x6700; kind = 3; place = 4 }) → (said : Says) × (read_of frame ≡ Gives said) × (said.header.cla ≡ 0x00) × WrongLc frame said
     go (own r) = absurd (never_third frame _ r refl)
@@ -373,7 +373,7 @@ InstructedExactly =
         λ e. of_instruction frame said (why frame said _ e) refl,
         λ t. sym (Cases.unknown frame said t.0 t.1.not_01 t.1.not_02 t.1.not_03 t.1.not_C0),
       );
-      against_ins = λ frame said. (λ e. of_lengths frame said (why frame said _ e) refl, λ t. sym (wrong_length frame said t.0 t.1));
+      against_ins = λ frame said. (λ e. of_lengths frame said (why frame said _ e) refl, λ t. sym (wrong_length_lem frame said t.0 t.1));
       control = λ frame said. (λ e. of_control frame said (why frame said _ e) refl, λ t. sym (wrong_control frame said t.0 t.1));
     }
 

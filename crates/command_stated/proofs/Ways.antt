@@ -1,11 +1,11 @@
 -- Every way through command reading, with the facts that it shows.
 use Prim.Native.Nat.{ℕ, ◌+◌, ◌<◌, ◌≤◌}
-use mathlib.Core.Path.{◌≡◌, refl, ap, sym, subst, ◌∙◌}
-use mathlib.Core.Bool.{Bool, true, false, ◌||◌}
+use mathlib.Core.Path.{◌≡◌, refl, ap, subst, ◌∙◌}
+use mathlib.Core.Bool.{true}
 use mathlib.Core.List.{List}
 use native.Mathlib.Omega.{arith}
 use native.Mathlib.Decide.{ℕ_discrete, dec_lt}
-use Rattle.outcome.specs.Outcome.{StatusWord, Outcome, R, Word, Gives, plain_word, against_ins}
+use Rattle.outcome.specs.Outcome.{StatusWord, Outcome, Word, Gives, plain_word, against_ins}
 use Rattle.octets.specs.Bytes.{byte}
 use Rattle.apdu_stated.specs.Answers.{Says}
 use Rattle.apdu_stated.specs.declared.Entry.TheVariants.{Ordinary}

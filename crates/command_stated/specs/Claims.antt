@@ -1,8 +1,8 @@
 -- What is promised of command reading. Each claim takes the program as its argument; the definitions of Command.antt meet it by
 -- proofs/Theorems.antt, nothing else does by proofs/Only.antt, and the programs of Wrong.antt do not by proofs/Refuted.antt.
 -- What a frame says (`read_of`, `data_of`) is apdu_stated's, and determined there.
-use Rattle.std.specs.Prelude.{◌↔◌, ◌⊎◌}
-use Rattle.command_stated.specs.Words.{ℕ, ◌+◌, ◌≤◌, ◌<◌, ◌≡◌, true, ◌||◌, eqb, List, ◌∷◌, ◌++◌, length, AtMostOne, StatusWord, Outcome, R, Word, SW, Gives, ApduStatusCode, word_of, HasStatus, wrong_length, byte, part_of, Apdu, Place}
+use Rattle.std.specs.Prelude.{◌↔◌, ◌⊎◌, ◌+◌, ◌≤◌, ◌<◌, ◌≡◌, ◌||◌, ◌∷◌, ◌++◌}
+use Rattle.command_stated.specs.Words.{ℕ, true, eqb, List, length, AtMostOne, StatusWord, Outcome, R, Word, SW, Gives, ApduStatusCode, word_of, HasStatus, wrong_length, byte, part_of, Apdu, Place}
 use Rattle.outcome.specs.Terms.{PairsExactly}
 use Rattle.apdu_stated.specs.Answers.{Says, says_of, reading_of}
 use Rattle.apdu_stated.specs.declared.Reading.{Reading}

@@ -9,7 +9,7 @@ pub use Rattle.command_stated.specs.Answers.{Command, Register, Authenticate, Ve
 -- "01 Register: Lc not 64 gives 6700. P1 is not looked at."
 unfoldable pub register_of : Says → Outcome Command
 register_of said =
-    if not (eqb said.lc 64) then against_ins
+    when not (eqb said.lc 64) then against_ins
     else Gives (Register said)
 
 -- "P1 not 03, 07 or 08 gives 6a80"
@@ -19,34 +19,34 @@ is_control p1 = eqb p1 0x03 || eqb p1 0x07 || eqb p1 0x08
 -- "02 Authenticate: Lc under 65 gives 6700; Lc not 65 + data[64] gives 6700; P1 not 03, 07 or 08 gives 6a80."
 unfoldable pub authenticate_of : List ℕ → Says → Outcome Command
 authenticate_of frame said =
-    if ltb said.lc 65 then against_ins
-    else if not (eqb said.lc (65 + byte (data_of frame said) 64)) then against_ins
-    else if not (is_control said.header.p1) then SW 0x6a80
+    when ltb said.lc 65 then against_ins
+    else when not (eqb said.lc (65 + byte (data_of frame said) 64)) then against_ins
+    else when not (is_control said.header.p1) then SW 0x6a80
     else Gives (Authenticate said.header.p1 said)
 
 -- "03 Version: Lc not 0 gives 6700."
 unfoldable pub version_of : Says → Outcome Command
 version_of said =
-    if not (eqb said.lc 0) then against_ins
+    when not (eqb said.lc 0) then against_ins
     else Gives Version
 
 -- 02, E2: "C0 after the CLA check gives 6a86 for nonzero P1 or P2, then 6700 for Lc not 0"
 unfoldable pub get_response_of : Says → Outcome Command
 get_response_of said =
-    if not (eqb said.header.p1 0x00) then SW 0x6a86
-    else if not (eqb said.header.p2 0x00) then SW 0x6a86
-    else if not (eqb said.lc 0) then against_ins
+    when not (eqb said.header.p1 0x00) then SW 0x6a86
+    else when not (eqb said.header.p2 0x00) then SW 0x6a86
+    else when not (eqb said.lc 0) then against_ins
     else Gives GetResponse
 
 -- "CLA not 0 gives 6e00; then by INS"; "40..BF vendor and all others: 6d00, at any Lc.", but for C0: 02, E2: "loses INS C0, where
 -- this amends 01's 6d00"
 unfoldable pub by_instruction : List ℕ → Says → Outcome Command
 by_instruction frame said =
-    if not (eqb said.header.cla 0x00) then SW 0x6e00
-    else if eqb said.header.ins 0x01 then register_of said
-    else if eqb said.header.ins 0x02 then authenticate_of frame said
-    else if eqb said.header.ins 0x03 then version_of said
-    else if eqb said.header.ins 0xC0 then get_response_of said
+    when not (eqb said.header.cla 0x00) then SW 0x6e00
+    else when eqb said.header.ins 0x01 then register_of said
+    else when eqb said.header.ins 0x02 then authenticate_of frame said
+    else when eqb said.header.ins 0x03 then version_of said
+    else when eqb said.header.ins 0xC0 then get_response_of said
     else SW 0x6d00
 
 -- "shape (6a80, 6700)" first, the frame's status as it is

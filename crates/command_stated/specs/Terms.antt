@@ -1,5 +1,6 @@
 -- Words that only the claims use.
-use Rattle.command_stated.specs.Words.{ℕ, ◌+◌, ◌≤◌, ◌<◌, ◌≡◌, List, byte}
+use Rattle.std.specs.Prelude.{◌+◌, ◌≤◌, ◌<◌, ◌≡◌}
+use Rattle.command_stated.specs.Words.{ℕ, List, byte}
 use Rattle.apdu_stated.specs.Answers.{Says}
 use Rattle.apdu_stated.specs.Reading.{data_of}
 

@@ -1,10 +1,11 @@
 -- Wrong programs, one fault each. proofs/Refuted.antt shows the claim that is false of each.
-use Rattle.command_stated.specs.Words.{ℕ, ◌+◌, Bool, not, ◌||◌, List, [], length, ltb, eqb, if◌then◌else◌, StatusWord, Outcome, R, Word, SW, Gives, wrong_length, against_ins, word_of, byte, part_of, Place}
+use Rattle.std.specs.Prelude.{◌+◌}
+use Rattle.command_stated.specs.Words.{ℕ, not, List, [], length, ltb, eqb, when◌then◌else◌, StatusWord, Outcome, R, Word, SW, Gives, wrong_length, against_ins, word_of, byte, part_of, Place}
 use Rattle.command_stated.specs.declared.U2fCommand.TheVariants as U2fCommand'
 use Rattle.apdu_stated.specs.Answers.{Says, says_of}
 use Rattle.apdu_stated.specs.Reading.{read_of, data_of}
 use Rattle.apdu_stated.specs.Terms.{span}
-use Rattle.command_stated.specs.Command.{Ctap1Flags, CheckOnly, EnforceUpAndSign, DontEnforceUpAndSign, U2fCommand, flags_no, Command, Register, Authenticate, Version, GetResponse, is_control, register_of, authenticate_of, version_of, get_response_of, by_instruction, command_of, challenge_of, handle_place_of}
+use Rattle.command_stated.specs.Command.{Ctap1Flags, CheckOnly, EnforceUpAndSign, DontEnforceUpAndSign, U2fCommand, flags_no, Command, Register, Authenticate, Version, GetResponse, is_control, register_of, authenticate_of, version_of, get_response_of, by_instruction, command_of, challenge_of}
 
 -- a frame that is read, and then something else than the definition's tests
 abbrev on_read : (Says → Outcome Command) → Outcome Says → Outcome Command
@@ -16,64 +17,64 @@ on_read by (R n) = R n
 
 -- a Register's Lc is looked at before CLA
 abbrev pub register_before_class : List ℕ → Outcome Command
-register_before_class frame = on_read (λ said. if eqb said.header.ins 0x01 then register_of said else by_instruction frame said) (read_of frame)
+register_before_class frame = on_read (λ said. when eqb said.header.ins 0x01 then register_of said else by_instruction frame said) (read_of frame)
 
 -- an Authenticate's
 abbrev pub authenticate_before_class : List ℕ → Outcome Command
-authenticate_before_class frame = on_read (λ said. if eqb said.header.ins 0x02 then authenticate_of frame said else by_instruction frame said) (read_of frame)
+authenticate_before_class frame = on_read (λ said. when eqb said.header.ins 0x02 then authenticate_of frame said else by_instruction frame said) (read_of frame)
 
 -- a Version's
 abbrev pub version_before_class : List ℕ → Outcome Command
-version_before_class frame = on_read (λ said. if eqb said.header.ins 0x03 then version_of said else by_instruction frame said) (read_of frame)
+version_before_class frame = on_read (λ said. when eqb said.header.ins 0x03 then version_of said else by_instruction frame said) (read_of frame)
 
 -- an unknown INS is refused before CLA is looked at
 abbrev pub instruction_before_class : List ℕ → Outcome Command
-instruction_before_class frame = on_read (λ said. if ltb 0x03 said.header.ins then SW 0x6d00 else by_instruction frame said) (read_of frame)
+instruction_before_class frame = on_read (λ said. when ltb 0x03 said.header.ins then SW 0x6d00 else by_instruction frame said) (read_of frame)
 
 -- CLA is not looked at
 abbrev pub class_not_looked_at : List ℕ → Outcome Command
 class_not_looked_at frame =
     on_read (λ said.
-    if eqb said.header.ins 0x01 then register_of said
-    else if eqb said.header.ins 0x02 then authenticate_of frame said
-    else if eqb said.header.ins 0x03 then version_of said
+    when eqb said.header.ins 0x01 then register_of said
+    else when eqb said.header.ins 0x02 then authenticate_of frame said
+    else when eqb said.header.ins 0x03 then version_of said
     else SW 0x6d00)
     (read_of frame)
 
 -- "shape (6a80, 6700)": here a frame under 4 bytes gets 6700
 abbrev pub short_frame_gets6700 : List ℕ → Outcome Command
-short_frame_gets6700 frame = if ltb (length frame) 4 then SW 0x6700 else command_of frame
+short_frame_gets6700 frame = when ltb (length frame) 4 then SW 0x6700 else command_of frame
 
 -- ---- Register
 
 -- "P1 is not looked at"
 abbrev pub register_looks_at_p1 : List ℕ → Outcome Command
 register_looks_at_p1 frame =
-    on_read (λ said. if eqb said.header.ins 0x01 then (if not (eqb said.header.p1 0x03) then against_ins else by_instruction frame said) else by_instruction frame said) (read_of frame)
+    on_read (λ said. when eqb said.header.ins 0x01 then (when not (eqb said.header.p1 0x03) then against_ins else by_instruction frame said) else by_instruction frame said) (read_of frame)
 
 -- "Lc not 64 gives 6700": here Lc 65 is taken
 abbrev pub register_of65 : List ℕ → Outcome Command
-register_of65 frame = on_read (λ said. if eqb said.header.ins 0x01 then (if eqb said.lc 65 then Gives (Register said) else by_instruction frame said) else by_instruction frame said) (read_of frame)
+register_of65 frame = on_read (λ said. when eqb said.header.ins 0x01 then (when eqb said.lc 65 then Gives (Register said) else by_instruction frame said) else by_instruction frame said) (read_of frame)
 
 -- ---- Authenticate, of a frame of CLA 0
 
 -- "Lc under 65": here under 66, so that an empty handle is refused
 abbrev pub empty_handle_refused : List ℕ → Outcome Command
-empty_handle_refused frame = on_read (λ said. if ltb said.lc 66 then against_ins else authenticate_of frame said) (read_of frame)
+empty_handle_refused frame = on_read (λ said. when ltb said.lc 66 then against_ins else authenticate_of frame said) (read_of frame)
 
 -- "Lc not 65 + data[64]": here 64
 abbrev pub length_byte_uncounted : List ℕ → Outcome Command
 length_byte_uncounted frame =
-    on_read (λ said. if not (eqb said.lc (64 + byte (data_of frame said) 64)) then against_ins else Gives (Authenticate said.header.p1 said)) (read_of frame)
+    on_read (λ said. when not (eqb said.lc (64 + byte (data_of frame said) 64)) then against_ins else Gives (Authenticate said.header.p1 said)) (read_of frame)
 
 -- "P1 looked at before the handle length", a mistake that a quick port makes
 abbrev pub control_before_length : List ℕ → Outcome Command
-control_before_length frame = on_read (λ said. if not (is_control said.header.p1) then SW 0x6a80 else authenticate_of frame said) (read_of frame)
+control_before_length frame = on_read (λ said. when not (is_control said.header.p1) then SW 0x6a80 else authenticate_of frame said) (read_of frame)
 
 -- "P1 not 03, 07 or 08 gives 6a80": here any P1 is taken, and looked at when the order is made
 abbrev pub any_control : List ℕ → Outcome Command
 any_control frame =
-    on_read (λ said. if not (eqb said.lc (65 + byte (data_of frame said) 64)) then against_ins else Gives (Authenticate said.header.p1 said)) (read_of frame)
+    on_read (λ said. when not (eqb said.lc (65 + byte (data_of frame said) 64)) then against_ins else Gives (Authenticate said.header.p1 said)) (read_of frame)
 
 -- P1 03 is said as 07: no touch would be asked for
 abbrev pub enforce_said_as_check_only : List ℕ → Outcome Command
@@ -83,31 +84,31 @@ enforce_said_as_check_only frame = on_read (λ said. Gives (Authenticate 0x07 sa
 
 -- "40..BF vendor and all others: 6d00": here INS 40 is a Version
 abbrev pub vendor_as_version : List ℕ → Outcome Command
-vendor_as_version frame = on_read (λ said. if eqb said.header.ins 0x40 then Gives Version else by_instruction frame said) (read_of frame)
+vendor_as_version frame = on_read (λ said. when eqb said.header.ins 0x40 then Gives Version else by_instruction frame said) (read_of frame)
 
 -- "03 Version: Lc not 0 gives 6700": here Lc is not looked at
 abbrev pub version_with_data : List ℕ → Outcome Command
-version_with_data frame = on_read (λ said. if eqb said.header.ins 0x03 then Gives Version else by_instruction frame said) (read_of frame)
+version_with_data frame = on_read (λ said. when eqb said.header.ins 0x03 then Gives Version else by_instruction frame said) (read_of frame)
 
 -- "6d00, at any Lc": here an unknown INS with data gets 6700
 abbrev pub unknown_by_length : List ℕ → Outcome Command
-unknown_by_length frame = on_read (λ said. if ltb 0x03 said.header.ins then version_of said else by_instruction frame said) (read_of frame)
+unknown_by_length frame = on_read (λ said. when ltb 0x03 said.header.ins then version_of said else by_instruction frame said) (read_of frame)
 
 -- ---- GET RESPONSE: 02, E2, of a frame of CLA 0
 
 -- "this amends 01's 6d00": here C0 is still unknown
 abbrev pub three_commands : List ℕ → Outcome Command
-three_commands frame = on_read (λ said. if eqb said.header.ins 0xC0 then SW 0x6d00 else by_instruction frame said) (read_of frame)
+three_commands frame = on_read (λ said. when eqb said.header.ins 0xC0 then SW 0x6d00 else by_instruction frame said) (read_of frame)
 
 -- "nonzero P1 or P2": P2 is not looked at
 abbrev pub p2_not_looked_at : List ℕ → Outcome Command
 p2_not_looked_at frame =
-    on_read (λ said. if eqb said.header.ins 0xC0 then (if not (eqb said.header.p1 0x00) then SW 0x6a86 else if not (eqb said.lc 0) then against_ins else Gives GetResponse) else by_instruction frame said) (read_of frame)
+    on_read (λ said. when eqb said.header.ins 0xC0 then (when not (eqb said.header.p1 0x00) then SW 0x6a86 else when not (eqb said.lc 0) then against_ins else Gives GetResponse) else by_instruction frame said) (read_of frame)
 
 -- "then 6700 for Lc not 0": first
 abbrev pub fetch_length_first : List ℕ → Outcome Command
 fetch_length_first frame =
-    on_read (λ said. if eqb said.header.ins 0xC0 then (if not (eqb said.lc 0) then against_ins else get_response_of said) else by_instruction frame said) (read_of frame)
+    on_read (λ said. when eqb said.header.ins 0xC0 then (when not (eqb said.lc 0) then against_ins else get_response_of said) else by_instruction frame said) (read_of frame)
 
 -- ---- on a reading: a status's pair dropped; bytes in no shape told as an unknown INS
 abbrev pub on_reading_drops : List ℕ → Outcome Says → Outcome Command
@@ -125,18 +126,18 @@ on_reading_unknown frame (R n) = R n
 -- "with place 4 in every shape": here 5, behind the 00, in the extended ones
 abbrev at5 : Outcome Command → Outcome Command
 at5 (R n) = R n
-at5 (Word w) = if eqb w.kind 3 then wrong_length 3 5 else Word w
+at5 (Word w) = when eqb w.kind 3 then wrong_length 3 5 else Word w
 at5 (Gives c) = Gives c
 
 abbrev pub extended_at5 : List ℕ → Outcome Command
-extended_at5 frame = on_read (λ said. if eqb said.data_at 7 then at5 (by_instruction frame said) else by_instruction frame said) (read_of frame)
+extended_at5 frame = on_read (λ said. when eqb said.data_at 7 then at5 (by_instruction frame said) else by_instruction frame said) (read_of frame)
 
 -- the same of what a frame is said to say, in every shape; and there CLA is not looked at
 abbrev pub instructed_at5 : List ℕ → Says → Outcome Command
 instructed_at5 frame said = at5 (by_instruction frame said)
 
 abbrev pub instructed_without_class : List ℕ → Says → Outcome Command
-instructed_without_class frame said = if eqb said.header.ins 0x03 then version_of said else by_instruction frame said
+instructed_without_class frame said = when eqb said.header.ins 0x03 then version_of said else by_instruction frame said
 
 -- "carry the pair upward": here the frame's own is dropped; and here it is told as the third kind
 abbrev own_by : (StatusWord → Outcome Command) → List ℕ → Outcome Says → Outcome Command
@@ -148,12 +149,12 @@ abbrev pub own_pair_dropped : List ℕ → Outcome Command
 own_pair_dropped frame = own_by (λ w. SW w.number) frame (read_of frame)
 
 abbrev pub own_pair_as_third : List ℕ → Outcome Command
-own_pair_as_third frame = own_by (λ w. if eqb w.number 0x6700 then against_ins else Word w) frame (read_of frame)
+own_pair_as_third frame = own_by (λ w. when eqb w.number 0x6700 then against_ins else Word w) frame (read_of frame)
 
 -- the third kind's number alone
 abbrev number_alone : Outcome Command → Outcome Command
 number_alone (R n) = R n
-number_alone (Word w) = if eqb w.kind 3 then SW w.number else Word w
+number_alone (Word w) = when eqb w.kind 3 then SW w.number else Word w
 number_alone (Gives c) = Gives c
 
 abbrev pub third_without_pair : List ℕ → Outcome Command

@@ -1,9 +1,11 @@
 // From frame to command: what a frame asks for. No function: command has them.
+#![tactic(auto)]
+
 use apdu_stated::Apdu;
 use outcome::ApduStatusCode;
 
 // The control byte P1 of an Authenticate.
-#[derive(Drop)]
+#[derive(Clone, Copy)]
 pub enum Ctap1Flags {
     CheckOnly,
     EnforceUpAndSign,
@@ -12,7 +14,7 @@ pub enum Ctap1Flags {
 
 // A command with what its frame says, or the status word that answers the frame. The vendor's own commands have no
 // variant: like every other INS they are 6d00.
-#[derive(Drop)]
+#[derive(Clone, Copy)]
 pub enum U2fCommand {
     Register(Apdu),
     Authenticate(Ctap1Flags, Apdu),

@@ -1,5 +1,7 @@
-// The converter of recordings: frames of the old form, an extended Lc with a one_byte Le, become shape 7, or shape 8 where Lc is 0; a frame of
+// The converter of recordings: frames of the old form, an extended Lc with a one-byte Le, become shape 7, or shape 8 where Lc is 0; a frame of
 // any shape comes back as it is. The old form is read by the row that the table has lost (convert_stated's specs/Converting.antt).
+#![tactic(auto)]
+
 ghost use Rattle.std.specs.Prelude.{◌≤◌, ◌≡◌, [], ◌∷◌};
 ghost use Rattle.apdu_stated.specs.Reading.{read_of};
 ghost use Rattle.apdu_stated.specs.Writing.{writing_of};

@@ -1,6 +1,6 @@
 -- The definitions case by case, as the code meets them: the answer, from what was called. It mentions no function.
 use Prim.Native.Nat.{ℕ, ◌+◌, ◌<◌, ◌≤◌}
-use mathlib.Core.Path.{◌≡◌, refl, ap, sym, ◌∙◌}
+use mathlib.Core.Path.{◌≡◌, ap, sym, ◌∙◌}
 use mathlib.Core.Bool.{true, false}
 use mathlib.Core.List.{List, [], ◌∷◌}
 use borrow.Author.Tests.{lt-ltb, le-ltb, ne_eqb}
@@ -38,8 +38,8 @@ pub by_row : (table : List (List ℕ)) (frame : List ℕ) (r : TableReading) →
 by_row table frame r is e = e ∙ ap (λ (t : List (List ℕ)). read_by_rows (rows_of t) frame) is
 
 module _ (frame : List ℕ) (r : TableReading) (is_r : table_reading_of r ≡ old_of frame) where
-  pub is_old : (said : RowSays) → r ≡ TableReading'.Frame said → true ≡ is_old frame
-  is_old said e = ap (λ (x : TableReading). is_given (table_reading_of x)) (sym e) ∙ ap is_given is_r
+  pub is_old_lem : (said : RowSays) → r ≡ TableReading'.Frame said → true ≡ is_old frame
+  is_old_lem said e = ap (λ (x : TableReading). is_given (table_reading_of x)) (sym e) ∙ ap is_given is_r
 
   pub not_old : (s : ApduStatusCode) → r ≡ TableReading'.Status s → false ≡ is_old frame
   not_old s e = ap (λ (x : TableReading). is_given (table_reading_of x)) (sym e) ∙ ap is_given is_r
@@ -99,17 +99,17 @@ module _ (frame before : List ℕ) where
 
 -- ---- kept, or its status
 module _ (frame before : List ℕ) (r : Reading) (is_r : reading_of r ≡ read_of frame) where
-  kept_by : (o : Outcome Says) → reading_of r ≡ o → kept_by frame o before ≡ kept_by frame (read_of frame) before
-  kept_by o e = ap (λ (x : Outcome Says). kept_by frame x before) (sym e ∙ is_r)
+  kept_by_lem : (o : Outcome Says) → reading_of r ≡ o → kept_by frame o before ≡ kept_by frame (read_of frame) before
+  kept_by_lem o e = ap (λ (x : Outcome Says). kept_by frame x before) (sym e ∙ is_r)
 
   pub keep_said : (says : Apdu) (o : Outcome ℕ) → r ≡ Reading'.Frame says → o ≡ (copied frame before).0 → o ≡ (kept_by frame (read_of frame) before).0
-  keep_said says o e x = x ∙ ap (λ (y : Outcome ℕ × List ℕ). y.0) (kept_by _ (ap reading_of e))
+  keep_said says o e x = x ∙ ap (λ (y : Outcome ℕ × List ℕ). y.0) (kept_by_lem _ (ap reading_of e))
 
   pub keep_left : (says : Apdu) (new : List ℕ) → r ≡ Reading'.Frame says → new ≡ (copied frame before).1 → new ≡ (kept_by frame (read_of frame) before).1
-  keep_left says new e x = x ∙ ap (λ (y : Outcome ℕ × List ℕ). y.1) (kept_by _ (ap reading_of e))
+  keep_left says new e x = x ∙ ap (λ (y : Outcome ℕ × List ℕ). y.1) (kept_by_lem _ (ap reading_of e))
 
   pub keep_status : (s : ApduStatusCode) → r ≡ Reading'.Status s → Word (word_of s) ≡ (kept_by frame (read_of frame) before).0
-  keep_status s e = ap (λ (y : Outcome ℕ × List ℕ). y.0) (kept_by _ (ap reading_of e))
+  keep_status s e = ap (λ (y : Outcome ℕ × List ℕ). y.0) (kept_by_lem _ (ap reading_of e))
 
   pub keep_status_left : (s : ApduStatusCode) → r ≡ Reading'.Status s → before ≡ (kept_by frame (read_of frame) before).1
-  keep_status_left s e = ap (λ (y : Outcome ℕ × List ℕ). y.1) (kept_by _ (ap reading_of e))
+  keep_status_left s e = ap (λ (y : Outcome ℕ × List ℕ). y.1) (kept_by_lem _ (ap reading_of e))

@@ -1,27 +1,26 @@
 -- The old form: by its length, by its bytes, and as the row that the table has lost reads it.
-use Prim.Native.Nat.{ℕ, ◌+◌, ◌-◌, ◌*◌, ◌<◌, ◌≤◌}
-use mathlib.Core.Path.{◌≡◌, refl, ap, ap₂, sym, subst, ◌∙◌}
-use mathlib.Core.Bool.{Bool, true, false, true≢false}
+use Prim.Native.Nat.{ℕ, ◌+◌, ◌-◌}
+use mathlib.Core.Path.{◌≡◌, refl, ap, sym, subst, ◌∙◌}
+use mathlib.Core.Bool.{true, true≢false}
 use mathlib.Core.List.{List, [], ◌∷◌, ◌++◌}
 use native.Mathlib.Omega.{arith}
-use lib.ListN.{length, take, drop, length-append}
+use lib.ListN.{length, take, length-append}
 use lib.Seq.{take_at}
 use Rattle.outcome.specs.Outcome.{Outcome, R, Word, Gives}
-use Rattle.outcome.proofs.Laws.{gives_same, word_gives}
-use Rattle.octets.specs.Bytes.{AreBytes, byte, pair_at}
+use Rattle.outcome.proofs.Laws.{word_gives}
+use Rattle.octets.specs.Bytes.{AreBytes, pair_at}
 use Rattle.octets.proofs.Laws.{part_within}
 use Rattle.apdu_stated.specs.declared.ApduHeader.{ApduHeader}
 use Rattle.apdu_stated.specs.declared.Entry.TheVariants.{Ordinary}
 use Rattle.apdu_stated.specs.Answers.{Says}
-use Rattle.apdu_stated.specs.Table.{le_read}
-use Rattle.apdu_stated.specs.Reading.{read_of, header_of, data_of}
-use Rattle.apdu_stated.specs.Terms.{IsPair, OneByteLe, frame_with, saying, InTable, OldForm}
+use Rattle.apdu_stated.specs.Reading.{data_of}
+use Rattle.apdu_stated.specs.Terms.{frame_with, saying, InTable, OldForm}
 use Rattle.apdu_stated.proofs.Laws.{old_at, reads_entry}
 use Rattle.apdu_table_stated.specs.declared.Row.{Row}
 use Rattle.apdu_table_stated.specs.Trying.{lc_in, fits}
-use Rattle.apdu_table_stated.specs.Answers.{says_by, read_by_rows}
-use Rattle.apdu_table_stated.specs.Terms.{OfRow, LcField, three_lc, LeField, one_le, IsOf, First, this, later}
-use Rattle.apdu_table_stated.proofs.Laws.{answers_exactly, one_fits, one_reads, begins_other, begins_zero, begins_known, lc_three, Stands, fits_of, of_fits}
+use Rattle.apdu_table_stated.specs.Answers.{says_by}
+use Rattle.apdu_table_stated.specs.Terms.{OfRow, LcField, three_lc, LeField, one_le, First, this, later}
+use Rattle.apdu_table_stated.proofs.Laws.{answers_exactly, one_fits, one_reads, begins_other, begins_zero, begins_known, lc_three, fits_of, of_fits}
 use Rattle.convert_stated.specs.Converting.{old_row, old_of, is_given, is_old}
 use Rattle.convert_stated.specs.Terms.{Old, row6}
 
@@ -53,13 +52,13 @@ pub old_form : {frame : List ℕ} {h : ApduHeader} {d : List ℕ} {le : ℕ} →
 old_form (row6 {h} {d} {hi} {lo} {b} {le} p o) = let long = length-append d (b ∷ []) in let is = p.is in record { extended = refl; one_behind = omega arith }
 
 -- the frame as the row's
-old_row : {frame : List ℕ} {h : ApduHeader} {d : List ℕ} {le : ℕ} → Old frame h d le → OfRow old_row frame (saying h 6 7 (length d) le) d
-old_row (row6 {h} {d} {hi} {lo} {b} {le} p o) =
+old_row_lem : {frame : List ℕ} {h : ApduHeader} {d : List ℕ} {le : ℕ} → Old frame h d le → OfRow old_row frame (saying h 6 7 (length d) le) d
+old_row_lem (row6 {h} {d} {hi} {lo} {b} {le} p o) =
     record { header = h; lc_bytes = 0x00 ∷ hi ∷ lo ∷ []; le_bytes = b ∷ []; le = le; lc_field = three_lc p; least = omega arith; le_field = one_le o; frame_is = refl; says_is = refl }
 
 pub old_says : {frame : List ℕ} {h : ApduHeader} {d : List ℕ} {le : ℕ} → AreBytes frame → Old frame h d le → old_of frame ≡ Gives (saying h 6 7 (length d) le)
 old_says {frame} {h} {d} {le} bytes o =
-    let r = old_row o in
+    let r = old_row_lem o in
     (answers_exactly.reads (old_row ∷ []) frame bytes (saying h 6 7 (length d) le)).1 (old_row, d, this (saying h 6 7 (length d) le, d, r), r)
 
 -- and back

@@ -4,7 +4,7 @@ use mathlib.Core.Path.{◌≡◌, refl, ap₂, sym, ◌∙◌}
 use mathlib.Core.Bool.{Bool, true, false}
 use mathlib.Core.List.{List}
 use Rattle.outcome.specs.Notation.{Determines}
-use Rattle.outcome.specs.Outcome.{Outcome, R, Word}
+use Rattle.outcome.specs.Outcome.{Outcome}
 use Rattle.octets.specs.Bytes.{AreBytes}
 use Rattle.convert_stated.specs.declared.Converted.TheVariants.{Frame, Refused, Status}
 use Rattle.convert_stated.specs.Claims

@@ -1,7 +1,7 @@
 -- The claim that is false of each wrong program, at an input where it bites.
-use Prim.Native.Nat.{ℕ, ◌+◌, ◌≤◌}
+use Prim.Native.Nat.{ℕ}
 use mathlib.Core.Path.{◌≡◌, refl, sym, ap, ◌∙◌}
-use mathlib.Core.Bool.{true, false, true≢false}
+use mathlib.Core.Bool.{true≢false}
 use mathlib.Core.List.{List, [], ◌∷◌}
 use native.Mathlib.Omega.{arith}
 use lib.ListN.{length, replicate}
@@ -12,12 +12,11 @@ use Rattle.outcome.proofs.Laws.{gives_same, word_same, word_gives, r_gives, r_wo
 use Rattle.octets.specs.Bytes.{byte, part_of}
 use Rattle.octets.proofs.Laws.{small, bytes_of}
 use Rattle.apdu_stated.specs.declared.ApduHeader.{ApduHeader}
-use Rattle.apdu_stated.specs.declared.Case.TheVariants.{Lc3DataLe2, Le3}
 use Rattle.apdu_stated.specs.Answers.{Says}
 use Rattle.apdu_stated.specs.Table.{lc_fits, le_fits, carried_by}
 use Rattle.apdu_stated.specs.Reading.{read_by, read_of, say_of, lengths_of, short_of, extended_of, after_data, data_of}
-use Rattle.apdu_stated.specs.Writing.{parts_of, payload_of, frame_of, write_by, buffer_by}
-use Rattle.apdu_stated.specs.Terms.{full, plain, pair, frame_with, saying, InTable, row1, row7, row8, IsFrameOf, OldForm}
+use Rattle.apdu_stated.specs.Writing.{payload_of, frame_of, write_by, buffer_by}
+use Rattle.apdu_stated.specs.Terms.{full, plain, pair, frame_with, saying, row1, row7, row8, OldForm}
 use Rattle.apdu_stated.specs.declared.Entry.TheVariants.{Ordinary}
 use Rattle.apdu_stated.proofs.Laws.{reads_entry}
 use Rattle.apdu_table_stated.specs.Trying.{begins, lc_in, le_in, opens, stands, tried_of}

@@ -2,7 +2,7 @@
 use Prim.Native.Nat.{ℕ, ◌+◌, ◌<◌, ◌≤◌}
 use mathlib.Core.Path.{◌≡◌, refl, ap, ap₂, sym, subst, ◌∙◌}
 use mathlib.Core.Bool.{Bool, true, false}
-use mathlib.Core.List.{List, [], ◌∷◌, ◌++◌}
+use mathlib.Core.List.{List, [], ◌++◌}
 use mathlib.Core.Logic.{◌⊎◌, inl, inr}
 use native.Mathlib.Omega.{arith}
 use lib.Dec.{ltb}
@@ -10,24 +10,20 @@ use lib.ListN.{length, take, drop}
 use lib.Seq.{take_at}
 use Rattle.outcome.specs.Outcome.{StatusWord, Outcome, R, Word, Gives, wrong_length}
 use Rattle.outcome.proofs.Laws.{gives_same, word_same, word_gives, r_gives, r_word, both_are}
-use Rattle.outcome.specs.Notation.{if◌then◌else◌}
-use Rattle.octets.specs.Bytes.{AreBytes, byte, pair_at, laid}
+use Rattle.outcome.specs.Notation.{when◌then◌else◌}
+use Rattle.octets.specs.Bytes.{AreBytes, laid}
 use Rattle.apdu_stated.specs.declared.ApduHeader.{ApduHeader}
-use Rattle.apdu_stated.specs.declared.Case.{Case}
-use Rattle.apdu_stated.specs.declared.Case.TheVariants.{Lc3DataLe2, Le3}
 use Rattle.apdu_stated.specs.declared.Entry.TheVariants.{Ordinary, Strict}
 use Rattle.apdu_stated.specs.Answers.{Says}
-use Rattle.apdu_stated.specs.Table.{lc_field, le_field}
 use Rattle.apdu_stated.specs.Reading.{read_of, strict_of, data_of}
-use Rattle.apdu_stated.specs.Writing.{Parts, parts_of, frame_of}
-use Rattle.apdu_stated.specs.Terms.{InTable, IsFrameOf, LcZero, OldForm}
-use Rattle.apdu_stated.proofs.Laws.{reads_entry, of_table, write_exactly, WriteWay, unfit, no_room, written, write_way, read_exactly, strict_zero_at, otherwise_alike}
+use Rattle.apdu_stated.specs.Terms.{InTable, OldForm}
+use Rattle.apdu_stated.proofs.Laws.{reads_entry, of_table, write_exactly, WriteWay, unfit, no_room, written, write_way, read_exactly, strict_zero_at}
 use Rattle.convert_stated.specs.Converting.{old_of, is_old, new_parts, kept_by, convert_by, convert_of}
 use Rattle.convert_stated.specs.declared.Converted.{Converted}
 use Rattle.convert_stated.specs.Answers.{converted_of}
-use Rattle.convert_stated.specs.Terms.{Old, row6, Holds, by_table, by_old, Becomes, as_shape_7, as_shape_8, unchanged, EmptySeven}
+use Rattle.convert_stated.specs.Terms.{Becomes, as_shape_7, as_shape_8, unchanged, EmptySeven}
 use Rattle.convert_stated.specs.Claims
-use Rattle.convert_stated.proofs.OldForms.{OldIs, known, old_exactly, old_says, old_data, old_form, form_old, not_both}
+use Rattle.convert_stated.proofs.OldForms.{known, old_exactly, old_form, form_old}
 use Rattle.convert_stated.proofs.Becoming.{Said, holds, in_table, lc_is, some_data, unread_old, lc_zero, becomes_one, new_long, changed}
 use Rattle.convert_stated.proofs.Ways.{Way, short, wrote, status, way, copies}
 use Rattle.convert_stated.proofs.Numbers.{converted_same}
@@ -89,18 +85,18 @@ module _ (frame before : List ℕ) where
   abbrev Kept : Outcome ℕ × List ℕ → Type 0
   Kept o = ((n : ℕ) → o.0 ≡ R n → o.1 ≡ before) × ((w : StatusWord) → o.0 ≡ Word w → o.1 ≡ before)
 
-  kept_by : (o : Outcome Says) → Kept (kept_by frame o before)
-  kept_by (R n) = (λ m e. refl, λ w e. refl)
-  kept_by (Word s) = (λ m e. refl, λ w e. refl)
-  kept_by (Gives said) = go (ltb (length before) (length frame))
+  kept_by_lem : (o : Outcome Says) → Kept (kept_by frame o before)
+  kept_by_lem (R n) = (λ m e. refl, λ w e. refl)
+  kept_by_lem (Word s) = (λ m e. refl, λ w e. refl)
+  kept_by_lem (Gives said) = go (ltb (length before) (length frame))
     where
-      go : (b : Bool) → Kept (if b then (R 2, before) else (Gives (length frame), laid frame before))
+      go : (b : Bool) → Kept (when b then (R 2, before) else (Gives (length frame), laid frame before))
       go true = (λ m e. refl, λ w e. refl)
       go false = (λ m e. absurd (r_gives _ _ (sym e)), λ w e. absurd (word_gives _ _ (sym e)))
 
   kept : (o : Outcome Says) → Kept (convert_by frame o before)
-  kept (R n) = kept_by (read_of frame)
-  kept (Word s) = kept_by (read_of frame)
+  kept (R n) = kept_by_lem (read_of frame)
+  kept (Word s) = kept_by_lem (read_of frame)
   kept (Gives said) = ((write_exactly Ordinary).refused (new_parts frame said) before, λ w e. absurd (go (write_way Ordinary (new_parts frame said) before) w e))
     where
       go : {o : Outcome ℕ × List ℕ} → WriteWay Ordinary (new_parts frame said) before o → (w : StatusWord) → o.0 ≡ Word w → ⊥
@@ -179,14 +175,14 @@ pub ChangesExactly : Claims.ChangesExactly convert_of
 ChangesExactly =
     record {
       exactly = λ frame before n bytes e. let r = result_of frame before n bytes e in
-          (λ other. old_of r.becomes (λ same. other (r.cut ∙ same)), λ f same. changed f r.becomes (sym r.cut ∙ same));
+          (λ other. old_of_lem r.becomes (λ same. other (r.cut ∙ same)), λ f same. changed f r.becomes (sym r.cut ∙ same));
       converted = λ frame before bytes f room. given f room (way frame before bytes);
     }
   where
-    old_of : {frame result : List ℕ} → Becomes frame result → (result ≡ frame → ⊥) → OldForm frame
-    old_of (as_shape_7 o some w) other = old_form o
-    old_of (as_shape_8 o w) other = old_form o
-    old_of (unchanged i) other = absurd (other refl)
+    old_of_lem : {frame result : List ℕ} → Becomes frame result → (result ≡ frame → ⊥) → OldForm frame
+    old_of_lem (as_shape_7 o some w) other = old_form o
+    old_of_lem (as_shape_8 o w) other = old_form o
+    old_of_lem (unchanged i) other = absurd (other refl)
 
     over : (f b r : ℕ) → 1 + f ≤ b → b < r → (r ≡ 1 + f) ⊎ (1 + r ≡ f) → ⊥
     over f b r room h (inl x) = omega arith

@@ -1,16 +1,14 @@
 -- Every way through a conversion, with what it shows: of a frame of bytes.
-use Prim.Native.Nat.{ℕ, ◌+◌, ◌<◌, ◌≤◌}
+use Prim.Native.Nat.{ℕ, ◌<◌, ◌≤◌}
 use mathlib.Core.Path.{◌≡◌, refl, ap, sym, subst, ◌∙◌}
-use mathlib.Core.Bool.{Bool, true, false, true≢false}
 use mathlib.Core.List.{List, [], ◌∷◌, ◌++◌}
 use native.Mathlib.Omega.{arith}
 use native.Mathlib.Decide.{ℕ_discrete, dec_lt}
 use borrow.Author.Tests.{lt-ltb, le-ltb, ne_eqb}
-use lib.ListN.{length, take, drop}
-use lib.Seq.{take_at}
+use lib.ListN.{length, drop}
 use Rattle.outcome.specs.Outcome.{StatusWord, Outcome, R, Word, Gives}
-use Rattle.outcome.proofs.Laws.{gives_same, word_gives, r_gives, r_word}
-use Rattle.octets.specs.Bytes.{AreBytes, laid}
+use Rattle.outcome.proofs.Laws.{word_gives, r_gives}
+use Rattle.octets.specs.Bytes.{AreBytes}
 use Rattle.octets.proofs.Laws.{laid_fits}
 use Rattle.apdu_stated.specs.declared.ApduHeader.{ApduHeader}
 use Rattle.apdu_stated.specs.declared.Case.{Case}
@@ -20,19 +18,19 @@ use Rattle.apdu_stated.specs.Answers.{Says}
 use Rattle.apdu_stated.specs.Reading.{read_of}
 use Rattle.apdu_stated.specs.Writing.{Parts, parts_of, writing_of}
 use Rattle.apdu_stated.specs.Terms.{OneByteLe, full, plain, saying, InTable, IsFrameOf, Carries, shape7, shape8, OldForm}
-use Rattle.apdu_stated.proofs.Laws.{write_exactly, frame_of, read_exactly, read_refuses_not, reads_entry, WriteWay, unfit, no_room, written, write_way}
+use Rattle.apdu_stated.proofs.Laws.{write_exactly, frame_of_lem, read_exactly, read_refuses_not, reads_entry, WriteWay, unfit, no_room, written, write_way}
 use Rattle.convert_stated.specs.Converting.{old_of, new_shape, new_parts, copied, kept_by, convert_by, convert_of}
 use Rattle.convert_stated.specs.Terms.{Old, row6, Becomes, as_shape_7, as_shape_8, unchanged}
 use Rattle.convert_stated.proofs.OldForms.{old_says, says_old, old_data, old_given, given_old, not_both}
 
 -- ---- the new form
 -- of a frame of the old form, the parts of the new one
-pub new_parts : {frame : List ℕ} {h : ApduHeader} {d : List ℕ} {le : ℕ} → Old frame h d le → new_parts frame (saying h 6 7 (length d) le) ≡ parts_of h (new_shape (length d)) d le
-new_parts {frame} {h} {d} {le} o = ap (λ (content : List ℕ). parts_of h (new_shape (length d)) content le) (old_data o)
+pub new_parts_lem : {frame : List ℕ} {h : ApduHeader} {d : List ℕ} {le : ℕ} → Old frame h d le → new_parts frame (saying h 6 7 (length d) le) ≡ parts_of h (new_shape (length d)) d le
+new_parts_lem {frame} {h} {d} {le} o = ap (λ (content : List ℕ). parts_of h (new_shape (length d)) content le) (old_data o)
 
 pub renewed : (frame before : List ℕ) (h : ApduHeader) (d : List ℕ) (le : ℕ) → AreBytes frame → Old frame h d le → convert_of frame before ≡ writing_of (parts_of h (new_shape (length d)) d le) before
 unfolding convert_of
-renewed frame before h d le bytes o = ap (λ (x : Outcome Says). convert_by frame x before) (old_says bytes o) ∙ ap (λ (w : Parts). writing_of w before) (new_parts o)
+renewed frame before h d le bytes o = ap (λ (x : Outcome Says). convert_by frame x before) (old_says bytes o) ∙ ap (λ (w : Parts). writing_of w before) (new_parts_lem o)
 
 -- it can be carried
 le_small : {b le : ℕ} → OneByteLe b le → (1 ≤ le) × (le ≤ 256)
@@ -76,7 +74,7 @@ module _ (frame before : List ℕ) (bytes : AreBytes frame) where
       go _ (no_room c g) e =
           let t = ((write_exactly Ordinary).r2 w before).0 (ap (λ (x : Outcome ℕ × List ℕ). x.0) e) in
           short t.0 (becomes_new frame t.0 h d le o t.1) t.2
-      go _ (written c g) e = wrote _ (becomes_new frame _ h d le o (frame_of Ordinary w c)) g
+      go _ (written c g) e = wrote _ (becomes_new frame _ h d le o (frame_of_lem Ordinary w c)) g
 
   -- of no old form
   by_copy : (said : Says) → read_of frame ≡ Gives said → Way frame before (copied frame before)
@@ -99,7 +97,7 @@ module _ (frame before : List ℕ) (bytes : AreBytes frame) where
   by_form : (o : Outcome Says) → old_of frame ≡ o → Way frame before (convert_by frame o before)
   by_form (Gives said) e =
       let i = says_old frame said bytes e in
-      subst (Way frame before) (sym (ap (λ (s : Says). writing_of (new_parts frame s) before) i.said ∙ ap (λ (w : Parts). writing_of w before) (new_parts i.is_old))) (by_writing i.h i.d i.le i.is_old)
+      subst (Way frame before) (sym (ap (λ (s : Says). writing_of (new_parts frame s) before) i.said ∙ ap (λ (w : Parts). writing_of w before) (new_parts_lem i.is_old))) (by_writing i.h i.d i.le i.is_old)
   by_form (Word w) e = by_reading (λ o. word_gives _ _ (sym e ∙ old_given frame o)) (read_of frame) refl
   by_form (R k) e = by_reading (λ o. r_gives _ _ (sym e ∙ old_given frame o)) (read_of frame) refl
 

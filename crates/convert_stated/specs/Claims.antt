@@ -3,8 +3,8 @@
 -- on frames of bytes, `ConvertExactly`; and the programs of Wrong.antt do not by proofs/Refuted.antt. `ConvertedIsRead`, `ChangesExactly` and
 -- `ConvertsToItself` stand beside `ConvertExactly`: the first and the last speak of results alone, and one that refuses everything meets them. `before` is what the buffer held. Words: Terms.antt, and
 -- apdu_stated's `InTable`, `OldForm`.
-use Rattle.std.specs.Prelude.{◌↔◌}
-use Rattle.convert_stated.specs.Words.{ℕ, ◌+◌, ◌≤◌, ◌<◌, ◌≡◌, Bool, true, List, ◌++◌, length, take, drop, AtMostOne, StatusWord, Outcome, R, Word, Gives, word_of, refusal_no, ApduStatusCode, Refusal, AreBytes, ApduHeader, Says, read_of, strict_of, data_of, OldForm, Converted}
+use Rattle.std.specs.Prelude.{◌↔◌, ◌+◌, ◌≤◌, ◌<◌, ◌≡◌, ◌++◌}
+use Rattle.convert_stated.specs.Words.{ℕ, Bool, true, List, length, take, drop, AtMostOne, StatusWord, Outcome, R, Word, Gives, word_of, refusal_no, ApduStatusCode, Refusal, AreBytes, ApduHeader, Says, read_of, strict_of, data_of, OldForm, Converted}
 use Rattle.convert_stated.specs.Terms.{Old, Holds, Becomes, EmptySeven}
 use Rattle.convert_stated.specs.Promises.{OldFormTold, Convert}
 use Rattle.convert_stated.specs.Answers.{converted_of}

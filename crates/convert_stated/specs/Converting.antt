@@ -1,7 +1,8 @@
 -- Document 02, E13: "Bench recordings still hold such frames, so a converter reads the old form and writes the same header, data and Le as shape
 -- 7, or as shape 8 when Lc is 0. A frame of another shape comes back unchanged." "Refusals: the converter gives the reader's status for a frame in no
 -- shape, R2 when the buffer is shorter than the result."
-use Rattle.convert_stated.specs.Words.{ℕ, Bool, true, false, List, [], ◌∷◌, length, ltb, eqb, if◌then◌else◌, Outcome, R, Word, Gives, laid, Says, read_of, data_of, Case, Lc3DataLe2, Le3, Parts, parts_of, writing_of, Row, numbered, read_by_rows}
+use Rattle.std.specs.Prelude.{◌∷◌}
+use Rattle.convert_stated.specs.Words.{ℕ, Bool, true, false, List, [], length, ltb, eqb, when◌then◌else◌, Outcome, R, Word, Gives, laid, Says, read_of, data_of, Case, Lc3DataLe2, Le3, Parts, parts_of, writing_of, Row, numbered, read_by_rows}
 
 -- the row that the table has lost. 01: 6 | Lc3DataLe1 | 00, Lc (2), data, Le (1) | Lc 0..65535
 abbrev pub old_row : Row
@@ -23,7 +24,7 @@ is_old frame = is_given (old_of frame)
 
 -- "as shape 7, or as shape 8 when Lc is 0"
 abbrev pub new_shape : ℕ → Case
-new_shape lc = if eqb lc 0 then Le3 else Lc3DataLe2
+new_shape lc = when eqb lc 0 then Le3 else Lc3DataLe2
 
 -- "the same header, data and Le": Le goes over as a value, so that 256, which the old form says as 00, is written 01 00
 abbrev pub new_parts : List ℕ → Says → Parts
@@ -32,7 +33,7 @@ new_parts frame said = parts_of said.header (new_shape said.lc) (data_of frame s
 -- "A frame of another shape comes back unchanged": it is written to the buffer too
 abbrev pub copied : List ℕ → List ℕ → Outcome ℕ × List ℕ
 copied frame before =
-    if ltb (length before) (length frame) then (R 2, before)
+    when ltb (length before) (length frame) then (R 2, before)
     else (Gives (length frame), laid frame before)
 
 -- "the reader's status for a frame in no shape": asked where the frame is not of the old form. The reader refuses nothing: no R comes of it

@@ -1,5 +1,6 @@
 -- What each public function of `convert` promises of its result, and of the buffer that is lent to it, on every input.
-use Rattle.convert_stated.specs.Words.{◌≡◌, Bool, List, Outcome, Converted, ℕ}
+use Rattle.std.specs.Prelude.{◌≡◌}
+use Rattle.convert_stated.specs.Words.{Bool, List, Outcome, Converted, ℕ}
 use Rattle.convert_stated.specs.Converting.{is_old, convert_of}
 use Rattle.convert_stated.specs.Answers.{converted_of}
 

@@ -1,5 +1,6 @@
 -- Words that only the claims use: a frame of the old form by its bytes, a frame of any of document 01's eight shapes, and what each becomes.
-use Rattle.convert_stated.specs.Words.{ℕ, ◌+◌, ◌≤◌, ◌≡◌, List, [], ◌∷◌, ◌++◌, length, ApduHeader, Lc3DataLe2, Le3, Says, read_of, Gives, parts_of, IsPair, OneByteLe, frame_with, InTable, IsFrameOf}
+use Rattle.std.specs.Prelude.{◌≤◌, ◌≡◌, ◌∷◌, ◌++◌}
+use Rattle.convert_stated.specs.Words.{ℕ, List, [], length, ApduHeader, Lc3DataLe2, Le3, Says, read_of, Gives, parts_of, IsPair, OneByteLe, frame_with, InTable, IsFrameOf}
 
 -- `Old frame h d le`: a frame of the old form, with this header, data and Le. 01: 6 | Lc3DataLe1 | 00, Lc (2), data, Le (1) | Lc 0..65535
 pub data Old : List ℕ → ApduHeader → List ℕ → ℕ → Type 0 where

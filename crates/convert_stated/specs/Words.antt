@@ -1,6 +1,6 @@
 -- The notation that the other files of specs/ are written in, and the words that they take from apdu_stated and apdu_table_stated.
 pub use Rattle.std.specs.Prelude.{ℕ, ◌+◌, ◌≤◌, ◌<◌, ◌≡◌, Bool, true, false, not, ◌&&◌, List, [], ◌∷◌, ◌++◌, length, take, drop, ltb, eqb}
-pub use Rattle.outcome.specs.Notation.{if◌then◌else◌, AtMostOne}
+pub use Rattle.outcome.specs.Notation.{when◌then◌else◌, AtMostOne}
 pub use Rattle.outcome.specs.Outcome.{StatusWord, Outcome, R, Word, Gives, word_of, refusal_no, wrong_length}
 pub use Rattle.outcome.specs.declared.ApduStatusCode.{ApduStatusCode}
 pub use Rattle.outcome.specs.declared.Refusal.{Refusal}

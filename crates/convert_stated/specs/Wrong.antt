@@ -1,6 +1,6 @@
 -- Wrong programs, one fault each; `two_steps` joins two. proofs/Refuted.antt shows the claim that is false of each.
-use Rattle.std.specs.Prelude.{take, replicate}
-use Rattle.convert_stated.specs.Words.{ℕ, ◌+◌, Bool, false, ◌&&◌, List, [], ◌∷◌, ◌++◌, length, ltb, eqb, if◌then◌else◌, Outcome, R, Word, Gives, word_of, refusal_no, byte, pair_at, laid, Says, read_of, data_of, Lc3DataLe2, Le3, Parts, parts_of, writing_of, Converted}
+use Rattle.std.specs.Prelude.{take, replicate, ◌+◌, ◌&&◌, ◌∷◌}
+use Rattle.convert_stated.specs.Words.{ℕ, Bool, false, List, [], length, ltb, eqb, when◌then◌else◌, Outcome, R, Word, Gives, word_of, refusal_no, byte, pair_at, laid, Says, read_of, data_of, Lc3DataLe2, Le3, Parts, parts_of, writing_of, Converted}
 use Rattle.outcome.specs.Outcome.{SW}
 use Rattle.apdu_stated.specs.Table.{le_read}
 use Rattle.apdu_stated.specs.Reading.{header_of}
@@ -33,7 +33,7 @@ convert_with parts frame (Gives said) before = writing_of (parts frame said) bef
 abbrev pub le_zero_as_zero : List ℕ → List ℕ → Outcome ℕ × List ℕ
 le_zero_as_zero frame before =
     convert_with
-    (λ f said. let w = new_parts f said in parts_of w.header w.shape w.content (if eqb w.le 256 then 65536 else w.le))
+    (λ f said. let w = new_parts f said in parts_of w.header w.shape w.content (when eqb w.le 256 then 65536 else w.le))
     frame (old_of frame) before
 
 -- "or as shape 8 when Lc is 0": here as shape 7
@@ -48,7 +48,7 @@ abbrev emptied : List ℕ → Outcome Says → List ℕ → Outcome ℕ × List 
 emptied frame (R n) before = convert_of frame before
 emptied frame (Word s) before = convert_of frame before
 emptied frame (Gives said) before =
-    if eqb said.shape 7 && eqb said.lc 0 then writing_of (parts_of said.header Le3 [] said.le) before
+    when eqb said.shape 7 && eqb said.lc 0 then writing_of (parts_of said.header Le3 [] said.le) before
     else convert_of frame before
 
 abbrev pub shape7_rewritten : List ℕ → List ℕ → Outcome ℕ × List ℕ
@@ -56,11 +56,11 @@ shape7_rewritten frame before = emptied frame (read_of frame) before
 
 -- both together: an Lc of 0 becomes shape 7, and that shape 8 when it comes again
 abbrev pub two_steps : List ℕ → List ℕ → Outcome ℕ × List ℕ
-two_steps frame before = if is_old frame then lc_zero_as_shape7 frame before else shape7_rewritten frame before
+two_steps frame before = when is_old frame then lc_zero_as_shape7 frame before else shape7_rewritten frame before
 
 -- the old form comes back as it is, and here it gets the reader's status
 abbrev pub old_form_kept : List ℕ → List ℕ → Outcome ℕ × List ℕ
-old_form_kept frame before = if is_old frame then copied frame before else convert_of frame before
+old_form_kept frame before = when is_old frame then copied frame before else convert_of frame before
 
 abbrev pub old_form_refused : List ℕ → List ℕ → Outcome ℕ × List ℕ
 old_form_refused frame before = kept_by frame (read_of frame) before
@@ -68,7 +68,7 @@ old_form_refused frame before = kept_by frame (read_of frame) before
 -- known by its surplus: ten bytes and Lc are cut down to a frame
 abbrev pub converts_by_surplus : List ℕ → List ℕ → Outcome ℕ × List ℕ
 converts_by_surplus frame before =
-    if by_surplus frame then writing_of (new_parts frame (saying (header_of frame) 6 7 (pair_at frame 5) (le_read 1 (byte frame (7 + pair_at frame 5))))) before
+    when by_surplus frame then writing_of (new_parts frame (saying (header_of frame) 6 7 (pair_at frame 5) (le_read 1 (byte frame (7 + pair_at frame 5))))) before
     else convert_of frame before
 
 -- ---- refusals and the buffer: what convert_of answers, and leaves, with one thing changed
@@ -94,7 +94,7 @@ pair_dropped frame before = without_pair (convert_of frame before)
 -- 02, E13: "the reader's status for a frame in no shape, R2 when the buffer is shorter than the result". Here R2 where the buffer is shorter than a frame in no shape
 abbrev room_needed : Outcome ℕ × List ℕ → List ℕ → Outcome ℕ × List ℕ
 room_needed (R n, after) frame = (R n, after)
-room_needed (Word w, after) frame = if ltb (length after) (length frame) then (R 2, after) else (Word w, after)
+room_needed (Word w, after) frame = when ltb (length after) (length frame) then (R 2, after) else (Word w, after)
 room_needed (Gives n, after) frame = (Gives n, after)
 
 abbrev pub room_first : List ℕ → List ℕ → Outcome ℕ × List ℕ
@@ -102,13 +102,13 @@ room_first frame before = room_needed (convert_of frame before) frame
 
 -- "R2 when the buffer is shorter than the result": here also where it is shorter than the frame, which without data is longer than its result
 abbrev pub room_of_the_frame : List ℕ → List ℕ → Outcome ℕ × List ℕ
-room_of_the_frame frame before = if is_old frame && ltb (length before) (length frame) then (R 2, before) else convert_of frame before
+room_of_the_frame frame before = when is_old frame && ltb (length before) (length frame) then (R 2, before) else convert_of frame before
 
 -- and here one byte early: where the result just fits
 abbrev too_tight : Outcome ℕ × List ℕ → List ℕ → Outcome ℕ × List ℕ
 too_tight (R n, after) before = (R n, after)
 too_tight (Word w, after) before = (Word w, after)
-too_tight (Gives n, after) before = if eqb n (length before) then (R 2, before) else (Gives n, after)
+too_tight (Gives n, after) before = when eqb n (length before) then (R 2, before) else (Gives n, after)
 
 abbrev pub r2_one_byte_early : List ℕ → List ℕ → Outcome ℕ × List ℕ
 r2_one_byte_early frame before = too_tight (convert_of frame before) before

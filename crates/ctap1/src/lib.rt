@@ -1,6 +1,8 @@
 // The commands of the Rust's ctap1.rs, each on a record whose moment is settled, up to the signature: Version, Register and Authenticate. The room for
 // the whole reply is asked for before the touch is spent and before the counter is taken; what is to be signed goes out as an order. The checks before them,
 // and GET RESPONSE, are session's.
+#![tactic(auto)]
+
 ghost use Rattle.std.specs.Prelude.{◌≡◌, true, false};
 ghost use Rattle.outcome.specs.Outcome.{Gives};
 ghost use Rattle.apdu_stated.specs.Answers.{says_of};
@@ -175,7 +177,7 @@ fn enforce(
     counted(hardware, frame, says, true, block)
 }
 
-// A check_only 6985 is the good answer: it looks at no touch, asks for no room and leaves the windows alone.
+// A check-only 6985 is the good answer: it looks at no touch, asks for no room and leaves the windows alone.
 pub fn authenticate(
     frame: &[u8],
     side: u64,

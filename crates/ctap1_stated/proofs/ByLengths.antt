@@ -4,7 +4,7 @@ use mathlib.Core.Path.{◌≡◌, refl, ap₂, ◌∙◌}
 use mathlib.Core.Bool.{Bool, true, false, not}
 use lib.Dec.{ltb}
 use lib.ListN.{length}
-use Rattle.outcome.specs.Notation.{if◌then◌else◌}
+use Rattle.outcome.specs.Notation.{when◌then◌else◌}
 use Rattle.outcome.specs.Outcome.{Outcome, R, Word, Gives}
 use Rattle.apdu_stated.specs.Answers.{Says}
 use Rattle.command_stated.specs.Command.{Command, Register, Authenticate, Version, GetResponse, command_of}
@@ -22,13 +22,13 @@ use Rattle.ctap1_stated.specs.Terms.{with_contents, AsLong}
 -- a Register's path, by its tests and its order
 abbrev enrols : (short stored long present : Bool) → Order → DecisionPath
 enrols short stored long present o =
-    if short then NoRoom
-    else Touch (if not stored then Internal else if long then Internal else if not present then Internal else Orders o false)
+    when short then NoRoom
+    else Touch (when not stored then Internal else when long then Internal else when not present then Internal else Orders o false)
 
 -- with another order of the same head, the same is handed back
 module _ (o p : Order) (heads : head_of o ≡ head_of p) where
   checked : (found : Bool) (q : Presence)
-      → handed_of (if not found then status_result 0x6985 q else ended (Orders o false) q) ≡ handed_of (if not found then status_result 0x6985 q else ended (Orders p false) q)
+      → handed_of (when not found then status_result 0x6985 q else ended (Orders o false) q) ≡ handed_of (when not found then status_result 0x6985 q else ended (Orders p false) q)
   checked false q = refl
   checked true q = λ d. record { answer = Gives Ordered; presence = q; head = heads d; taken = false }
 

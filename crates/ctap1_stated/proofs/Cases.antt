@@ -6,10 +6,9 @@ use mathlib.Core.Bool.{Bool, true, false, not}
 use mathlib.Core.List.{List}
 use native.Mathlib.Decide.{ℕ_discrete}
 use borrow.Author.Tests.{lt-ltb, le-ltb, leb-true, leb-false, eq-eqb, ne_eqb, not-true, not-false}
-use lib.Dec.{leb, ltb, eqb}
+use lib.Dec.{leb, ltb}
 use lib.ListN.{length}
-use Rattle.outcome.specs.Notation.{if◌then◌else◌}
-use Rattle.outcome.specs.Outcome.{Outcome, R, Word, SW, Gives, plain_word, status_no, fault_of, word_of}
+use Rattle.outcome.specs.Outcome.{Outcome, R, Word, SW, Gives, status_no, fault_of, word_of}
 use Rattle.outcome.specs.declared.FaultNumbers.{FaultNumbers}
 use Rattle.outcome.specs.declared.ApduStatusCode.{ApduStatusCode}
 use Rattle.octets.specs.Bytes.{laid, bytes4}
@@ -22,9 +21,9 @@ use Rattle.signing_stated.specs.Orders.{register_order_of, authenticate_order_of
 use Rattle.signing_stated.specs.declared.Head.{Head}
 use Rattle.signing_stated.specs.Words.{Order, head_of, order_with}
 use Rattle.signing_stated.specs.Finishing.{register_room, authenticate_room}
-use Rattle.ctap1_stated.specs.Words.{Inputs, Enrolment, Hardware, is_present, DecisionGives, Body, Ordered, Counter, DecisionAlone, DecisionHanded, DecisionLeft, handed_of}
+use Rattle.ctap1_stated.specs.Words.{Inputs, Enrolment, Hardware, is_present, DecisionGives, Body, Ordered, DecisionAlone, DecisionHanded, DecisionLeft, handed_of}
 use Rattle.ctap1_stated.specs.Numbers.{is_yes, attestation_of, counter_of}
-use Rattle.ctap1_stated.specs.Decision.{refusal_result, word_result, status_result, body_result, order_result, along_by, along, ended, touch_checked, version_bytes, reply_left, block_left, left_of, blank_alone, end_alone, end_block}
+use Rattle.ctap1_stated.specs.Decision.{along_by, along, ended, touch_checked, version_bytes, reply_left, left_of, blank_alone, end_alone, end_block}
 use Rattle.ctap1_stated.specs.Path.{PathEnd, Internal, WrongData, Orders, version_path, register_path, register_ending, enrolment_order, register_ordered, signing_order, counted_ending, login_path}
 
 -- a decision's fields: only the order's head comes from a call

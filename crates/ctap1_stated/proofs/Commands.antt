@@ -68,9 +68,9 @@ module _ (a : Inputs) (blocks : AreBlocks a) (said : Says) (c : command_of a.fra
   unfolding registers enrolment_order
   register_of_layout = made_of_layout.0 registers (length a.certificate) (register_fit registers register_lengths)
 
-  pub register_room : room_needed (register_ordered a said) ≡ register_room (length a.new_handle) (length a.certificate)
+  pub register_room_lem : room_needed (register_ordered a said) ≡ register_room (length a.new_handle) (length a.certificate)
   unfolding registers enrolment_order
-  register_room = room_of_made.0 registers (length a.certificate) (register_fit registers register_lengths)
+  register_room_lem = room_of_made.0 registers (length a.certificate) (register_fit registers register_lengths)
 
 -- ---- the order of an Authenticate
 module _ (a : Inputs) (p1 : ℕ) (said : Says) (present : Bool) (n : ℕ) (c : command_of a.frame ≡ Gives (Authenticate p1 said)) where

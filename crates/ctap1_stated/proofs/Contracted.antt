@@ -1,32 +1,23 @@
 -- What a function hands back and leaves, by its contract alone, is what is decided on a frame of its command.
-use Prim.Native.Nat.{ℕ, ◌<◌, ◌≤◌, ◌^◌}
+use Prim.Native.Nat.{ℕ}
 use mathlib.Core.Path.{◌≡◌, refl, ap, sym, ◌∙◌}
 use mathlib.Core.Bool.{Bool, true, false}
-use mathlib.Core.List.{List, ◌∷◌}
-use mathlib.Core.Logic.{inl, inr, ⊎_elim}
-use native.Mathlib.Omega.{arith}
+use mathlib.Core.List.{List}
 use lib.Dec.{ltb}
-use lib.ListN.{length, drop}
-use Rattle.outcome.specs.Notation.{if◌then◌else◌}
+use Rattle.outcome.specs.Notation.{when◌then◌else◌}
 use Rattle.outcome.specs.Outcome.{Outcome, R, Word, Gives}
-use Rattle.apdu_stated.specs.Answers.{Says, says_of}
-use Rattle.apdu_stated.specs.declared.Apdu.{Apdu}
-use Rattle.command_stated.specs.Command.{Command, Register, Authenticate, Version, flags_no}
-use Rattle.command_stated.specs.declared.Ctap1Flags.{Ctap1Flags}
+use Rattle.apdu_stated.specs.Answers.{Says}
+use Rattle.command_stated.specs.Command.{Command, Register, Authenticate, Version}
 use Rattle.u2f_up_stated.specs.declared.Presence.{Presence}
 use Rattle.u2f_up_stated.specs.declared.Finding.{Finding}
 use Rattle.u2f_up_stated.specs.Moments.{moved_to, checked_of}
-use Rattle.u2f_up_stated.specs.Numbers.{presence_in, checked_in}
+use Rattle.u2f_up_stated.specs.Numbers.{checked_in}
 use Rattle.u2f_up_stated.specs.Terms.{NotRefused}
 use Rattle.u2f_up_stated.proofs.Laws.{settle_moves, settles_moved, checked_below}
 use Rattle.signing_stated.specs.Orders.{kind_no, blank_order}
-use Rattle.ctap1_stated.specs.Words.{Inputs, Hardware, HardwareSaid, Decision, DecisionGives, Body, Ordered, Part, DecisionResult, DecisionAlone, DecisionLeft, head_of, alone_from, handed_of, handed_from, left_from, enrolment_of, unfetched}
-use Rattle.ctap1_stated.specs.Numbers.{hardware_of}
-use Rattle.ctap1_stated.specs.Path.{DecisionPath, NoRoom, SixBytes, version_path, register_path, register_ending, login_path, authenticate_path, command_path}
-use Rattle.ctap1_stated.specs.Decision.{along_by, along, decision_of, reply_left, left_of, block_after, blank_alone}
-use Rattle.ctap1_stated.specs.Promises as Contract
-use Rattle.ctap1_stated.specs.Promises.{along_in}
-use Rattle.ctap1_stated.specs.Table
+use Rattle.ctap1_stated.specs.Words.{Inputs, Decision, DecisionGives, Body, Ordered, Part, DecisionResult, DecisionAlone, DecisionLeft, alone_from, handed_of, handed_from, left_from, enrolment_of, unfetched}
+use Rattle.ctap1_stated.specs.Path.{DecisionPath, NoRoom, SixBytes, version_path, register_path, register_ending, login_path, command_path}
+use Rattle.ctap1_stated.specs.Decision.{along_by, along, left_of, block_after, blank_alone}
 use Rattle.ctap1_stated.specs.Table.{DecidesExactly}
 use Rattle.ctap1_stated.specs.Terms.{Decider, Comes, HandsNoOrder, BlockWritten}
 use Rattle.ctap1_stated.proofs.Ways.{came, sound}
@@ -72,23 +63,23 @@ module _ (g : Decider) (G : DecidesExactly g) (p : Presence) (t : ℕ) (a : Inpu
       (ap (λ (w : DecisionLeft). w.said) left, block_written (g p t a) old block (ap (λ (w : DecisionLeft). w.block) left))
 
   -- ---- Register and Authenticate: of what is lent they look at no more than the contract names
-  pub register_path : (said : Says) → register_path (unfetched a.side a.frame a.hardware (enrolment_of a.new_handle a.certificate a.x a.y) a.room) said ≡ command_path a (Gives (Register said))
+  pub register_path_lem : (said : Says) → register_path (unfetched a.side a.frame a.hardware (enrolment_of a.new_handle a.certificate a.x a.y) a.room) said ≡ command_path a (Gives (Register said))
   unfolding command_path register_path register_ending
-  register_path said = refl
+  register_path_lem said = refl
 
-  pub login_path : (p1 : ℕ) (said : Says) → login_path a.frame a.hardware a.room p1 said ≡ command_path a (Gives (Authenticate p1 said))
+  pub login_path_lem : (p1 : ℕ) (said : Says) → login_path a.frame a.hardware a.room p1 said ≡ command_path a (Gives (Authenticate p1 said))
   unfolding command_path
-  login_path p1 said = refl
+  login_path_lem p1 said = refl
 
   -- ---- Version looks at no touch check
-  version_path : (room : ℕ) → along (version_path room) p (moved_to p t) 0 0 ≡ along (version_path room) p (moved_to p t) a.side t
+  version_path_lem : (room : ℕ) → along (version_path room) p (moved_to p t) 0 0 ≡ along (version_path room) p (moved_to p t) a.side t
   unfolding version_path
-  version_path room = by (ltb room 6)
+  version_path_lem room = by (ltb room 6)
     where
-      by : (b : Bool) → along (if b then NoRoom else SixBytes) p (moved_to p t) 0 0 ≡ along (if b then NoRoom else SixBytes) p (moved_to p t) a.side t
+      by : (b : Bool) → along (when b then NoRoom else SixBytes) p (moved_to p t) 0 0 ≡ along (when b then NoRoom else SixBytes) p (moved_to p t) a.side t
       by true = refl
       by false = refl
 
   pub version_decided : (room : ℕ) → Comes a Version → room ≡ a.room → along (version_path room) p (moved_to p t) 0 0 ≡ g p t a
   unfolding command_path
-  version_decided room e is = version_path room ∙ ap (λ (n : ℕ). along (version_path n) p (moved_to p t) a.side t) is ∙ decided Version e
+  version_decided room e is = version_path_lem room ∙ ap (λ (n : ℕ). along (version_path n) p (moved_to p t) a.side t) is ∙ decided Version e

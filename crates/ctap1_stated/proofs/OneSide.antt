@@ -13,7 +13,7 @@ use Rattle.u2f_up_stated.specs.OneSide.{base_settle_of, base_checked_of, base_by
 use Rattle.u2f_up_stated.specs.declared.Presence.{Presence}
 use Rattle.u2f_up_stated.specs.declared.Finding.{Finding}
 use Rattle.u2f_up_stated.proofs.Laws.{Mine, base_refused, base_no_status, SettledSame, refusing, moving, settled_same, checked_same, same, run, one_side}
-use Rattle.ctap1_stated.specs.Words.{Inputs, DecisionResult, Allowed}
+use Rattle.ctap1_stated.specs.Words.{Inputs, Allowed}
 use Rattle.ctap1_stated.specs.Path.{PathEnd, Internal, WrongData, Orders, DecisionPath, NoRoom, Ends, SixBytes, Fetches, Signs, Touch, register_ending, register_path, command_path, allowed_path, path_of, role_of_path, role_of}
 use Rattle.ctap1_stated.specs.Decision.{touch_checked, along_by, on_settled_by, decision_of}
 use Rattle.ctap1_stated.specs.Calls.{PanelCall, TouchAt, CheckAt, AskAt, DecideAt, told_by, panel_calls}

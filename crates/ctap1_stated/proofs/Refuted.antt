@@ -37,7 +37,7 @@ use Rattle.ctap1_stated.specs.declared.Allowed.TheVariants as Allowed'
 use Rattle.ctap1_stated.specs.declared.Attestation.TheVariants as Attestation'
 use Rattle.ctap1_stated.specs.declared.Counter.TheVariants as Counter'
 use Rattle.ctap1_stated.proofs.Ways.{sound}
-use Rattle.ctap1_stated.proofs.Commands.{kind_is, presence_is, register_certificate, register_of_layout, register_room, blank_refused}
+use Rattle.ctap1_stated.proofs.Commands.{kind_is, presence_is, register_certificate, register_of_layout, register_room_lem, blank_refused}
 
 -- ---- what is lent
 abbrev register_frame : List ℕ
@@ -489,7 +489,7 @@ room138 d =
     let is : o ≡ register_ordered a said = rw register_read refl in
     let certificate : certificate_length o ≡ 0 = ap certificate_length is ∙ register_certificate a (refl, refl) said register_read (omega arith) in
     (d held 0 a (record { order = o; certificate = []; signed = true; signature = []; reply = replicate 138 0 }) (refl, refl) (rw register_read refl) refl (sym certificate) (omega arith)
-    ).2 (short_finish o (ap is_of_layout is ∙ register_of_layout a (refl, refl) said register_read (omega arith)) certificate (ap room_needed is ∙ register_room a (refl, refl) said register_read (omega arith)))
+    ).2 (short_finish o (ap is_of_layout is ∙ register_of_layout a (refl, refl) said register_read (omega arith)) certificate (ap room_needed is ∙ register_room_lem a (refl, refl) said register_read (omega arith)))
 
 -- ---- check-only
 pub check_only_prompts : Claims.CheckOnlyLooksAtNoTouch Wrong.check_only_prompts → ⊥

@@ -26,19 +26,19 @@ told_check side true q WrongData = refl
 told_check side true q (Orders o taken) = refl
 
 -- a call settles as the side that its role names
-settled_as : (p : Presence) (side : ℕ) (x : DecisionPath) → settled_as p (role_of_path side x) ≡ side
-settled_as p side NoRoom = refl
-settled_as p side (Ends s) = refl
-settled_as p side SixBytes = refl
-settled_as p side (Fetches sent) = refl
-settled_as p side (Signs e) = refl
-settled_as p side (Touch e) = refl
+settled_as_lem : (p : Presence) (side : ℕ) (x : DecisionPath) → settled_as p (role_of_path side x) ≡ side
+settled_as_lem p side NoRoom = refl
+settled_as_lem p side (Ends s) = refl
+settled_as_lem p side SixBytes = refl
+settled_as_lem p side (Fetches sent) = refl
+settled_as_lem p side (Signs e) = refl
+settled_as_lem p side (Touch e) = refl
 
 kept : (p : Presence) (side t : ℕ) (x : DecisionPath) → told_by (role_of_path side x) (on_moment p side t x (settle_of p side t)) ≡ done_by (role_of_path side x) p t
 kept p side t x = by (settle_of p side t) refl x
   where
     by : (o : Outcome Presence) → settle_of p side t ≡ o → (x : DecisionPath) → told_by (role_of_path side x) (on_moment p side t x o) ≡ done_by (role_of_path side x) p t
-    by (R n) e x = seen_refused (role_of_path side x) n p ∙ sym (done_refused p t n (role_of_path side x) (rw (settled_as p side x) e))
+    by (R n) e x = seen_refused (role_of_path side x) n p ∙ sym (done_refused p t n (role_of_path side x) (rw (settled_as_lem p side x) e))
     by (Word s) e x = absurd (settle_no_status p side t s e)
     by (Gives q) e NoRoom = sym (done_short p t q side e)
     by (Gives q) e (Ends s) = sym (done_settling p t q side e)

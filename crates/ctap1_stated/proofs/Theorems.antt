@@ -9,7 +9,7 @@ use native.Mathlib.Omega.{arith}
 use borrow.Author.Tests.{le-leb, lt-leb, eq-eqb, ne_eqb, eqb-true}
 use lib.Dec.{eqb}
 use lib.ListN.{length, drop}
-use Rattle.outcome.specs.Notation.{if◌then◌else◌}
+use Rattle.outcome.specs.Notation.{when◌then◌else◌}
 use Rattle.outcome.specs.Outcome.{StatusWord, Outcome, R, Word, Gives, plain_word, wrong_length, word_of}
 use Rattle.outcome.proofs.Laws.{gives_same, word_same, word_gives, r_gives, r_word, both_are}
 use Rattle.octets.specs.Bytes.{byte, pair_at}
@@ -47,7 +47,7 @@ use Rattle.ctap1_stated.specs.declared.Counter.TheVariants as Counter'
 use Rattle.ctap1_stated.specs.declared.DecisionAnswer.TheVariants as DecisionAnswer'
 use Rattle.ctap1_stated.proofs.Ways.{Stated, its_own, framed, Way, refused, stated, versioned, fetched, enrolled, signed_03, signed_08, way, row, sound, registering_checks, signing_checks}
 use Rattle.ctap1_stated.proofs.Commands as Commands
-use Rattle.ctap1_stated.proofs.Contracted.{bare, as_decided, register_path, login_path, version_decided}
+use Rattle.ctap1_stated.proofs.Contracted.{bare, as_decided, register_path_lem, login_path_lem, version_decided}
 use Rattle.ctap1_stated.proofs.Orders.{body_order, part_order, part_body, MadeOf, of_enrolment, of_login, made_of}
 use Rattle.ctap1_stated.specs.OneSide.{base_decision_of}
 use Rattle.ctap1_stated.proofs.RoleKept.{panel_keeps}
@@ -215,7 +215,7 @@ unfolding enrolment_order
 asked_with p t a blocks e = (go (made_of p t a blocks e), order_has_room p t a e)
   where
     go : {k : ℕ} {o : Order} → MadeOf a k o → AskedWith a k (room_needed o)
-    go (of_enrolment said c l) = asked_as a 0x01 _ _ (Commands.register_room a blocks said c l.handle) (of_register said c)
+    go (of_enrolment said c l) = asked_as a 0x01 _ _ (Commands.register_room_lem a blocks said c l.handle) (of_register said c)
     go (of_login p1 n said c k l) = asked_as a 0x02 _ _ (Commands.room_is a p1 said (eqb p1 0x03) n c) (of_authenticate p1 said c)
 
 enrolment_whole : (a : Inputs) (said : Says) → length (register_ordered a said).bytes ≡ 385
@@ -402,7 +402,7 @@ only_remainder left exact p t a = go (decision_of p t a) (way p t a) refl
     drop : (r : DecisionResult) → decision_of p t a ≡ r → (HasInsC0 a → ⊥) → ((n : ℕ) → r.answer ≡ R n → ⊥) → rest 0 0 ≡ left a (decision_of p t a)
     drop r e n x = sym (exact.dropped p t a n (λ m z. x m (ap (λ (q : DecisionResult). q.answer) (sym e) ∙ z)))
 
-    status : (b : Bool) → is_get_response (read_of a.frame) ≡ b → (r : DecisionResult) (s : StatusWord) → decision_of p t a ≡ r → r.answer ≡ Word s → (if b then a.remainder else rest 0 0) ≡ left a (decision_of p t a)
+    status : (b : Bool) → is_get_response (read_of a.frame) ≡ b → (r : DecisionResult) (s : StatusWord) → decision_of p t a ≡ r → r.answer ≡ Word s → (when b then a.remainder else rest 0 0) ≡ left a (decision_of p t a)
     status true y r s e w = sym (exact.kept p t a s (is_c0 a y) (ap (λ (q : DecisionResult). q.answer) e ∙ w))
     status false y r s e w = drop r e (λ z. true≢false (sym (asked a z) ∙ y)) (λ n z. r_word _ _ (sym z ∙ w))
 
@@ -601,10 +601,10 @@ ContractsAsClaimed =
           let b = version_reply n t a old ok c is r after reply h in (h.0 ∙ ap handed_of (version_decided g G (presence_in n) t a ok (length old) c is), b.0, b.1);
       register = λ g G n t a h says old ok c is r after block l.
           let path = ap (λ (x : Hardware). register_path (unfetched a.side a.frame x (enrolment_of a.new_handle a.certificate a.x a.y) a.room) (says_of says)) is in
-          as_decided g G (presence_in n) t a ok (Register (says_of says)) c _ (path ∙ register_path g G (presence_in n) t a ok (says_of says)) r (presence_in after) old block l;
+          as_decided g G (presence_in n) t a ok (Register (says_of says)) c _ (path ∙ register_path_lem g G (presence_in n) t a ok (says_of says)) r (presence_in after) old block l;
       authenticate = λ g G n t a h flags says old ok c is r after block l.
           let path = ap (λ (x : Hardware). login_path a.frame x a.room (flags_no flags) (says_of says)) is in
-          as_decided g G (presence_in n) t a ok (Authenticate (flags_no flags) (says_of says)) c _ (path ∙ login_path g G (presence_in n) t a ok (flags_no flags) (says_of says)) r (presence_in after) old block l;
+          as_decided g G (presence_in n) t a ok (Authenticate (flags_no flags) (says_of says)) c _ (path ∙ login_path_lem g G (presence_in n) t a ok (flags_no flags) (says_of says)) r (presence_in after) old block l;
     }
 
 -- ---- two results are equal

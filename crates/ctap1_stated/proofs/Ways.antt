@@ -8,7 +8,7 @@ use native.Mathlib.Decide.{ℕ_discrete}
 use borrow.Author.Tests.{lt-ltb, le-ltb, ltb-true, ltb-false, eqb-true, eqb-false, ne_eqb, not-true, not-false}
 use lib.Dec.{ltb, eqb}
 use lib.ListN.{length}
-use Rattle.outcome.specs.Notation.{if◌then◌else◌}
+use Rattle.outcome.specs.Notation.{when◌then◌else◌}
 use Rattle.outcome.specs.Outcome.{StatusWord, Outcome, R, Word, Gives, plain_word}
 use Rattle.apdu_stated.specs.Answers.{Says}
 use Rattle.command_stated.specs.Command.{Command, Register, Authenticate, Version, GetResponse, command_of}
@@ -35,7 +35,7 @@ module _ (a : Inputs) where
   unfolding path_of allowed_path
   comes c (y, e) = rw (y, e)
 
-  split : {A : Type 0} (W : A → Type 0) (b : Bool) (r s : A) → (b ≡ true → W r) → (b ≡ false → W s) → W (if b then r else s)
+  split : {A : Type 0} (W : A → Type 0) (b : Bool) (r s : A) → (b ≡ true → W r) → (b ≡ false → W s) → W (when b then r else s)
   split W true r s f g = f refl
   split W false r s f g = g refl
 
@@ -50,17 +50,17 @@ module _ (p : Presence) (t : ℕ) (a : Inputs) where
   pub came : (c : Command) → NotRefused p a.side t → Comes a c → decision_of p t a ≡ along (command_path a (Gives c)) p (moved_to p t) a.side t
   came c ok e = settled ok ∙ ap (λ (x : DecisionPath). along x p (moved_to p t) a.side t) (comes a c e)
 
-  is_r6 : BadWindow p.w → decision_of p t a ≡ refusal_result 6 p
+  is_r6_lem : BadWindow p.w → decision_of p t a ≡ refusal_result 6 p
   unfolding decision_of
-  is_r6 b = rw (settle_r6 p a.side t b)
+  is_r6_lem b = rw (settle_r6 p a.side t b)
 
-  is_r8 : (BadWindow p.w → ⊥) → BadSide a.side p.asker → decision_of p t a ≡ refusal_result 8 p
+  is_r8_lem : (BadWindow p.w → ⊥) → BadSide a.side p.asker → decision_of p t a ≡ refusal_result 8 p
   unfolding decision_of
-  is_r8 g b = rw (settle_r8 p a.side t g b)
+  is_r8_lem g b = rw (settle_r8 p a.side t g b)
 
-  is_r1 : (BadWindow p.w → ⊥) → (BadSide a.side p.asker → ⊥) → BadMoment p.last t → decision_of p t a ≡ refusal_result 1 p
+  is_r1_lem : (BadWindow p.w → ⊥) → (BadSide a.side p.asker → ⊥) → BadMoment p.last t → decision_of p t a ≡ refusal_result 1 p
   unfolding decision_of
-  is_r1 g h b = rw (settle_r1 p a.side t g h b)
+  is_r1_lem g h b = rw (settle_r1 p a.side t g h b)
 
   -- ---- C0: something remains, and so many bytes go out
   counts : 0 < a.remainder.count → eqb a.remainder.count 0 ≡ false
@@ -72,9 +72,9 @@ module _ (p : Presence) (t : ℕ) (a : Inputs) where
   -- ---- each row is what the definition says
   pub sound : (r : DecisionResult) → Answers p t a r → decision_of p t a ≡ r
   unfolding path_of allowed_path command_path version_path register_path login_path register_ending counted_ending enrolment_order fetch_path next_part_of
-  sound _ (Table.r6 b) = is_r6 b
-  sound _ (Table.r8 g b) = is_r8 g b
-  sound _ (Table.r1 g h b) = is_r1 g h b
+  sound _ (Table.r6 b) = is_r6_lem b
+  sound _ (Table.r8 g b) = is_r8_lem g b
+  sound _ (Table.r1 g h b) = is_r1_lem g h b
   sound _ (Table.failed ok y) = settled ok ∙ rw y
   sound _ (Table.forbidden ok y) = settled ok ∙ rw y
   sound _ (Table.frame ok y n e) = settled ok ∙ rw (y, e)
@@ -121,9 +121,9 @@ module _ (p : Presence) (t : ℕ) (a : Inputs) where
     register_at said c =
         split a At (ltb a.room (room_of_register a)) _ _ (λ h. Table.register_short said ok c (ltb-true a.room (room_of_register a) h))
         (λ h. let in_room : Registering p t a said = (ok, c, ltb-false a.room (room_of_register a) h) in
-        let signed = if not (is_present a.hardware.attestation) then Internal else Orders (register_ordered a said) false in
+        let signed = when not (is_present a.hardware.attestation) then Internal else Orders (register_ordered a said) false in
         touched (register_ending a said) (λ n. Table.register_6985 said in_room n) (λ o. Table.register_other said in_room o)
-        (λ l. split a After (not a.hardware.stored) Internal (if ltb 255 (length a.new_handle) then Internal else signed) (λ n. Table.not_stored said in_room l (not-true a.hardware.stored n))
+        (λ l. split a After (not a.hardware.stored) Internal (when ltb 255 (length a.new_handle) then Internal else signed) (λ n. Table.not_stored said in_room l (not-true a.hardware.stored n))
         (λ n. split a After (ltb 255 (length a.new_handle)) Internal signed (λ k. Table.long said in_room l (not-false a.hardware.stored n) (ltb-true 255 (length a.new_handle) k))
         (λ k. by in_room l (not-false a.hardware.stored n) (ltb-false 255 (length a.new_handle) k) a.hardware.attestation refl))))
       where
@@ -131,7 +131,7 @@ module _ (p : Presence) (t : ℕ) (a : Inputs) where
         After e = Answers p t a (ended e (touch_closed (moved_to p t)))
 
         by : Registering p t a said → OwnTouch p t a → a.hardware.stored ≡ true → length a.new_handle ≤ 255 → (m : Attestation) → a.hardware.attestation ≡ m
-            → After (if not (is_present m) then Internal else Orders (register_ordered a said) false)
+            → After (when not (is_present m) then Internal else Orders (register_ordered a said) false)
         by x l s k Attestation'.Present m = Table.enrols said x l s k m
         by x l s k Attestation'.Missing m = Table.missing said x l s k m
         by x l s k Attestation'.Failed m = Table.no_attestation said x l s k m

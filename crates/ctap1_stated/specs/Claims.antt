@@ -1,9 +1,9 @@
 -- What is promised of the decision, beyond Table.antt's `DecidesExactly`, which is read first. Proved in proofs/Theorems.antt under the same
 -- names; proofs/Only.antt shows that no other decision meets them, proofs/Refuted.antt that wrong ones do not. `decide` is any function of a
 -- record, a moment and all that is lent.
-use Rattle.std.specs.Prelude.{◌↔◌, ◌⊎◌}
+use Rattle.std.specs.Prelude.{◌↔◌, ◌⊎◌, ◌∷◌, ◌++◌, ◌+◌, ◌*◌, ◌<◌, ◌≤◌, ◌≡◌}
 use Rattle.std.proofs.Math.Option.{some}
-use Rattle.ctap1_stated.specs.Words.{AtMostOne, StatusWord, R, Word, SW, Gives, wrong_length, [], ◌∷◌, ◌++◌, drop, ℕ, ◌+◌, ◌*◌, ◌<◌, ◌≤◌, ◌≡◌, Bool, true, false, List, length, Presence, Decision, DecisionAnswer, Remainder, rest, Inputs, Enrolment, Allowed, Attestation, Hardware, HardwareSaid, DecisionGives, Body, Ordered, Part, DecisionResult, handed_of, handed_from, enrolment_of, decision_answer_of, Outcome, Refusal, ApduStatusCode, word_of, refusal_no}
+use Rattle.ctap1_stated.specs.Words.{AtMostOne, StatusWord, R, Word, SW, Gives, wrong_length, [], drop, ℕ, Bool, true, false, List, length, Presence, Decision, DecisionAnswer, Remainder, rest, Inputs, Enrolment, Allowed, Attestation, Hardware, HardwareSaid, DecisionGives, Body, Ordered, Part, DecisionResult, handed_of, handed_from, enrolment_of, decision_answer_of, Outcome, Refusal, ApduStatusCode, word_of, refusal_no}
 use Rattle.ctap1_stated.specs.Numbers.{allowed_of, attestation_of, hardware_of}
 use Rattle.ctap1_stated.specs.Calls.{PanelCall, DecideAt, calls_with}
 use Rattle.ctap1_stated.specs.OneSide.{base_with, sideless_result}

@@ -1,7 +1,8 @@
 -- Document 01, 'The decision', with the record: R6, R8 (document 02, E7) and R1, then along the path, with the touch check and its 6985 said once; and
 -- 'Refusal numbers' as far as they speak of the decision; then what the reply buffer and the lent block hold.
-use Rattle.ctap1_stated.specs.Words.{ℕ, Bool, false, not, List, [], ◌∷◌, Presence, Order}
-use Rattle.ctap1_stated.specs.Words.{if◌then◌else◌, StatusWord, Outcome, R, Word, Gives, plain_word, Inputs, DecisionGives, Body, Ordered, Part, DecisionResult, DecisionAlone, DecisionLeft, head_of, handed_of}
+use Rattle.std.specs.Prelude.{◌∷◌}
+use Rattle.ctap1_stated.specs.Words.{ℕ, Bool, false, not, List, [], Presence, Order}
+use Rattle.ctap1_stated.specs.Words.{when◌then◌else◌, StatusWord, Outcome, R, Word, Gives, plain_word, Inputs, DecisionGives, Body, Ordered, Part, DecisionResult, DecisionAlone, DecisionLeft, head_of, handed_of}
 use Rattle.ctap1_stated.specs.Path.{PathEnd, Internal, WrongData, Orders, DecisionPath, NoRoom, Ends, SixBytes, Fetches, Signs, Touch, path_of}
 use Rattle.octets.specs.Bytes.{laid}
 use Rattle.u2f_up_stated.specs.Moments.{settle_of, checked_of}
@@ -41,7 +42,7 @@ ended (Orders o taken) p = order_result o p taken
 -- "touch check, 6985", the only place
 abbrev pub touch_checked : Finding → PathEnd → DecisionResult
 touch_checked f e =
-    if not f.yes then status_result 0x6985 f.presence
+    when not f.yes then status_result 0x6985 f.presence
     else ended e f.presence
 
 -- with any touch check, so that the one before there were sides can stand here, too (specs/OneSide.antt)

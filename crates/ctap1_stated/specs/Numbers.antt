@@ -1,5 +1,5 @@
 -- The hardware's answers as numbers: which number stands for what.
-use Rattle.ctap1_stated.specs.Words.{ℕ, Bool, eqb, if◌then◌else◌, Allowed, Attestation, Counter, Hardware, HardwareSaid}
+use Rattle.ctap1_stated.specs.Words.{ℕ, Bool, eqb, when◌then◌else◌, Allowed, Attestation, Counter, Hardware, HardwareSaid}
 use Rattle.ctap1_stated.specs.declared.Allowed.TheVariants as Allowed'
 use Rattle.ctap1_stated.specs.declared.Attestation.TheVariants as Attestation'
 use Rattle.ctap1_stated.specs.declared.Counter.TheVariants as Counter'
@@ -7,15 +7,15 @@ use Rattle.ctap1_stated.specs.declared.Counter.TheVariants as Counter'
 -- 01, The decision: "whether CTAP1 is allowed (yes, no, failed)"
 unfoldable pub allowed_of : ℕ → Allowed
 allowed_of n =
-    if eqb n 0 then Allowed'.No
-    else if eqb n 1 then Allowed'.Yes
+    when eqb n 0 then Allowed'.No
+    else when eqb n 1 then Allowed'.Yes
     else Allowed'.Failed
 
 -- 01, The decision, 5: "the attestation is missing or failed"
 unfoldable pub attestation_of : ℕ → Attestation
 attestation_of n =
-    if eqb n 0 then Attestation'.Missing
-    else if eqb n 1 then Attestation'.Present
+    when eqb n 0 then Attestation'.Missing
+    else when eqb n 1 then Attestation'.Present
     else Attestation'.Failed
 
 -- ours: DECISIONS, unknown numbers are the cautious answer: of a question with yes or no 1 is yes, any other number no
@@ -24,7 +24,7 @@ is_yes n = eqb n 1
 
 -- 01, The decision, 6: "counter answer failed"; "the counter of 32 bits"
 abbrev pub counter_of : (counted counter : ℕ) → Counter
-counter_of counted n = if is_yes counted then Counter'.Offered n else Counter'.Failed
+counter_of counted n = when is_yes counted then Counter'.Offered n else Counter'.Failed
 
 -- 01, The decision: "Lent in: .. and the hardware's answers": each number as the answer of its name
 abbrev pub hardware_of : HardwareSaid → Hardware

@@ -1,7 +1,7 @@
 -- Document 01, 'The decision', checks 2 to 6, and document 02, E2, the checks of C0, as one path: what is lent in, without the record, the side and the moment, says how far a
 -- decision comes and with what. What the record adds stands in specs/Decision.antt.
 use Rattle.ctap1_stated.specs.Words.{ℕ, Bool, true, false, not, List, ltb, eqb, length, Order, Allowed, Counter, Hardware}
-use Rattle.ctap1_stated.specs.Words.{if◌then◌else◌, StatusWord, Outcome, R, Word, Gives, plain_word, is_present, Remainder, Inputs, Enrolment}
+use Rattle.ctap1_stated.specs.Words.{when◌then◌else◌, StatusWord, Outcome, R, Word, Gives, plain_word, is_present, Remainder, Inputs, Enrolment}
 use Rattle.ctap1_stated.specs.declared.Allowed.TheVariants as Allowed'
 use Rattle.ctap1_stated.specs.declared.Counter.TheVariants as Counter'
 use Rattle.octets.specs.Bytes.{bytes4}
@@ -66,9 +66,9 @@ authenticate_ordered a said present n = signing_order a.frame said present n
 -- 5. "then 6f00 if the store failed, h > 255, or the attestation is missing or failed; else an order"
 unfoldable pub register_ending : Inputs → Says → PathEnd
 register_ending a said =
-    if not a.hardware.stored then Internal
-    else if ltb 255 (length a.new_handle) then Internal
-    else if not (is_present a.hardware.attestation) then Internal
+    when not a.hardware.stored then Internal
+    else when ltb 255 (length a.new_handle) then Internal
+    else when not (is_present a.hardware.attestation) then Internal
     else Orders (register_ordered a said) false
 
 -- 6. "counter answer failed gives 6a80; else the offered counter is reported as taken, and an order"
@@ -79,10 +79,10 @@ counted_ending frame said present (Counter'.Offered n) = Orders (signing_order f
 -- 6. "handle not good gives 6a80; P1 07 gives 6985; buffer under 77 gives R2; for P1 03 touch check"
 unfoldable pub login_path : List ℕ → Hardware → (room : ℕ) → ℕ → Says → DecisionPath
 login_path frame hardware room p1 said =
-    if not hardware.good then Status 0x6a80
-    else if eqb p1 0x07 then Status 0x6985
-    else if ltb room authenticate_room then NoRoom
-    else if eqb p1 0x03 then Touch (counted_ending frame said true hardware.counter)
+    when not hardware.good then Status 0x6a80
+    else when eqb p1 0x07 then Status 0x6985
+    else when ltb room authenticate_room then NoRoom
+    else when eqb p1 0x03 then Touch (counted_ending frame said true hardware.counter)
     else Signs (counted_ending frame said false hardware.counter)
 
 abbrev pub authenticate_path : Inputs → ℕ → Says → DecisionPath
@@ -91,12 +91,12 @@ authenticate_path a p1 said = login_path a.frame a.hardware a.room p1 said
 -- 5. "Register: R2 if the buffer is shorter than 139 + h + c ..; touch check"
 unfoldable pub register_path : Inputs → Says → DecisionPath
 register_path a said =
-    if ltb a.room (register_room (length a.new_handle) (length a.certificate)) then NoRoom
+    when ltb a.room (register_room (length a.new_handle) (length a.certificate)) then NoRoom
     else Touch (register_ending a said)
 
 -- 4. "Version: buffer under 6 gives R2; else the body"
 unfoldable pub version_path : ℕ → DecisionPath
-version_path room = if ltb room 6 then NoRoom else SixBytes
+version_path room = when ltb room 6 then NoRoom else SixBytes
 
 -- 02, E2: how many bytes of body a frame takes at a time, as its shape and Le say; bytes in no shape get no body, and 0 stands there
 abbrev pub limit_on : Outcome Says → ℕ
@@ -117,7 +117,7 @@ sent_path (Gives sent) = Fetches sent
 -- status". The lent body is what the reply buffer holds
 unfoldable pub fetch_path : (room : ℕ) → Remainder → (limit part_room : ℕ) → DecisionPath
 fetch_path room remainder limit part_room =
-    if eqb remainder.count 0 then Status 0x6985
+    when eqb remainder.count 0 then Status 0x6985
     else sent_path (next_part_of room remainder limit part_room)
 
 -- 3. "the frame's status", with its pair (02, E1: "Command reading, strict reading and decision carry the pair upward"), 4. Version,

@@ -1,6 +1,6 @@
 -- Document 02, E2: what the session with a reader goes on with after a decision: what is left to fetch, and what the buffer for part and
 -- status holds. How much the frame takes at a time is `frame_limit` (specs/Path.antt), whatever it is answered.
-use Rattle.ctap1_stated.specs.Words.{ℕ, Bool, true, false, List, eqb, if◌then◌else◌, Outcome, R, Word, Gives, Remainder, rest, Inputs, DecisionGives, Body, Ordered, Part, DecisionResult}
+use Rattle.ctap1_stated.specs.Words.{ℕ, Bool, false, List, eqb, when◌then◌else◌, Outcome, R, Word, Gives, Remainder, rest, Inputs, DecisionGives, Body, Ordered, Part, DecisionResult}
 use Rattle.ctap1_stated.specs.Path.{frame_limit}
 use Rattle.octets.specs.Bytes.{laid}
 use Rattle.apdu_stated.specs.Answers.{Says}
@@ -17,7 +17,7 @@ is_get_response (Gives said) = eqb said.header.ins 0xC0
 -- another INS. After a part it is what that part left
 abbrev pub remainder_after : Outcome DecisionGives → (is_c0 : Bool) → Remainder → Remainder
 remainder_after (R n) is_c0 r = r
-remainder_after (Word s) is_c0 r = if is_c0 then r else rest 0 0
+remainder_after (Word s) is_c0 r = when is_c0 then r else rest 0 0
 remainder_after (Gives (Body n)) is_c0 r = rest 0 0
 remainder_after (Gives Ordered) is_c0 r = rest 0 0
 remainder_after (Gives (Part n after)) is_c0 r = after

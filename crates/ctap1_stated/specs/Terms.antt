@@ -1,6 +1,6 @@
 -- Words that only the claims use: conditions, and orders spelled out; those of Table.antt among them.
-use Rattle.std.specs.Prelude.{◌⊎◌}
-use Rattle.ctap1_stated.specs.Words.{if◌then◌else◌, Gives, ℕ, ◌≡◌, Bool, false, List, length, Order, Inputs, Enrolment, Ordered, Decision, DecisionResult, Allowed}
+use Rattle.std.specs.Prelude.{◌⊎◌, ◌≡◌}
+use Rattle.ctap1_stated.specs.Words.{when◌then◌else◌, Gives, ℕ, Bool, false, List, length, Order, Inputs, Enrolment, Ordered, Decision, DecisionResult, Allowed}
 use Rattle.ctap1_stated.specs.declared.Allowed.TheVariants as Allowed'
 use Rattle.octets.specs.Bytes.{byte}
 use Rattle.apdu_stated.specs.Answers.{Says}
@@ -52,4 +52,4 @@ OrdersPresent r = (r.answer ≡ Gives Ordered) × SaysPresent r.order
 abbrev pub check_only_answer : Allowed → Bool → ℕ
 check_only_answer Allowed'.Failed good = 0x6f00
 check_only_answer Allowed'.No good = 0x6986
-check_only_answer Allowed'.Yes good = if good then 0x6985 else 0x6a80
+check_only_answer Allowed'.Yes good = when good then 0x6985 else 0x6a80

@@ -1,6 +1,6 @@
 -- What the decision is lent and what it answers (Inputs.antt) beside the source's types; the names that the other files here are written with.
 pub use Rattle.std.specs.Prelude.{ℕ, ◌+◌, ◌*◌, ◌<◌, ◌≤◌, ◌≡◌, Bool, true, false, not, List, [], ◌∷◌, ◌++◌, ltb, eqb, length, drop}
-pub use Rattle.outcome.specs.Notation.{if◌then◌else◌, AtMostOne}
+pub use Rattle.outcome.specs.Notation.{when◌then◌else◌, AtMostOne}
 pub use Rattle.outcome.specs.declared.Refusal.{Refusal}
 pub use Rattle.outcome.specs.declared.ApduStatusCode.{ApduStatusCode}
 pub use Rattle.outcome.specs.Outcome.{StatusWord, Outcome, R, Word, SW, Gives, plain_word, wrong_length, word_of, refusal_no}

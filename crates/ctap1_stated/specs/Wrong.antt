@@ -1,6 +1,6 @@
 -- Wrong programs, each with one fault. proofs/Refuted.antt shows of each that a claim is false of it.
-use Rattle.std.specs.Prelude.{◌-◌, ◌%◌, ◌&&◌, leb, ◌++◌, take, drop}
-use Rattle.ctap1_stated.specs.Words.{ℕ, ◌+◌, Bool, true, false, not, List, [], ◌∷◌, ltb, eqb, length, if◌then◌else◌, StatusWord, Outcome, R, Word, SW, Gives, plain_word, word_of, refusal_no}
+use Rattle.std.specs.Prelude.{◌-◌, ◌%◌, ◌&&◌, leb, ◌++◌, take, drop, ◌+◌, ◌∷◌}
+use Rattle.ctap1_stated.specs.Words.{ℕ, Bool, true, false, not, List, [], ltb, eqb, length, when◌then◌else◌, StatusWord, Outcome, R, Word, SW, Gives, refusal_no}
 use Rattle.ctap1_stated.specs.Words.{Presence, Order, Inputs, Hardware, HardwareSaid, Allowed, Attestation, Counter, Remainder, rest, DecisionGives, Body, Ordered, Part, DecisionResult, DecisionAnswer, is_present}
 use Rattle.ctap1_stated.specs.declared.DecisionAnswer.TheVariants as DecisionAnswer'
 use Rattle.ctap1_stated.specs.Numbers.{allowed_of, attestation_of, hardware_of}
@@ -66,7 +66,7 @@ abbrev register_as : (Inputs → Says → DecisionPath) → Decider
 register_as path = decide_by (λ a. if_allowed a.hardware.allowed (register_or path a (command_of a.frame)))
 
 abbrev register_within : ℕ → Inputs → Says → DecisionPath
-register_within least a said = if ltb a.room (least + length a.new_handle + length a.certificate) then NoRoom else Touch (register_ending a said)
+register_within least a said = when ltb a.room (least + length a.new_handle + length a.certificate) then NoRoom else Touch (register_ending a said)
 
 -- "R2 if the buffer is shorter than 139 + h + c": one less, one more
 abbrev pub room138 : Decider
@@ -78,15 +78,15 @@ room140 = register_as (register_within 140)
 
 -- "touch check, 6985; then 6f00 if the store failed": the store first. Fails `DecidesExactly`.
 abbrev pub store_first : Decider
-store_first = register_as (λ a said. if not a.hardware.stored then Status 0x6f00 else register_path a said)
+store_first = register_as (λ a said. when not a.hardware.stored then Status 0x6f00 else register_path a said)
 
 abbrev register_ends : (longest : ℕ) → (Attestation → Bool) → (Inputs → Says → Order) → Inputs → Says → DecisionPath
 register_ends longest attested order a said =
-    if ltb a.room (139 + length a.new_handle + length a.certificate) then NoRoom
+    when ltb a.room (139 + length a.new_handle + length a.certificate) then NoRoom
     else Touch
-    (if not a.hardware.stored then Internal
-    else if ltb longest (length a.new_handle) then Internal
-    else if not (attested a.hardware.attestation) then Internal
+    (when not a.hardware.stored then Internal
+    else when ltb longest (length a.new_handle) then Internal
+    else when not (attested a.hardware.attestation) then Internal
     else Orders (order a said) false)
 
 -- "h > 255": 256 is taken
@@ -127,18 +127,18 @@ authenticate_as path = decide_by (λ a. if_allowed a.hardware.allowed (authentic
 
 -- "handle not good gives 6a80; P1 07 gives 6985": P1 07 first. Fails `DecidesExactly`.
 abbrev pub check_only_first : Decider
-check_only_first = authenticate_as (λ a p1 said. if eqb p1 0x07 then Status 0x6985 else authenticate_path a p1 said)
+check_only_first = authenticate_as (λ a p1 said. when eqb p1 0x07 then Status 0x6985 else authenticate_path a p1 said)
 
 -- "P1 07 gives 6985; buffer under 77 gives R2": a check-only is asked for room. Fails `DecidesExactly`.
 abbrev pub room_first : Decider
-room_first = authenticate_as (λ a p1 said. if ltb a.room 77 then NoRoom else authenticate_path a p1 said)
+room_first = authenticate_as (λ a p1 said. when ltb a.room 77 then NoRoom else authenticate_path a p1 said)
 
 abbrev authenticate_ends : (least : ℕ) → (Inputs → Says → PathEnd) → Inputs → ℕ → Says → DecisionPath
 authenticate_ends least ends08 a p1 said =
-    if not a.hardware.good then Status 0x6a80
-    else if eqb p1 0x07 then Status 0x6985
-    else if ltb a.room least then NoRoom
-    else if eqb p1 0x03 then Touch (counted_ending a.frame said true a.hardware.counter)
+    when not a.hardware.good then Status 0x6a80
+    else when eqb p1 0x07 then Status 0x6985
+    else when ltb a.room least then NoRoom
+    else when eqb p1 0x03 then Touch (counted_ending a.frame said true a.hardware.counter)
     else Signs (ends08 a said)
 
 -- "buffer under 77 gives R2": 76 is enough, 77 is not. Fails `DecidesExactly`.
@@ -164,7 +164,7 @@ challenge_first = authenticate_as (authenticate_ends 77 (λ a said. turned_endin
 
 -- "for P1 03 touch check": 08 asks for a touch and 03 does not. Fails `DecidesExactly`.
 abbrev pub touch_of08 : Decider
-touch_of08 = authenticate_as (λ a p1 said. if not a.hardware.good then Status 0x6a80 else if eqb p1 0x07 then Status 0x6985 else if ltb a.room 77 then NoRoom else if eqb p1 0x08 then Touch (counted_ending a.frame said true a.hardware.counter) else Signs (counted_ending a.frame said false a.hardware.counter))
+touch_of08 = authenticate_as (λ a p1 said. when not a.hardware.good then Status 0x6a80 else when eqb p1 0x07 then Status 0x6985 else when ltb a.room 77 then NoRoom else when eqb p1 0x08 then Touch (counted_ending a.frame said true a.hardware.counter) else Signs (counted_ending a.frame said false a.hardware.counter))
 
 -- "for P1 03 touch check, 6985": from P1 03 straight to the counter
 abbrev straightened : DecisionPath → DecisionPath
@@ -217,7 +217,7 @@ short_as short (Touch e) kept settled side t = along (Touch e) kept settled side
 
 -- "R2 ..; touch check, 6985": the touch check first, and R2 after it. Fails `DecidesExactly`.
 abbrev pub touch_first : Decider
-touch_first = decide_along (short_as (λ kept settled side t. if not (checked_of settled side t).yes then status_result 0x6985 (checked_of settled side t).presence else refusal_result 2 kept))
+touch_first = decide_along (short_as (λ kept settled side t. when not (checked_of settled side t).yes then status_result 0x6985 (checked_of settled side t).presence else refusal_result 2 kept))
 
 -- "R2 found after the touch is spent", "or the counter taken"; or the last moment moved
 abbrev pub r2_spends : Decider
@@ -250,10 +250,10 @@ pair_one_on = decide_along (status_as (λ s kept settled side t. word_result (re
 
 -- "A check-only 6985 opening a prompt, or spending a touch"
 abbrev pub check_only_prompts : Decider
-check_only_prompts = decide_along (status_as (λ s kept settled side t. word_result s (if eqb s.number 0x6985 then prompt_opened settled side t else settled)))
+check_only_prompts = decide_along (status_as (λ s kept settled side t. word_result s (when eqb s.number 0x6985 then prompt_opened settled side t else settled)))
 
 abbrev pub check_only_spends : Decider
-check_only_spends = decide_along (status_as (λ s kept settled side t. word_result s (if eqb s.number 0x6985 then touch_closed settled else settled)))
+check_only_spends = decide_along (status_as (λ s kept settled side t. word_result s (when eqb s.number 0x6985 then touch_closed settled else settled)))
 
 abbrev touch_as : (Finding → Presence → PathEnd → DecisionResult) → Walk
 touch_as touch NoRoom kept settled side t = along NoRoom kept settled side t
@@ -265,7 +265,7 @@ touch_as touch (Touch e) kept settled side t = touch (checked_of settled side t)
 
 -- "The counter taken for P1 03 without a touch": it is reported at the 6985
 abbrev pub takes_at6985 : Decider
-takes_at6985 = decide_along (touch_as (λ f settled e. if not f.yes then record { answer = SW 0x6985; presence = f.presence; order = blank_order; taken = true } else ended e f.presence))
+takes_at6985 = decide_along (touch_as (λ f settled e. when not f.yes then record { answer = SW 0x6985; presence = f.presence; order = blank_order; taken = true } else ended e f.presence))
 
 -- what stands in an answer without an order is blank: here the order stands beside the 6985
 abbrev order_in : PathEnd → Order
@@ -274,15 +274,15 @@ order_in WrongData = blank_order
 order_in (Orders o taken) = o
 
 abbrev pub order_at6985 : Decider
-order_at6985 = decide_along (touch_as (λ f settled e. if not f.yes then record { answer = SW 0x6985; presence = f.presence; order = order_in e; taken = false } else ended e f.presence))
+order_at6985 = decide_along (touch_as (λ f settled e. when not f.yes then record { answer = SW 0x6985; presence = f.presence; order = order_in e; taken = false } else ended e f.presence))
 
 -- "with a live touch, it is spent": it is not
 abbrev pub touch_kept : Decider
-touch_kept = decide_along (touch_as (λ f settled e. if not f.yes then status_result 0x6985 f.presence else ended e settled))
+touch_kept = decide_along (touch_as (λ f settled e. when not f.yes then status_result 0x6985 f.presence else ended e settled))
 
 -- 6985 with a touch, and on without. Fails `DecidesExactly`.
 abbrev pub touch_turned : Decider
-touch_turned = decide_along (touch_as (λ f settled e. if f.yes then status_result 0x6985 f.presence else ended e f.presence))
+touch_turned = decide_along (touch_as (λ f settled e. when f.yes then status_result 0x6985 f.presence else ended e f.presence))
 
 -- 02, E7: "nothing is opened or spent, and that is no prompting refusal": at a touch of the other side it is served, a prompt opens, or the
 -- touch is given to the side that checks; "in place of any earlier": the earlier asker stays
@@ -291,8 +291,8 @@ check_as check path kept settled side t = along_by (λ q. check q side t) path k
 
 abbrev beside_or : (Presence → (side t : ℕ) → Finding) → Presence → (side t : ℕ) → Finding
 beside_or other p s t =
-    if not (is_live p.touch p.w t) then checked_of p s t
-    else if eqb p.asker s then checked_of p s t
+    when not (is_live p.touch p.w t) then checked_of p s t
+    else when eqb p.asker s then checked_of p s t
     else other p s t
 
 abbrev pub serves_other : Decider
@@ -308,19 +308,19 @@ other_side_takes = decide_along (check_as (beside_or (λ p s t. record { yes = f
 
 -- fails `DecidesExactly`
 abbrev pub asker_kept : Decider
-asker_kept = decide_along (check_as (λ p s t. if not (is_live p.touch p.w t) then record { yes = false; presence = prompt_opened p p.asker t } else checked_of p s t))
+asker_kept = decide_along (check_as (λ p s t. when not (is_live p.touch p.w t) then record { yes = false; presence = prompt_opened p p.asker t } else checked_of p s t))
 
 -- ---- another settling
 -- R8 "before R1": after it
 abbrev pub r8_after_r1 : Decider
 r8_after_r1 p t a =
-    if is_r6 p.w then refusal_result 6 p
-    else if is_r1 p.last t then refusal_result 1 p
+    when is_r6 p.w then refusal_result 6 p
+    else when is_r1 p.last t then refusal_result 1 p
     else decision_of p t a
 
 -- R8 is asked at every decision, at Version, check-only and C0 too. Here such a frame is decided as side 0's, whichever it names
 abbrev unasked_at : (DecisionPath → Bool) → Decider
-unasked_at test p t a = decision_of p t (if test (path_of a) then on_side 0 a else a)
+unasked_at test p t a = decision_of p t (when test (path_of a) then on_side 0 a else a)
 
 abbrev is_six_bytes : DecisionPath → Bool
 is_six_bytes NoRoom = false
@@ -357,7 +357,7 @@ fetch_unasked = unasked_at is_fetching
 
 -- what stands for the base: the touch check asks whose the touch is
 abbrev pub base_asks_whose : Decider
-base_asks_whose p t a = on_settled_by (λ q. if is_live q.touch q.w t && not (eqb q.asker a.side) then record { yes = false; presence = q } else base_checked_of q t) p (path_of a) (base_settle_of p t)
+base_asks_whose p t a = on_settled_by (λ q. when is_live q.touch q.w t && not (eqb q.asker a.side) then record { yes = false; presence = q } else base_checked_of q t) p (path_of a) (base_settle_of p t)
 
 -- ---- another reply
 -- "the six bytes 55 32 46 5F 56 32": U2F_V1
@@ -386,11 +386,11 @@ fetch_as path a (Gives (Authenticate p1 said)) = command_path a (Gives (Authenti
 
 -- "6985 when nothing remains": it is a touch check, and opens a prompt. Fails `DecidesExactly`.
 abbrev pub fetch_prompts : Decider
-fetch_prompts = decide_by (λ a. if_allowed a.hardware.allowed (fetch_as (λ b. if eqb b.remainder.count 0 then Touch WrongData else command_path b (Gives GetResponse)) a (command_of a.frame)))
+fetch_prompts = decide_by (λ a. if_allowed a.hardware.allowed (fetch_as (λ b. when eqb b.remainder.count 0 then Touch WrongData else command_path b (Gives GetResponse)) a (command_of a.frame)))
 
 -- "then 6985 when nothing remains; then .. R2": R2 first. Fails `DecidesExactly`.
 abbrev pub room_before_nothing : Decider
-room_before_nothing = decide_by (λ a. if_allowed a.hardware.allowed (fetch_as (λ b. if ltb b.part_room 2 then NoRoom else command_path b (Gives GetResponse)) a (command_of a.frame)))
+room_before_nothing = decide_by (λ a. if_allowed a.hardware.allowed (fetch_as (λ b. when ltb b.part_room 2 then NoRoom else command_path b (Gives GetResponse)) a (command_of a.frame)))
 
 -- what remains after a part: one byte more is left out
 abbrev skipping : DecisionPath → DecisionPath
@@ -412,19 +412,19 @@ limit_by limit (Word s) = 0
 limit_by limit (Gives said) = limit said
 
 abbrev pub absent_is_whole : List ℕ → ℕ
-absent_is_whole frame = limit_by (λ said. if leb said.shape 4 then said.le else 0) (read_of frame)
+absent_is_whole frame = limit_by (λ said. when leb said.shape 4 then said.le else 0) (read_of frame)
 
 -- "Extended shapes get the whole body": one with an Le that a single byte could say is taken for a short one
 abbrev pub small_le_short : List ℕ → ℕ
-small_le_short frame = limit_by (λ said. if ltb 4 said.shape then (if ltb said.le 257 then said.le else 0) else limit_of said) (read_of frame)
+small_le_short frame = limit_by (λ said. when ltb 4 said.shape then (when ltb said.le 257 then said.le else 0) else limit_of said) (read_of frame)
 
 -- ---- the old form: 02, E13, "The ordinary reading gives 6700 for shape 6"
 abbrev is_old : List ℕ → Bool
-is_old frame = if eqb (byte frame 4) 0x00 then eqb (length frame) (8 + pair_at frame 5) else false
+is_old frame = when eqb (byte frame 4) 0x00 then eqb (length frame) (8 + pair_at frame 5) else false
 
 -- here it is served as shape 7, a 00 put in before its Le (an Le of 00 so becomes 65536)
 abbrev widened : List ℕ → List ℕ
-widened frame = if is_old frame then take (7 + pair_at frame 5) frame ++ 0x00 ∷ drop (7 + pair_at frame 5) frame else frame
+widened frame = when is_old frame then take (7 + pair_at frame 5) frame ++ 0x00 ∷ drop (7 + pair_at frame 5) frame else frame
 
 abbrev pub old_form_served : Decider
 old_form_served p t a =
@@ -442,14 +442,14 @@ left_by refused status other (Gives (Part n after)) is_c0 r = after
 -- here a C0 in the old form counts as a frame that asks on
 abbrev pub old_form_keeps : Inputs → DecisionResult → Remainder
 old_form_keeps a r =
-    left_by (λ k. k) (λ is_c0 k. if is_c0 then k else rest 0 0) (λ k. rest 0 0) r.answer
-    (if is_old a.frame then eqb (byte a.frame 1) 0xC0 else is_get_response (read_of a.frame)) a.remainder
+    left_by (λ k. k) (λ is_c0 k. when is_c0 then k else rest 0 0) (λ k. rest 0 0) r.answer
+    (when is_old a.frame then eqb (byte a.frame 1) 0xC0 else is_get_response (read_of a.frame)) a.remainder
 
 abbrev pub refused_fetch_drops : Inputs → DecisionResult → Remainder
 refused_fetch_drops a r = left_by (λ k. k) (λ is_c0 k. rest 0 0) (λ k. rest 0 0) r.answer (is_get_response (read_of a.frame)) a.remainder
 
 abbrev pub other_ins_keeps : Inputs → DecisionResult → Remainder
-other_ins_keeps a r = left_by (λ k. k) (λ is_c0 k. if is_c0 then k else rest 0 0) (λ k. k) r.answer (is_get_response (read_of a.frame)) a.remainder
+other_ins_keeps a r = left_by (λ k. k) (λ is_c0 k. when is_c0 then k else rest 0 0) (λ k. k) r.answer (is_get_response (read_of a.frame)) a.remainder
 
 -- of a frame that is read with another INS: 6986, 6f00, 6e00 and 6d00 keep it
 abbrev is_shaped : Outcome Says → Bool
@@ -458,14 +458,14 @@ is_shaped (Word s) = false
 is_shaped (Gives said) = true
 
 abbrev pub other_status_keeps : Inputs → DecisionResult → Remainder
-other_status_keeps a r = left_by (λ k. k) (λ shaped k. if shaped then k else rest 0 0) (λ k. rest 0 0) r.answer (is_shaped (read_of a.frame)) a.remainder
+other_status_keeps a r = left_by (λ k. k) (λ shaped k. when shaped then k else rest 0 0) (λ k. rest 0 0) r.answer (is_shaped (read_of a.frame)) a.remainder
 
 abbrev pub refusal_drops : Inputs → DecisionResult → Remainder
-refusal_drops a r = left_by (λ k. rest 0 0) (λ is_c0 k. if is_c0 then k else rest 0 0) (λ k. rest 0 0) r.answer (is_get_response (read_of a.frame)) a.remainder
+refusal_drops a r = left_by (λ k. rest 0 0) (λ is_c0 k. when is_c0 then k else rest 0 0) (λ k. rest 0 0) r.answer (is_get_response (read_of a.frame)) a.remainder
 
 -- R2 found after the remainder has moved
 abbrev pub r2_after_move : Inputs → DecisionResult → Remainder
-r2_after_move a r = left_by (λ k. rest_after k (frame_limit a.frame)) (λ is_c0 k. if is_c0 then k else rest 0 0) (λ k. rest 0 0) r.answer (is_get_response (read_of a.frame)) a.remainder
+r2_after_move a r = left_by (λ k. rest_after k (frame_limit a.frame)) (λ is_c0 k. when is_c0 then k else rest 0 0) (λ k. rest 0 0) r.answer (is_get_response (read_of a.frame)) a.remainder
 
 abbrev pub damaged_keeps : Inputs → DecisionResult → Remainder
 damaged_keeps a r = left_by (λ k. k) (λ is_c0 k. k) (λ k. rest 0 0) r.answer (is_get_response (read_of a.frame)) a.remainder
@@ -504,7 +504,7 @@ calls_by role = record { as_call = roles_by role; does = does_by (λ side x r. t
 -- "never a 6985 from P1 07": it is taken for a prompting refusal
 abbrev role_of07 : ℕ → DecisionPath → Role
 role_of07 side NoRoom = TooShort side
-role_of07 side (Ends s) = if eqb s.number 0x6985 then Checking side else Settling side
+role_of07 side (Ends s) = when eqb s.number 0x6985 then Checking side else Settling side
 role_of07 side SixBytes = Settling side
 role_of07 side (Fetches sent) = Settling side
 role_of07 side (Signs e) = Settling side
@@ -545,11 +545,11 @@ orders_alone_spend = record { as_call = call_of; does = does_by (λ side x r. re
 -- ---- the hardware's answers
 -- "yes, no, failed": a number that is neither yes nor no counts as allowed
 abbrev pub unknown_is_allowed : ℕ → Allowed
-unknown_is_allowed n = if leb 2 n then Allowed'.Yes else allowed_of n
+unknown_is_allowed n = when leb 2 n then Allowed'.Yes else allowed_of n
 
 -- "the attestation is missing or failed": a number that is neither counts as present
 abbrev pub unknown_is_present : ℕ → Attestation
-unknown_is_present n = if leb 2 n then Attestation'.Present else attestation_of n
+unknown_is_present n = when leb 2 n then Attestation'.Present else attestation_of n
 
 -- unknown numbers are the cautious answer: whatever is not 0 is yes, as C has it; and the lowest bit, as a bool of C's is passed
 abbrev pub unknown_is_yes : ℕ → Bool
@@ -573,15 +573,15 @@ unknown_is_counted n =
       stored = h.stored;
       attestation = h.attestation;
       good = h.good;
-      counter = if eqb n.counted 0 then Counter'.Failed else Counter'.Offered n.counter;
+      counter = when eqb n.counted 0 then Counter'.Failed else Counter'.Offered n.counter;
     }
 
 -- ---- contents looked at: the handle's first byte; and the certificate's
 abbrev pub looks_at_handle : Decider
-looks_at_handle p t a = if eqb (byte a.new_handle 0) 0x00 then decision_of p t a else status_result 0x6f00 p
+looks_at_handle p t a = when eqb (byte a.new_handle 0) 0x00 then decision_of p t a else status_result 0x6f00 p
 
 abbrev pub looks_at_certificate : Decider
-looks_at_certificate p t a = if eqb (byte a.certificate 0) 0x30 then decision_of p t a else status_result 0x6f00 p
+looks_at_certificate p t a = when eqb (byte a.certificate 0) 0x30 then decision_of p t a else status_result 0x6f00 p
 
 -- ---- views: a body said as an order; a status word without its pair
 abbrev pub body_for_order : DecisionAnswer → Outcome DecisionGives

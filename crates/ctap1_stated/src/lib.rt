@@ -1,5 +1,7 @@
 // The decision: what the hardware answers and what a decision comes to. What they mean stands in specs/, what is claimed in
 // specs/Claims.antt. No function: ctap1 has them.
+#![tactic(auto)]
+
 use outcome::Refusal;
 use response_stated::Remainder;
 use signing_stated::Head;
@@ -8,7 +10,7 @@ use signing_stated::Head;
 // stored (the new handle) and good (the given one): 1 yes, else no. The counter is offered where `counted` is 1, else its reading
 // failed. An answer that the path does not reach is not looked at.
 #[repr(C)]
-#[derive(Drop)]
+#[derive(Clone, Copy)]
 pub struct HardwareSaid {
     pub allowed: u32,
     pub attestation: u32,
@@ -19,7 +21,7 @@ pub struct HardwareSaid {
 }
 
 // What those numbers stand for, in which the statements are written: whether CTAP1 is allowed,
-#[derive(Drop)]
+#[derive(Clone, Copy)]
 pub enum Allowed {
     Yes,
     No,
@@ -27,7 +29,7 @@ pub enum Allowed {
 }
 
 // the attestation that a Register is signed with,
-#[derive(Drop)]
+#[derive(Clone, Copy)]
 pub enum Attestation {
     Present,
     Missing,
@@ -35,14 +37,14 @@ pub enum Attestation {
 }
 
 // the counter that an Authenticate would carry,
-#[derive(Drop)]
+#[derive(Clone, Copy)]
 pub enum Counter {
     Offered(u32),
     Failed,
 }
 
 // and all five answers.
-#[derive(Drop)]
+#[derive(Clone, Copy)]
 pub struct Hardware {
     pub allowed: Allowed,
     pub stored: bool,
@@ -53,7 +55,7 @@ pub struct Hardware {
 
 // What a decision is answered with. A status word is its number, and the kind and place of a 6700: numbers, so that it is told where it is found. A part is GET
 // RESPONSE's: its response's length, and what remains after it.
-#[derive(Drop)]
+#[derive(Clone, Copy)]
 pub enum DecisionAnswer {
     Refused(Refusal),
     Status(u16, u16, usize),
@@ -63,7 +65,7 @@ pub enum DecisionAnswer {
 }
 
 // The answer, the order's head (blank where the answer is none; its block is in the lent one), and whether the counter was taken.
-#[derive(Drop)]
+#[derive(Clone, Copy)]
 pub struct Decision {
     pub answer: DecisionAnswer,
     pub order: Head,

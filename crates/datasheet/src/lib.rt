@@ -1,4 +1,6 @@
 // The data sheet's figures: of a reply buffer, and the buffer that a certificate needs (datasheet_stated's specs/Sheet.antt).
+#![tactic(auto)]
+
 ghost use Rattle.datasheet_stated.specs.Promises.{SheetSaid, NeededSaid};
 
 pub use datasheet_stated::{Figures, RoomNeeded, Sheet};

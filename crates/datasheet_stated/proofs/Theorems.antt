@@ -256,19 +256,19 @@ need_way c = by (dec_lt longest_room (c + 394))
 
 -- of any sheet that meets the claim
 module _ (row : ℕ → Sheet) (exact : Claims.SheetExactly row) (c : ℕ) where
-  is_row : (n : ℕ) → row n ≡ sheet_of n
-  is_row n = rows_alike row sheet_of exact SheetExactly n
+  is_row_lem : (n : ℕ) → row n ≡ sheet_of n
+  is_row_lem n = rows_alike row sheet_of exact SheetExactly n
 
   -- a buffer that holds it has 394 bytes more
   holds_so : (n : ℕ) → HasCertificate row c n → (c + 394 ≤ n) × (n ≤ longest_room)
   holds_so n h =
-      let r = row_is n h.figures (sym (is_row n) ∙ h.its_row) in
+      let r = row_is n h.figures (sym (is_row_lem n) ∙ h.its_row) in
       let is = ap (λ (g : Figures). g.certificate) r.is in
       (omega (arith, is, h.within, r.low), r.high)
 
   -- and the one of so many has it
   holds_at : c + 394 ≤ longest_room → HasCertificate row c (c + 394)
-  holds_at h = record { figures = figures_of (c + 394); its_row = is_row (c + 394) ∙ sym (row_within (c + 394) (omega arith) h); within = omega arith }
+  holds_at h = record { figures = figures_of (c + 394); its_row = is_row_lem (c + 394) ∙ sym (row_within (c + 394) (omega arith) h); within = omega arith }
 
   least_at : c + 394 ≤ longest_room → Least (HasCertificate row c) (c + 394)
   least_at h = record { serves = holds_at h; at_least = λ k x. (holds_so k x).0 }

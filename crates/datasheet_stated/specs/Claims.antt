@@ -2,7 +2,8 @@
 -- definitions of Sheet.antt meet the claims by proofs/Theorems.antt, nothing else meets `SheetExactly` or `NeededExactly` by proofs/Only.antt, and the
 -- programs of Wrong.antt do not by proofs/Refuted.antt. A column is claimed without its number, as a bound: of any function that meets the core's own claim
 -- on it, and in every buffer, not in those alone that are printed. Words: Terms.antt.
-use Rattle.datasheet_stated.specs.Words.{ℕ, ◌+◌, ◌≤◌, ◌<◌, ◌≡◌, Bool, false, List, ◌↔◌, AtMostOne, Outcome, R, Command, RegisterFields, Order, Finishing, Ended, MakesRegister, RegisterRoomExactly, FinishesExactly, FrameRoom, FrameRoomExactly, Figures, Sheet, Row, TooShort, TooLong, RoomNeeded, Room, NoBuffer}
+use Rattle.std.specs.Prelude.{◌+◌, ◌≤◌, ◌<◌, ◌≡◌, ◌↔◌}
+use Rattle.datasheet_stated.specs.Words.{ℕ, Bool, false, List, AtMostOne, Outcome, R, Command, RegisterFields, Order, Finishing, Ended, MakesRegister, RegisterRoomExactly, FinishesExactly, FrameRoom, FrameRoomExactly, Figures, Sheet, Row, TooShort, TooLong, RoomNeeded, Room, NoBuffer}
 use Rattle.datasheet_stated.specs.Promises.{SheetSaid, NeededSaid}
 use Rattle.datasheet_stated.specs.Terms.{UpTo, Longest, Least, HasRoom, FinishR2, FinishR2At255, HandleOf, BodyOf, ShortResponse, AnyResponse, CommandOf, TakesCommands, HasCertificate}
 

@@ -1,5 +1,6 @@
 -- What each public function of `datasheet` promises of its result.
-use Rattle.datasheet_stated.specs.Words.{ℕ, ◌≡◌, Sheet, RoomNeeded}
+use Rattle.std.specs.Prelude.{◌≡◌}
+use Rattle.datasheet_stated.specs.Words.{ℕ, Sheet, RoomNeeded}
 use Rattle.datasheet_stated.specs.Sheet.{sheet_of, needed_of}
 
 -- `row`

@@ -1,5 +1,6 @@
 -- Words that only the claims use: how a figure bounds what it is a figure of, and what comes of a buffer, a frame or a command.
-use Rattle.datasheet_stated.specs.Words.{ℕ, ◌≤◌, ◌≡◌, Bool, true, List, length, ◌↔◌, Outcome, R, Gives, AreBytes, Says, read_of, Command, RegisterExactly, AuthenticateExactly, VersionExactly, GetResponseExactly, RegisterFields, Order, Finishing, Ended, certificate_length, RegisterShaped, IsWhole, IsBlank, FrameRoom, Figures, Sheet, Row}
+use Rattle.std.specs.Prelude.{◌≤◌, ◌≡◌, ◌↔◌}
+use Rattle.datasheet_stated.specs.Words.{ℕ, Bool, true, List, length, Outcome, R, Gives, AreBytes, Says, read_of, Command, RegisterExactly, AuthenticateExactly, VersionExactly, GetResponseExactly, RegisterFields, Order, Finishing, Ended, certificate_length, RegisterShaped, IsWhole, IsBlank, FrameRoom, Figures, Sheet, Row}
 
 -- ---- bounds
 -- `UpTo Fits m`: of the numbers just those up to m fit

@@ -1,6 +1,6 @@
 -- The notation that the other files of specs/ are written in, the source's types, and the words that they take from the crates below.
 pub use Rattle.std.specs.Prelude.{ℕ, ◌+◌, ◌-◌, ◌≤◌, ◌<◌, ◌≡◌, Bool, true, false, List, ◌↔◌, ltb, length}
-pub use Rattle.outcome.specs.Notation.{if◌then◌else◌, AtMostOne}
+pub use Rattle.outcome.specs.Notation.{when◌then◌else◌, AtMostOne}
 pub use Rattle.outcome.specs.Outcome.{Outcome, R, Gives}
 pub use Rattle.octets.specs.Bytes.{AreBytes}
 pub use Rattle.apdu_stated.specs.Answers.{Says}

@@ -1,4 +1,5 @@
 // What a data sheet says of a reply buffer. No function: datasheet has them.
+#![tactic(auto)]
 
 // The figures for a reply buffer of `room` bytes, each in bytes.
 #[derive(Drop)]

@@ -6,7 +6,7 @@ use mathlib.Core.List.{List, [], ◌∷◌, ◌++◌}
 use borrow.Author.Tests.{eq-eqb, le-ltb}
 use lib.Dec.{eqb, ltb}
 use lib.ListN.{length}
-use Rattle.outcome.specs.Notation.{if◌then◌else◌}
+use Rattle.outcome.specs.Notation.{when◌then◌else◌}
 use Rattle.outcome.specs.Outcome.{Outcome, R, Gives}
 use Rattle.command_stated.specs.Command.{Command, command_of}
 use Rattle.command_stated.specs.Claims as Commands
@@ -44,16 +44,16 @@ use Rattle.demands.specs.Demands.{ToFinishOf}
 use Rattle.demands.specs.Answers.{CommandExported, ResponseReadExported, FinishExported, PresenceExported, to_end}
 
 module _ (P : Panel) (M : Meets P) where
-  read_by : (reader : List ℕ → Outcome Command) → Commands.CommandExactly reader → (frame : List ℕ) (o : Outcome Command) → reader frame ≡ o → P.read_command frame ≡ command_numbers o
-  read_by reader is frame o e = M.read_command frame ∙ ap command_numbers (CommandsOnly.CommandExactly command_of reader CommandsProved.CommandExactly is frame ∙ e)
+  read_by_lem : (reader : List ℕ → Outcome Command) → Commands.CommandExactly reader → (frame : List ℕ) (o : Outcome Command) → reader frame ≡ o → P.read_command frame ≡ command_numbers o
+  read_by_lem reader is frame o e = M.read_command frame ∙ ap command_numbers (CommandsOnly.CommandExactly command_of reader CommandsProved.CommandExactly is frame ∙ e)
 
   pub commands : CommandExported P.read_command
   commands = record {
-    status = λ reader is frame w e. read_by reader is frame _ e;
-    version = λ reader is frame e. read_by reader is frame _ e;
-    get_response = λ reader is frame e. read_by reader is frame _ e;
-    register = λ reader is frame s e. read_by reader is frame _ e;
-    authenticate = λ reader is frame p1 s e. read_by reader is frame _ e;
+    status = λ reader is frame w e. read_by_lem reader is frame _ e;
+    version = λ reader is frame e. read_by_lem reader is frame _ e;
+    get_response = λ reader is frame e. read_by_lem reader is frame _ e;
+    register = λ reader is frame s e. read_by_lem reader is frame _ e;
+    authenticate = λ reader is frame p1 s e. read_by_lem reader is frame _ e;
   }
 
   pub responses : ResponseReadExported P.read_response
@@ -88,10 +88,10 @@ module _ (P : Panel) (M : Meets P) where
 
   -- a finishing that is none of R7, R4, R2, with a signer that did not fail and a signature that fits, gives a body
   gives_by : (a b c : Bool) (body : List ℕ)
-      → ((if not a then R 7 else if not b then R 4 else if c then R 2 else Gives body) ≡ R 7 → ⊥)
-      → ((if not a then R 7 else if not b then R 4 else if c then R 2 else Gives body) ≡ R 4 → ⊥)
-      → ((if not a then R 7 else if not b then R 4 else if c then R 2 else Gives body) ≡ R 2 → ⊥)
-      → (if not a then R 7 else if not b then R 4 else if c then R 2 else Gives body) ≡ Gives body
+      → ((when not a then R 7 else when not b then R 4 else when c then R 2 else Gives body) ≡ R 7 → ⊥)
+      → ((when not a then R 7 else when not b then R 4 else when c then R 2 else Gives body) ≡ R 4 → ⊥)
+      → ((when not a then R 7 else when not b then R 4 else when c then R 2 else Gives body) ≡ R 2 → ⊥)
+      → (when not a then R 7 else when not b then R 4 else when c then R 2 else Gives body) ≡ Gives body
   gives_by false b c body x y z = absurd (x refl)
   gives_by true false c body x y z = absurd (y refl)
   gives_by true true true body x y z = absurd (z refl)

@@ -6,7 +6,7 @@ use mathlib.Core.List.{List}
 use native.Mathlib.Omega.{arith}
 use lib.Dec.{eqb}
 use lib.ListN.{length, take, drop}
-use Rattle.outcome.specs.Notation.{if◌then◌else◌}
+use Rattle.outcome.specs.Notation.{when◌then◌else◌}
 use Rattle.outcome.specs.Outcome.{Gives}
 use Rattle.octets.proofs.Laws.{part_within}
 use Rattle.octets.specs.Bytes.{part_of}
@@ -41,7 +41,7 @@ field frame cut place start end at long within is =
     ap₂ (λ (n k : ℕ). take k (drop n frame)) at count ∙ part_within frame start end (omega (arith, long)) within ∙ sym is
 
 -- a counter that is offered is the number that was lent
-offered : (yes : Bool) (n m : ℕ) → (if yes then Counter'.Offered n else Counter'.Failed) ≡ Counter'.Offered m → n ≡ m
+offered : (yes : Bool) (n m : ℕ) → (when yes then Counter'.Offered n else Counter'.Failed) ≡ Counter'.Offered m → n ≡ m
 offered true n m e = cc
 offered false n m e = let z : ◌≡◌ {A = ℕ} 0 1 = cc in absurd (omega arith)
 

@@ -10,7 +10,7 @@ use borrow.Author.Tests.{ne_eqb}
 use mathlib.Core.Bool.{Bool, true, false}
 use lib.Dec.{eqb, ltb}
 use lib.ListN.{length, take, drop, length-take, length-drop, length-append}
-use Rattle.outcome.specs.Notation.{if◌then◌else◌}
+use Rattle.outcome.specs.Notation.{when◌then◌else◌}
 use Rattle.outcome.specs.Outcome.{StatusWord, Outcome, R, Word, Gives, last_refusal}
 use Rattle.outcome.proofs.Laws.{r_word, word_gives}
 use Rattle.command_stated.proofs.Laws.{GetResponseExactly}
@@ -70,7 +70,7 @@ get_response (Gives (Authenticate p1 s)) h e f = absurd (omega arith)
 
 -- ---- what goes out
 sent_same : (o : Outcome DecisionGives) (after : List ℕ) → IsNumbered o
-    → (if eqb (decided_no o) 0x0200 then response_body_of (take (body_length o) after) else []) ≡ response_body_of (S.sent_with o after)
+    → (when eqb (decided_no o) 0x0200 then response_body_of (take (body_length o) after) else []) ≡ response_body_of (S.sent_with o after)
 sent_same (R n) after h = rw (ne_eqb n 0x0200 (λ e. omega arith))
 sent_same (Word s) after h = rw (ne_eqb s.number 0x0200 (λ e. omega arith))
 sent_same (Gives (Body n)) after h = refl
@@ -78,7 +78,7 @@ sent_same (Gives Ordered) after h = refl
 sent_same (Gives (Part n r)) after h = refl
 
 first_same : (o : Outcome Sent) (after : List ℕ) → IsNumbered o
-    → (if eqb (sent_numbers o).answer 0x9000 then response_body_of (take (sent_numbers o).length after) else []) ≡ response_body_of (got (o, after))
+    → (when eqb (sent_numbers o).answer 0x9000 then response_body_of (take (sent_numbers o).length after) else []) ≡ response_body_of (got (o, after))
 first_same (R n) after h = rw (ne_eqb n 0x9000 (λ e. omega arith))
 first_same (Word s) after h = rw (ne_eqb s.number 0x9000 (λ e. omega arith))
 first_same (Gives sent) after h = refl
@@ -99,7 +99,7 @@ room_by : (limit longest : ℕ) → (room_numbers (response_room_of limit longes
 unfolding response_room_of
 room_by limit longest e = by (ltb (part_length limit longest) 0xfffffffffffffffe) e
   where
-    by : (b : Bool) → (room_numbers (if b then Gives (part_length limit longest + 2) else R 2)).answer ≡ 0x9000 → (if b then Gives (part_length limit longest + 2) else R 2) ≡ Gives (part_length limit longest + 2)
+    by : (b : Bool) → (room_numbers (when b then Gives (part_length limit longest + 2) else R 2)).answer ≡ 0x9000 → (when b then Gives (part_length limit longest + 2) else R 2) ≡ Gives (part_length limit longest + 2)
     by true x = refl
     by false x = absurd (omega (arith, x))
 
@@ -131,7 +131,7 @@ module _ (P : Panel) (M : Meets P) where
     bytes_same : (r : Remainder) (i : ToDecide) → bytes_of (fetch P body r i) ≡ response_body_of (S.sent_in decision_of remainder_left part_left body r (visit_of i))
     bytes_same r i =
         let m = M.decide (fetching body r i) in
-        ap₂ (λ (s : DecisionSaid) (after : List ℕ). if eqb s.answer 0x0200 then response_body_of (take s.length after) else []) m.0 m.5
+        ap₂ (λ (s : DecisionSaid) (after : List ℕ). when eqb s.answer 0x0200 then response_body_of (take s.length after) else []) m.0 m.5
         ∙ sent_same (decision_of (presence_in i.presence) i.moment (inputs_in (fetching body r i))).answer _
         (Outcomes.decision_said (presence_in i.presence) i.moment (inputs_in (fetching body r i)))
 
@@ -171,7 +171,7 @@ module _ (P : Panel) (M : Meets P) where
         let a : Fetch = record { limit = limit; buffer = buffer } in
         let p = P.next_part (0 ∷ n ∷ limit ∷ []) body buffer in
         let bytes : first_bytes p ≡ response_body_of (got (called sending_of body (rest 0 n) a)) =
-        ap₂ (λ (s : Wrote) (after : List ℕ). if eqb s.answer 0x9000 then response_body_of (take s.length after) else []) m.0 m.2
+        ap₂ (λ (s : Wrote) (after : List ℕ). when eqb s.answer 0x9000 then response_body_of (take s.length after) else []) m.0 m.2
         ∙ first_same o _ (Outcomes.next_said (length body) (rest 0 n) limit (length buffer)) in
         let lefts : remainder_in p.session ≡ left (rest 0 n) o = ap (λ (s : Session). s.remainder) m.1 ∙ first_left o (record { remainder = rest 0 n; limit = limit }) in
         ap₂ (λ (x y : List ℕ). x ++ y) bytes (joins (remainder_in p.session) is (each_fetches e) ∙ ap (remaining body) lefts)

@@ -18,7 +18,7 @@ use Rattle.response_stated.specs.Terms.{Goes, Sends, sending_of}
 use Rattle.response_stated.specs.Responses.{response_body_of}
 use Rattle.response_stated.proofs.Laws.{write_room, front_of, cut_back}
 use lib.Dec.{eqb}
-use Rattle.outcome.specs.Notation.{if◌then◌else◌}
+use Rattle.outcome.specs.Notation.{when◌then◌else◌}
 use Rattle.demands.specs.Sessions.{first_part_of, first_bytes}
 use Rattle.signing_stated.specs.Orders.{is_of_layout, kind_no, certificate_length}
 use Rattle.signing_stated.specs.Words.{Order}
@@ -98,7 +98,7 @@ module _ (P : Panel) (M : Meets P) (i : ToDecide) (f : ToFinish) (longest : ℕ)
 sent_bytes : (body : List ℕ) (n limit : ℕ) (old bytes : List ℕ) (status : ℕ) (after : _) → Sends (sending_of body (rest 0 n) limit old) bytes status after
     → first_bytes (nexts_of (0 ∷ n ∷ limit ∷ []) body old) ≡ bytes
 sent_bytes body n limit old bytes status after s =
-    ap₂ (λ (o : Outcome Sent) (l : List ℕ). if eqb (sent_numbers o).answer 0x9000 then response_body_of (take (sent_numbers o).length l) else []) s.says s.holds
+    ap₂ (λ (o : Outcome Sent) (l : List ℕ). when eqb (sent_numbers o).answer 0x9000 then response_body_of (take (sent_numbers o).length l) else []) s.says s.holds
     ∙ ap response_body_of (front_of bytes status s.behind) ∙ cut_back bytes _ _
 
 module _ (P : Panel) (M : Meets P) (i : ToDecide) (f : ToFinish) (part : List ℕ) (longest : ℕ) (lent : ToFinishOf P i f) (is_longest : LongestBody P i longest)
@@ -167,7 +167,7 @@ module _ (P : Panel) (M : Meets P) (i : ToDecide) (f : ToFinish) (part : List �
         (
           s.2.part,
           rw (limit, long) s.2.goes,
-          ap₂ (λ (w : Wrote) (l : List ℕ). if eqb w.answer 0x9000 then response_body_of (take w.length l) else [])
+          ap₂ (λ (w : Wrote) (l : List ℕ). when eqb w.answer 0x9000 then response_body_of (take w.length l) else [])
               (M.next_part (0 ∷ (P.finish f).said.length ∷ (session_in (P.decide i).session).limit ∷ []) (P.finish f).buffer part).0
               (M.next_part (0 ∷ (P.finish f).said.length ∷ (session_in (P.decide i).session).limit ∷ []) (P.finish f).buffer part).2
               ∙ ap (λ (l : List ℕ). bytes (P.finish f).said.length (session_in (P.decide i).session).limit l) body

@@ -8,7 +8,7 @@ use native.Mathlib.Decide.{ℕ_discrete}
 use borrow.Author.Tests.{eq-eqb, le-ltb, ltb-false, eqb-true}
 use lib.Dec.{eqb, ltb}
 use lib.ListN.{length}
-use Rattle.outcome.specs.Notation.{if◌then◌else◌}
+use Rattle.outcome.specs.Notation.{when◌then◌else◌}
 use Rattle.outcome.specs.Outcome.{StatusWord, Outcome, R, Word, Gives, plain_word}
 use Rattle.command_stated.specs.Command.{Command, Register, Authenticate, Version, GetResponse, command_of}
 use Rattle.response_stated.specs.Words.{Sent}
@@ -56,21 +56,21 @@ no_sent (R n) x = x
 no_sent (Word s) x = x
 no_sent (Gives sent) x = x
 
-no_fetch : (b : Bool) (o : Outcome Sent) (s : StatusWord) → Goes (if b then Ends s else sent_path o) → ⊥
+no_fetch : (b : Bool) (o : Outcome Sent) (s : StatusWord) → Goes (when b then Ends s else sent_path o) → ⊥
 no_fetch true o s x = x
 no_fetch false o s x = no_sent o x
 
-no_version : (b : Bool) → Goes (if b then NoRoom else SixBytes) → ⊥
+no_version : (b : Bool) → Goes (when b then NoRoom else SixBytes) → ⊥
 no_version true x = x
 no_version false x = x
 
-registers : (b : Bool) (e : PathEnd) → Goes (if b then NoRoom else Touch e) ↔ (b ≡ false)
+registers : (b : Bool) (e : PathEnd) → Goes (when b then NoRoom else Touch e) ↔ (b ≡ false)
 registers true e = (λ x. absurd x, λ z. let y : ◌≡◌ {A = ℕ} 0 1 = cc in omega arith)
 registers false e = (λ x. refl, λ z. tt)
 
 logs_in_lem : (good check short present : Bool) (s u : StatusWord) (e f : PathEnd)
     → (check ≡ true → present ≡ true → ⊥)
-    → Goes (if not good then Ends s else if check then Ends u else if short then NoRoom else if present then Touch e else Signs f) ↔ ((good ≡ true) × (present ≡ true) × (short ≡ false))
+    → Goes (when not good then Ends s else when check then Ends u else when short then NoRoom else when present then Touch e else Signs f) ↔ ((good ≡ true) × (present ≡ true) × (short ≡ false))
 logs_in_lem false c sh p s u e f apart = (λ x. absurd x, λ z. let y : ◌≡◌ {A = ℕ} 0 1 = cc z.0 in omega arith)
 logs_in_lem true true sh p s u e f apart = (λ x. absurd x, λ z. absurd (apart refl z.1))
 logs_in_lem true false true p s u e f apart = (λ x. absurd x, λ z. let y : ◌≡◌ {A = ℕ} 0 1 = cc z.2 in omega arith)

@@ -26,14 +26,14 @@ as_call (Decide i) = record { role = role_of (inputs_in i); moment = i.moment }
 -- or no)
 abbrev pub came_of_yes : Role → (answer : ℕ) (yes : Bool) → Came
 came_of_yes role answer said =
-    if leb answer last_refusal then RefusedBy answer
-    else if eqb answer 0x9000 then came_of_given role said
+    when leb answer last_refusal then RefusedBy answer
+    else when eqb answer 0x9000 then came_of_given role said
     else AnsweredBefore
 
 -- and of a decision: where it reached the touch check, 6985 is 'no touch found', and any other answer has spent one
 abbrev pub came_of_answer : Role → (answer : ℕ) → Came
 came_of_answer role answer =
-    if leb answer last_refusal then RefusedBy answer
+    when leb answer last_refusal then RefusedBy answer
     else came_of_given role (not (eqb answer 0x6985))
 
 -- a decision reaches the touch check, R6, R8 and R1 apart: CTAP1 is allowed, and the frame is a Register with room for its reply, or an Authenticate with P1

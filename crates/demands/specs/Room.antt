@@ -1,7 +1,7 @@
 -- ROOM, FOR THE DATA SHEET: document 02, E10, of the reply buffer, and (ours) of the buffer for part and status. Of any panel that meets the contracts; R2 is answer 2.
 -- docs/DATASHEET.md says it in words, and for some lengths in numbers (datasheet_stated).
 use Rattle.std.specs.Prelude.{ℕ, ◌+◌, ◌-◌, ◌<◌, ◌≤◌, ◌≡◌, ◌↔◌, ◌⊎◌, List, [], ◌∷◌, eqb, leb, length, replicate}
-use Rattle.outcome.specs.Notation.{if◌then◌else◌}
+use Rattle.outcome.specs.Notation.{when◌then◌else◌}
 use Rattle.outcome.specs.Outcome.{last_refusal}
 use Rattle.octets.specs.Bytes.{AreBytes}
 use Rattle.session_stated.specs.Held.{remainder_in, session_in}
@@ -83,7 +83,7 @@ GoesIn m limit n = (n + 2 ≤ m) ⊎ ((1 ≤ limit) × (limit + 2 ≤ m))
 -- what a frame takes at a time, by what `brinecandle_read` says of it: Le in shapes 1 to 4, 256 where it is absent; 0, no limit, in an extended shape
 abbrev pub takes : FrameSaid → ℕ
 takes said =
-    if leb said.shape 4 then (if eqb said.le 0 then 256 else said.le)
+    when leb said.shape 4 then (when eqb said.le 0 then 256 else said.le)
     else 0
 
 pub record ResponsesServed (P : Panel) : Type 0 where

@@ -36,10 +36,10 @@ pub data Each (Is : ToDecide → Type 0) : List ToDecide → Type 0 where
 -- the bytes of the body that go out with a call: the response at the buffer's front, without its status; only where the answer is 0200, a part, or, for the
 -- first part, 9000
 abbrev pub bytes_of : AfterDeciding → List ℕ
-bytes_of d = if eqb d.said.answer 0x0200 then response_body_of (take d.said.length d.part) else []
+bytes_of d = when eqb d.said.answer 0x0200 then response_body_of (take d.said.length d.part) else []
 
 abbrev pub first_bytes : AfterPart → List ℕ
-first_bytes p = if eqb p.said.answer 0x9000 then response_body_of (take p.said.length p.part) else []
+first_bytes p = when eqb p.said.answer 0x9000 then response_body_of (take p.said.length p.part) else []
 
 module _ (P : Panel) (body : List ℕ) where
   -- one GET RESPONSE

@@ -1,7 +1,7 @@
 -- The panel of the definitions, and wrong ones, each with one fault. proofs/Refuted.antt shows that the first meets every contract, and of each other that it
 -- does not meet the demands.
 use Rattle.std.specs.Prelude.{ℕ, ◌+◌, ◌-◌, ◌%◌, List, [], ◌∷◌, ◌++◌, Bool, false, not, eqb, ltb, length, take, drop, replicate}
-use Rattle.outcome.specs.Notation.{if◌then◌else◌}
+use Rattle.outcome.specs.Notation.{when◌then◌else◌}
 use Rattle.outcome.specs.Outcome.{R, SW}
 use Rattle.octets.specs.Bytes.{laid}
 use Rattle.apdu_stated.specs.declared.Entry.TheVariants.{Ordinary, Strict}
@@ -182,7 +182,7 @@ refuses_window = panel_with makes_of touches_of (λ n s t. record { said = recor
 
 -- a check that finds a touch keeps it
 abbrev kept_if : Bool → (presence : List ℕ) → AfterStep → AfterStep
-kept_if found n r = if found then record { said = r.said; presence = n } else r
+kept_if found n r = when found then record { said = r.said; presence = n } else r
 
 abbrev pub touch_kept : Panel
 touch_kept = panel_with makes_of touches_of (λ n s t. kept_if (checks_of n s t).said.yes n (checks_of n s t)) asks_of decides_of right_finish
@@ -242,7 +242,7 @@ keeping k d =
 abbrev pub stalls : Panel
 stalls =
     panel_with makes_of touches_of checks_of asks_of
-    (λ i. if eqb ((remainder_in i.session).place % frame_limit i.frame) 0 then decides_of i else keeping (remainder_in i.session) (decides_of (changed i.presence (rest 0 0) i))) right_finish
+    (λ i. when eqb ((remainder_in i.session).place % frame_limit i.frame) 0 then decides_of i else keeping (remainder_in i.session) (decides_of (changed i.presence (rest 0 0) i))) right_finish
 
 -- a part leaves a byte more behind it than it took: that byte never goes out
 abbrev pub skips : Panel
@@ -268,7 +268,7 @@ abbrev signing : (kind : ℕ) (change : List ℕ → List ℕ) → AfterDeciding
 signing kind change d =
     let order = d.said.order in
     let s = change (take order.to_sign d.block) in
-    if eqb order.kind kind
+    when eqb order.kind kind
     then record {
       said = record {
         answer = d.said.answer;
@@ -293,7 +293,7 @@ key_left_out = panel_with makes_of touches_of checks_of asks_of (λ i. signing 1
 -- its handle's last byte is left out
 abbrev pub handle_cut : Panel
 handle_cut =
-    panel_with makes_of touches_of checks_of asks_of (λ i. signing 1 (λ s. if eqb (length s) 130 then s else take (length s - 66) s ++ drop (length s - 65) s) (decides_of i)) right_finish
+    panel_with makes_of touches_of checks_of asks_of (λ i. signing 1 (λ s. when eqb (length s) 130 then s else take (length s - 66) s ++ drop (length s - 65) s) (decides_of i)) right_finish
 
 -- the presence byte is left out of an Authenticate's
 abbrev pub presence_left_out : Panel
@@ -343,7 +343,7 @@ asks_one_more = panel_with makes_of touches_of checks_of asks_of (roomed (drop 1
 
 -- a guessed length: less than 1,024 bytes are never enough
 abbrev pub guesses1024 : Panel
-guesses1024 = panel_with makes_of touches_of checks_of asks_of (λ i. if ltb (length i.reply) 1024 then saying 2 0 (decides_of i) else decides_of i) right_finish
+guesses1024 = panel_with makes_of touches_of checks_of asks_of (λ i. when ltb (length i.reply) 1024 then saying 2 0 (decides_of i) else decides_of i) right_finish
 
 -- finishing says a byte more than it wrote; and every body of a decision is said to have 1,024
 abbrev pub finish_one_more : Panel
@@ -357,7 +357,7 @@ says1024 = panel_with makes_of touches_of checks_of asks_of (λ i. saying (decid
 -- a part is refused where the whole body would not go; a part, and a response, want a byte more than they take
 abbrev pub part_wants_body : Panel
 part_wants_body =
-    panel_with makes_of touches_of checks_of asks_of (λ i. if ltb (length i.part) (length i.reply + 2) then saying 2 0 (decides_of i) else decides_of i) right_finish
+    panel_with makes_of touches_of checks_of asks_of (λ i. when ltb (length i.part) (length i.reply + 2) then saying 2 0 (decides_of i) else decides_of i) right_finish
 
 abbrev pub part_wants3 : Panel
 part_wants3 =

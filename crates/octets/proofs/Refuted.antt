@@ -1,11 +1,9 @@
 -- The claim that is false of each wrong program, at an input where it bites.
-use Prim.Native.Nat.{ℕ, zero, suc, ◌+◌, ◌≤◌, ◌<◌}
-use mathlib.Core.Path.{◌≡◌, refl, sym, ap, ◌∙◌}
-use mathlib.Core.Bool.{true, false, true≢false}
+use Prim.Native.Nat.{ℕ}
+use mathlib.Core.Path.{◌≡◌, refl, ap}
 use mathlib.Core.List.{List, [], ◌∷◌}
 use native.Mathlib.Omega.{arith}
-use lib.ListN.{length}
-use Rattle.octets.specs.Bytes.{byte, laid, part_of}
+use Rattle.octets.specs.Bytes.{byte, part_of}
 use Rattle.octets.specs.Claims
 use Rattle.octets.specs.Wrong
 

@@ -1,8 +1,8 @@
 -- Bytes in lists: numbers of several bytes (01, 'Eight frame shapes': "Numbers of two bytes are big-endian"), a field
 -- written into a buffer (01, 'The decision': "Each field is written into the rest of the buffer after the field before";
 -- 'Refusal numbers': "fills the front of the buffer; the rest stays"), and the zero tail of an order.
-use Rattle.std.specs.Prelude.{ℕ, ◌+◌, ◌*◌, ◌/◌, ◌%◌, ◌<◌, ◌-◌, Bool, true, false, ◌&&◌, List, [], ◌∷◌, get_or, length, take, drop, eqb, ltb}
-use Rattle.outcome.specs.Notation.{if◌then◌else◌}
+use Rattle.std.specs.Prelude.{ℕ, ◌+◌, ◌*◌, ◌/◌, ◌%◌, ◌<◌, ◌-◌, Bool, true, ◌&&◌, List, [], ◌∷◌, get_or, length, take, drop, eqb, ltb}
+use Rattle.outcome.specs.Notation.{when◌then◌else◌}
 
 -- the byte at place i, counted from 0. Past the end it would be 0: a length test stands beside each use
 abbrev pub byte : List ℕ → ℕ → ℕ
@@ -37,6 +37,6 @@ all_zero (x ∷ s) = eqb x 0 && all_zero s
 -- `end - start` stands behind the test that start ≤ end
 unfoldable pub part_of : List ℕ → ℕ → ℕ → List ℕ
 part_of s start end =
-    if ltb end start then []
-    else if ltb (length s) end then []
+    when ltb end start then []
+    else when ltb (length s) end then []
     else take (end - start) (drop start s)

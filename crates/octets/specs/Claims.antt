@@ -1,8 +1,8 @@
 -- What is promised of byte strings beyond the contracts. Proved in proofs/Theorems.antt; that only the definitions meet it, in
 -- proofs/Only.antt; that the programs of Wrong.antt do not, in proofs/Refuted.antt.
-use Rattle.std.specs.Prelude.{ℕ, ◌+◌, ◌*◌, ◌/◌, ◌%◌, ◌-◌, ◌≤◌, ◌<◌, ◌≡◌, Bool, true, List, [], ◌++◌, ◌↔◌, length, drop}
+use Rattle.std.specs.Prelude.{ℕ, ◌+◌, ◌/◌, ◌%◌, ◌-◌, ◌≤◌, ◌<◌, ◌≡◌, Bool, true, List, [], ◌++◌, ◌↔◌, length, drop}
 use Rattle.outcome.specs.Notation.{AtMostOne}
-use Rattle.octets.specs.Bytes.{byte, AreBytes}
+use Rattle.octets.specs.Bytes.{byte}
 use Rattle.octets.specs.Promises.{Wide, Pair, Put, PutByte, PutPair, PutWord, AllZero, Part}
 
 -- With room, what is written stands at the front and the rest of the buffer is as it was.

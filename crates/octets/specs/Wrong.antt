@@ -1,6 +1,6 @@
 -- Wrong programs, one fault each. proofs/Refuted.antt shows the claim that is false of each.
-use Rattle.std.specs.Prelude.{ℕ, suc, ◌+◌, ◌*◌, ◌/◌, ◌%◌, ◌-◌, Bool, true, List, [], ◌∷◌, ◌++◌, eqb, ltb, leb, length, take, drop, replicate}
-use Rattle.outcome.specs.Notation.{if◌then◌else◌}
+use Rattle.std.specs.Prelude.{ℕ, ◌+◌, ◌*◌, ◌/◌, ◌%◌, ◌-◌, Bool, true, List, [], ◌∷◌, ◌++◌, eqb, leb, length, take, drop, replicate}
+use Rattle.outcome.specs.Notation.{when◌then◌else◌}
 use Rattle.octets.specs.Bytes.{byte, laid, part_of}
 
 -- "the rest stays": here it becomes 0. Where s is longer than old, `length old - length s` is 0
@@ -17,7 +17,7 @@ repeats_the_first s old = laid (replicate (length s) (byte s 0)) old
 
 -- a buffer of one byte is left as it was
 abbrev pub spares_the_last : List ℕ → List ℕ → List ℕ
-spares_the_last s old = if leb (length old) 1 then old else laid s old
+spares_the_last s old = when leb (length old) 1 then old else laid s old
 
 -- "big-endian": here the low byte comes first
 abbrev pub low_byte_first : ℕ → List ℕ
@@ -44,7 +44,7 @@ first_byte_only s = eqb (byte s 0) 0
 
 -- a part that ends where the list ends comes back empty
 abbrev pub empty_to_the_end : List ℕ → ℕ → ℕ → List ℕ
-empty_to_the_end s start end = if leb (length s) end then [] else take (end - start) (drop start s)
+empty_to_the_end s start end = when leb (length s) end then [] else take (end - start) (drop start s)
 
 -- a second wrong answer of each kind: one too many, a high byte that is lost, a test that always or never passes, a part that
 -- begins one byte late

@@ -1,5 +1,7 @@
 // Bytes into and out of lent slices: what frames, orders and replies are written and read with.
 // Nothing here asks anything of its caller: a write stops where the buffer ends.
+#![tactic(auto)]
+
 ghost use Rattle.std.specs.Prelude.{◌+◌, ◌≤◌, ◌≡◌, eqb, length, take};
 ghost use Rattle.octets.specs.Bytes.{laid, all_zero};
 ghost use Rattle.octets.specs.Promises.{Wide, Pair, Put, PutByte, PutPair, PutWord, AllZero, Part};

@@ -2,7 +2,7 @@
 use Prim.Native.Nat.{ℕ}
 use mathlib.Core.Path.{◌≡◌, refl, sym, ap, ◌∙◌}
 use lib.Dec.{eqb}
-use Rattle.outcome.specs.Notation.{if◌then◌else◌}
+use Rattle.outcome.specs.Notation.{when◌then◌else◌}
 use Rattle.outcome.specs.Outcome.{StatusWord, word_of, refusal_no}
 use Rattle.outcome.specs.declared.ApduStatusCode.{ApduStatusCode}
 use Rattle.outcome.specs.declared.ApduStatusCode.TheVariants.{Success, WrongData, WrongLength, CondUseNotSatisfied, CommandNotAllowed, IncorrectP1P2, InsInvalid, ClaInvalid, InternalException}
@@ -16,20 +16,20 @@ one_to_one f g back a b e = sym (back a) ∙ ap g e ∙ back b
 
 pub fault_back : (kind : ℕ) → LengthFault
 fault_back kind =
-    if eqb kind 1 then Missing
-    else if eqb kind 2 then Surplus
+    when eqb kind 1 then Missing
+    else when eqb kind 2 then Surplus
     else LcAgainstIns
 
 pub status_of : StatusWord → ApduStatusCode
 status_of w =
-    if eqb w.number 0x9000 then Success
-    else if eqb w.number 0x6a80 then WrongData
-    else if eqb w.number 0x6700 then WrongLength (fault_back w.kind) w.place
-    else if eqb w.number 0x6985 then CondUseNotSatisfied
-    else if eqb w.number 0x6986 then CommandNotAllowed
-    else if eqb w.number 0x6a86 then IncorrectP1P2
-    else if eqb w.number 0x6d00 then InsInvalid
-    else if eqb w.number 0x6e00 then ClaInvalid
+    when eqb w.number 0x9000 then Success
+    else when eqb w.number 0x6a80 then WrongData
+    else when eqb w.number 0x6700 then WrongLength (fault_back w.kind) w.place
+    else when eqb w.number 0x6985 then CondUseNotSatisfied
+    else when eqb w.number 0x6986 then CommandNotAllowed
+    else when eqb w.number 0x6a86 then IncorrectP1P2
+    else when eqb w.number 0x6d00 then InsInvalid
+    else when eqb w.number 0x6e00 then ClaInvalid
     else InternalException
 
 pub status_back : (s : ApduStatusCode) → status_of (word_of s) ≡ s
@@ -51,13 +51,13 @@ status_one_to_one = one_to_one word_of status_of status_back
 
 pub refusal_of : ℕ → Refusal
 refusal_of n =
-    if eqb n 1 then R1
-    else if eqb n 2 then R2
-    else if eqb n 3 then R3
-    else if eqb n 4 then R4
-    else if eqb n 5 then R5
-    else if eqb n 6 then R6
-    else if eqb n 7 then R7
+    when eqb n 1 then R1
+    else when eqb n 2 then R2
+    else when eqb n 3 then R3
+    else when eqb n 4 then R4
+    else when eqb n 5 then R5
+    else when eqb n 6 then R6
+    else when eqb n 7 then R7
     else R8
 
 pub refusal_back : (r : Refusal) → refusal_of (refusal_no r) ≡ r

@@ -7,8 +7,7 @@ use Rattle.outcome.specs.Wrong
 use Rattle.outcome.specs.Outcome.{StatusWord, Outcome, Word, FaultNumbers, SW, wrong_length, status_no, fault_of}
 use Rattle.outcome.proofs.Laws.{word_same}
 use Rattle.outcome.specs.declared.ApduStatusCode.TheVariants.{WrongData, WrongLength}
-use Rattle.outcome.specs.declared.LengthFault.{LengthFault}
-use Rattle.outcome.specs.declared.LengthFault.TheVariants.{Missing, Surplus, LcAgainstIns}
+use Rattle.outcome.specs.declared.LengthFault.TheVariants.{Missing, Surplus}
 use Rattle.outcome.specs.declared.Refusal.TheVariants.{R2, R4}
 
 pub wrong_data_as_wrong_length : Claims.StatusNumbers Wrong.wrong_data_as_wrong_length → ⊥

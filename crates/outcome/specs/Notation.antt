@@ -1,11 +1,11 @@
 -- The two tools that every definition of this project is written with. Ours; no document has them.
 use Rattle.std.specs.Prelude.{Bool, true, false, ◌≡◌}
 
-infixr 1 if◌then◌else◌
--- `if test then a else b`. The tests are `ltb a b` (a < b), `leb a b` (a ≤ b), `eqb a b` (a = b), `not`, `&&` and `||`.
-abbrev pub if◌then◌else◌ : {A : Type 0} → Bool → A → A → A
-if◌then◌else◌ true a b = a
-if◌then◌else◌ false a b = b
+infixr 1 when◌then◌else◌
+-- `when test then a else b`. The tests are `ltb a b` (a < b), `leb a b` (a ≤ b), `eqb a b` (a = b), `not`, `&&` and `||`.
+abbrev pub when◌then◌else◌ : {A : Type 0} → Bool → A → A → A
+when◌then◌else◌ true a b = a
+when◌then◌else◌ false a b = b
 
 -- At most one value meets the claim: two that meet it are equal.
 abbrev pub AtMostOne : {A : Type 0} → (A → Type 0) → Type 0

@@ -1,6 +1,6 @@
 -- Wrong tables, one fault each. proofs/Refuted.antt has that each fails its claim.
 use Rattle.std.specs.Prelude.{ℕ, ◌+◌, eqb}
-use Rattle.outcome.specs.Notation.{if◌then◌else◌}
+use Rattle.outcome.specs.Notation.{when◌then◌else◌}
 use Rattle.outcome.specs.Outcome.{StatusWord, Outcome, Word, FaultNumbers, fault_pair, plain_word, status_no, fault_kind, fault_of, refusal_no}
 use Rattle.outcome.specs.declared.ApduStatusCode.{ApduStatusCode}
 use Rattle.outcome.specs.declared.ApduStatusCode.TheVariants.{Success, WrongData, WrongLength, CondUseNotSatisfied, CommandNotAllowed, IncorrectP1P2, InsInvalid, ClaInvalid, InternalException}
@@ -67,10 +67,10 @@ abbrev word : {A : Type 0} → (number kind place : ℕ) → Outcome A
 word number kind place = Word (record { number = number; kind = kind; place = place })
 
 abbrev pub third_one_on : (A : Type 0) → (kind place : ℕ) → Outcome A
-third_one_on A kind place = if eqb kind 3 then word 0x6700 3 (place + 1) else word 0x6700 kind place
+third_one_on A kind place = when eqb kind 3 then word 0x6700 3 (place + 1) else word 0x6700 kind place
 
 abbrev pub kinds_swapped : (A : Type 0) → (kind place : ℕ) → Outcome A
-kinds_swapped A kind place = if eqb kind 1 then word 0x6700 2 place else if eqb kind 2 then word 0x6700 1 place else word 0x6700 kind place
+kinds_swapped A kind place = when eqb kind 1 then word 0x6700 2 place else when eqb kind 2 then word 0x6700 1 place else word 0x6700 kind place
 
 abbrev pub plain_at7 : (A : Type 0) → ℕ → Outcome A
 plain_at7 A n = word n 0 7

@@ -1,12 +1,14 @@
 // The words that every crate here answers with: the status words of a reply and the refusals R1 to R8, each with its
 // number. Status words go to the host. A refusal goes to the firmware: nothing was decided, and nothing was changed.
+#![tactic(auto)]
+
 ghost use Rattle.std.specs.Prelude.{◌≡◌};
 ghost use Rattle.outcome.specs.Outcome.{fault_pair, fault_kind};
 ghost use Rattle.outcome.specs.Promises.{StatusNumber, Fault, NoFault, RefusalNumber};
 
 // What is wrong with a frame's length: it ends too early, at its length; it goes on too long, from the first byte that no field
 // can claim; or its Lc does not fit its INS.
-#[derive(Drop)]
+#[derive(Clone, Copy)]
 pub enum LengthFault {
     Missing,
     Surplus,
@@ -14,7 +16,7 @@ pub enum LengthFault {
 }
 
 // ISO 7816-4's status words, as far as the panel answers them. The names are those of the Rust's `ApduStatusCode`.
-#[derive(Drop)]
+#[derive(Clone, Copy)]
 pub enum ApduStatusCode {
     Success,
     WrongData,
@@ -30,7 +32,7 @@ pub enum ApduStatusCode {
 }
 
 // Why nothing was done. Which is which stands beside the numbers in specs/Outcome.antt.
-#[derive(Drop)]
+#[derive(Clone, Copy)]
 pub enum Refusal {
     R1,
     R2,
@@ -60,7 +62,7 @@ pub fn status_number(status: ApduStatusCode) -> u16
 }
 
 // A fault as two numbers, its kind and its place: 0 and 0 where there is none.
-#[derive(Drop)]
+#[derive(Clone, Copy)]
 pub struct FaultNumbers {
     pub kind: u16,
     pub place: usize,

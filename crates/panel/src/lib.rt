@@ -1,6 +1,8 @@
 // What the panel's C firmware links: every call of the core over plain numbers and byte slices. include/brinecandle.h says
 // the same in C, and .ci/header compares the two. The structs stand in panel_stated, the conversions in panel_frames,
 // panel_presence, panel_orders and panel_responses.
+#![tactic(auto)]
+
 ghost use Rattle.std.specs.Prelude.{◌≡◌};
 ghost use Rattle.apdu_table_stated.specs.Answers.{table_reading_of};
 ghost use Rattle.panel_stated.specs.Exports.{frame_numbers};

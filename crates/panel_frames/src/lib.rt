@@ -1,4 +1,6 @@
 // Frames and commands as plain numbers, and a shape from its number.
+#![tactic(auto)]
+
 ghost use Rattle.std.specs.Prelude.{◌≡◌};
 ghost use Rattle.outcome.specs.Outcome.{Gives};
 ghost use Rattle.apdu_stated.specs.Answers.{says_of, written_of};

@@ -1,4 +1,6 @@
 // Decisions and orders as plain numbers.
+#![tactic(auto)]
+
 ghost use Rattle.std.specs.Prelude.{◌≡◌};
 ghost use Rattle.panel_stated.specs.Numbers.{no_order};
 ghost use Rattle.panel_stated.specs.Promises.{KindNumbered, RefusedPlain, StatusPlain, BodyPlain, PartPlain, OrderPlain, FinishedPlain};

@@ -1,4 +1,6 @@
 // What touch, check and ask answer, and a fresh record's five numbers.
+#![tactic(auto)]
+
 ghost use Rattle.panel_stated.specs.Promises.{RefusedAsked, FoundAsked, AskedPlain, FreshKept};
 
 use outcome::Refusal;

@@ -1,4 +1,6 @@
 // Responses, parts and the room for them as plain numbers.
+#![tactic(auto)]
+
 ghost use Rattle.panel_stated.specs.Promises.{ResponsePlain, WroteResponsePlain, RefusedPart, SentPart, RoomPlain};
 
 use outcome::Refusal;

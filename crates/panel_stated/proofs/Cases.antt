@@ -2,19 +2,17 @@
 use Prim.Native.Nat.{ℕ, ◌+◌, ◌<◌, ◌^◌}
 use mathlib.Core.Path.{◌≡◌, refl, ap, ap₂, sym, ◌∙◌}
 use mathlib.Core.List.{List}
-use native.Mathlib.Omega.{arith}
-use borrow.Author.Tests.{eq-eqb, ne_eqb, not-true, not-false}
-use lib.Dec.{eqb}
+use borrow.Author.Tests.{ne_eqb, not-true, not-false}
 use lib.ListN.{length, get_or, set}
 use lib.Seq.{lt-length-set}
-use Rattle.outcome.specs.Notation.{if◌then◌else◌}
+use Rattle.outcome.specs.Notation.{when◌then◌else◌}
 use Rattle.outcome.proofs.Laws.{r_gives}
-use Rattle.outcome.specs.Outcome.{Outcome, R, Word, SW, Gives, status_no, fault_of, word_of, refusal_no, no_fault, plain_word}
+use Rattle.outcome.specs.Outcome.{Outcome, R, Word, Gives, status_no, fault_of, word_of, refusal_no, no_fault}
 use Rattle.outcome.specs.declared.FaultNumbers.{FaultNumbers}
 use Rattle.outcome.specs.declared.ApduStatusCode.{ApduStatusCode}
 use Rattle.outcome.specs.declared.Refusal.{Refusal}
 use Rattle.apdu_stated.specs.Words.{shape_no}
-use Rattle.apdu_stated.specs.Answers.{says_of, reading_of, written_of}
+use Rattle.apdu_stated.specs.Answers.{says_of, written_of}
 use Rattle.apdu_stated.specs.Reading.{place_of}
 use Rattle.apdu_stated.specs.Table.{in_row}
 use Rattle.apdu_stated.specs.declared.Entry.{Entry}
@@ -25,8 +23,6 @@ use Rattle.apdu_stated.specs.declared.ApduHeader.{ApduHeader}
 use Rattle.apdu_stated.specs.declared.Case.{Case}
 use Rattle.apdu_stated.specs.declared.Case.TheVariants.{Instruction, Le1, Lc1Data, Lc1DataLe1, Lc3Data, Lc3DataLe2, Le3}
 use Rattle.apdu_stated.specs.declared.Place.{Place}
-use Rattle.apdu_stated.specs.declared.Reading.{Reading}
-use Rattle.apdu_stated.specs.declared.Reading.TheVariants as Reading'
 use Rattle.apdu_stated.specs.declared.Written.{Written}
 use Rattle.apdu_stated.specs.declared.Written.TheVariants as Written'
 use Rattle.command_stated.specs.Command.{Register, Authenticate, flags_no, command_said, handle_place_of}
@@ -156,12 +152,12 @@ to_write header shape content le out = record { header = header; shape = shape; 
 
 module _ (entry : Entry) (header : ApduHeader) (shape : ℕ) (content : List ℕ) (le : ℕ) (old : List ℕ) (shaped : Shaped) (is_shaped : shaped ≡ shape_of shape) where
   module _ (s : Case) (z : shaped ≡ Shaped'.As s) where
-    pub write_as : (written : Written) (r : Wrote) → written_of written ≡ write_by entry (parts_of header s content le) (length old) → r ≡ length_numbers (written_of written)
+    pub write_as_lem : (written : Written) (r : Wrote) → written_of written ≡ write_by entry (parts_of header s content le) (length old) → r ≡ length_numbers (written_of written)
         → r ≡ length_numbers (write_numbered entry (to_write header shape content le old))
-    write_as written r is_written is = is ∙ ap length_numbers is_written ∙ rw (← is_shaped, z)
+    write_as_lem written r is_written is = is ∙ ap length_numbers is_written ∙ rw (← is_shaped, z)
 
-    pub buffer_as : (new : List ℕ) → new ≡ buffer_by entry (parts_of header s content le) old → new ≡ buffer_as entry (shape_of shape) (to_write header shape content le old)
-    buffer_as new is = is ∙ rw (← is_shaped, z)
+    pub buffer_as_lem : (new : List ℕ) → new ≡ buffer_by entry (parts_of header s content le) old → new ≡ buffer_as entry (shape_of shape) (to_write header shape content le old)
+    buffer_as_lem new is = is ∙ rw (← is_shaped, z)
 
   module _ (z : shaped ≡ Shaped'.Nothing) where
     pub write_as_none : ◌≡◌ {A = Wrote} (record { answer = 5; length = 0 }) (length_numbers (write_numbered entry (to_write header shape content le old)))
@@ -172,8 +168,8 @@ module _ (entry : Entry) (header : ApduHeader) (shape : ℕ) (content : List ℕ
 
 -- the strict writer: a number whose row the strict table has not decides, else the writer
 module _ (number count : ℕ) (shaped : Shaped) (is_shaped : shaped ≡ shape_of number) where
-  pub strict_as : (s : Case) (b : Bool) → shaped ≡ Shaped'.As s → b ≡ in_row Strict s count → b ≡ strict_as (shape_of number) count
-  strict_as s b z e = e ∙ rw (← is_shaped, z)
+  pub strict_as_lem : (s : Case) (b : Bool) → shaped ≡ Shaped'.As s → b ≡ in_row Strict s count → b ≡ strict_as (shape_of number) count
+  strict_as_lem s b z e = e ∙ rw (← is_shaped, z)
 
   pub strict_as_none : shaped ≡ Shaped'.Nothing → false ≡ strict_as (shape_of number) count
   strict_as_none z = rw (← is_shaped, z)
@@ -242,7 +238,7 @@ module _ (w : ℕ) (made : Ready) (is_made : ready_of made ≡ new_of w) where
     unfolding new_of
     new_made p q z is = is ∙ by (is_r6 w) (made_at (Ready'.Record p) z)
       where
-        by : (b : Bool) → Gives p ≡ (if b then R 6 else Gives (fresh w)) → fresh w ≡ made_over (if b then R 6 else Gives (fresh w)) kept
+        by : (b : Bool) → Gives p ≡ (when b then R 6 else Gives (fresh w)) → fresh w ≡ made_over (when b then R 6 else Gives (fresh w)) kept
         by true e = absurd (r_gives _ _ (sym e))
         by false e = refl
 
@@ -400,7 +396,7 @@ module _ (answer : DecisionAnswer) (top : Head) (used : Bool) (q : Presence) (bl
       limited k e = e ∙ ap (λ (n : ℕ). record { remainder = k; limit = n }) is_limit
 
       pub goes_status : (number kind place : ℕ) (fetches : Bool) → answer ≡ DecisionAnswer'.Status number kind place → fetches ≡ is_get_response (read_of frame)
-          → s ≡ record { remainder = if fetches then lent.remainder else rest 0 0; limit = limit } → GoesOn s
+          → s ≡ record { remainder = when fetches then lent.remainder else rest 0 0; limit = limit } → GoesOn s
       goes_status number kind place fetches z f e = goes (DecisionAnswer'.Status number kind place) s z (limited _ e ∙ rw f)
 
       pub goes_body : (n : ℕ) → answer ≡ DecisionAnswer'.Body n → s ≡ record { remainder = rest 0 0; limit = limit } → GoesOn s
@@ -417,8 +413,8 @@ module _ (read : ReadResponse) where
   pub response_refused : (why : Refusal) (n : ℕ) → read ≡ ReadResponse'.Refused why → n ≡ refusal_no why → ◌≡◌ {A = ResponseSaid} (record { answer = n; status = 0; length = 0 }) (response_numbers (response_read read))
   response_refused why n z is = rw (is, z)
 
-  pub response_read : (long status : ℕ) → read ≡ ReadResponse'.Response long status → ◌≡◌ {A = ResponseSaid} (record { answer = 0x9000; status = status; length = long }) (response_numbers (response_read read))
-  response_read long status z = rw z
+  pub response_read_lem : (long status : ℕ) → read ≡ ReadResponse'.Response long status → ◌≡◌ {A = ResponseSaid} (record { answer = 0x9000; status = status; length = long }) (response_numbers (response_read read))
+  response_read_lem long status z = rw z
 
 module _ (written : WroteResponse) where
   pub response_unwritten : (why : Refusal) (n : ℕ) → written ≡ WroteResponse'.Refused why → n ≡ refusal_no why → ◌≡◌ {A = Wrote} (record { answer = n; length = 0 }) (length_numbers (response_written written))

@@ -2,7 +2,7 @@
 use Prim.Native.Nat.{ℕ, ◌≤◌, ◌<◌}
 use mathlib.Core.Path.{◌≡◌, refl, ap, ap₂, sym, ◌∙◌}
 use mathlib.Core.List.{List, ◌∷◌}
-use mathlib.Core.Logic.{◌⊎◌, ⊎_elim}
+use mathlib.Core.Logic.{⊎_elim}
 use native.Mathlib.Omega.{arith}
 use lib.ListN.{length, drop}
 use Rattle.outcome.specs.Outcome.{Outcome, R, Word, Gives, last_refusal}
@@ -17,13 +17,13 @@ use Rattle.apdu_stated.specs.Claims as Frames
 use Rattle.apdu_stated.proofs.Laws.{TableOf, CarryOf, same_reading, write_exactly, same_writing}
 use Rattle.response_stated.specs.declared.Remainder.{Remainder}
 use Rattle.response_stated.specs.Words.{Sent}
-use Rattle.response_stated.specs.Terms.{Sender, Writer, sending, writing_of, sending_of}
+use Rattle.response_stated.specs.Terms.{Sender, sending, writing_of, sending_of}
 use Rattle.response_stated.specs.Claims as Responses
 use Rattle.response_stated.specs.Parts.{limit_of, response_room_of}
 use Rattle.response_stated.proofs.Laws.{next_given, next_exactly, next_only, writes_exactly, writes_only, room_exactly, room_only}
-use Rattle.ctap1_stated.specs.Words.{DecisionGives, Body, Ordered, Part, Inputs}
+use Rattle.ctap1_stated.specs.Words.{DecisionGives, Body, Ordered, Part}
 use Rattle.ctap1_stated.specs.Path.{frame_limit}
-use Rattle.ctap1_stated.proofs.Laws.{row, limits_exactly, limits_only, remainder_exactly, replies_exactly, IsPart, is_a_part}
+use Rattle.ctap1_stated.proofs.Laws.{row, limits_exactly, limits_only, remainder_exactly, replies_exactly, is_a_part}
 use Rattle.panel_stated.specs.Words.{Session, presence_in, remainder_in, session_in, session_after, inputs_in}
 use Rattle.session_stated.specs.Held.{room_on, frame_room_of}
 use Rattle.ctap1_stated.specs.Session.{is_get_response, remainder_after}

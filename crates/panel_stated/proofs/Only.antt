@@ -1,5 +1,5 @@
 -- Only the definitions meet the claims: two functions that meet one agree on every input.
-use Prim.Native.Nat.{ℕ, zero, suc, ◌+◌, ◌<◌, ◌≤◌}
+use Prim.Native.Nat.{ℕ, zero, suc, ◌+◌, ◌<◌}
 use mathlib.Core.Bool.{Bool, true, false}
 use native.Mathlib.Decide.{ℕ_discrete, dec_lt}
 use mathlib.Core.Path.{◌≡◌, refl, ap, sym, subst, ◌∙◌}
@@ -11,7 +11,7 @@ use Rattle.outcome.specs.Notation.{Determines, Determines2, Determines3}
 use Rattle.outcome.specs.Outcome.{StatusWord, Outcome, R, Word, Gives, last_refusal}
 use Rattle.outcome.specs.Terms.{HasStatus}
 use Rattle.outcome.proofs.Laws.{gives_same, r_gives, r_word, word_gives}
-use Rattle.outcome.specs.Notation.{if◌then◌else◌}
+use Rattle.outcome.specs.Notation.{when◌then◌else◌}
 use lib.Dec.{ltb}
 use Rattle.apdu_stated.specs.Answers.{Says}
 use Rattle.octets.specs.Bytes.{AreBytes}
@@ -21,7 +21,6 @@ use Rattle.apdu_stated.specs.Writing.{Parts, parts_of, writing_by}
 use Rattle.apdu_stated.specs.Claims as Frames
 use Rattle.apdu_stated.proofs.Laws.{read_refuses_not, TableOf, CarryOf, reading_exactly, FrameWay, under, found, ends, goes_on, frame_way, write_exactly, WriteWay, unfit, no_room, written, write_way}
 use Rattle.command_stated.specs.Command.{Register, Authenticate, Version, GetResponse}
-use Rattle.u2f_up_stated.specs.declared.Presence.{Presence}
 use Rattle.ctap1_stated.specs.Words.{DecisionGives, Body, Ordered, Part, DecisionResult}
 use Rattle.ctap1_stated.specs.Path.{frame_limit}
 use Rattle.ctap1_stated.specs.Terms.{HasInsC0}
@@ -29,7 +28,6 @@ use Rattle.ctap1_stated.proofs.Laws.{sound, limits_exactly, Asked, is_refused, i
 use Rattle.response_stated.specs.Words.{Sent, rest}
 use Rattle.response_stated.specs.Terms.{sending, sending_of, writing_of}
 use Rattle.response_stated.specs.Parts.{limit_of, part_length, next_part_of, response_room_of}
-use Rattle.response_stated.specs.Responses.{write_response_of}
 use Rattle.response_stated.proofs.Laws.{next_exactly, room_exactly, writes_exactly, write_short, write_room, NextWay, short_body, short_buffer, given, next_way}
 use Rattle.response_stated.specs.declared.Remainder.{Remainder}
 use Rattle.signing_stated.specs.declared.Kind.{Kind}
@@ -327,7 +325,7 @@ room_no_word : (limit longest : ℕ) (s : StatusWord) → response_room_of limit
 unfolding response_room_of
 room_no_word limit longest s e = by (ltb (part_length limit longest) 0xfffffffffffffffe) e
   where
-    by : (b : Bool) → ◌≡◌ {A = Outcome ℕ} (if b then Gives (part_length limit longest + 2) else R 2) (Word s) → ⊥
+    by : (b : Bool) → ◌≡◌ {A = Outcome ℕ} (when b then Gives (part_length limit longest + 2) else R 2) (Word s) → ⊥
     by true x = word_gives _ _ (sym x)
     by false x = r_word _ _ x
 

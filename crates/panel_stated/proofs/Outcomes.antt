@@ -6,7 +6,7 @@ use mathlib.Core.List.{List}
 use native.Mathlib.Omega.{arith}
 use lib.Dec.{ltb, eqb}
 use lib.ListN.{length, drop}
-use Rattle.outcome.specs.Notation.{if◌then◌else◌}
+use Rattle.outcome.specs.Notation.{when◌then◌else◌}
 use Rattle.outcome.specs.Outcome.{Outcome, R, Word, Gives}
 use Rattle.apdu_stated.specs.Answers.{Says}
 use Rattle.apdu_stated.specs.declared.Entry.{Entry}
@@ -37,12 +37,12 @@ use Rattle.ctap1_stated.specs.Path.{PathEnd, Internal, WrongData, Orders, Decisi
 use Rattle.ctap1_stated.specs.Decision.{ended, along, on_moment, decision_of}
 
 -- both branches of a test
-either : {A : Type 0} (P : A → Type 0) (b : Bool) (x y : A) → P x → P y → P (if b then x else y)
+either : {A : Type 0} (P : A → Type 0) (b : Bool) (x y : A) → P x → P y → P (when b then x else y)
 either P true x y p q = p
 either P false x y p q = q
 
 module _ {A : Type 0} where
-  test : (b : Bool) (x y : Outcome A) → IsNumbered x → IsNumbered y → IsNumbered (if b then x else y)
+  test : (b : Bool) (x y : Outcome A) → IsNumbered x → IsNumbered y → IsNumbered (when b then x else y)
   test b x y = either IsNumbered b x y
 
 -- ---- frames
@@ -104,23 +104,23 @@ pub settle_said : (p : Presence) (s t : ℕ) → IsNumbered (settle_of p s t)
 unfolding settle_of
 settle_said p s t = test (is_r6 p.w) _ _ (omega arith, omega arith) (test (is_r8 s p.asker) _ _ (omega arith, omega arith) (test (is_r1 p.last t) _ _ (omega arith, omega arith) tt))
 
-on_settled : (p : Presence) (o : Outcome Presence) (go : Presence → Told) → IsNumbered o → ((q : Presence) → IsNumbered (go q).outcome) → IsNumbered (on_settled p o go).outcome
-on_settled p (R n) go h k = h
-on_settled p (Word s) go h k = h
-on_settled p (Gives q) go h k = k q
+on_settled_lem : (p : Presence) (o : Outcome Presence) (go : Presence → Told) → IsNumbered o → ((q : Presence) → IsNumbered (go q).outcome) → IsNumbered (on_settled p o go).outcome
+on_settled_lem p (R n) go h k = h
+on_settled_lem p (Word s) go h k = h
+on_settled_lem p (Gives q) go h k = k q
 
 module _ (p : Presence) (t : ℕ) where
   pub touch_said : IsNumbered (touch_of p t).outcome
   unfolding touch_of
-  touch_said = on_settled p (settle_of p p.asker t) _ (settle_said p p.asker t) (λ q. tt)
+  touch_said = on_settled_lem p (settle_of p p.asker t) _ (settle_said p p.asker t) (λ q. tt)
 
   pub check_said : (s : ℕ) → IsNumbered (check_of p s t).outcome
   unfolding check_of
-  check_said s = on_settled p (settle_of p s t) _ (settle_said p s t) (λ q. tt)
+  check_said s = on_settled_lem p (settle_of p s t) _ (settle_said p s t) (λ q. tt)
 
   pub ask_said : IsNumbered (ask_of p t).outcome
   unfolding ask_of
-  ask_said = on_settled p (settle_of p p.asker t) _ (settle_said p p.asker t) (λ q. tt)
+  ask_said = on_settled_lem p (settle_of p p.asker t) _ (settle_said p p.asker t) (λ q. tt)
 
 -- ---- responses and parts
 pub write_response_said : (body : List ℕ) (room : ℕ) → IsNumbered (write_response_of body room)
@@ -154,50 +154,50 @@ OfPath (Fetches sent) = Unit {0}
 OfPath (Signs e) = Unit {0}
 OfPath (Touch e) = Unit {0}
 
-sent_path : (o : Outcome Sent) → IsNumbered o → OfPath (sent_path o)
-sent_path (R n) h = tt
-sent_path (Word s) h = h
-sent_path (Gives sent) h = tt
+sent_path_lem : (o : Outcome Sent) → IsNumbered o → OfPath (sent_path o)
+sent_path_lem (R n) h = tt
+sent_path_lem (Word s) h = h
+sent_path_lem (Gives sent) h = tt
 
-fetch_path : (room : ℕ) (r : Remainder) (limit part_room : ℕ) → OfPath (fetch_path room r limit part_room)
+fetch_path_lem : (room : ℕ) (r : Remainder) (limit part_room : ℕ) → OfPath (fetch_path room r limit part_room)
 unfolding fetch_path
-fetch_path room r limit part_room =
-    either OfPath (eqb r.count 0) _ _ (omega arith, omega arith) (sent_path (next_part_of room r limit part_room) (next_said room r limit part_room))
+fetch_path_lem room r limit part_room =
+    either OfPath (eqb r.count 0) _ _ (omega arith, omega arith) (sent_path_lem (next_part_of room r limit part_room) (next_said room r limit part_room))
 
 module _ (a : Inputs) where
-  login_path : (p1 : ℕ) (said : Says) → OfPath (login_path a.frame a.hardware a.room p1 said)
+  login_path_lem : (p1 : ℕ) (said : Says) → OfPath (login_path a.frame a.hardware a.room p1 said)
   unfolding login_path
-  login_path p1 said =
+  login_path_lem p1 said =
       either OfPath (not a.hardware.good) _ _ (omega arith, omega arith)
       (either OfPath (eqb p1 0x07) _ _ (omega arith, omega arith)
       (either OfPath (ltb a.room authenticate_room) _ _ tt (either OfPath (eqb p1 0x03) _ _ tt tt)))
 
-  command_path : (o : Outcome Command) → IsNumbered o → OfPath (command_path a o)
+  command_path_lem : (o : Outcome Command) → IsNumbered o → OfPath (command_path a o)
   unfolding command_path version_path register_path
-  command_path (R n) h = tt
-  command_path (Word s) h = h
-  command_path (Gives Version) h = either OfPath (ltb a.room 6) _ _ tt tt
-  command_path (Gives GetResponse) h = fetch_path a.room a.remainder _ a.part_room
-  command_path (Gives (Register said)) h =
+  command_path_lem (R n) h = tt
+  command_path_lem (Word s) h = h
+  command_path_lem (Gives Version) h = either OfPath (ltb a.room 6) _ _ tt tt
+  command_path_lem (Gives GetResponse) h = fetch_path_lem a.room a.remainder _ a.part_room
+  command_path_lem (Gives (Register said)) h =
       either OfPath (ltb a.room (register_room (length a.new_handle) (length a.certificate))) _ _ tt tt
-  command_path (Gives (Authenticate p1 said)) h = login_path p1 said
+  command_path_lem (Gives (Authenticate p1 said)) h = login_path_lem p1 said
 
-  allowed_path : (k : Allowed) → OfPath (allowed_path k a)
+  allowed_path_lem : (k : Allowed) → OfPath (allowed_path k a)
   unfolding allowed_path
-  allowed_path Allowed'.Failed = (omega arith, omega arith)
-  allowed_path Allowed'.No = (omega arith, omega arith)
-  allowed_path Allowed'.Yes = command_path (command_of a.frame) (command_said a.frame)
+  allowed_path_lem Allowed'.Failed = (omega arith, omega arith)
+  allowed_path_lem Allowed'.No = (omega arith, omega arith)
+  allowed_path_lem Allowed'.Yes = command_path_lem (command_of a.frame) (command_said a.frame)
 
   path_numbered : OfPath (path_of a)
   unfolding path_of
-  path_numbered = allowed_path a.hardware.allowed
+  path_numbered = allowed_path_lem a.hardware.allowed
 
 ended_numbered : (e : PathEnd) (p : Presence) → IsNumbered (ended e p).answer
 ended_numbered Internal p = (omega arith, omega arith)
 ended_numbered WrongData p = (omega arith, omega arith)
 ended_numbered (Orders o taken) p = tt
 
-touch_numbered : (yes : Bool) (e : PathEnd) (p : Presence) → IsNumbered (if not yes then Decision'.status_result 0x6985 p else ended e p).answer
+touch_numbered : (yes : Bool) (e : PathEnd) (p : Presence) → IsNumbered (when not yes then Decision'.status_result 0x6985 p else ended e p).answer
 touch_numbered true e p = ended_numbered e p
 touch_numbered false e p = (omega arith, omega arith)
 
@@ -224,7 +224,7 @@ ended_refused Internal p k e = r_word _ _ (sym e)
 ended_refused WrongData p k e = r_word _ _ (sym e)
 ended_refused (Orders o taken) p k e = r_gives _ _ (sym e)
 
-touch_refused : (yes : Bool) (e : PathEnd) (p : Presence) (k : ℕ) → (if not yes then Decision'.status_result 0x6985 p else ended e p).answer ≡ R k → ⊥
+touch_refused : (yes : Bool) (e : PathEnd) (p : Presence) (k : ℕ) → (when not yes then Decision'.status_result 0x6985 p else ended e p).answer ≡ R k → ⊥
 touch_refused true e p k z = ended_refused e p k z
 touch_refused false e p k z = r_word _ _ (sym z)
 

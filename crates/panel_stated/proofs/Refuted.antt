@@ -28,8 +28,8 @@ use Rattle.response_stated.specs.Terms.{sending_of, writing_of}
 use Rattle.response_stated.specs.Parts.{part_length, next_part_of, limit_of, left_status, response_room_of}
 use Rattle.response_stated.specs.Responses.{write_response_of}
 use Rattle.response_stated.proofs.Laws.{next_exactly, writes_exactly, room_exactly}
-use Rattle.outcome.proofs.Laws.{r_gives, r_word}
-use Rattle.octets.specs.Bytes.{AreBytes, part_of, byte}
+use Rattle.outcome.proofs.Laws.{r_gives}
+use Rattle.octets.specs.Bytes.{part_of, byte}
 use Rattle.signing_stated.specs.Orders.{is_authenticate_layout, register_order_of, block}
 use Rattle.signing_stated.specs.Finishing.{finish_of}
 use Rattle.signing_stated.specs.declared.Kind.TheVariants as Kind'

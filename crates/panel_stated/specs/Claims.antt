@@ -1,11 +1,11 @@
 -- What is promised of the numbers that cross to C, of any function: proofs/Theorems.antt has that the definitions meet it,
 -- proofs/Only.antt that no others meet those that it names, proofs/Refuted.antt that the wrong programs of specs/Wrong.antt do not.
-use Rattle.std.specs.Prelude.{◌↔◌, ◌⊎◌, ◌∷◌, drop}
-use Rattle.panel_stated.specs.Words.{ℕ, ◌≡◌, ◌≤◌, ◌<◌, Bool, List, AtMostOne, StatusWord, Outcome, R, Word, Gives, HasStatus, last_refusal, Closed, Presence, Order, Head}
+use Rattle.std.specs.Prelude.{◌↔◌, ◌⊎◌, ◌∷◌, drop, ◌≡◌, ◌≤◌, ◌<◌, ◌+◌}
+use Rattle.panel_stated.specs.Words.{ℕ, Bool, List, AtMostOne, StatusWord, Outcome, R, Word, Gives, HasStatus, last_refusal, Closed, Presence, Order, Head}
 use Rattle.panel_stated.specs.Words.{Instruction, Le1, Lc1Data, Lc1DataLe1, Lc3Data, Lc3DataLe2, Le3}
 use Rattle.panel_stated.specs.Words.{OrderNumbers, Shaped, Kinded, presence_in, remainder_in, session_in, hardware_in, frame_room_of}
 use Rattle.panel_stated.specs.Words.{FrameSaid, CommandSaid, Wrote, Asked, DecisionSaid, ResponseSaid, RoomSaid}
-use Rattle.panel_stated.specs.Words.{Says, Entry, Case, Parts, parts_of, shape_no, Command, Register, Authenticate, Version, GetResponse, length, Remainder, Response, Sent, write_response_of, read_response_of, next_part_of, ◌+◌, false, read_of, strict_of, command_of, new_of, touch_of, check_of, ask_of, DecisionGives, Body, Ordered, Part, DecisionResult, finish_of}
+use Rattle.panel_stated.specs.Words.{Says, Entry, Case, Parts, parts_of, shape_no, Command, Register, Authenticate, Version, GetResponse, length, Remainder, Response, Sent, write_response_of, read_response_of, next_part_of, false, read_of, strict_of, command_of, new_of, touch_of, check_of, ask_of, DecisionGives, Body, Ordered, Part, DecisionResult, finish_of}
 use Rattle.panel_stated.specs.Exports.{order_after, ToWrite, ToDecide, ToFinish, decided_by, write_numbered, finish_numbered}
 use Rattle.panel_stated.specs.Promises.{ShapeNumbered, FramePlain, FrameStatusPlain, StrictPlain, WritePlain, CommandPlain, RefusedAsked, FoundAsked, AskedPlain, FreshKept, KindNumbered, RefusedPlain, StatusPlain, BodyPlain, PartPlain, OrderPlain, FinishedPlain, ResponsePlain, WroteResponsePlain, RefusedPart, SentPart, RoomPlain}
 use Rattle.panel_stated.specs.Promises.{BrinecandleRead, BrinecandleReadStrict, BrinecandleReadByTable, BrinecandleReadStrictByTable, BrinecandleWrite, BrinecandleWriteStrict, BrinecandleReadCommand, BrinecandleNew, BrinecandleGrantUp, BrinecandleConsumeUp, BrinecandleIsUpNeeded, BrinecandleDecide, BrinecandleFinish, BrinecandleWriteResponse, BrinecandleReadResponse, BrinecandleNextPart, BrinecandleResponseRoom}

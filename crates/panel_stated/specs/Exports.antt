@@ -1,6 +1,7 @@
 -- What each export answers and leaves, in plain numbers, by the outcome that the definitions of the other crates give for its call.
 -- A number that an answer has no use for is 0.
-use Rattle.panel_stated.specs.Words.{ℕ, ◌+◌, Bool, false, List, length, StatusWord, Outcome, R, Word, Gives, plain_word, ApduHeader, Presence, Session, Kind, Head, Order, head_of}
+use Rattle.std.specs.Prelude.{◌+◌}
+use Rattle.panel_stated.specs.Words.{ℕ, Bool, false, List, length, StatusWord, Outcome, R, Word, Gives, plain_word, ApduHeader, Presence, Session, Kind, Head, Order, head_of}
 use Rattle.panel_stated.specs.Words.{OrderNumbers, FrameSaid, CommandSaid, Wrote, Asked, DecisionSaid, ResponseSaid, RoomSaid, Shaped, Kinded}
 use Rattle.panel_stated.specs.Words.{Says, read_of, place_of, Entry, Strict, in_row, read_by, parts_of, write_by, buffer_by, Command, Register, Authenticate, Version, GetResponse, handle_place_of, Told, new_of, touch_of, check_of, ask_of}
 use Rattle.panel_stated.specs.Words.{kind_no, finish_of, DecisionGives, Body, Ordered, Part, DecisionResult, decision_of, Response, Sent, part_left, reply_left, block_left, presence_in, session_in, session_after, frame_room_of, inputs_in}

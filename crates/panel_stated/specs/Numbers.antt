@@ -1,6 +1,7 @@
 -- Document 01, 'Forms that change': "exported to it over plain numbers and byte slices". Which number stands for what: answers, records and sessions, shapes and
 -- kinds. The hardware's answers are ctap1_stated's, which takes them as numbers.
-use Rattle.panel_stated.specs.Words.{ℕ, suc, List, [], ◌∷◌, eqb, if◌then◌else◌, Outcome, R, Word, Gives, Session}
+use Rattle.std.specs.Prelude.{◌∷◌}
+use Rattle.panel_stated.specs.Words.{ℕ, suc, List, [], eqb, when◌then◌else◌, Outcome, R, Word, Gives, Session}
 use Rattle.panel_stated.specs.Words.{Instruction, Le1, Lc1Data, Lc1DataLe1, Lc3Data, Lc3DataLe2, Le3}
 use Rattle.panel_stated.specs.Words.{Window, Closed, Opened, Presence}
 pub use Rattle.ctap1_stated.specs.Numbers.{allowed_of, attestation_of, is_yes, counter_of, hardware_of}
@@ -50,20 +51,20 @@ session_numbers s = s.remainder.place ∷ s.remainder.count ∷ s.limit ∷ []
 -- R5", and the others keep their numbers
 unfoldable pub shape_of : ℕ → Shaped
 shape_of n =
-    if eqb n 1 then Shaped'.As Instruction
-    else if eqb n 2 then Shaped'.As Le1
-    else if eqb n 3 then Shaped'.As Lc1Data
-    else if eqb n 4 then Shaped'.As Lc1DataLe1
-    else if eqb n 5 then Shaped'.As Lc3Data
-    else if eqb n 7 then Shaped'.As Lc3DataLe2
-    else if eqb n 8 then Shaped'.As Le3
+    when eqb n 1 then Shaped'.As Instruction
+    else when eqb n 2 then Shaped'.As Le1
+    else when eqb n 3 then Shaped'.As Lc1Data
+    else when eqb n 4 then Shaped'.As Lc1DataLe1
+    else when eqb n 5 then Shaped'.As Lc3Data
+    else when eqb n 7 then Shaped'.As Lc3DataLe2
+    else when eqb n 8 then Shaped'.As Le3
     else Shaped'.Nothing
 
 -- an order's kind, by the INS of its command
 unfoldable pub kind_of : ℕ → Kinded
 kind_of n =
-    if eqb n 1 then Kinded'.As Register
-    else if eqb n 2 then Kinded'.As Authenticate
+    when eqb n 1 then Kinded'.As Register
+    else when eqb n 2 then Kinded'.As Authenticate
     else Kinded'.Nothing
 
 -- where there is no order

@@ -1,6 +1,7 @@
 -- What is promised of each public function of panel_frames, panel_presence, panel_orders, panel_responses and panel, over what it is lent,
 -- its result, and the final contents of what it writes.
-use Rattle.panel_stated.specs.Words.{ℕ, ◌≡◌, Bool, List, R, Word, Gives, Body, Ordered, Part, Head, Remainder, Ordinary, Strict, command_of, new_of, touch_of, check_of, length_of, reply_of, response_read, response_written, read_response_of, presence_in, session_in}
+use Rattle.std.specs.Prelude.{◌≡◌}
+use Rattle.panel_stated.specs.Words.{ℕ, Bool, List, R, Word, Gives, Body, Ordered, Part, Head, Remainder, Ordinary, Strict, command_of, new_of, touch_of, check_of, length_of, reply_of, response_read, response_written, read_response_of, presence_in, session_in}
 use Rattle.panel_stated.specs.Words.{FrameSaid, CommandSaid, Wrote, Asked, DecisionSaid, ResponseSaid, RoomSaid, Shaped, Kinded}
 use Rattle.panel_stated.specs.Numbers.{shape_of, kind_of, no_order}
 use Rattle.panel_stated.specs.Exports.{frame_numbers, length_numbers, ToWrite, strict_as, reads_of, writes_of, command_numbers, made_over, makes_of, asked_numbers, touches_of, checks_of, asks_of, head_after, decided_numbers, ToDecide, decided_by, session_by, decides_of, responds_of, response_numbers, nexts_of, sent_over, room_numbers, rooms_of, ToFinish, finish_numbered}

@@ -1,9 +1,9 @@
 -- Words that the claims use.
-use Rattle.std.specs.Prelude.{get_or}
+use Rattle.std.specs.Prelude.{get_or, ◌≤◌, ◌<◌, ◌≡◌}
 pub use Rattle.panel_stated.specs.Exports.{AfterMaking, AfterStep, AfterWriting, AfterDeciding, AfterPart}
 use Rattle.panel_stated.specs.Numbers.{decided_no, fault_no, place_no}
 use Rattle.panel_stated.specs.Exports.{body_length, order_after}
-use Rattle.panel_stated.specs.Words.{ℕ, ◌≤◌, ◌<◌, List, Outcome, R, Word, Gives, last_refusal, ◌≡◌, DecisionSaid, DecisionResult, Says, Command, Register, Authenticate}
+use Rattle.panel_stated.specs.Words.{ℕ, List, Outcome, R, Word, Gives, last_refusal, DecisionSaid, DecisionResult, Says, Command, Register, Authenticate}
 
 -- a refusal's number is one of the refusals', and a status word's, where it is not what was asked for, is above them and not 9000
 abbrev pub IsNumbered : {A : Type 0} → Outcome A → Type 0

@@ -1,7 +1,7 @@
 -- The types that cross to C, the enums that their numbers stand for, and the other crates' definitions that the exports are
 -- stated through: the files here take the names from this one.
 pub use Rattle.std.specs.Prelude.{ℕ, zero, suc, ◌+◌, ◌-◌, ◌^◌, ◌≤◌, ◌<◌, ◌≡◌, Bool, true, false, List, [], ◌∷◌, eqb, length, get_or}
-pub use Rattle.outcome.specs.Notation.{if◌then◌else◌, AtMostOne}
+pub use Rattle.outcome.specs.Notation.{when◌then◌else◌, AtMostOne}
 pub use Rattle.outcome.specs.Outcome.{StatusWord, Outcome, R, Word, SW, Gives, plain_word, last_refusal}
 pub use Rattle.outcome.specs.Terms.{HasStatus}
 pub use Rattle.apdu_stated.specs.declared.Case.{Case}

@@ -1,8 +1,8 @@
 -- Wrong programs, one fault each, said as what they do otherwise than the definition. proofs/Refuted.antt has that each fails
 -- its claim.
-use Rattle.panel_stated.specs.Words.{ℕ, ◌+◌, ◌-◌, Bool, true, false, eqb, List, if◌then◌else◌, StatusWord, Outcome, R, Word, Gives, last_refusal, Presence, Order, Instruction, Lc3DataLe2}
+use Rattle.panel_stated.specs.Words.{ℕ, Bool, true, false, eqb, List, when◌then◌else◌, Outcome, R, Word, Gives, last_refusal, Order, Instruction, Lc3DataLe2}
 use Rattle.panel_stated.specs.Words.{DecisionSaid, OrderNumbers, FrameSaid, CommandSaid, Wrote, Asked, ResponseSaid, RoomSaid, Shaped, Kinded}
-use Rattle.panel_stated.specs.Words.{Says, Command, Register, Authenticate, Version, GetResponse, touch_of, DecisionResult, DecisionGives, Body, Ordered, Part, to_sign, certificate_length, Remainder, rest, Response, Sent, presence_in, remainder_in, session_in, inputs_in}
+use Rattle.panel_stated.specs.Words.{Says, Command, Register, Authenticate, Version, GetResponse, touch_of, DecisionResult, DecisionGives, Body, Ordered, Part, to_sign, certificate_length, rest, Response, Sent, presence_in, remainder_in, session_in, inputs_in}
 use Rattle.panel_stated.specs.Numbers.{presence_numbers, session_numbers, shape_of, kind_of}
 use Rattle.panel_stated.specs.Exports.{ToFinish, finish_numbered, frame_numbers, command_numbers, length_numbers, makes_of, asked_numbers, order_after, decision_numbers, step_numbers, touches_of, checks_of, response_numbers, sent_numbers, room_numbers}
 use Rattle.panel_stated.specs.Words.{Entry, Ordinary, Strict}
@@ -13,7 +13,7 @@ use Rattle.ctap1_stated.specs.Session.{part_left}
 use Rattle.signing_stated.specs.declared.Kind.TheVariants as Kind'
 use Rattle.panel_stated.specs.declared.Shaped.TheVariants as Shaped'
 use Rattle.panel_stated.specs.declared.Kinded.TheVariants as Kinded'
-use Rattle.std.specs.Prelude.{◌%◌, leb, length, replicate}
+use Rattle.std.specs.Prelude.{◌%◌, leb, length, replicate, ◌+◌, ◌-◌}
 
 -- ---- answers
 -- one answer number: a status word under what was asked for
@@ -49,7 +49,7 @@ order_is0 (Gives (Part n after)) = 0x0200
 -- ---- records
 -- "a refused making hands back no record": the one that was lent is gone
 abbrev pub clears_at_r6 : (presence : List ℕ) (w : ℕ) → AfterMaking
-clears_at_r6 n w = let a = makes_of n w in record { said = a.said; presence = if eqb a.said 6 then replicate 5 0 else a.presence }
+clears_at_r6 n w = let a = makes_of n w in record { said = a.said; presence = when eqb a.said 6 then replicate 5 0 else a.presence }
 
 -- W has 64 bits. Here 16 of them are looked at
 abbrev pub made_from16_bits : (presence : List ℕ) (w : ℕ) → AfterMaking
@@ -59,12 +59,12 @@ made_from16_bits n w = makes_of n (w % 0x10000)
 abbrev pub refused_moves : (presence : List ℕ) (t : ℕ) → AfterStep
 refused_moves n t =
     let a = touches_of n t in
-    record { said = a.said; presence = if leb a.said.answer last_refusal then presence_numbers (moved_to (presence_in n) t) else a.presence }
+    record { said = a.said; presence = when leb a.said.answer last_refusal then presence_numbers (moved_to (presence_in n) t) else a.presence }
 
 abbrev pub refused_forgets : ToDecide → AfterDeciding
 refused_forgets i =
     let a = decides_of i in
-    record { said = a.said; presence = a.presence; session = if leb a.said.answer last_refusal then replicate 3 0 else a.session; reply = a.reply; block = a.block; part = a.part }
+    record { said = a.said; presence = a.presence; session = when leb a.said.answer last_refusal then replicate 3 0 else a.session; reply = a.reply; block = a.block; part = a.part }
 
 -- ours: a side has 64 bits, so that 256, 2^32 or -1 in C is not cut down to one. Here 8 bits of it are looked at, in a check, in a decision; and, "named or in the
 -- record", a touch takes any record
@@ -98,25 +98,25 @@ side_cut_in_decide i = decides_of (lent_with i (i.side % 256) i.x i.y i.reply i.
 -- ---- numbers that stand for cases
 -- a shape number outside 1..8 is R5. Here 0 is taken for Instruction
 abbrev pub shape0_accepted : ℕ → Shaped
-shape0_accepted n = if eqb n 0 then Shaped'.As Instruction else shape_of n
+shape0_accepted n = when eqb n 0 then Shaped'.As Instruction else shape_of n
 
 -- 02, E13, for shape 6 "the writer R5": 6 taken for shape 7
 abbrev pub shape6_accepted : ℕ → Shaped
-shape6_accepted n = if eqb n 6 then Shaped'.As Lc3DataLe2 else shape_of n
+shape6_accepted n = when eqb n 6 then Shaped'.As Lc3DataLe2 else shape_of n
 
 abbrev six_as7 : ToWrite → ToWrite
-six_as7 w = record { header = w.header; shape = if eqb w.shape 6 then 7 else w.shape; content = w.content; le = w.le; out = w.out }
+six_as7 w = record { header = w.header; shape = when eqb w.shape 6 then 7 else w.shape; content = w.content; le = w.le; out = w.out }
 
 abbrev pub six_answered : Entry → ToWrite → Outcome ℕ
 six_answered entry w = write_numbered entry (six_as7 w)
 
 -- an Authenticate order finished as a Register
 abbrev pub kinds_alike : ℕ → Kinded
-kinds_alike n = if eqb n 2 then Kinded'.As Kind'.Register else kind_of n
+kinds_alike n = when eqb n 2 then Kinded'.As Kind'.Register else kind_of n
 
 -- over plain numbers any other kind is R7. Here 3 and above are taken for an Authenticate
 abbrev pub unknown_is_authenticate : ℕ → Kinded
-unknown_is_authenticate n = if leb 3 n then Kinded'.As Kind'.Authenticate else kind_of n
+unknown_is_authenticate n = when leb 3 n then Kinded'.As Kind'.Authenticate else kind_of n
 
 -- an order's certificate length goes out as the number of bytes to sign
 abbrev pub certificate_length_as_to_sign : Outcome DecisionGives → Order → OrderNumbers
@@ -272,7 +272,7 @@ kind_for_place o =
 
 -- over plain numbers any other kind is R7. Here it is refused for its room
 abbrev pub no_kind_is_r2 : ToFinish → Outcome (List ℕ)
-no_kind_is_r2 i = if leb 3 i.order.kind then R 2 else finish_numbered i
+no_kind_is_r2 i = when leb 3 i.order.kind then R 2 else finish_numbered i
 
 -- ---- the exported decision, next part and response: all as they are to be, but for one thing
 abbrev leaves_session : AfterDeciding → (session : List ℕ) → AfterDeciding
@@ -282,7 +282,7 @@ leaves_session a session = record { said = a.said; presence = a.presence; sessio
 abbrev pub limit_of_bodies_alone : ToDecide → AfterDeciding
 limit_of_bodies_alone i =
     let a = decides_of i in
-    leaves_session a (session_numbers (record { remainder = remainder_in a.session; limit = if eqb a.said.answer 0x9000 then (session_in a.session).limit else (session_in i.session).limit }))
+    leaves_session a (session_numbers (record { remainder = remainder_in a.session; limit = when eqb a.said.answer 0x9000 then (session_in a.session).limit else (session_in i.session).limit }))
 
 -- body and part are lent apart. Here each is taken for the other
 abbrev pub rooms_swapped : ToDecide → AfterDeciding
@@ -294,7 +294,7 @@ rooms_swapped i =
 abbrev pub drops_at_c0 : ToDecide → AfterDeciding
 drops_at_c0 i =
     let a = decides_of i in
-    leaves_session a (session_numbers (record { remainder = if leb 0x6000 a.said.answer then rest 0 0 else remainder_in a.session; limit = (session_in a.session).limit }))
+    leaves_session a (session_numbers (record { remainder = when leb 0x6000 a.said.answer then rest 0 0 else remainder_in a.session; limit = (session_in a.session).limit }))
 
 -- a touch is spent. Here the record stays as it was lent
 abbrev pub record_forgotten : ToDecide → AfterDeciding
@@ -320,7 +320,7 @@ point_swapped i = decides_of (lent_with i i.side i.y i.x i.reply i.part)
 abbrev pub next_forgets : (session body part : List ℕ) → AfterPart
 next_forgets session body old =
     let a = nexts_of session body old in
-    record { said = a.said; session = if eqb a.said.answer 2 then replicate 3 0 else a.session; part = a.part }
+    record { said = a.said; session = when eqb a.said.answer 2 then replicate 3 0 else a.session; part = a.part }
 
 -- 02, E2: "a body longer than Le (256 where absent) is cut". Here it goes out as a whole
 abbrev pub next_whole : (session body part : List ℕ) → AfterPart
@@ -358,7 +358,7 @@ strict_export_writes w = writes_of Ordinary w
 
 -- "An R refusal changes no buffer": a number that is no shape's sets every byte of it to 0
 abbrev pub no_shape_clears : ToWrite → AfterWriting
-no_shape_clears w = let a = writes_of Ordinary w in record { said = a.said; buffer = if leb 9 w.shape then replicate (length w.out) 0 else a.buffer }
+no_shape_clears w = let a = writes_of Ordinary w in record { said = a.said; buffer = when leb 9 w.shape then replicate (length w.out) 0 else a.buffer }
 
 -- for shape 6 "the writer R5": it writes shape 7, and strictly too
 abbrev pub six_written : ToWrite → AfterWriting

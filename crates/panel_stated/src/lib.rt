@@ -7,12 +7,14 @@
 //
 // Where a frame's length is wrong, `fault` is 1 to 3 and `place` where; else both are 0. `fault` stands beside the answer, where the two
 // are stored at once.
+#![tactic(auto)]
+
 use apdu_stated::Case;
 use signing_stated::Kind;
 
 // The presence record's five numbers, by name. A window is 0 where it is closed, and otherwise the moment at which it was opened and one more. The asking side
 // is 0 or 1; it has 64 bits, and so has a side that a call names, so that no other number is cut down to one of the two.
-#[derive(Drop)]
+#[derive(Clone, Copy)]
 pub struct PresenceRecord {
     pub w: u64,
     pub prompt: u64,
@@ -22,7 +24,7 @@ pub struct PresenceRecord {
 }
 
 // A session's three: what remains of a body, from which place on and how many bytes, and how many of them the latest frame takes at a time.
-#[derive(Drop)]
+#[derive(Clone, Copy)]
 pub struct SessionRecord {
     pub place: u64,
     pub count: u64,
@@ -31,7 +33,7 @@ pub struct SessionRecord {
 
 // What a frame says: the header, the shape's number, Lc and Le, and where the data stands in the frame.
 #[repr(C)]
-#[derive(Drop)]
+#[derive(Clone, Copy)]
 pub struct FrameSaid {
     pub answer: u16,
     pub fault: u16,
@@ -49,7 +51,7 @@ pub struct FrameSaid {
 
 // A command by its INS, and where its parts start in the frame: challenge and application have 32 bytes each.
 #[repr(C)]
-#[derive(Drop)]
+#[derive(Clone, Copy)]
 pub struct CommandSaid {
     pub answer: u16,
     pub fault: u16,
@@ -64,14 +66,14 @@ pub struct CommandSaid {
 
 // A length that was written at the front of a buffer: a frame's, a reply's, or a response's.
 #[repr(C)]
-#[derive(Drop)]
+#[derive(Clone, Copy)]
 pub struct Wrote {
     pub answer: u16,
     pub length: usize,
 }
 
 #[repr(C)]
-#[derive(Drop)]
+#[derive(Clone, Copy)]
 pub struct Asked {
     pub answer: u16,
     pub yes: bool,
@@ -79,7 +81,7 @@ pub struct Asked {
 
 // An order beside its block. kind: 1 Register, 2 Authenticate, as their INS; 0 where there is no order.
 #[repr(C)]
-#[derive(Drop)]
+#[derive(Clone, Copy)]
 pub struct OrderNumbers {
     pub kind: u32,
     pub to_sign: usize,
@@ -87,7 +89,7 @@ pub struct OrderNumbers {
 }
 
 #[repr(C)]
-#[derive(Drop)]
+#[derive(Clone, Copy)]
 pub struct DecisionSaid {
     pub answer: u16,
     pub fault: u16,
@@ -99,7 +101,7 @@ pub struct DecisionSaid {
 
 // A response's status, and how many bytes of body stand before it.
 #[repr(C)]
-#[derive(Drop)]
+#[derive(Clone, Copy)]
 pub struct ResponseSaid {
     pub answer: u16,
     pub status: u16,
@@ -108,21 +110,21 @@ pub struct ResponseSaid {
 
 // How many bytes a response can take.
 #[repr(C)]
-#[derive(Drop)]
+#[derive(Clone, Copy)]
 pub struct RoomSaid {
     pub answer: u16,
     pub length: usize,
 }
 
 // A number that is a shape's, or none.
-#[derive(Drop)]
+#[derive(Clone, Copy)]
 pub enum Shaped {
     As(Case),
     Nothing,
 }
 
 // A number that is one of the two kinds', or none.
-#[derive(Drop)]
+#[derive(Clone, Copy)]
 pub enum Kinded {
     As(Kind),
     Nothing,

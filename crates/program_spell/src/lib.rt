@@ -1,41 +1,43 @@
 // Words, numbers and bytes on standard output. Whether all before was written goes in and comes out: behind a write that failed nothing more
 // goes out, and a program says so at its end.
-use libc::{STDERR_FILENO, STDOUT_FILENO};
+#![tactic(auto)]
+
 use outcome::ApduStatusCode;
 
-pub fn words(good: bool, words: &[u8]) -> bool {
+pub fn words(out: &impl Print, good: bool, words: &[u8]) -> bool {
     if !good {
         return false;
     }
-    io::write_all(STDOUT_FILENO, words)
+    out.write_all(words).is_ok()
 }
 
 // A number in decimal, behind the words before it.
-pub fn number(good: bool, before: &[u8], n: u64) -> bool {
-    if !words(good, before) {
+pub fn number(out: &impl Print, good: bool, before: &[u8], n: u64) -> bool {
+    if !words(out, good, before) {
         return false;
     }
-    io::print_decimal(STDOUT_FILENO, n)
+    out.print(n).is_ok()
 }
 
 // A status word, four digits in hex, behind the words before it.
-pub fn status_word(good: bool, before: &[u8], status: ApduStatusCode) -> bool {
-    if !words(good, before) {
+pub fn status_word(out: &impl Print, good: bool, before: &[u8], status: ApduStatusCode) -> bool {
+    if !words(out, good, before) {
         return false;
     }
-    io::print_hex(STDOUT_FILENO, outcome::status_number(status) as u64, 4)
+    let number = outcome::status_number(status);
+    print!(out; "{number:04x}").is_ok()
 }
 
 // The same, and of a 6700 what is wrong with the length, and where.
-pub fn status(good: bool, before: &[u8], status: ApduStatusCode) -> bool {
-    let fine = status_word(good, before, status);
+pub fn status(out: &impl Print, good: bool, before: &[u8], status: ApduStatusCode) -> bool {
+    let fine = status_word(out, good, before, status);
     let fault = outcome::fault(status);
     let kind = fault.kind;
     let place = fault.place as u64;
     match kind {
-        1 => number(fine, b" missing ", place),
-        2 => number(fine, b" surplus ", place),
-        3 => number(fine, b" lc ", place),
+        1 => number(out, fine, b" missing ", place),
+        2 => number(out, fine, b" surplus ", place),
+        3 => number(out, fine, b" lc ", place),
         _ => fine,
     }
 }
@@ -50,30 +52,30 @@ fn digit(n: u8) -> u8 {
 }
 
 // Bytes in hex, behind the words before them; `-` where there are none.
-pub fn bytes(good: bool, before: &[u8], bytes: &[u8]) -> bool {
-    let mut fine = words(good, before);
+pub fn bytes(out: &impl Print, good: bool, before: &[u8], bytes: &[u8]) -> bool {
+    let mut fine = words(out, good, before);
     if bytes.len() == 0 {
-        return words(fine, b"-");
+        return words(out, fine, b"-");
     }
     // 2,048 bytes at a time
-    let mut digits = io::buffer();
+    let mut digits = [0u8; 4096];
     let mut i = 0;
     while i < bytes.len() {
         let k = i % 2048;
         digits[2 * k] = digit(bytes[i] / 16);
         digits[2 * k + 1] = digit(bytes[i]);
         if k == 2047 {
-            fine = words(fine, &digits);
+            fine = words(out, fine, &digits);
         }
         i += 1;
     }
     let left = bytes.len() % 2048;
-    words(fine, octets::part(&digits, 0, 2 * left))
+    words(out, fine, octets::part(&digits, 0, 2 * left))
 }
 
 // Standard error has it where standard output did not take all.
-pub fn close(good: bool) {
+pub fn close(rt: &impl Eprint, good: bool) {
     if !good {
-        io::write_all(STDERR_FILENO, b"cannot write standard output\n");
+        let _ = rt.eprintln("cannot write standard output");
     }
 }

@@ -1,10 +1,15 @@
 // What a command-line program is given: where its text comes from, and what stands in it. What cannot be read is an answer, never a fault.
+#![tactic(auto)]
+
 mod hex;
 
 ghost use Rattle.std.specs.Prelude.{◌≤◌};
 
 pub use hex::{frame_bytes, frame_end};
-use libc::{STDERR_FILENO, STDIN_FILENO};
+use std::env::FillError;
+use std::fs::File;
+use std::io;
+use std::rt::{Env, Files};
 
 // What a word says, or that it is none of what was asked for.
 #[derive(Drop)]
@@ -63,26 +68,57 @@ pub fn number(word: &[u8], most: u64) -> Said {
     Said::Is(n)
 }
 
-// The file that the program's argument names, open for reading, or standard input where it has none. Below 0 where there is nothing to
-// read, which is said on standard error.
-pub fn input() -> i32 {
-    let count = os::arg_count();
-    if count < 2 {
-        return STDIN_FILENO;
+// Whether the program was given an argument at this place; its own name is at 0.
+pub fn is_given(rt: &impl Env, i: usize) -> bool {
+    let mut first = [0u8; 1];
+    !matches!(rt.arg(i, &mut first), Err(FillError::NotPresent))
+}
+
+// What there is to read: standard input, a file that is open for reading, or nothing.
+#[derive(Drop)]
+pub enum Source<F> {
+    Standard,
+    Named(F),
+    Nothing,
+}
+
+// The file that the program's argument names, or standard input where it has none. Why there is nothing to read is said on standard error.
+pub fn input<R: Files + Env + Eprint + Alloc>(rt: &R) -> Source<R::File> {
+    if !is_given(rt, 1) {
+        return Source::Standard;
     }
-    if 2 < count {
-        io::write_all(STDERR_FILENO, b"one argument is known: a file\n");
-        return -1;
+    if is_given(rt, 2) {
+        return nothing(rt, "one argument is known: a file");
     }
-    let mut name = io::buffer();
-    let n = os::arg(1, &mut name);
-    if os::errno() != 0 {
-        os::fail(b"the argument");
-        return -1;
+    let mut name = [0u8; 4096];
+    let Ok(n) = rt.arg(1, &mut name) else {
+        return nothing(rt, "the argument: File name too long");
+    };
+    let Ok(path) = str::from_utf8(&name[..n]) else {
+        return nothing(
+            rt,
+            "the argument: not UTF-8; such a file is read from standard input",
+        );
+    };
+    match File::open(rt, path) {
+        Ok(file) => Source::Named(file),
+        Err(error) => unopened(rt, path, error),
     }
-    let file = os::open_read(&name[..n]);
-    if file < 0 {
-        os::fail(&name[..n]);
+}
+
+fn nothing<F>(rt: &impl Eprint, why: &str) -> Source<F> {
+    let _ = rt.eprintln(why);
+    Source::Nothing
+}
+
+// The system's word for an error stands before the number that std writes behind it.
+fn unopened<R: Eprint + Alloc, F>(rt: &R, path: &str, error: io::Error) -> Source<F> {
+    if let Ok(text) = format!(in rt.alloc(); "{error}") {
+        if let Some((word, _)) = text.split_once(" (os error ") {
+            let _ = eprintln!(rt; "{path}: {word}");
+            return Source::Nothing;
+        }
     }
-    file
+    let _ = eprintln!(rt; "{path}: {error}");
+    Source::Nothing
 }

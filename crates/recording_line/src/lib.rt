@@ -1,4 +1,6 @@
 // One line of a recording, and what the program `recording` writes for it.
+#![tactic(auto)]
+
 mod state;
 
 use convert::Converted;
@@ -46,84 +48,85 @@ fn line_of(text: &[u8], out: &mut [u8]) -> Line {
 }
 
 // # line NUMBER: WHY, and then the line as it came.
-pub fn unread(line: &[u8], why: &[u8], state: State) -> State {
-    let numbered = program_spell::number(state.good, b"# line ", state.line);
-    let told = program_spell::words(numbered, why);
+pub fn unread(out: &impl Print, line: &[u8], why: &[u8], state: State) -> State {
+    let numbered = program_spell::number(out, state.good, b"# line ", state.line);
+    let told = program_spell::words(out, numbered, why);
     let mut next = state;
-    next.unread = std::num::wrapping_add_u64(state.unread, 1);
-    next.good = program_spell::words(told, line);
+    next.unread = state.unread.wrapping_add(1);
+    next.good = program_spell::words(out, told, line);
     next
 }
 
 // # line NUMBER: STATUS, and then the line as it came.
-fn in_no_shape(line: &[u8], status: ApduStatusCode, state: State) -> State {
-    let numbered = program_spell::number(state.good, b"# line ", state.line);
-    let told = program_spell::status(numbered, b": ", status);
-    let behind = program_spell::words(told, b"\n");
+fn in_no_shape(out: &impl Print, line: &[u8], status: ApduStatusCode, state: State) -> State {
+    let numbered = program_spell::number(out, state.good, b"# line ", state.line);
+    let told = program_spell::status(out, numbered, b": ", status);
+    let behind = program_spell::words(out, told, b"\n");
     let mut next = state;
-    next.unread = std::num::wrapping_add_u64(state.unread, 1);
-    next.good = program_spell::words(behind, line);
+    next.unread = state.unread.wrapping_add(1);
+    next.good = program_spell::words(out, behind, line);
     next
 }
 
-fn kept(line: &[u8], state: State) -> State {
+fn kept(out: &impl Print, line: &[u8], state: State) -> State {
     let mut next = state;
-    next.kept = std::num::wrapping_add_u64(state.kept, 1);
-    next.good = program_spell::words(state.good, line);
+    next.kept = state.kept.wrapping_add(1);
+    next.good = program_spell::words(out, state.good, line);
     next
 }
 
 // What a frame of the old form has become, and what stood behind it.
-fn converted(res: &[u8], behind: &[u8], state: State) -> State {
-    let said = program_spell::bytes(state.good, b"", res);
+fn converted(out: &impl Print, res: &[u8], behind: &[u8], state: State) -> State {
+    let said = program_spell::bytes(out, state.good, b"", res);
     let mut next = state;
-    next.converted = std::num::wrapping_add_u64(state.converted, 1);
-    next.good = program_spell::words(said, behind);
+    next.converted = state.converted.wrapping_add(1);
+    next.good = program_spell::words(out, said, behind);
     next
 }
 
 // A line that goes out as it came, with a remark before it where its frame could not be read.
-fn as_it_is(line: &[u8], said: Line, state: State) -> State {
+fn as_it_is(out: &impl Print, line: &[u8], said: Line, state: State) -> State {
     match said {
-        Line::Status(status) => in_no_shape(line, status, state),
-        Line::NoRoom => unread(line, b": no room\n", state),
-        Line::NotHex => unread(line, b": no bytes in hex\n", state),
-        _ => kept(line, state),
+        Line::Status(status) => in_no_shape(out, line, status, state),
+        Line::NoRoom => unread(out, line, b": no room\n", state),
+        Line::NotHex => unread(out, line, b": no bytes in hex\n", state),
+        _ => kept(out, line, state),
     }
 }
 
 // The frame's text ends at `end`.
-fn framed(line: &[u8], end: usize, state: State) -> State {
+fn framed(out: &impl Print, line: &[u8], end: usize, state: State) -> State {
     let mut bytes = space();
-    let out: &mut [u8] = &mut bytes;
-    let said = line_of(octets::part(line, 0, end), out);
+    let res: &mut [u8] = &mut bytes;
+    let said = line_of(octets::part(line, 0, end), res);
     let Line::Converted(n) = said else {
-        return as_it_is(line, said, state);
+        return as_it_is(out, line, said, state);
     };
     converted(
-        octets::part(out, 0, n),
+        out,
+        octets::part(res, 0, n),
         octets::part(line, end, line.len()),
         state,
     )
 }
 
 // A line that is a remark, or empty, goes out as it came.
-fn other(line: &[u8], state: State) -> State {
+fn other(out: &impl Print, line: &[u8], state: State) -> State {
     let mut next = state;
-    next.good = program_spell::words(state.good, line);
+    next.good = program_spell::words(out, state.good, line);
     next
 }
 
 // The line's end goes out with it.
-pub fn put(line: &[u8], state: State) -> State {
+pub fn put(out: &impl Print, line: &[u8], state: State) -> State {
     let mut numbered = state;
-    numbered.line = std::num::wrapping_add_u64(state.line, 1);
+    numbered.line = state.line.wrapping_add(1);
     let end = program_text::frame_end(line);
     let mut next = if end == 0 {
-        other(line, numbered)
+        other(out, line, numbered)
     } else {
-        framed(line, end, numbered)
+        framed(out, line, end, numbered)
     };
-    next.good = program_spell::words(next.good, b"\n");
+    next.good = program_spell::words(out, next.good, b"\n");
     next
 }

@@ -1,5 +1,5 @@
 // How far a recording has come: what its lines came to, and what is still to be said or read.
-#[derive(Drop)]
+#[derive(Clone, Copy)]
 pub struct State {
     pub converted: u64,
     pub kept: u64,

@@ -1,6 +1,8 @@
 // Responses of ISO 7816-4: body, then two status bytes; and a body that goes out in parts, for a reader that takes 256 bytes at a time.
+#![tactic(auto)]
+
 ghost use Rattle.std.specs.Prelude.{◌≡◌, ◌≤◌, eqb};
-ghost use Rattle.outcome.specs.Notation.{if◌then◌else◌};
+ghost use Rattle.outcome.specs.Notation.{when◌then◌else◌};
 ghost use Rattle.response_stated.specs.Parts.{part_length, left_status};
 ghost use Rattle.response_stated.specs.Promises.{Limit, Nothing, WriteResponse, ReadsResponse, ResponseBody, PartNext, RoomFor};
 
@@ -24,7 +26,7 @@ const LONGEST: u64 = 256;
 
 // An absent Le is 0.
 fn short_limit(le: u32) -> u64
-    ensures { result ≡ (if eqb le 0 then 256 else le) }
+    ensures { result ≡ (when eqb le 0 then 256 else le) }
 {
     if le == 0 {
         return LONGEST;

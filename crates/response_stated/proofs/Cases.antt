@@ -9,14 +9,14 @@ use borrow.Author.Tests.{lt-ltb, le-ltb, le-leb, lt-leb, eq-eqb, ne_eqb}
 use lib.Dec.{eqb}
 use lib.ListN.{length, take, drop}
 use lib.Seq.{length-take-le}
-use Rattle.outcome.specs.Notation.{if◌then◌else◌}
+use Rattle.outcome.specs.Notation.{when◌then◌else◌}
 use Rattle.outcome.specs.Outcome.{Outcome, R, Gives, refusal_no}
 use Rattle.outcome.specs.declared.Refusal.{Refusal}
 use Rattle.outcome.proofs.Laws.{gives_same, r_gives}
 use Rattle.octets.specs.Bytes.{byte, bytes2, laid, part_of}
 use Rattle.octets.proofs.Laws.{laid_then, part_within, length_part}
 use Rattle.apdu_stated.specs.declared.Case.TheVariants.{Instruction, Le1, Lc1Data, Lc1DataLe1, Lc3Data, Lc3DataLe2, Le3}
-use Rattle.response_stated.specs.Words.{Apdu, Says, says_of, Remainder, WroteResponse, rest, Response, Sent, response_written}
+use Rattle.response_stated.specs.Words.{Apdu, Says, says_of, Remainder, WroteResponse, rest, Sent, response_written}
 use Rattle.response_stated.specs.Responses.{response_of, write_response_of, response_laid, read_response_of, response_body_of}
 use Rattle.response_stated.specs.Parts.{limit_of, part_length, left_status, rest_after, next_part_of, part_bytes, part_response, part_laid, response_room_of}
 use Rattle.response_stated.specs.declared.WroteResponse.TheVariants as Wrote
@@ -25,14 +25,14 @@ refusal_same : (a b : ℕ) → ◌≡◌ {A = Outcome ℕ} (R a) (R b) → a ≡
 refusal_same a b e = cc
 
 -- ---- how much a frame takes
-pub short_absent : (le : ℕ) → le ≡ 0 → 256 ≡ (if eqb le 0 then 256 else le)
+pub short_absent : (le : ℕ) → le ≡ 0 → 256 ≡ (when eqb le 0 then 256 else le)
 short_absent le z = rw z
 
-pub short_given : (le : ℕ) → (le ≡ 0 → ⊥) → le ≡ (if eqb le 0 then 256 else le)
+pub short_given : (le : ℕ) → (le ≡ 0 → ⊥) → le ≡ (when eqb le 0 then 256 else le)
 short_given le n = rw (ne_eqb le 0 n)
 
 module _ (says : Apdu) where
-  module _ (r : ℕ) (is : r ≡ (if eqb says.le 0 then 256 else says.le)) where
+  module _ (r : ℕ) (is : r ≡ (when eqb says.le 0 then 256 else says.le)) where
     pub limit_1 : says.shape ≡ Instruction → r ≡ limit_of (says_of says)
     unfolding limit_of
     limit_1 s = is ∙ rw s

@@ -14,7 +14,7 @@ use Rattle.octets.proofs.Laws.{length_part}
 use Rattle.response_stated.specs.Words.{Remainder, rest, Response}
 use Rattle.response_stated.specs.Responses.{response_body_of}
 use Rattle.response_stated.specs.Parts.{part_length, left_status}
-use Rattle.response_stated.specs.Terms.{Writer, Sender, reading, sending, spelled, sending_of, Goes}
+use Rattle.response_stated.specs.Terms.{Writer, Sender, reading, sending, spelled, Goes}
 use Rattle.response_stated.specs.declared.ReadResponse.TheVariants as ReadResponse'
 use Rattle.response_stated.specs.declared.WroteResponse.TheVariants as WroteResponse'
 use Rattle.response_stated.specs.declared.NextPart.TheVariants as NextPart'

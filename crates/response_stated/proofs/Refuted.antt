@@ -1,7 +1,6 @@
 -- The claim that is false of each wrong program, at an input where it bites.
 use Prim.Native.Nat.{ℕ, ◌<◌, ◌≤◌}
 use mathlib.Core.Path.{◌≡◌, refl, ap, sym, ◌∙◌}
-use mathlib.Core.Bool.{Bool, true}
 use mathlib.Core.List.{List, [], ◌∷◌}
 use mathlib.Core.Logic.{inl}
 use native.Mathlib.Omega.{arith}
@@ -9,7 +8,7 @@ use lib.ListN.{length, replicate}
 use Rattle.outcome.specs.Outcome.{Outcome, Gives}
 use Rattle.outcome.specs.declared.Refusal.TheVariants.{R2}
 use Rattle.outcome.proofs.Laws.{gives_same, r_gives}
-use Rattle.octets.specs.Bytes.{byte, AreBytes}
+use Rattle.octets.specs.Bytes.{byte}
 use Rattle.octets.proofs.Laws.{small, bytes_of}
 use Rattle.apdu_stated.specs.Reading.{read_of, read_by, say_of, lengths_of, extended_of, after_data}
 use Rattle.response_stated.specs.Words.{Says, Remainder, rest, Response, Sent}

@@ -10,7 +10,7 @@ use native.Mathlib.Nat.{zero-mul, suc-mul}
 use borrow.Author.Tests.{ne_eqb}
 use lib.Dec.{eqb}
 use lib.ListN.{length, take, drop}
-use Rattle.outcome.specs.Notation.{if◌then◌else◌}
+use Rattle.outcome.specs.Notation.{when◌then◌else◌}
 use Rattle.outcome.specs.Outcome.{Outcome, Gives}
 use Rattle.response_stated.specs.Words.{Remainder, rest, Sent}
 use Rattle.response_stated.specs.Responses.{read_response_of, response_body_of}
@@ -119,9 +119,9 @@ module _ (body : List ℕ) where
   -- ---- how many
   module _ (r : Remainder) (a : Fetch) (fetches : List Fetch) (within : r.place + r.count ≤ length body) (room : part_length a.limit r.count + 2 ≤ length a.buffer) where
     calls_step : calls_until_done sending_of body r (a ∷ fetches)
-        ≡ (if eqb (left_status (rest_after r a.limit).count) 0x9000 then 1 else 1 + calls_until_done sending_of body (rest_after r a.limit) fetches)
+        ≡ (when eqb (left_status (rest_after r a.limit).count) 0x9000 then 1 else 1 + calls_until_done sending_of body (rest_after r a.limit) fetches)
     calls_step =
-        ap₂ (λ (b : Bool) (x : Remainder). if b then 1 else 1 + calls_until_done sending_of body x fetches) (told_is r a within room) (left_is r a within room)
+        ap₂ (λ (b : Bool) (x : Remainder). when b then 1 else 1 + calls_until_done sending_of body x fetches) (told_is r a within room) (left_is r a within room)
 
     calls_last : (rest_after r a.limit).count ≡ 0 → calls_until_done sending_of body r (a ∷ fetches) ≡ 1
     calls_last z = calls_step ∙ rw (z, ← Cases.left_none 0 refl)

@@ -3,8 +3,8 @@
 -- proofs/Only.antt nothing else meets a claim named `..Exactly`, and by proofs/Follows.antt the truth, the joining and the number of parts follow
 -- of whatever meets `NextExactly`, and `RoomServes` where a room meets `RoomExactly` beside it. The words `Writer`, `Sender`, `IsResponse`, `Goes`, `Tells`,
 -- `Sends`: Terms.antt. Of a sequence of calls: Fetching.antt.
-use Rattle.std.specs.Prelude.{◌↔◌, ◌⊎◌, replicate}
-use Rattle.response_stated.specs.Words.{ℕ, ◌+◌, ◌<◌, ◌≤◌, ◌≡◌, List, [], ◌∷◌, ◌++◌, length, take, drop, AtMostOne, Outcome, R, Gives, Refusal, refusal_no, AreBytes, Apdu, Says, says_of, Remainder, rest, ReadResponse, WroteResponse, NextPart, ResponseRoom, Response, Sent, response_read, response_written, part_sent, room_said}
+use Rattle.std.specs.Prelude.{◌↔◌, ◌⊎◌, replicate, ◌+◌, ◌<◌, ◌≤◌, ◌≡◌, ◌∷◌, ◌++◌}
+use Rattle.response_stated.specs.Words.{ℕ, List, [], length, take, drop, AtMostOne, Outcome, R, Gives, Refusal, refusal_no, AreBytes, Apdu, Says, says_of, Remainder, rest, ReadResponse, WroteResponse, NextPart, ResponseRoom, Response, Sent, response_read, response_written, part_sent, room_said}
 use Rattle.response_stated.specs.declared.ReadResponse.TheVariants as ReadResponse'
 use Rattle.response_stated.specs.declared.WroteResponse.TheVariants as WroteResponse'
 use Rattle.response_stated.specs.declared.NextPart.TheVariants as NextPart'

@@ -1,7 +1,7 @@
 -- What a host fetches that asks again and again: the parts of a sequence of calls, joined, and what remains after them. Of any sender, on
 -- any body. Calls run from left to right; each takes the remainder that the one before handed back.
-use Rattle.std.specs.Prelude.{Bool, false, ◌⊎◌}
-use Rattle.response_stated.specs.Words.{ℕ, ◌+◌, ◌*◌, ◌<◌, ◌≤◌, ◌≡◌, List, [], ◌∷◌, ◌++◌, eqb, if◌then◌else◌, length, take, drop, Outcome, R, Word, Gives, Remainder, Response, Sent}
+use Rattle.std.specs.Prelude.{Bool, false, ◌⊎◌, ◌+◌, ◌*◌, ◌<◌, ◌≤◌, ◌≡◌, ◌∷◌, ◌++◌}
+use Rattle.response_stated.specs.Words.{ℕ, List, [], eqb, when◌then◌else◌, length, take, drop, Outcome, R, Word, Gives, Remainder, Response, Sent}
 use Rattle.response_stated.specs.Responses.{read_response_of, response_body_of}
 use Rattle.response_stated.specs.Terms.{Sender}
 
@@ -51,7 +51,7 @@ module _ (next : Sender) (body : List ℕ) where
   abbrev pub calls_until_done : Remainder → List Fetch → ℕ
   calls_until_done r [] = 0
   calls_until_done r (a ∷ fetches) =
-      if is_done (read_response_of (got (called r a))) then 1
+      when is_done (read_response_of (got (called r a))) then 1
       else 1 + calls_until_done (left r (called r a).0) fetches
 
 -- `Each P fetches`: each of the calls is so

@@ -1,27 +1,28 @@
 -- Document 02, E2: a body that is cut, and its parts. Covered: how much a frame takes at a time, the next part of what remains, its status
 -- word, and what remains after it.
-use Rattle.response_stated.specs.Words.{ℕ, ◌+◌, ◌-◌, List, ltb, leb, eqb, if◌then◌else◌, length, take, drop, Outcome, R, Word, Gives, laid, Says, Remainder, rest, Sent}
+use Rattle.std.specs.Prelude.{◌+◌, ◌-◌}
+use Rattle.response_stated.specs.Words.{ℕ, List, ltb, leb, eqb, when◌then◌else◌, take, drop, Outcome, R, Word, Gives, laid, Says, Remainder, rest, Sent}
 use Rattle.response_stated.specs.Responses.{response_of}
 
 -- "For shapes 1 to 4, a body longer than Le (256 where absent) is cut"; "Extended shapes get the whole body as now": no limit, which is said
 -- as 0. An absent Le is read as 0
 unfoldable pub limit_of : Says → ℕ
 limit_of said =
-    if leb said.shape 4 then (if eqb said.le 0 then 256 else said.le)
+    when leb said.shape 4 then (when eqb said.le 0 then 256 else said.le)
     else 0
 
 -- how many of `count` bytes go out: no more than the limit, and all of them where there is none
 unfoldable pub part_length : (limit count : ℕ) → ℕ
 part_length limit count =
-    if eqb limit 0 then count
-    else if ltb limit count then limit
+    when eqb limit 0 then count
+    else when ltb limit count then limit
     else count
 
 -- "61 XX, XX the rest's length, or 00 for 256 and more"; 9000 with the last part
 unfoldable pub left_status : (left : ℕ) → ℕ
 left_status left =
-    if eqb left 0 then 0x9000
-    else if ltb left 256 then 0x6100 + left
+    when eqb left 0 then 0x9000
+    else when ltb left 256 then 0x6100 + left
     else 0x6100
 
 -- what remains after the next part
@@ -32,8 +33,8 @@ rest_after r limit = rest (r.place + part_length limit r.count) (r.count - part_
 -- `body_room` and `room` are the lengths of the lent body and of the buffer
 unfoldable pub next_part_of : (body_room : ℕ) → Remainder → (limit room : ℕ) → Outcome Sent
 next_part_of body_room r limit room =
-    if ltb body_room (r.place + r.count) then R 2
-    else if ltb room (part_length limit r.count + 2) then R 2
+    when ltb body_room (r.place + r.count) then R 2
+    else when ltb room (part_length limit r.count + 2) then R 2
     else Gives (record { length = part_length limit r.count + 2; remainder = rest_after r limit })
 
 -- the part's bytes, and its response
@@ -53,5 +54,5 @@ part_laid (Gives sent) response old = laid response old
 -- can say
 unfoldable pub response_room_of : (limit longest : ℕ) → Outcome ℕ
 response_room_of limit longest =
-    if ltb (part_length limit longest) 0xfffffffffffffffe then Gives (part_length limit longest + 2)
+    when ltb (part_length limit longest) 0xfffffffffffffffe then Gives (part_length limit longest + 2)
     else R 2

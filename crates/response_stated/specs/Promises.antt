@@ -1,5 +1,6 @@
 -- What each public function of `response` promises of its result, and of what its lent buffer holds afterwards, on every input.
-use Rattle.response_stated.specs.Words.{ℕ, ◌≡◌, List, length, Apdu, says_of, Remainder, ReadResponse, WroteResponse, NextPart, ResponseRoom, rest, response_read, response_written, part_sent, room_said}
+use Rattle.std.specs.Prelude.{◌≡◌}
+use Rattle.response_stated.specs.Words.{ℕ, List, Apdu, says_of, Remainder, ReadResponse, WroteResponse, NextPart, ResponseRoom, rest, response_read, response_written, part_sent, room_said}
 use Rattle.response_stated.specs.Responses.{read_response_of, response_body_of}
 use Rattle.response_stated.specs.Parts.{limit_of, response_room_of}
 use Rattle.response_stated.specs.Terms.{writing_of, sending_of}

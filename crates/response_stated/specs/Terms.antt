@@ -1,6 +1,7 @@
 -- Words that only the claims use: what a writer and a sender are, and once more, apart from the definitions and with every number spelled
 -- out, what a response is, how much of a remainder goes out, and what its status tells.
-use Rattle.response_stated.specs.Words.{ℕ, ◌+◌, ◌*◌, ◌/◌, ◌%◌, ◌<◌, ◌≤◌, ◌≡◌, List, [], ◌∷◌, ◌++◌, length, Outcome, Gives, Remainder, Response, Sent}
+use Rattle.std.specs.Prelude.{◌+◌, ◌*◌, ◌/◌, ◌%◌, ◌<◌, ◌≤◌, ◌≡◌, ◌∷◌, ◌++◌}
+use Rattle.response_stated.specs.Words.{ℕ, List, [], length, Outcome, Gives, Remainder, Response, Sent}
 use Rattle.response_stated.specs.Responses.{response_of, write_response_of, response_laid}
 use Rattle.response_stated.specs.Parts.{next_part_of, part_response, part_laid}
 

@@ -1,6 +1,6 @@
 -- What is answered, in the documents' words; the names that the other files here are written with.
 pub use Rattle.std.specs.Prelude.{ℕ, ◌+◌, ◌-◌, ◌*◌, ◌/◌, ◌%◌, ◌<◌, ◌≤◌, ◌≡◌, List, [], ◌∷◌, ◌++◌, ltb, leb, eqb, length, take, drop}
-pub use Rattle.outcome.specs.Notation.{if◌then◌else◌, AtMostOne}
+pub use Rattle.outcome.specs.Notation.{when◌then◌else◌, AtMostOne}
 pub use Rattle.outcome.specs.declared.Refusal.{Refusal}
 pub use Rattle.outcome.specs.Outcome.{Outcome, R, Word, Gives, refusal_no}
 pub use Rattle.octets.specs.Bytes.{byte, bytes2, pair_at, laid, part_of, AreBytes}

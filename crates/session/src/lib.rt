@@ -1,5 +1,7 @@
 // A session with a reader: what a frame is answered, in document 01's order, and what its transport goes on with. R6, R8 and R1, whether CTAP1 is allowed,
 // the frame and its command; then GET RESPONSE, which is decided here, or ctap1's command.
+#![tactic(auto)]
+
 ghost use Rattle.std.specs.Prelude.{◌≡◌, length};
 ghost use Rattle.apdu_stated.specs.Answers.{reading_of};
 ghost use Rattle.apdu_stated.specs.Reading.{read_of};

@@ -5,11 +5,11 @@ use mathlib.Core.Bool.{Bool, true, false, not}
 use native.Mathlib.Omega.{arith}
 use mathlib.Core.List.{List}
 use borrow.Author.Tests.{eq-eqb, ne_eqb, not-true, not-false}
-use lib.Dec.{ltb, eqb}
-use lib.ListN.{length, get_or, set}
+use lib.Dec.{ltb}
+use lib.ListN.{length, set}
 use lib.Seq.{get_or-set_same, get_or-set_other, lt-length-set}
-use Rattle.outcome.specs.Notation.{if◌then◌else◌}
-use Rattle.outcome.specs.Outcome.{Outcome, R, Word, SW, Gives, word_of, refusal_no}
+use Rattle.outcome.specs.Notation.{when◌then◌else◌}
+use Rattle.outcome.specs.Outcome.{Outcome, R, Word, SW, Gives, refusal_no}
 use Rattle.outcome.specs.declared.ApduStatusCode.{ApduStatusCode}
 use Rattle.outcome.specs.declared.Refusal.{Refusal}
 use Rattle.outcome.proofs.Laws.{r_gives}
@@ -30,17 +30,17 @@ use Rattle.signing_stated.specs.Orders.{blank_order}
 use Rattle.u2f_up_stated.specs.declared.Presence.{Presence}
 use Rattle.ctap1_stated.specs.Words.{DecisionGives, Part, DecisionResult, DecisionHanded, handed_of}
 use Rattle.ctap1_stated.proofs.Laws.{alone, handed, with_record, with_head}
-use Rattle.ctap1_stated.specs.Path.{Status, sent_path, fetch_path}
+use Rattle.ctap1_stated.specs.Path.{sent_path, fetch_path}
 use Rattle.ctap1_stated.specs.Decision.{refusal_result, status_result, along, blank_alone}
 use Rattle.ctap1_stated.specs.Session.{part_after}
-use Rattle.session_stated.specs.Held.{Session, remainder_in, session_in, room_on, frame_room_of}
+use Rattle.session_stated.specs.Held.{remainder_in, session_in, room_on, frame_room_of}
 
 -- ---- a GET RESPONSE that comes so far
 never_other : (body_room : ℕ) (k : Remainder) (limit room n : ℕ) → R n ≡ next_part_of body_room k limit room → n ≡ 2
 unfolding next_part_of
 never_other body_room k limit room n e = by (ltb body_room (k.place + k.count)) (ltb room (part_length limit k.count + 2)) e
   where
-    by : (b c : Bool) → ◌≡◌ {A = Outcome Sent} (R n) (if b then R 2 else if c then R 2 else Gives (record { length = part_length limit k.count + 2; remainder = rest_after k limit })) → n ≡ 2
+    by : (b c : Bool) → ◌≡◌ {A = Outcome Sent} (R n) (when b then R 2 else when c then R 2 else Gives (record { length = part_length limit k.count + 2; remainder = rest_after k limit })) → n ≡ 2
     by true c x = cc
     by false true x = cc
     by false false x = absurd (r_gives _ _ x)
@@ -98,7 +98,7 @@ module _ (s : List ℕ) (long : 2 < length s) where
   two n = rw (get_or-set_same s 2 n 0 long, get_or-set_other s 2 0 n 0 (λ e. omega arith), get_or-set_other s 2 1 n 0 (λ e. omega arith))
 
 pub kept_is : (s : List ℕ) (fetches : Bool) (limit : ℕ) → 2 < length s → not fetches ≡ false
-    → session_in (set s 2 limit) ≡ record { remainder = if fetches then remainder_in s else rest 0 0; limit = limit }
+    → session_in (set s 2 limit) ≡ record { remainder = when fetches then remainder_in s else rest 0 0; limit = limit }
 kept_is s fetches limit long is = two s long limit ∙ rw (not-false fetches is)
 
 three : (s : List ℕ) (a b c : ℕ) → 2 < length s → session_in (set (set (set s 0 a) 1 b) 2 c) ≡ record { remainder = rest a b; limit = c }
@@ -114,7 +114,7 @@ pub dropped_is : (s : List ℕ) (limit : ℕ) → 2 < length s → session_in (s
 dropped_is s limit long = three s 0 0 limit long
 
 pub stated_is : (s : List ℕ) (fetches : Bool) (limit : ℕ) → 2 < length s → not fetches ≡ true
-    → session_in (set (set (set s 0 0) 1 0) 2 limit) ≡ record { remainder = if fetches then remainder_in s else rest 0 0; limit = limit }
+    → session_in (set (set (set s 0 0) 1 0) 2 limit) ≡ record { remainder = when fetches then remainder_in s else rest 0 0; limit = limit }
 stated_is s fetches limit long is = three s 0 0 limit long ∙ rw (not-true fetches is)
 
 -- ---- room for a response

@@ -1,9 +1,8 @@
 -- How many parts go out where nothing stands against a C0 and each takes L bytes at a time.
 use Prim.Native.Nat.{ℕ, zero, suc, ◌+◌, ◌-◌, ◌*◌, ◌<◌, ◌≤◌}
-use mathlib.Core.Path.{◌≡◌, refl, ap, sym, ◌∙◌}
+use mathlib.Core.Path.{◌≡◌, refl, ap, ◌∙◌}
 use mathlib.Core.List.{List, [], ◌∷◌}
 use native.Mathlib.Omega.{arith}
-use native.Mathlib.Decide.{dec_lt}
 use native.Mathlib.Nat.{zero-mul, suc-mul}
 use lib.ListN.{length}
 use Rattle.response_stated.specs.declared.Remainder.{Remainder}
@@ -16,7 +15,7 @@ use Rattle.ctap1_stated.specs.Decision.{decision_of}
 use Rattle.ctap1_stated.specs.Session.{remainder_left, part_left}
 use Rattle.ctap1_stated.specs.Terms.{Fetching}
 use Rattle.ctap1_stated.proofs.Laws.{served, nothing_left, comes_c0}
-use Rattle.session_stated.specs.Sessions.{Visit, lent_in, part_count, decided_in, left_in, parts_over, Each, none, also, Serves}
+use Rattle.session_stated.specs.Sessions.{Visit, lent_in, part_count, decided_in, left_in, parts_over, Each, also, Serves}
 
 -- so many parts take c bytes, L at a time; none where c is 0
 pub data Need (c L : ℕ) : ℕ → Type 0 where

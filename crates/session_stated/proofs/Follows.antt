@@ -3,7 +3,6 @@ use Prim.Native.Nat.{ℕ}
 use mathlib.Core.Path.{◌≡◌, sym, subst, ap, ◌∙◌}
 use mathlib.Core.List.{List}
 use lib.ListN.{length}
-use Rattle.outcome.specs.Outcome.{Gives}
 use Rattle.signing_stated.specs.Claims.{FinishesExactly}
 use Rattle.signing_stated.specs.Finishing.{Finishing, Ended, end_of}
 use Rattle.signing_stated.specs.Orders.{Order}
@@ -11,15 +10,13 @@ use Rattle.signing_stated.proofs.Laws.{finishes_exactly, finishes_only}
 use Rattle.response_stated.specs.Claims.{NextExactly}
 use Rattle.response_stated.specs.Terms.{Sender, sending_of}
 use Rattle.response_stated.proofs.Laws.{next_exactly, next_only}
-use Rattle.u2f_up_stated.specs.declared.Presence.{Presence}
-use Rattle.ctap1_stated.specs.Words.{Inputs, Ordered}
 use Rattle.ctap1_stated.specs.Terms.{Decider}
 use Rattle.ctap1_stated.specs.Claims.{DecidesExactly, LimitsExactly}
 use Rattle.ctap1_stated.specs.Path.{frame_limit}
 use Rattle.ctap1_stated.specs.Decision.{decision_of}
 use Rattle.ctap1_stated.proofs.Laws.{decides_exactly, decides_only, limits_exactly, limits_only, order_whole}
 use Rattle.session_stated.specs.Held.{frame_room_of}
-use Rattle.session_stated.specs.Terms.{FrameRoom, RoomWasAsked, FirstPart, Answered}
+use Rattle.session_stated.specs.Terms.{FrameRoom, FirstPart}
 use Rattle.session_stated.specs.Claims
 use Rattle.session_stated.proofs.Only as Only
 use Rattle.session_stated.proofs.Theorems as Theorems

@@ -6,10 +6,10 @@ use mathlib.Core.Bool.{Bool, true, false, not}
 use mathlib.Core.List.{List}
 use native.Mathlib.Omega.{arith}
 use native.Mathlib.Decide.{ℕ_discrete}
-use borrow.Author.Tests.{eq-eqb, ne_eqb}
+use borrow.Author.Tests.{ne_eqb}
 use lib.Dec.{ltb, eqb}
 use lib.ListN.{length}
-use Rattle.outcome.specs.Notation.{if◌then◌else◌}
+use Rattle.outcome.specs.Notation.{when◌then◌else◌}
 use Rattle.outcome.specs.Outcome.{StatusWord, Outcome, R, Word, SW, Gives, word_of, refusal_no}
 use Rattle.outcome.specs.declared.ApduStatusCode.{ApduStatusCode}
 use Rattle.outcome.specs.declared.Refusal.{Refusal}
@@ -71,7 +71,7 @@ ended_plain (Orders o taken) p = order
 checked_plain : (f : Finding) (e : PathEnd) → Plain (touch_checked f e).answer
 checked_plain f e = by f.yes
   where
-    by : (y : Bool) → Plain (if not y then status_result 0x6985 f.presence else ended e f.presence).answer
+    by : (y : Bool) → Plain (when not y then status_result 0x6985 f.presence else ended e f.presence).answer
     by true = ended_plain e f.presence
     by false = word _
 
@@ -79,7 +79,7 @@ module _ (check : Presence → Finding) (kept settled : Presence) where
   IsPlain : DecisionPath → Type 0
   IsPlain x = Plain (along_by check x kept settled).answer
 
-  either : (b : Bool) (x y : DecisionPath) → IsPlain x → IsPlain y → IsPlain (if b then x else y)
+  either : (b : Bool) (x y : DecisionPath) → IsPlain x → IsPlain y → IsPlain (when b then x else y)
   either true x y p q = p
   either false x y p q = q
 
@@ -104,7 +104,7 @@ module _ (check : Presence → Finding) (kept settled : Presence) where
   unfolding version_path
   version_any room = by (ltb room 6)
     where
-      by : (b : Bool) → along (if b then NoRoom else SixBytes) kept settled 0 0 ≡ along_by check (if b then NoRoom else SixBytes) kept settled
+      by : (b : Bool) → along (when b then NoRoom else SixBytes) kept settled 0 0 ≡ along_by check (when b then NoRoom else SixBytes) kept settled
       by true = refl
       by false = refl
 
@@ -112,7 +112,7 @@ module _ (check : Presence → Finding) (kept settled : Presence) where
   unfolding version_path
   version_lands room old = by (ltb room 6)
     where
-      by : (b : Bool) → beside (handed_of (along (if b then NoRoom else SixBytes) kept settled 0 0)) old ≡ left_of (along_by check (if b then NoRoom else SixBytes) kept settled) old
+      by : (b : Bool) → beside (handed_of (along (when b then NoRoom else SixBytes) kept settled 0 0)) old ≡ left_of (along_by check (when b then NoRoom else SixBytes) kept settled) old
       by true = refl
       by false = refl
 
@@ -120,7 +120,7 @@ module _ (check : Presence → Finding) (kept settled : Presence) where
   unfolding version_path
   version_part room response old = by (ltb room 6)
     where
-      by : (b : Bool) → old ≡ part_after (along_by check (if b then NoRoom else SixBytes) kept settled).answer response old
+      by : (b : Bool) → old ≡ part_after (along_by check (when b then NoRoom else SixBytes) kept settled).answer response old
       by true = refl
       by false = refl
 
@@ -129,7 +129,7 @@ module _ (check : Presence → Finding) (kept settled : Presence) where
     unfolding fetch_path
     fetch_any = by (eqb r.count 0) (next_part_of room r limit part_room)
       where
-        by : (b : Bool) (o : Outcome Sent) → along (if b then Status 0x6985 else sent_path o) kept settled 0 0 ≡ along_by check (if b then Status 0x6985 else sent_path o) kept settled
+        by : (b : Bool) (o : Outcome Sent) → along (when b then Status 0x6985 else sent_path o) kept settled 0 0 ≡ along_by check (when b then Status 0x6985 else sent_path o) kept settled
         by true o = refl
         by false (R n) = refl
         by false (Word s) = refl
@@ -140,7 +140,7 @@ module _ (check : Presence → Finding) (kept settled : Presence) where
     fetch_lands old = by (eqb r.count 0) (next_part_of room r limit part_room)
       where
         by : (b : Bool) (o : Outcome Sent)
-            → beside (handed_of (along (if b then Status 0x6985 else sent_path o) kept settled 0 0)) old ≡ left_of (along_by check (if b then Status 0x6985 else sent_path o) kept settled) old
+            → beside (handed_of (along (when b then Status 0x6985 else sent_path o) kept settled 0 0)) old ≡ left_of (along_by check (when b then Status 0x6985 else sent_path o) kept settled) old
         by true o = refl
         by false (R n) = refl
         by false (Word s) = refl
@@ -150,7 +150,7 @@ module _ (check : Presence → Finding) (kept settled : Presence) where
     unfolding fetch_path
     fetch_reply old = by (eqb r.count 0) (next_part_of room r limit part_room)
       where
-        by : (b : Bool) (o : Outcome Sent) → old ≡ reply_left (along_by check (if b then Status 0x6985 else sent_path o) kept settled) old
+        by : (b : Bool) (o : Outcome Sent) → old ≡ reply_left (along_by check (when b then Status 0x6985 else sent_path o) kept settled) old
         by true o = refl
         by false (R n) = refl
         by false (Word s) = refl

@@ -1,5 +1,5 @@
 -- Each wrong program of specs/Wrong.antt, and the claim that is false of it: a body of the bytes 7 8 9, fetched one byte at a time.
-use Prim.Native.Nat.{ℕ, ◌+◌, ◌<◌, ◌≤◌}
+use Prim.Native.Nat.{ℕ, ◌<◌}
 use mathlib.Core.Path.{◌≡◌, refl, ap, sym, ◌∙◌}
 use mathlib.Core.Bool.{true}
 use mathlib.Core.Logic.{inr, ⊎_elim}
@@ -17,13 +17,13 @@ use Rattle.signing_stated.specs.Finishing.{Finishing, finish_of, end_of}
 use Rattle.response_stated.specs.declared.Remainder.{Remainder}
 use Rattle.response_stated.specs.Words.{rest, Sent}
 use Rattle.response_stated.specs.Parts.{limit_of, part_length, left_status, next_part_of, response_room_of}
-use Rattle.response_stated.specs.Terms.{sending_of, sending, Goes, Tells, nothing_left, some_left, more_left}
+use Rattle.response_stated.specs.Terms.{sending_of, sending, Goes, Tells, some_left, more_left}
 use Rattle.response_stated.specs.Fetching.{up}
 use Rattle.response_stated.proofs.Laws.{next_exactly}
 use Rattle.u2f_up_stated.specs.Moments.{fresh, settle_of}
 use Rattle.u2f_up_stated.specs.Terms.{NotRefused}
 use Rattle.ctap1_stated.specs.declared.HardwareSaid.{HardwareSaid}
-use Rattle.ctap1_stated.specs.Words.{Inputs, Body, Ordered, Part}
+use Rattle.ctap1_stated.specs.Words.{Inputs, Body, Ordered}
 use Rattle.ctap1_stated.specs.Path.{frame_limit, fetch_path, login_path, counted_ending, command_path, allowed_path, path_of}
 use Rattle.ctap1_stated.specs.Decision.{decision_of}
 use Rattle.ctap1_stated.specs.Session.{remainder_left, part_left}

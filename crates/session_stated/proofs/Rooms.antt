@@ -1,32 +1,31 @@
 -- The room for a response: what `frame_room_of` says of a frame in each shape; and that, where it was asked for, an order is finished and its first part goes out.
 use Prim.Native.Nat.{ℕ, ◌+◌, ◌-◌, ◌<◌, ◌≤◌}
 use mathlib.Core.Path.{◌≡◌, refl, ap, ap₂, sym, subst, ◌∙◌}
-use mathlib.Core.Bool.{true, false}
-use mathlib.Core.Logic.{◌⊎◌}
-use mathlib.Core.List.{List, ◌++◌}
+use mathlib.Core.Bool.{true}
+use mathlib.Core.List.{List}
 use native.Mathlib.Omega.{arith}
 use native.Mathlib.Decide.{dec_lt, ℕ_discrete}
 use borrow.Author.Tests.{eq-eqb, ne_eqb, lt-ltb, le-ltb, le-leb, lt-leb}
-use lib.ListN.{length, take, drop}
+use lib.ListN.{length, drop}
 use Rattle.outcome.specs.Outcome.{Outcome, R, Word, SW, Gives}
-use Rattle.outcome.proofs.Laws.{gives_same, r_gives, word_gives}
+use Rattle.outcome.proofs.Laws.{r_gives, word_gives}
 use Rattle.octets.specs.Bytes.{laid}
 use Rattle.octets.proofs.Laws.{length_laid}
 use Rattle.apdu_stated.specs.Answers.{Says}
 use Rattle.apdu_stated.specs.Reading.{read_of}
-use Rattle.command_stated.specs.Command.{Command, Register, Authenticate, command_of}
+use Rattle.command_stated.specs.Command.{Command, Register, Authenticate}
 use Rattle.command_stated.proofs.Laws.{RegisterExactly, AuthenticateExactly}
 use Rattle.signing_stated.specs.Orders.{kind_no, is_of_layout, certificate_length}
 use Rattle.signing_stated.specs.Finishing.{Finishing, Ended, finish_of, end_of, length_of, reply_of, body_of, room_needed}
 use Rattle.signing_stated.proofs.Laws.{finish_failed, finish_gives}
 use Rattle.response_stated.specs.Words.{rest}
-use Rattle.response_stated.specs.Parts.{limit_of, part_length, left_status, rest_after, part_bytes, part_response, response_room_of}
-use Rattle.response_stated.specs.Terms.{Sender, sending_of, sending}
-use Rattle.response_stated.proofs.Laws.{part_monotone, part_most, part_long, room_holds, room_said, room_unsaid, sends_given, goes, tells}
+use Rattle.response_stated.specs.Parts.{limit_of, part_length, left_status, response_room_of}
+use Rattle.response_stated.specs.Terms.{sending_of, sending}
+use Rattle.response_stated.proofs.Laws.{part_monotone, part_long, room_holds, room_said, room_unsaid, sends_given, goes, tells}
 use Rattle.u2f_up_stated.specs.declared.Presence.{Presence}
 use Rattle.ctap1_stated.specs.Words.{Inputs, Ordered}
 use Rattle.ctap1_stated.specs.Terms.{AreBlocks, room_of_register}
-use Rattle.ctap1_stated.specs.Path.{limit_on, frame_limit}
+use Rattle.ctap1_stated.specs.Path.{frame_limit}
 use Rattle.ctap1_stated.specs.Decision.{decision_of}
 use Rattle.ctap1_stated.proofs.Laws.{AskedWith, of_register, of_authenticate, asked_with, orders_of_layout}
 use Rattle.session_stated.specs.Held.{Session, session_after, room_on, frame_room_of}
@@ -94,9 +93,9 @@ module _ (frame : List ℕ) (longest : ℕ) where
   some_take = takes_some (read_of frame) refl
 
 -- ---- the room that an order asks for is the longest body of its command, and a frame that comes to an order is in a shape
-read_of : (a : Inputs) (k n : ℕ) → AskedWith a k n → (said : Says) × (read_of a.frame ≡ Gives said)
-read_of a _ _ (of_register said c) = (said, ((RegisterExactly a.frame said).0 c).0)
-read_of a _ _ (of_authenticate p1 said c) = (said, ((AuthenticateExactly a.frame p1 said).0 c).0)
+read_of_lem : (a : Inputs) (k n : ℕ) → AskedWith a k n → (said : Says) × (read_of a.frame ≡ Gives said)
+read_of_lem a _ _ (of_register said c) = (said, ((RegisterExactly a.frame said).0 c).0)
+read_of_lem a _ _ (of_authenticate p1 said c) = (said, ((AuthenticateExactly a.frame p1 said).0 c).0)
 
 register_not : (said other : Says) (p1 : ℕ) → ◌≡◌ {A = Outcome Command} (Gives (Register said)) (Gives (Authenticate p1 other)) → ⊥
 register_not said other p1 e = let z : ◌≡◌ {A = ℕ} 0 1 = cc in omega arith
@@ -146,7 +145,7 @@ module _ (p : Presence) (t : ℕ) (a : Inputs) (i : Finishing) (buffer : List �
   -- what was asked for holds the longest first part
   holds : part_length (frame_limit a.frame) b + 2 ≤ length buffer
   holds =
-      let read = read_of a _ _ (asked_with p t a blocks ordered).0 in
+      let read = read_of_lem a _ _ (asked_with p t a blocks ordered).0 in
       let said = room_holds (frame_limit a.frame) b bytes (sym (room_in_shape a.frame read.0 b read.1) ∙ asked) in
       omega (arith, said, had)
 

@@ -1,17 +1,17 @@
 -- One visit with a frame that asks: nothing goes out and all remains, or the next part goes out as `next` sends it. And what follows for all of them.
-use Prim.Native.Nat.{ℕ, zero, suc, ◌+◌, ◌-◌, ◌*◌, ◌<◌, ◌≤◌}
+use Prim.Native.Nat.{ℕ, ◌+◌, ◌<◌, ◌≤◌}
 use mathlib.Core.Path.{◌≡◌, refl, ap, sym, subst, ◌∙◌}
-use mathlib.Core.Bool.{Bool, true, false}
-use mathlib.Core.List.{List, [], ◌∷◌, ◌++◌, append_assoc, append-nil}
+use mathlib.Core.Bool.{Bool, true}
+use mathlib.Core.List.{List, [], ◌∷◌, ◌++◌, append_assoc}
 use native.Mathlib.Omega.{arith}
-use lib.ListN.{length, take, drop}
-use Rattle.outcome.specs.Notation.{if◌then◌else◌}
-use Rattle.outcome.specs.Outcome.{Outcome, R, Word, SW, Gives}
+use lib.ListN.{length}
+use Rattle.outcome.specs.Notation.{when◌then◌else◌}
+use Rattle.outcome.specs.Outcome.{Outcome, SW}
 use Rattle.apdu_stated.specs.Reading.{read_of}
 use Rattle.response_stated.specs.declared.Remainder.{Remainder}
 use Rattle.response_stated.specs.Words.{rest, Sent}
 use Rattle.response_stated.specs.Responses.{response_body_of}
-use Rattle.response_stated.specs.Parts.{part_length, rest_after, part_response, part_laid, next_part_of}
+use Rattle.response_stated.specs.Parts.{part_length, rest_after, part_response, part_laid}
 use Rattle.response_stated.specs.Terms.{sending_of}
 use Rattle.response_stated.specs.Fetching.{Fetch, got, left, remaining, called}
 use Rattle.response_stated.proofs.Laws.{next_given, step_within, step_joins, part_some, part_most}
@@ -22,7 +22,7 @@ use Rattle.ctap1_stated.specs.Decision.{decision_of}
 use Rattle.ctap1_stated.specs.Session.{is_get_response, remainder_after, remainder_left, part_left}
 use Rattle.ctap1_stated.specs.Terms.{Decider, HasInsC0}
 use Rattle.ctap1_stated.proofs.Laws.{Asked, is_refused, is_word, is_part, asked}
-use Rattle.session_stated.specs.Sessions.{Visit, lent_in, sent_with, part_count, decided_in, sent_in, left_in, joined_over, left_over, parts_over, Each, none, also, IsFetch}
+use Rattle.session_stated.specs.Sessions.{Visit, lent_in, sent_with, part_count, decided_in, sent_in, left_in, joined_over, left_over, parts_over, Each, also, IsFetch}
 
 -- the call of `next` that a visit comes to
 abbrev pub fetch : Visit → Fetch
@@ -82,10 +82,10 @@ module _ (body : List ℕ) where
       let is : (left r (called sending_of body r (fetch v)).0).count ≡ (rest_after r limit).count = ap (λ (o : Outcome Sent). (left r o).count) (sym (next_given (length body) r limit (length v.buffer) within room)) in
       omega (arith, is, part_some limit r.count some, part_most limit r.count)
 
-  pub parts_over : (r : Remainder) (visits : List Visit) → Each IsFetch visits → parts_over decision_of remainder_left part_left body r visits ≤ r.count
-  parts_over r [] e = omega arith
-  parts_over r (v ∷ visits) (also x e) =
-      omega (arith, step_takes r v (step r v x), parts_over (left_in decision_of remainder_left part_left body r v) visits e)
+  pub parts_over_lem : (r : Remainder) (visits : List Visit) → Each IsFetch visits → parts_over decision_of remainder_left part_left body r visits ≤ r.count
+  parts_over_lem r [] e = omega arith
+  parts_over_lem r (v ∷ visits) (also x e) =
+      omega (arith, step_takes r v (step r v x), parts_over_lem (left_in decision_of remainder_left part_left body r v) visits e)
 
 -- ---- with a decision that refuses every C0, nothing goes out and all remains
 module _ (decide : Decider) (refuses : (p : Presence) (t : ℕ) (a : Inputs) → HasInsC0 a → (decide p t a).answer ≡ SW 0x6985) (body : List ℕ) where
@@ -97,7 +97,7 @@ module _ (decide : Decider) (refuses : (p : Presence) (t : ℕ) (a : Inputs) →
     none_sent = ap (λ (o : Outcome DecisionGives). sent_with o (part_left (lent_in body r v) (decided_in decide remainder_left part_left body r v) body v.buffer)) answer
 
     all_left : left_in decide remainder_left part_left body r v ≡ r
-    all_left = ap (λ (o : Outcome DecisionGives). remainder_after o (is_get_response (read_of v.lent.frame)) r) answer ∙ ap (λ (c : Bool). if c then r else rest 0 0) (asks_so v.lent asks)
+    all_left = ap (λ (o : Outcome DecisionGives). remainder_after o (is_get_response (read_of v.lent.frame)) r) answer ∙ ap (λ (c : Bool). when c then r else rest 0 0) (asks_so v.lent asks)
 
   pub refused_over : (r : Remainder) (visits : List Visit) → Each IsFetch visits
       → (joined_over decide remainder_left part_left body r visits ≡ []) × (left_over decide remainder_left part_left body r visits ≡ r)

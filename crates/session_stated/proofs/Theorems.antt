@@ -1,5 +1,5 @@
 -- The claims of specs/Claims.antt, each under its own name.
-use Prim.Native.Nat.{ℕ, ◌+◌, ◌-◌, ◌*◌, ◌/◌, ◌%◌, ◌<◌, ◌≤◌}
+use Prim.Native.Nat.{ℕ, ◌+◌, ◌-◌, ◌/◌, ◌%◌, ◌<◌, ◌≤◌}
 use mathlib.Core.Path.{◌≡◌, refl, ap, ap₂, sym, subst, ◌∙◌}
 use mathlib.Core.Bool.{Bool, true, false, false≢true}
 use mathlib.Core.Logic.{◌↔◌, ◌⊎◌, inl, inr}
@@ -7,7 +7,7 @@ use mathlib.Core.List.{List, [], ◌∷◌, ◌++◌, append-nil}
 use native.Mathlib.Omega.{arith}
 use native.Mathlib.Decide.{dec_lt}
 use borrow.Author.Tests.{eq-eqb, ne_eqb, eqb-true}
-use lib.ListN.{length, take, drop, replicate, get_or}
+use lib.ListN.{length, take, drop, get_or}
 use Rattle.outcome.specs.Outcome.{Outcome, R, Word, Gives}
 use Rattle.outcome.proofs.Laws.{gives_same, r_gives, word_gives, both_are}
 use Rattle.octets.specs.Bytes.{laid}
@@ -34,15 +34,15 @@ use Rattle.ctap1_stated.specs.Session.{is_get_response, remainder_left, part_aft
 use Rattle.ctap1_stated.specs.declared.Allowed.TheVariants as Allowed'
 use Rattle.ctap1_stated.specs.declared.Attestation.TheVariants as Attestation'
 use Rattle.ctap1_stated.specs.declared.Counter.TheVariants as Counter'
-use Rattle.ctap1_stated.proofs.Laws.{takes, IsPart, is_a_part, limits_exactly, limits_only, replies_exactly, parts_exactly, decides_exactly, decides_only, left_apart}
+use Rattle.ctap1_stated.proofs.Laws.{takes, is_a_part, limits_exactly, limits_only, replies_exactly, parts_exactly, decides_exactly, decides_only, left_apart}
 use Rattle.signing_stated.specs.Finishing.{end_of}
 use Rattle.session_stated.specs.Held.{Session, remainder_in, session_in, hardware_in, session_after, frame_room_of}
-use Rattle.session_stated.specs.Sessions.{Visit, sent_in, left_in, joined_over, left_over, parts_over, Each, IsFetch, Serves}
+use Rattle.session_stated.specs.Sessions.{Visit, joined_over, left_over}
 use Rattle.session_stated.specs.Claims
 use Rattle.session_stated.specs.Promises.{ToDecide, inputs_in, Stated, Dropped, Left}
 use Rattle.session_stated.specs.Terms.{NoShape, CanTake, changed_by}
 use Rattle.session_stated.proofs.Rooms.{limit_taken, no_limit, takes_so, some_take, room_in_shape, by_command}
-use Rattle.session_stated.proofs.Steps.{fetch, Step, keeps, sends, step, within_over, joins_over, parts_over, refused_over}
+use Rattle.session_stated.proofs.Steps.{fetch, Step, keeps, sends, step, joins_over, parts_over_lem, refused_over}
 use Rattle.session_stated.proofs.Counts.{Need, exact, need_first}
 
 pub FetchesNext : Claims.FetchesNext decision_of frame_limit part_left sending_of
@@ -185,9 +185,9 @@ pub SessionParts : Claims.SessionParts decision_of frame_limit remainder_left pa
 SessionParts =
     record {
       at_most = λ body n frame buffer sent visits h some each e.
-          omega (arith, parts_over body sent.remainder visits each, first body n frame buffer sent e, part_some (frame_limit frame) n some, part_most (frame_limit frame) n);
+          omega (arith, parts_over_lem body sent.remainder visits each, first body n frame buffer sent e, part_some (frame_limit frame) n some, part_most (frame_limit frame) n);
       of_none = λ body frame buffer sent visits each e.
-          omega (arith, parts_over body sent.remainder visits each, first body 0 frame buffer sent e);
+          omega (arith, parts_over_lem body sent.remainder visits each, first body 0 frame buffer sent e);
       exactly = λ body n L k frame buffer sent visits h some up is e each low.
           let x = need_first L some n k up in
           let f = given_is body (rest 0 n) (frame_limit frame) buffer sent.length sent.remainder e in

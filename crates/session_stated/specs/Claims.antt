@@ -2,7 +2,7 @@
 -- frames and goes on with; then the room for a response, and that no touch is lost to a length. Proved in proofs/Theorems.antt of the definitions; `decide`,
 -- `left`, `write`, `limit`, `next` and the others are any functions, and proofs/Refuted.antt has that wrong ones fail. That nothing but the definitions meets
 -- a claim whose name ends in 'Exactly' or 'Stands' is said in proofs/Only.antt. Of the steps of a session it is said in that file of ctap1_stated and response_stated.
-use Rattle.std.specs.Prelude.{ℕ, ◌+◌, ◌≤◌, ◌<◌, ◌≡◌, ◌↔◌, Bool, true, List, [], ◌∷◌, ◌++◌, length, take, replicate}
+use Rattle.std.specs.Prelude.{ℕ, ◌+◌, ◌≤◌, ◌<◌, ◌≡◌, ◌↔◌, Bool, true, List, [], ◌∷◌, ◌++◌, length, take}
 use Rattle.outcome.specs.Notation.{AtMostOne}
 use Rattle.outcome.specs.Outcome.{StatusWord, Outcome, R, Word, SW, Gives}
 use Rattle.octets.specs.Bytes.{AreBytes}

@@ -1,6 +1,6 @@
 -- What the public functions promise: of what is lent in and the buffers at entry, of the result and of the record, the session and the buffers at exit.
 use Rattle.std.specs.Prelude.{ℕ, ◌≡◌, Bool, List, length}
-use Rattle.outcome.specs.Notation.{if◌then◌else◌}
+use Rattle.outcome.specs.Notation.{when◌then◌else◌}
 use Rattle.apdu_stated.specs.Reading.{read_of}
 use Rattle.command_stated.specs.Command.{command_of}
 use Rattle.u2f_up_stated.specs.Numbers.{presence_in}
@@ -79,7 +79,7 @@ RemainderLent entry r = r ≡ remainder_in entry
 
 -- 02, E2: "A frame with another INS or in no shape drops the remainder; a refused C0 .. keeps it": after a status word
 abbrev pub Stated : (fetches : Bool) (limit : ℕ) (entry exit : List ℕ) → Type 0
-Stated fetches limit entry exit = session_in exit ≡ record { remainder = if fetches then remainder_in entry else rest 0 0; limit = limit }
+Stated fetches limit entry exit = session_in exit ≡ record { remainder = when fetches then remainder_in entry else rest 0 0; limit = limit }
 
 -- after a body or an order
 abbrev pub Dropped : (limit : ℕ) (exit : List ℕ) → Type 0

@@ -1,6 +1,6 @@
 -- Wrong programs, each with one fault. proofs/Refuted.antt shows of each that a claim is false of it.
 use Rattle.std.specs.Prelude.{ℕ, ◌+◌, ◌-◌, ◌%◌, List, eqb, get_or}
-use Rattle.outcome.specs.Notation.{if◌then◌else◌}
+use Rattle.outcome.specs.Notation.{when◌then◌else◌}
 use Rattle.outcome.specs.Outcome.{Outcome, R, Word, Gives}
 use Rattle.octets.specs.Bytes.{laid}
 use Rattle.response_stated.specs.declared.Remainder.{Remainder}
@@ -9,7 +9,7 @@ use Rattle.response_stated.specs.Parts.{limit_of, part_length, rest_after, part_
 use Rattle.apdu_stated.specs.Answers.{Says}
 use Rattle.apdu_stated.specs.Reading.{read_of}
 use Rattle.ctap1_stated.specs.declared.HardwareSaid.{HardwareSaid}
-use Rattle.ctap1_stated.specs.Words.{Inputs, DecisionGives, Body, Ordered, Part, DecisionResult}
+use Rattle.ctap1_stated.specs.Words.{Inputs, DecisionGives, Body, Ordered, Part}
 use Rattle.ctap1_stated.specs.Path.{limit_on, frame_limit}
 use Rattle.ctap1_stated.specs.Decision.{decision_of, status_result}
 use Rattle.ctap1_stated.specs.Terms.{Decider}
@@ -110,11 +110,11 @@ without_status frame longest = room_by (λ said b. Gives (part_length (limit_of 
 
 -- an extended shape is taken for one that is cut at its Le
 abbrev pub extended_by_le : FrameRoom
-extended_by_le frame longest = room_by (λ said b. response_room_of (if eqb said.le 0 then 256 else said.le) b) (λ b. Gives 2) (read_of frame) longest
+extended_by_le frame longest = room_by (λ said b. response_room_of (when eqb said.le 0 then 256 else said.le) b) (λ b. Gives 2) (read_of frame) longest
 
 -- the limit, however short the body
 abbrev pub limit_alone : FrameRoom
-limit_alone frame longest = room_by (λ said b. response_room_of 0 (if eqb (limit_of said) 0 then b else limit_of said)) (λ b. Gives 2) (read_of frame) longest
+limit_alone frame longest = room_by (λ said b. response_room_of 0 (when eqb (limit_of said) 0 then b else limit_of said)) (λ b. Gives 2) (read_of frame) longest
 
 -- room for a body where no shape is
 abbrev pub no_shape_body : FrameRoom

@@ -1,17 +1,19 @@
 // A session with a reader: what one transport holds between its frames, and what a decision leaves of it. What they mean stands in specs/, what is claimed in
 // specs/Claims.antt. No function: session has them.
+#![tactic(auto)]
+
 use ctap1_stated::Decision;
 use response_stated::Remainder;
 
 // What remains of a body, and how many bytes of body the latest frame takes at a time: the limit that its body goes out by.
-#[derive(Drop)]
+#[derive(Clone, Copy)]
 pub struct Session {
     pub remainder: Remainder,
     pub limit: u64,
 }
 
 // A decision, and what its frame says to the session, whatever it is answered: its limit, and whether it is a GET RESPONSE.
-#[derive(Drop)]
+#[derive(Clone, Copy)]
 pub struct SessionDecision {
     pub decision: Decision,
     pub limit: u64,

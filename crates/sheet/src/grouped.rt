@@ -25,7 +25,7 @@ fn rest(comma: bool, left: u64) -> u64 {
 }
 
 // Twenty digits and six commas at most, written from the last one on.
-pub fn number(good: bool, before: &[u8], n: u64) -> bool {
+pub fn number(out: &impl Print, good: bool, before: &[u8], n: u64) -> bool {
     let mut text = [0u8; 32];
     let mut left = n;
     let mut i = 0;
@@ -35,6 +35,6 @@ pub fn number(good: bool, before: &[u8], n: u64) -> bool {
         left = rest(comma, left);
         i += 1;
     }
-    let fine = program_spell::words(good, before);
-    program_spell::words(fine, octets::part(&text, 32 - i, 32))
+    let fine = program_spell::words(out, good, before);
+    program_spell::words(out, fine, octets::part(&text, 32 - i, 32))
 }

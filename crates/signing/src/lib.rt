@@ -7,6 +7,8 @@
 //
 // The decision makes an order; the signer signs its bytes; finishing turns order and signature into the reply. An order's block is
 // the caller's: it is lent in, and its head goes back and forth by value.
+#![tactic(auto)]
+
 ghost use Rattle.std.specs.Prelude.{◌+◌, ◌-◌, ◌≤◌, ◌≡◌, true, leb, length};
 ghost use Rattle.octets.specs.Bytes.{byte, laid};
 ghost use Rattle.signing_stated.specs.Layouts.{presence_byte, register_body, authenticate_body};

@@ -1,5 +1,7 @@
 // Fields one after the other into a lent buffer: each writer writes its first field and lends the rest of the buffer to
 // the writer of the fields that follow. A write stops where the buffer ends, so nothing is asked of the caller.
+#![tactic(auto)]
+
 ghost use Rattle.signing_fields.specs.Promises.{PutTwo, PutThree, PutFour, PutFive};
 
 pub fn put_two(out: &mut [u8], a: &[u8], b: &[u8])

@@ -1,4 +1,6 @@
 // The layout tests behind R7: whether an order is one of the two that decisions make.
+#![tactic(auto)]
+
 ghost use Rattle.std.specs.Prelude.{◌≡◌};
 ghost use Rattle.signing_stated.specs.Orders.{is_register_layout, is_authenticate_layout};
 ghost use Rattle.signing_stated.specs.Promises.{HasLayout};

@@ -175,11 +175,11 @@ module _ (h c room : ℕ) where
   certificate_room enough left = leb_same c (room - 139 - h) (register_room h c) room (λ holds. omega arith) (λ fails. omega arith)
 
 module _ (h : Head) (room : ℕ) (r : Bool) where
-  pub register_room : h.kind ≡ Register → r ≡ leb (register_room (h.to_sign - 130) h.certificate_length) room → r ≡ leb (room_of h.kind h) room
-  register_room k e = e ∙ ap (λ (kind : Kind). leb (room_of kind h) room) (sym k)
+  pub register_room_lem : h.kind ≡ Register → r ≡ leb (register_room (h.to_sign - 130) h.certificate_length) room → r ≡ leb (room_of h.kind h) room
+  register_room_lem k e = e ∙ ap (λ (kind : Kind). leb (room_of kind h) room) (sym k)
 
-  pub authenticate_room : h.kind ≡ Authenticate → r ≡ leb authenticate_room room → r ≡ leb (room_of h.kind h) room
-  authenticate_room k e = e ∙ ap (λ (kind : Kind). leb (room_of kind h) room) (sym k)
+  pub authenticate_room_lem : h.kind ≡ Authenticate → r ≡ leb authenticate_room room → r ≡ leb (room_of h.kind h) room
+  authenticate_room_lem k e = e ∙ ap (λ (kind : Kind). leb (room_of kind h) room) (sym k)
 
 -- the handle's length, by subtraction, of an order of its layout
 pub handle_counted : (kind : Kind) (n : ℕ) → kind ≡ Register → CountsHandle kind n → 130 ≤ n

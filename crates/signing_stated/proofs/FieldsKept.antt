@@ -196,8 +196,8 @@ module _ (n : ℕ) (b : List ℕ) (whole : length b ≡ 385) (s : RegisterShape 
   register_block : b ≡ block (register_to_sign (register_fields_of n b))
   register_block = block_of b n whole s.most s.rest ∙ ap block register_front
 
-  pub register_order_of : (o : Order) → o.kind ≡ Register → to_sign o ≡ n → o.bytes ≡ b → o ≡ register_order_of (register_fields_of n b) (certificate_length o)
-  register_order_of o k e is_b =
+  pub register_order_of_lem : (o : Order) → o.kind ≡ Register → to_sign o ≡ n → o.bytes ≡ b → o ≡ register_order_of (register_fields_of n b) (certificate_length o)
+  register_order_of_lem o k e is_b =
       let handle : length (bytes_at 65 (n - 130) b) ≡ n - 130 = length_part 65 (n - 130) b (omega (arith, s.least, s.most)) in
       order_equal o (record { kind = Register; to_sign = 130 + length (bytes_at 65 (n - 130) b); certificate_length = certificate_length o; bytes = block (register_to_sign (register_fields_of n b)) })
       k (omega (arith, e, s.least, handle)) refl (is_b ∙ register_block)
@@ -224,9 +224,9 @@ module _ (b : List ℕ) (whole : length b ≡ 385) (n c : ℕ) (s : Authenticate
   pub authenticate_fields_lengths : AuthenticateLengths (authenticate_fields_of b)
   authenticate_fields_lengths = front_lengths b (omega arith) s.presence
 
-  pub authenticate_order_of : (o : Order) → o.kind ≡ Authenticate → to_sign o ≡ n → certificate_length o ≡ c → o.bytes ≡ b
+  pub authenticate_order_of_lem : (o : Order) → o.kind ≡ Authenticate → to_sign o ≡ n → certificate_length o ≡ c → o.bytes ≡ b
       → o ≡ authenticate_order_of (authenticate_fields_of b)
-  authenticate_order_of o k e is_c is_b =
+  authenticate_order_of_lem o k e is_c is_b =
       order_equal o (record { kind = Authenticate; to_sign = 69; certificate_length = 0; bytes = block (authenticate_to_sign (authenticate_fields_of b)) })
       k (e ∙ s.long) (is_c ∙ s.no_certificate) (is_b ∙ block_of b 69 whole (omega arith) s.rest ∙ ap block (authenticate_front b (omega arith)))
       ∙ sym (authenticate_order_fit (authenticate_fields_of b) authenticate_fields_lengths)

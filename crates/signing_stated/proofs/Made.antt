@@ -5,7 +5,7 @@ use mathlib.Core.Path.{◌≡◌, refl, sym, ap, ◌∙◌}
 use mathlib.Core.List.{List, []}
 use lib.Dec.{eqb, leb}
 use borrow.Author.Tests.{eq-eqb, le-ltb}
-use Rattle.outcome.specs.Notation.{if◌then◌else◌}
+use Rattle.outcome.specs.Notation.{when◌then◌else◌}
 use native.Mathlib.Omega.{arith}
 use lib.ListN.{length, replicate, length-replicate}
 use Rattle.octets.proofs.Laws.{length_laid}
@@ -68,7 +68,7 @@ unfolding register_order_of blank_order
 room_most f c = by (is_register_fit f) (register_to_sign f)
   where
     by : (fit : Bool) (s : List ℕ)
-        → room_needed (if not fit then blank_order else record { kind = Register; to_sign = 130 + length f.handle; certificate_length = c; bytes = block s })
+        → room_needed (when not fit then blank_order else record { kind = Register; to_sign = 130 + length f.handle; certificate_length = c; bytes = block s })
         ≤ register_room (length f.handle) c
     by true s = omega arith
     by false s = omega arith
@@ -102,10 +102,10 @@ head_by_lengths f g c k a d h x y e =
     ∙ sym (head_is (is_register_fit g) (130 + length g.handle) k (block (register_to_sign g)))
   where
     head_for : Bool → ℕ → ℕ → Head
-    head_for fit n c = if not fit then head_of blank_order else record { kind = Register; to_sign = n; certificate_length = c }
+    head_for fit n c = when not fit then head_of blank_order else record { kind = Register; to_sign = n; certificate_length = c }
 
     head_is : (fit : Bool) (n c : ℕ) (bytes : List ℕ)
-        → head_of (if not fit then blank_order else record { kind = Register; to_sign = n; certificate_length = c; bytes = bytes }) ≡ head_for fit n c
+        → head_of (when not fit then blank_order else record { kind = Register; to_sign = n; certificate_length = c; bytes = bytes }) ≡ head_for fit n c
     head_is true n c bytes = refl
     head_is false n c bytes = refl
 
@@ -137,7 +137,7 @@ block_whole : (s : List ℕ) → length (block s) ≡ 385
 unfolding block
 block_whole s = length_laid s (replicate 385 0) ∙ length-replicate {A = ℕ} 385 0
 
-either : (fit : Bool) (blank made : Order) → length blank.bytes ≡ 385 → length made.bytes ≡ 385 → length (if not fit then blank else made).bytes ≡ 385
+either : (fit : Bool) (blank made : Order) → length blank.bytes ≡ 385 → length made.bytes ≡ 385 → length (when not fit then blank else made).bytes ≡ 385
 either true blank made a b = b
 either false blank made a b = a
 

@@ -1,15 +1,15 @@
 -- FIDO's messages and document 01's layouts: the same bytes.
-use Prim.Native.Nat.{ℕ, ◌+◌, ◌*◌, ◌/◌, ◌%◌, ◌≤◌, ◌<◌}
+use Prim.Native.Nat.{ℕ, ◌+◌, ◌/◌, ◌%◌, ◌≤◌, ◌<◌}
 use mathlib.Core.Bool.{Bool, true, false}
 use mathlib.Core.Path.{◌≡◌, refl, sym, ap, ◌∙◌}
 use mathlib.Core.List.{List, [], ◌∷◌, ◌++◌, append_assoc, append-nil}
 use native.Mathlib.Omega.{arith}
-use lib.ListN.{length, take, length-append}
+use lib.ListN.{length, length-append}
 use lib.Seq.{length-take-le}
 use Rattle.octets.specs.Bytes.{bytes4}
-use Rattle.signing_stated.specs.Fido.{Field, IsMessage, IsKey, IsCounter, presence_bit, registration_signed, registration_response, authentication_signed, authentication_response}
+use Rattle.signing_stated.specs.Fido.{IsMessage, IsKey, IsCounter, presence_bit, registration_signed, registration_response, authentication_signed, authentication_response}
 use Rattle.signing_stated.specs.Layouts.{RegisterFields, AuthenticateFields, public_key, register_to_sign, authenticate_to_sign, register_body, authenticate_body, presence_byte}
-use Rattle.signing_stated.specs.Orders.{Order, Kind, Register, Authenticate, to_sign, block, register_order_of, authenticate_order_of}
+use Rattle.signing_stated.specs.Orders.{Order, Register, Authenticate, to_sign, block, register_order_of, authenticate_order_of}
 use Rattle.signing_stated.specs.Terms.{RegisterLengths, AuthenticateLengths, signed_bytes, HoldsMessage}
 use Rattle.signing_stated.proofs.Cases.{four, five}
 use Rattle.signing_stated.proofs.Shapes.{from_zeros}
@@ -74,8 +74,8 @@ module _ (f : RegisterFields) where
   registered : register_to_sign f ≡ 0x00 ∷ [] ++ (f.application ++ (f.challenge ++ (f.handle ++ (public_key f.x f.y ++ []))))
   registered = five_then (0x00 ∷ []) f.application f.challenge f.handle (public_key f.x f.y)
 
-  pub registration_signed : RegisterLengths f → IsMessage (registration_signed f.application f.challenge f.handle (public_key f.x f.y)) (register_to_sign f)
-  registration_signed l =
+  pub registration_signed_lem : RegisterLengths f → IsMessage (registration_signed f.application f.challenge f.handle (public_key f.x f.y)) (register_to_sign f)
+  registration_signed_lem l =
       let key : length (public_key f.x f.y) ≡ 65 = key_long f.x f.y l.x l.y in
       record {
         are = registered;
@@ -100,9 +100,9 @@ module _ (f : RegisterFields) where
       m.of_kind long m.its (block_of o.bytes (to_sign o) m.whole m.within (from_zeros o.bytes (to_sign o) m.rest) ∙ ap block front)
       ∙ sym (register_order_fit f c l)
 
-  pub registration_response : (certificate signature : List ℕ) → RegisterLengths f → length signature ≤ 72
+  pub registration_response_lem : (certificate signature : List ℕ) → RegisterLengths f → length signature ≤ 72
       → IsMessage (registration_response (public_key f.x f.y) f.handle certificate signature) (register_body f certificate signature)
-  registration_response certificate signature l short =
+  registration_response_lem certificate signature l short =
       let key : length (public_key f.x f.y) ≡ 65 = key_long f.x f.y l.x l.y in
       record {
         are = six_then (0x05 ∷ []) (public_key f.x f.y) (length f.handle ∷ []) f.handle certificate signature;
@@ -121,8 +121,8 @@ module _ (f : AuthenticateFields) where
   signed : authenticate_to_sign f ≡ f.application ++ (f.presence ∷ [] ++ (f.counter ++ (f.challenge ++ [])))
   signed = four_then f.application (f.presence ∷ []) f.counter f.challenge
 
-  pub authentication_signed : AuthenticateLengths f → IsMessage (authentication_signed f.application f.presence f.counter f.challenge) (authenticate_to_sign f)
-  authentication_signed l =
+  pub authentication_signed_lem : AuthenticateLengths f → IsMessage (authentication_signed f.application f.presence f.counter f.challenge) (authenticate_to_sign f)
+  authentication_signed_lem l =
       record {
         are = signed;
         within = (
@@ -145,9 +145,9 @@ module _ (f : AuthenticateFields) where
       m.of_kind long m.its (block_of o.bytes (to_sign o) m.whole m.within (from_zeros o.bytes (to_sign o) m.rest) ∙ ap block front)
       ∙ sym (authenticate_order_fit f l)
 
-  pub authentication_response : (signature : List ℕ) → AuthenticateLengths f → length signature ≤ 72
+  pub authentication_response_lem : (signature : List ℕ) → AuthenticateLengths f → length signature ≤ 72
       → IsMessage (authentication_response f.presence f.counter signature) (authenticate_body f signature)
-  authentication_response signature l short =
+  authentication_response_lem signature l short =
       record {
         are = three_then (f.presence ∷ []) f.counter signature;
         within = (omega arith, omega arith, (omega (arith, l.counter), omega (arith, l.counter), (omega arith, short, omega arith)));

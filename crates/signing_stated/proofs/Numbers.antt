@@ -2,14 +2,14 @@
 use Prim.Native.Nat.{ℕ}
 use mathlib.Core.Path.{◌≡◌, refl, ap}
 use lib.Dec.{eqb}
-use Rattle.outcome.specs.Notation.{if◌then◌else◌}
+use Rattle.outcome.specs.Notation.{when◌then◌else◌}
 use Rattle.outcome.specs.Outcome.{Outcome, R, Word, Gives}
 use Rattle.outcome.proofs.Laws.{one_to_one, status_of, status_back, refusal_of, refusal_back}
 use Rattle.signing_stated.specs.Orders.{Kind, Register, Authenticate, kind_no}
 use Rattle.signing_stated.specs.Finishing.{Finished, Refused, Status, Body, finished_of}
 
 kind_from : ℕ → Kind
-kind_from n = if eqb n 0x01 then Register else Authenticate
+kind_from n = when eqb n 0x01 then Register else Authenticate
 
 kind_back : (k : Kind) → kind_from (kind_no k) ≡ k
 unfolding kind_from

@@ -17,7 +17,7 @@ use Rattle.signing_stated.specs.Finishing.{Finishing, Refused, Status, Body, End
 use Rattle.signing_stated.specs.Terms.{bytes_at, RegisterLengths, PartsLengths, IsWhole, IsBlank, NeedsRoom, register, authenticate, OfLayout}
 use Rattle.signing_stated.proofs.Fit.{register_fit, register_lengths}
 use Rattle.signing_stated.proofs.Shapes.{RegisterShape, AuthenticateShape, from_zeros, needs_room, of_no_layout}
-use Rattle.signing_stated.proofs.FieldsKept.{register_equal, authenticate_equal, order_equal, register_order_of, authenticate_order_of}
+use Rattle.signing_stated.proofs.FieldsKept.{register_equal, authenticate_equal, order_equal, register_order_of_lem, authenticate_order_of_lem}
 use Rattle.signing_stated.proofs.Spelled.{four_at}
 use Rattle.signing_stated.proofs.Ways.{ChecksPassed, Way, no_layout, no_certificate, no_room, no_signature, long_signature, passed, way}
 
@@ -62,7 +62,7 @@ register_is make p f c l =
     (ap (λ (k : ℕ). bytes_at 65 k b) h ∙ p.handle f c l)
     (ap (λ (k : ℕ). bytes_at k 32 b) x ∙ p.x f c l)
     (ap (λ (k : ℕ). bytes_at k 32 b) y ∙ p.y f c l) in
-    register_order_of n b (p.whole f c l) shape o (p.kind f c l) (p.counts f c l) refl
+    register_order_of_lem n b (p.whole f c l) shape o (p.kind f c l) (p.counts f c l) refl
     ∙ ap (λ (g : RegisterFields). register_order_of g (certificate_length o)) fields
     ∙ ap (register_order_of f) (p.certificate f c l)
 
@@ -89,7 +89,7 @@ authenticate_is make p a l =
     record { long = refl; presence = small a.present presence; rest = from_zeros b 69 (p.rest a l); no_certificate = refl } in
     let counter : bytes_at 33 4 b ≡ bytes4 a.counter =
     four_at b 33 (omega arith) ∙ rw (p.counter_1 a l, p.counter_2 a l, p.counter_3 a l, p.counter_4 a l) in
-    authenticate_order_of b long 69 0 shape (make a) (p.kind a l) (p.counts a l) (p.certificate a l) refl
+    authenticate_order_of_lem b long 69 0 shape (make a) (p.kind a l) (p.counts a l) (p.certificate a l) refl
     ∙ ap authenticate_order_of (authenticate_equal (authenticate_fields_of b) (fields_of a) (p.application a l) presence counter (p.challenge a l))
   where
     by_presence : (t : Bool) → a.present ≡ t → byte (make a).bytes 32 ≡ presence_byte a.present

@@ -1,5 +1,5 @@
 -- The claims are false of the wrong programs of specs/Wrong.antt, each at an input where it bites.
-use Prim.Native.Nat.{ℕ, ◌+◌, ◌≤◌}
+use Prim.Native.Nat.{ℕ, ◌≤◌}
 use mathlib.Core.Bool.{Bool, true, false, false≢true}
 use mathlib.Core.Path.{◌≡◌, refl, ap, ◌∙◌}
 use mathlib.Core.Logic.{◌⊎◌, inl}
@@ -18,7 +18,7 @@ use Rattle.signing_stated.specs.Orders.{Order, Register, Authenticate, Authentic
 use Rattle.signing_stated.specs.Finishing.{Finishing, Refused, Status, Ended, finish_of, end_of, room_needed}
 use Rattle.signing_stated.specs.Terms.{IsRegisterOrder, IsAuthenticateOrder, HoldsMessage, RegisterLengths, PartsLengths, RegisterShaped, AuthenticateShaped, NeedsRoom, register, authenticate, OfLayout}
 use Rattle.signing_stated.proofs.Shapes.{zeros_from, needs_room}
-use Rattle.signing_stated.proofs.Messages.{key_is, registration_signed, authentication_signed}
+use Rattle.signing_stated.proofs.Messages.{key_is, registration_signed_lem, authentication_signed_lem}
 use Rattle.signing_stated.proofs.Theorems.{LayoutExactly, BlankRefused}
 
 -- the number of an answer, to tell two apart
@@ -369,7 +369,7 @@ enrolled_held =
       its = refl;
       whole = refl;
       within = omega arith;
-      message = registration_signed enrolled fits;
+      message = registration_signed_lem enrolled fits;
       rest = zeros_from (register_order_of enrolled 0).bytes 130 refl;
     }
 
@@ -381,7 +381,7 @@ logged_held =
       its = refl;
       whole = refl;
       within = omega arith;
-      message = authentication_signed logged (record { application = refl; presence = omega arith; counter = refl; challenge = refl });
+      message = authentication_signed_lem logged (record { application = refl; presence = omega arith; counter = refl; challenge = refl });
       rest = zeros_from (authenticate_order_of logged).bytes 69 refl;
     }
 

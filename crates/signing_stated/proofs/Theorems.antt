@@ -1,5 +1,5 @@
 -- The definitions meet the claims of specs/Claims.antt, each under the claim's own name.
-use Prim.Native.Nat.{ℕ, ◌+◌, ◌-◌, ◌<◌, ◌≤◌}
+use Prim.Native.Nat.{ℕ, ◌+◌, ◌<◌, ◌≤◌}
 use mathlib.Core.Bool.{Bool, true, false}
 use mathlib.Core.Path.{◌≡◌, refl, sym, ap, subst, ◌∙◌}
 use mathlib.Core.Logic.{◌⊎◌, inl, inr}
@@ -15,15 +15,15 @@ use Rattle.octets.proofs.Laws.{laid_fits, length_laid}
 use Rattle.octets.proofs.Laws.{length_part}
 use Rattle.signing_stated.specs.Claims
 use Rattle.signing_stated.specs.Layouts.{RegisterFields, AuthenticateFields, register_to_sign, authenticate_to_sign, register_body, authenticate_body, public_key, presence_byte, is_register_fit, is_authenticate_fit}
-use Rattle.signing_stated.specs.Fido.{IsMessage, IsKey, IsCounter, presence_bit, registration_signed, registration_response, authentication_signed, authentication_response}
+use Rattle.signing_stated.specs.Fido.{IsMessage, IsKey, IsCounter, presence_bit, registration_signed, registration_response, authentication_signed}
 use Rattle.signing_stated.specs.Orders.{Head, Order, head_of, order_with, Kind, Register, Authenticate, AuthenticateParts, fields_for, kind_no, to_sign, certificate_length, blank_order, register_order_of, authenticate_order_of, authenticate_order_for, block, is_of_layout, register_fields_of, authenticate_fields_of}
 use Rattle.signing_stated.specs.Finishing.{register_room, authenticate_room, Finishing, Ended, finish_of, finished_of, end_of, length_of, reply_of, room_needed, body_of}
 use Rattle.signing_stated.specs.Terms.{bytes_at, RegisterLengths, AuthenticateLengths, PartsLengths, IsWhole, IsRegisterOrder, IsAuthenticateOrder, HoldsJust, signed_bytes, HoldsMessage, RegisterShaped, AuthenticateShaped, register, authenticate}
 use Rattle.signing_stated.proofs.Fit.{lengths_of, register_fit, authenticate_fit, register_lengths, authenticate_lengths, register_order_fit, authenticate_order_fit}
 use Rattle.signing_stated.proofs.Shapes.{register_shaped, authenticate_shaped, zeros_from, needed, not_of_layout, of_no_layout}
-use Rattle.signing_stated.proofs.FieldsKept.{block_front, register_to_sign_length, authenticate_to_sign_length, register_made_shape, authenticate_made_shape, register_fields_lengths, authenticate_fields_lengths, register_order_of, authenticate_order_of, found, found_in, one_byte}
+use Rattle.signing_stated.proofs.FieldsKept.{block_front, register_to_sign_length, authenticate_to_sign_length, register_made_shape, authenticate_made_shape, register_fields_lengths, authenticate_fields_lengths, register_order_of_lem, authenticate_order_of_lem, found, found_in, one_byte}
 use Rattle.signing_stated.proofs.Ways.{comes_to_r7, comes_to_r4, comes_to_r2, comes_to_6f00, comes_to_r3, comes_to_body, way, told_r3, told_body, body_within}
-use Rattle.signing_stated.proofs.Messages.{key_is, is_key, counter_is, presence_same, bit_small, registration_signed, registered_order, registration_response, authentication_signed, signed_order, authentication_response}
+use Rattle.signing_stated.proofs.Messages.{key_is, is_key, counter_is, presence_same, bit_small, registration_signed_lem, registered_order, registration_response_lem, authentication_signed_lem, signed_order, authentication_response_lem}
 use Rattle.signing_stated.proofs.Numbers.{kind_one_to_one, finished_one_to_one}
 use Rattle.signing_stated.proofs.Told.{orders_apart, enrolments_told, logins_told, front_of_login, front_of_enrolment}
 use Rattle.signing_stated.proofs.Spelled.{four_at, register_spelled, authenticate_spelled}
@@ -200,14 +200,14 @@ LayoutExactly o whole = (is_made o.kind refl, is_judged)
           register_fields_of (to_sign o) o.bytes,
           certificate_length o,
           register_fit _ (register_fields_lengths (to_sign o) o.bytes whole s),
-          register_order_of (to_sign o) o.bytes whole s o k refl refl,
+          register_order_of_lem (to_sign o) o.bytes whole s o k refl refl,
         )
     is_made Authenticate k ok =
         let s = authenticate_shaped o k ok in
         inr (
           authenticate_fields_of o.bytes,
           authenticate_fit _ (authenticate_fields_lengths o.bytes whole (to_sign o) (certificate_length o) s),
-          authenticate_order_of o.bytes whole (to_sign o) (certificate_length o) s o k refl refl refl,
+          authenticate_order_of_lem o.bytes whole (to_sign o) (certificate_length o) s o k refl refl refl,
         )
 
     is_judged : IsRegisterOrder o ⊎ IsAuthenticateOrder o → is_of_layout o ≡ true
@@ -266,11 +266,11 @@ FinishesExactly =
           λ i room a its fits done long.
           let q = needed i.order room a in
           ended i (R 3) (comes_to_r3 i q.0 its (omega (arith, q.1)) done long);
-      register_body = register_body;
-      authenticate_body = authenticate_body;
+      register_body = register_body_lem;
+      authenticate_body = authenticate_body_lem;
     }
   where
-    register_body : (i : Finishing) (h : ℕ) → IsWhole i.order → RegisterShaped h i.order
+    register_body_lem : (i : Finishing) (h : ℕ) → IsWhole i.order → RegisterShaped h i.order
         → length i.certificate ≡ certificate_length i.order
         → 139 + h + length i.certificate ≤ length i.reply → i.signed ≡ true → length i.signature ≤ 72
         → end_of i
@@ -285,7 +285,7 @@ FinishesExactly =
               ++ i.signature
               ++ drop (67 + h + length i.certificate + length i.signature) i.reply;
         }
-    register_body i h whole s its room done short =
+    register_body_lem i h whole s its room done short =
         let q = needed i.order _ (register h s) in
         let fits : room_needed i.order ≤ length i.reply = omega (arith, q.1, its) in
         let b : List ℕ = i.order.bytes in
@@ -299,14 +299,14 @@ FinishesExactly =
         ended i (Gives body) (comes_to_body i q.0 its fits done short ∙ ap Gives its_body)
         ∙ laid_out body _ i.reply _ spelled long (omega arith)
 
-    authenticate_body : (i : Finishing) → IsWhole i.order → AuthenticateShaped i.order → length i.certificate ≡ 0
+    authenticate_body_lem : (i : Finishing) → IsWhole i.order → AuthenticateShaped i.order → length i.certificate ≡ 0
         → 77 ≤ length i.reply → i.signed ≡ true → length i.signature ≤ 72
         → end_of i
         ≡ record {
           answer = Gives (5 + length i.signature);
           reply = bytes_at 32 5 i.order.bytes ++ i.signature ++ drop (5 + length i.signature) i.reply;
         }
-    authenticate_body i whole s none room done short =
+    authenticate_body_lem i whole s none room done short =
         let q = needed i.order 77 (authenticate s) in
         let fits : room_needed i.order ≤ length i.reply = omega (arith, q.1) in
         let its : length i.certificate ≡ certificate_length i.order = none ∙ sym s.no_certificate in
@@ -393,7 +393,7 @@ SignsFido = record { registration = registration; authentication = authenticatio
       public_key f.x f.y,
       key_is f.x f.y l.x l.y,
       subst (IsMessage _)
-          (sym (ap signed_bytes (register_order_fit f c l) ∙ block_front (register_to_sign f) _ (register_to_sign_length f l) (omega (arith, l.handle)))) (registration_signed f l),
+          (sym (ap signed_bytes (register_order_fit f c l) ∙ block_front (register_to_sign f) _ (register_to_sign_length f l) (omega (arith, l.handle)))) (registration_signed_lem f l),
     )
 
     authentication : (p : AuthenticateParts) → PartsLengths p → p.counter < 0x100000000
@@ -403,7 +403,7 @@ SignsFido = record { registration = registration; authentication = authenticatio
         let f = fields_for p in
         let ok = lengths_of p l in
         let m : IsMessage (authentication_signed p.application (presence_byte p.present) (bytes4 p.counter) p.challenge) (signed_bytes (authenticate_order_of f)) =
-        subst (IsMessage _) (sym (ap signed_bytes (authenticate_order_fit f ok) ∙ block_front (authenticate_to_sign f) _ (authenticate_to_sign_length f ok) (omega arith))) (authentication_signed f ok) in (
+        subst (IsMessage _) (sym (ap signed_bytes (authenticate_order_fit f ok) ∙ block_front (authenticate_to_sign f) _ (authenticate_to_sign_length f ok) (omega arith))) (authentication_signed_lem f ok) in (
           bytes4 p.counter,
           counter_is p.counter small,
           subst (λ (n : ℕ). IsMessage (authentication_signed p.application n (bytes4 p.counter) p.challenge) (signed_bytes (authenticate_order_of f))) (presence_same p.present) m,
@@ -427,7 +427,7 @@ RegisterRoundTrip i application challenge handle x y key k m room done short =
       register_body f i.certificate i.signature,
       register_back i f (register_fit f l) (registered_order f i.order (length i.certificate) l held) room done short,
       subst (λ (s : List ℕ). IsMessage (registration_response s handle i.certificate i.signature) (register_body f i.certificate i.signature)) (sym same)
-          (registration_response f i.certificate i.signature l short),
+          (registration_response_lem f i.certificate i.signature l short),
     )
 
 pub AuthenticateRoundTrip : Claims.AuthenticateRoundTrip finish_of
@@ -443,7 +443,7 @@ AuthenticateRoundTrip i application present counter challenge m none room done s
     } in (
       authenticate_body f i.signature,
       authenticate_back i f (authenticate_fit f l) (signed_order f i.order l m) none room done short,
-      authentication_response f i.signature l short,
+      authentication_response_lem f i.signature l short,
     )
 
 -- ---- the contracts: a function that gives what a definition gives, input by input, is that definition

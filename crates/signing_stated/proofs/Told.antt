@@ -9,7 +9,7 @@ use lib.ListN.{length, take, length-append, get_or-append}
 use lib.Seq.{take_at, get_or_at, get_or-take}
 use Rattle.octets.specs.Bytes.{byte, bytes4}
 use Rattle.signing_stated.specs.Layouts.{RegisterFields, AuthenticateFields, register_to_sign, authenticate_to_sign, public_key, presence_byte}
-use Rattle.signing_stated.specs.Orders.{Order, AuthenticateParts, fields_for, block, register_fields_of, authenticate_fields_of, register_order_of, authenticate_order_of, authenticate_order_for}
+use Rattle.signing_stated.specs.Orders.{AuthenticateParts, fields_for, block, register_fields_of, authenticate_fields_of, register_order_of, authenticate_order_of, authenticate_order_for}
 use Rattle.signing_stated.specs.Terms.{RegisterLengths, AuthenticateLengths, PartsLengths, signed_bytes, longer}
 use Rattle.signing_stated.proofs.Cases.{four}
 use Rattle.signing_stated.proofs.Fit.{lengths_of, register_order_fit, authenticate_order_fit}

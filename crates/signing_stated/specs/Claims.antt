@@ -1,9 +1,9 @@
 -- What is promised of orders and finishing, of any function: proofs/Theorems.antt has that the definitions meet it,
 -- proofs/Only.antt that no others meet the claims that end in 'Exactly' or begin with 'Makes', proofs/Refuted.antt that the
 -- wrong programs of specs/Wrong.antt do not. `FinishesExactly` stands in Replies.antt with its terms.
-use Rattle.std.specs.Prelude.{ℕ, ◌+◌, ◌/◌, ◌%◌, ◌<◌, ◌≤◌, Bool, true, false, ◌≡◌, ◌↔◌, ◌⊎◌, List, [], ◌∷◌, ◌++◌, length, take, drop, replicate}
+use Rattle.std.specs.Prelude.{ℕ, ◌+◌, ◌/◌, ◌%◌, ◌<◌, ◌≤◌, Bool, true, false, ◌≡◌, ◌↔◌, ◌⊎◌, List, length, take, replicate}
 use Rattle.outcome.specs.Notation.{AtMostOne}
-use Rattle.outcome.specs.Outcome.{Outcome, R, Word, SW, Gives, word_of, refusal_no}
+use Rattle.outcome.specs.Outcome.{Outcome, R, Word, Gives, word_of, refusal_no}
 use Rattle.outcome.specs.declared.Refusal.{Refusal}
 use Rattle.outcome.specs.declared.ApduStatusCode.{ApduStatusCode}
 use Rattle.octets.specs.Bytes.{byte}
@@ -12,7 +12,7 @@ use Rattle.signing_stated.specs.Fido.{IsMessage, IsKey, presence_bit, registrati
 use Rattle.signing_stated.specs.Orders.{Kind, Register, Authenticate, Head, Order, head_of, order_with, AuthenticateParts, to_sign, certificate_length, register_order_of, authenticate_order_of}
 use Rattle.signing_stated.specs.Finishing.{Finishing, Finished, Refused, Status, Body, finished_of, Ended}
 use Rattle.signing_stated.specs.Promises.{KindNumber, Blank, RegisterOrder, AuthenticateOrder, HasLayout, HasRegisterRoom, HasAuthenticateRoom, Finish}
-use Rattle.signing_stated.specs.Terms.{bytes_at, RegisterLengths, AuthenticateLengths, PartsLengths, IsWhole, IsBlank, IsRegisterOrder, IsAuthenticateOrder, HoldsJust, signed_bytes, longer, IsEnrolment, IsLogin, HoldsMessage, RegisterShaped, AuthenticateShaped, NeedsRoom, OfLayout, keeping}
+use Rattle.signing_stated.specs.Terms.{bytes_at, RegisterLengths, AuthenticateLengths, PartsLengths, IsWhole, IsBlank, IsRegisterOrder, IsAuthenticateOrder, HoldsJust, signed_bytes, longer, IsEnrolment, IsLogin, HoldsMessage, NeedsRoom, OfLayout, keeping}
 pub use Rattle.signing_stated.specs.Replies.{FinishesExactly}
 
 -- ---- numbers and results

@@ -1,7 +1,7 @@
 -- Document 01, 'The decision', from "Finishing takes order, certificate, signer's answer and reply buffer", and
 -- 'Refusal numbers': "A 9000 body fills the front of the buffer; the rest stays".
 use Rattle.std.specs.Prelude.{ℕ, ◌+◌, ◌-◌, ◌≤◌, not, ◌≡◌, List, eqb, ltb, length}
-use Rattle.outcome.specs.Notation.{if◌then◌else◌}
+use Rattle.outcome.specs.Notation.{when◌then◌else◌}
 use Rattle.outcome.specs.Outcome.{Outcome, R, Word, SW, Gives, word_of, refusal_no}
 use Rattle.octets.specs.Bytes.{laid}
 use Rattle.signing_stated.specs.Orders.{Kind, Register, Authenticate, Head, Order, head_of, to_sign, certificate_length, is_of_layout, register_fields_of, authenticate_fields_of}
@@ -37,11 +37,11 @@ body_of Authenticate o certificate signature = authenticate_body (authenticate_f
 unfoldable pub finish_of : Finishing → Outcome (List ℕ)
 finish_of i =
     let o = i.order in
-    if not (is_of_layout o) then R 7
-    else if not (eqb (length i.certificate) (certificate_length o)) then R 4
-    else if ltb (length i.reply) (room_needed o) then R 2
-    else if not i.signed then SW 0x6f00
-    else if ltb 72 (length i.signature) then R 3
+    when not (is_of_layout o) then R 7
+    else when not (eqb (length i.certificate) (certificate_length o)) then R 4
+    else when ltb (length i.reply) (room_needed o) then R 2
+    else when not i.signed then SW 0x6f00
+    else when ltb 72 (length i.signature) then R 3
     else Gives (body_of o.kind o i.certificate i.signature)
 
 -- an R refusal, a status word, or 9000 with a body of n bytes

@@ -1,7 +1,7 @@
 -- Document 01, 'The decision', from "A signing order holds its kind": what is signed and what is sent, as FIDO U2F Raw
 -- Message Formats 1.2 lays them out: byte strings, field after field, each field by its name.
 use Rattle.std.specs.Prelude.{ℕ, Bool, ◌&&◌, List, [], ◌∷◌, ◌++◌, eqb, leb, length}
-use Rattle.outcome.specs.Notation.{if◌then◌else◌}
+use Rattle.outcome.specs.Notation.{when◌then◌else◌}
 
 -- what goes into a Register order
 pub record RegisterFields : Type 0 where
@@ -58,7 +58,7 @@ authenticate_body f signature =
 
 -- 01: "presence byte (01 for P1 03, 00 for 08)"
 abbrev pub presence_byte : Bool → ℕ
-presence_byte present = if present then 0x01 else 0x00
+presence_byte present = when present then 0x01 else 0x00
 
 -- the lengths that the two layouts have room for; FIDO: key handle 0 to 255
 abbrev pub is_register_fit : RegisterFields → Bool

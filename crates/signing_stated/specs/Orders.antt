@@ -2,7 +2,7 @@
 -- Authenticate), and the bytes to sign in a block of 385 bytes, zero after their end". Covered: the order that given
 -- fields make; the layout tests behind R7 ('Refusal numbers'); and the fields that an order of its layout holds.
 use Rattle.std.specs.Prelude.{ℕ, ◌+◌, ◌-◌, Bool, not, ◌&&◌, List, [], eqb, leb, length, take, drop, replicate}
-use Rattle.outcome.specs.Notation.{if◌then◌else◌}
+use Rattle.outcome.specs.Notation.{when◌then◌else◌}
 use Rattle.octets.specs.Bytes.{byte, laid, all_zero, bytes4}
 pub use Rattle.signing_stated.specs.Words.{Kind, Register, Authenticate, Head, Order, head_of, order_with}
 pub use Rattle.signing_stated.specs.Replies.{to_sign, certificate_length}
@@ -24,7 +24,7 @@ blank_order = record { kind = Register; to_sign = 0; certificate_length = 0; byt
 -- 01: "Register, 130 + h". Ours: DECISIONS, blank order: fields that the layout has no room for make no order
 unfoldable pub register_order_of : RegisterFields → ℕ → Order
 register_order_of f certificate =
-    if not (is_register_fit f) then blank_order
+    when not (is_register_fit f) then blank_order
     else record {
       kind = Register;
       to_sign = 130 + length f.handle;
@@ -35,7 +35,7 @@ register_order_of f certificate =
 -- 01: "Authenticate, 69", "the certificate length (0 for Authenticate)"
 unfoldable pub authenticate_order_of : AuthenticateFields → Order
 authenticate_order_of f =
-    if not (is_authenticate_fit f) then blank_order
+    when not (is_authenticate_fit f) then blank_order
     else record {
       kind = Authenticate;
       to_sign = 69;

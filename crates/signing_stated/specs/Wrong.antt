@@ -1,7 +1,7 @@
 -- Wrong programs, one fault each, said as what they do otherwise than the definition. proofs/Refuted.antt has that each fails
 -- its claim.
 use Rattle.std.specs.Prelude.{ℕ, ◌+◌, ◌-◌, ◌/◌, ◌%◌, Bool, true, not, ◌&&◌, List, [], ◌∷◌, ◌++◌, eqb, leb, ltb, length, take, drop, replicate}
-use Rattle.outcome.specs.Notation.{if◌then◌else◌}
+use Rattle.outcome.specs.Notation.{when◌then◌else◌}
 use Rattle.outcome.specs.Outcome.{Outcome, R, Word, SW, Gives, word_of, refusal_no}
 use Rattle.outcome.specs.declared.Refusal.TheVariants.{R1, R2, R3, R4, R5, R6, R7, R8}
 use Rattle.octets.specs.Bytes.{byte, laid, bytes4}
@@ -76,7 +76,7 @@ block_of384 f c =
 -- "6f00 if .. h > 255": a handle whose length takes more than one byte
 abbrev pub handle_of256 : RegisterFields → ℕ → Order
 handle_of256 f c =
-    if eqb (length f.handle) 256
+    when eqb (length f.handle) 256
     then record { kind = Register; to_sign = 386; certificate_length = c; bytes = block (register_to_sign f) }
     else register_order_of f c
 
@@ -197,27 +197,27 @@ is_ready i =
 
 -- "Checks: R7, R4, R2 (..), signer failed 6f00, R3": R4 before R7. Fails `FinishesExactly`.
 abbrev pub certificate_before_layout : Finishing → Ended
-certificate_before_layout i = if not (eqb (length i.certificate) (certificate_length i.order)) then keeping (R 4) i else end_of i
+certificate_before_layout i = when not (eqb (length i.certificate) (certificate_length i.order)) then keeping (R 4) i else end_of i
 
 -- R2 before R4. Fails `FinishesExactly`.
 abbrev pub room_before_certificate : Finishing → Ended
 room_before_certificate i =
-    if is_of_layout i.order && ltb (length i.reply) (room_needed i.order) then keeping (R 2) i else end_of i
+    when is_of_layout i.order && ltb (length i.reply) (room_needed i.order) then keeping (R 2) i else end_of i
 
 -- 6f00 before R2. Fails `FinishesExactly`.
 abbrev pub signer_before_room : Finishing → Ended
 signer_before_room i =
-    if is_of_layout i.order && eqb (length i.certificate) (certificate_length i.order) && not i.signed then keeping (SW 0x6f00) i
+    when is_of_layout i.order && eqb (length i.certificate) (certificate_length i.order) && not i.signed then keeping (SW 0x6f00) i
     else end_of i
 
 -- R3 before 6f00. Fails `FinishesExactly`.
 abbrev pub signature_before_signer : Finishing → Ended
-signature_before_signer i = if is_ready i && ltb 72 (length i.signature) then keeping (R 3) i else end_of i
+signature_before_signer i = when is_ready i && ltb 72 (length i.signature) then keeping (R 3) i else end_of i
 
 -- R4, "certificate length is not the order's": asked of the signature's length. Fails `FinishesExactly`.
 abbrev pub certificate_not_compared : Finishing → Ended
 certificate_not_compared i =
-    if is_of_layout i.order && not (eqb (length i.signature) (certificate_length i.order)) then keeping (R 4) i else end_of i
+    when is_of_layout i.order && not (eqb (length i.signature) (certificate_length i.order)) then keeping (R 4) i else end_of i
 
 -- R7, "zero tail": not looked at. Fails `FinishesExactly`.
 abbrev pub tail_not_looked_at : Finishing → Ended
@@ -234,28 +234,28 @@ tail_not_looked_at i =
 -- R7, "04 marker": the byte after it looked at. Fails `FinishesExactly`.
 abbrev pub marker_of_another_byte : Finishing → Ended
 marker_of_another_byte i =
-    if eqb (kind_no i.order.kind) 0x01 && not (eqb (byte i.order.bytes (to_sign i.order - 64)) 0x04) then keeping (R 7) i
+    when eqb (kind_no i.order.kind) 0x01 && not (eqb (byte i.order.bytes (to_sign i.order - 64)) 0x04) then keeping (R 7) i
     else end_of i
 
 -- R7, "first byte": asked of an Authenticate order too. Fails `FinishesExactly`.
 abbrev pub first_byte_of_both : Finishing → Ended
-first_byte_of_both i = if eqb (byte i.order.bytes 0) 0x00 then end_of i else keeping (R 7) i
+first_byte_of_both i = when eqb (byte i.order.bytes 0) 0x00 then end_of i else keeping (R 7) i
 
 -- "R2 (139 + h + c, or 77)": one byte more is wanted, of either kind. Fails `FinishesExactly`.
 abbrev pub wants_room140 : Finishing → Ended
 wants_room140 i =
-    if is_of_layout i.order && eqb (length i.certificate) (certificate_length i.order) && leb (length i.reply) (room_needed i.order) then keeping (R 2) i
+    when is_of_layout i.order && eqb (length i.certificate) (certificate_length i.order) && leb (length i.reply) (room_needed i.order) then keeping (R 2) i
     else end_of i
 
 -- R3, "signature longer than 72": at 72 already. Fails `FinishesExactly`.
 abbrev pub refuses72 : Finishing → Ended
-refuses72 i = if is_ready i && i.signed && eqb (length i.signature) 72 then keeping (R 3) i else end_of i
+refuses72 i = when is_ready i && i.signed && eqb (length i.signature) 72 then keeping (R 3) i else end_of i
 
 -- R3: not at 73. Fails `FinishesExactly`.
 abbrev pub takes73 : Finishing → Ended
 takes73 i =
     let body = body_of i.order.kind i.order i.certificate i.signature in
-    if is_ready i && i.signed && eqb (length i.signature) 73 then record { answer = Gives (length body); reply = laid body i.reply }
+    when is_ready i && i.signed && eqb (length i.signature) 73 then record { answer = Gives (length body); reply = laid body i.reply }
     else end_of i
 
 -- "A body never exceeds the room asked for": the same
@@ -294,16 +294,16 @@ clears_reply i = record { answer = (end_of i).answer; reply = on_body (end_of i)
 abbrev pub sends_challenge : Finishing → Outcome (List ℕ)
 sends_challenge i =
     let f = register_fields_of (to_sign i.order) i.order.bytes in
-    if is_ready i && i.signed && eqb (kind_no i.order.kind) 0x01
+    when is_ready i && i.signed && eqb (kind_no i.order.kind) 0x01
     then Gives (register_body (record { application = f.application; challenge = f.challenge; handle = f.challenge; x = f.x; y = f.y }) i.certificate i.signature)
     else finish_of i
 
 -- "Authenticate presence byte, counter, signature": the counter left out
 abbrev pub leaves_counter_out : Finishing → Outcome (List ℕ)
 leaves_counter_out i =
-    if is_ready i && i.signed && eqb (kind_no i.order.kind) 0x02 then Gives (byte i.order.bytes 32 ∷ [] ++ i.signature)
+    when is_ready i && i.signed && eqb (kind_no i.order.kind) 0x02 then Gives (byte i.order.bytes 32 ∷ [] ++ i.signature)
     else finish_of i
 
 -- "R2 found after the touch is spent or the counter taken": one byte more is wanted
 abbrev pub asks_again : Finishing → Outcome (List ℕ)
-asks_again i = if is_ready i && leb (length i.reply) (room_needed i.order) then R 2 else finish_of i
+asks_again i = when is_ready i && leb (length i.reply) (room_needed i.order) then R 2 else finish_of i

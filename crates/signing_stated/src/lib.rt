@@ -1,8 +1,10 @@
 // Signing orders and finishing: what goes in and out. No function: signing has them.
+#![tactic(auto)]
+
 use outcome::{ApduStatusCode, Refusal};
 
 // The command that an order answers.
-#[derive(Drop)]
+#[derive(Clone, Copy)]
 pub enum Kind {
     Register,
     Authenticate,
@@ -10,7 +12,7 @@ pub enum Kind {
 
 // An order beside its block, which stands in the caller's memory: its kind, the number of bytes to sign, and the certificate
 // length. In specs/ an order holds its block.
-#[derive(Drop)]
+#[derive(Clone, Copy)]
 pub struct Head {
     pub kind: Kind,
     pub to_sign: usize,
@@ -18,7 +20,7 @@ pub struct Head {
 }
 
 // What finishing comes to: a body of so many bytes at the front of the reply buffer, or why there is none.
-#[derive(Drop)]
+#[derive(Clone, Copy)]
 pub enum Finished {
     Refused(Refusal),
     Status(ApduStatusCode),

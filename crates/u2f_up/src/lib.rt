@@ -3,6 +3,8 @@
 // writing (the last three functions).
 // A direct check, like a decision, names the side that it comes from, 0 or 1; touch and ask name none. Any values may stand in a
 // record: no sum of moments is ever made, so none can wrap.
+#![tactic(auto)]
+
 ghost use Rattle.std.specs.Prelude.{◌≡◌};
 ghost use Rattle.outcome.specs.Outcome.{Gives, refusal_no};
 ghost use Rattle.u2f_up_stated.specs.Moments.{is_live, is_r6, is_r8, is_r1, granted_of, gave, refused};

@@ -8,7 +8,7 @@ use mathlib.Core.Option.{some}
 use native.Mathlib.Omega.{arith}
 use lib.Dec.{eqb}
 use lib.ListN.{length, length-append}
-use Rattle.outcome.specs.Notation.{if◌then◌else◌}
+use Rattle.outcome.specs.Notation.{when◌then◌else◌}
 use Rattle.outcome.specs.Outcome.{Outcome, R, Gives}
 use Rattle.u2f_up_stated.specs.Words.{Presence, Opened}
 use Rattle.u2f_up_stated.specs.Moments.{Told, is_live, is_r6, is_bad_side, is_r1, moved_to, granted_of, checked_of}
@@ -62,7 +62,7 @@ module _ (w : ℕ) (h : List Event) (t : ℕ) (within : is_r6 w ≡ false) (i : 
   any_found : (s : ℕ) → last_moment h ≤ t → is_live (held_of h) w t && eqb (asker_of w h) s ≡ is_any (held_for w h s t)
   any_found s late = rw (live_held w h t i late, found_held w h s t i late) (go (is_any (held_at w h t)) refl (eqb (asker_of w h) s))
     where
-      go : (b : Bool) → is_any (held_at w h t) ≡ b → (c : Bool) → b && c ≡ is_any (if c then held_at w h t else [])
+      go : (b : Bool) → is_any (held_at w h t) ≡ b → (c : Bool) → b && c ≡ is_any (when c then held_at w h t else [])
       go true e true = sym e
       go true e false = refl
       go false e true = sym e
@@ -70,9 +70,9 @@ module _ (w : ℕ) (h : List Event) (t : ℕ) (within : is_r6 w ≡ false) (i : 
 
   gives_foretold : last_moment h ≤ t → (k : Role) → came_of k (gives k) ≡ unrefused w h k t
   unfolding is_prompt_standing
-  gives_foretold late Touching = ap (λ (b : Bool). if b then TouchAccepted else TouchIgnored) (g.agrees t)
-  gives_foretold late (Checking s) = ap (λ (b : Bool). if b then TouchFound else NoTouchFound) (any_found s late)
-  gives_foretold late Asking = ap (λ (b : Bool). if b then PromptStands else NoPromptStands) (g.agrees t)
+  gives_foretold late Touching = ap (λ (b : Bool). when b then TouchAccepted else TouchIgnored) (g.agrees t)
+  gives_foretold late (Checking s) = ap (λ (b : Bool). when b then TouchFound else NoTouchFound) (any_found s late)
+  gives_foretold late Asking = ap (λ (b : Bool). when b then PromptStands else NoPromptStands) (g.agrees t)
   gives_foretold late (Settling s) = refl
   gives_foretold late (TooShort s) = refl
 
@@ -81,7 +81,7 @@ module _ (w : ℕ) (h : List Event) (t : ℕ) (within : is_r6 w ≡ false) (i : 
   outcome_foretold k = go (is_bad_side (side_of k)) refl (is_r1 (last_moment h) t) refl
     where
       go : (c : Bool) → is_bad_side (side_of k) ≡ c → (b : Bool) → is_r1 (last_moment h) t ≡ b
-          → came_of k (done_by k p t).outcome ≡ (if c then RefusedBy 8 else if b then RefusedBy 1 else unrefused w h k t)
+          → came_of k (done_by k p t).outcome ≡ (when c then RefusedBy 8 else when b then RefusedBy 1 else unrefused w h k t)
       go true n b e = ap (λ (s : Told). came_of k s.outcome) (done_refused p t 8 k (settles_as_r8 w h t within i.real k n))
       go false n true e = ap (λ (s : Told). came_of k s.outcome) (done_refused p t 1 k (settles_r1 w h t within i.real (settled_as p k) (real_as w h t within i.real k n) e))
       go false n false e = ap (came_of k) (outcome_given e k n) ∙ gives_foretold (not_before (last_moment h) t e) k
@@ -99,25 +99,25 @@ module _ (w : ℕ) (h : List Event) (e : Event) (k : Mark) (t : ℕ) where
 
   module _ (i : Inv w h) (late : last_moment (e ∷ h) ≤ t) (l : held_at w (e ∷ h) t ≡ k ∷ []) (n : k.number < length h) where
     accepted_now : (x : Sorted w h e true true false false) → last_moment h ≤ e.call.moment → is_live (prompt_of w h) 10000 e.call.moment ≡ true → Before
-    accepted_now x b is_live = absurd (go (is_young w t (touch_mark w e h)) (sym (ap (those (is_young w t)) (unspent_next h w x)) ∙ l))
+    accepted_now x b is_live_lem = absurd (go (is_young w t (touch_mark w e h)) (sym (ap (those (is_young w t)) (unspent_next h w x)) ∙ l))
       where
         old : those (is_young w t) (unspent w h) ≡ []
-        old = stay_old w (last_moment h) t (omega (arith, last_next h w x)) (unspent w h) (prompt_old w (last_moment h) e.call.moment (unspent w h) (prompt_of w h) is_live i.prompting)
+        old = stay_old w (last_moment h) t (omega (arith, last_next h w x)) (unspent w h) (prompt_old w (last_moment h) e.call.moment (unspent w h) (prompt_of w h) is_live_lem i.prompting)
 
-        go : (y : Bool) → (if y then touch_mark w e h ∷ those (is_young w t) (unspent w h) else those (is_young w t) (unspent w h)) ≡ k ∷ [] → ⊥
+        go : (y : Bool) → (when y then touch_mark w e h ∷ those (is_young w t) (unspent w h) else those (is_young w t) (unspent w h)) ≡ k ∷ [] → ⊥
         go true q = let z : length h ≡ k.number = cc in omega arith
         go false q = let z : ◌≡◌ {A = ℕ} 0 1 = cc old in omega arith
 
     spent_now : (x : Sorted w h e true false true false) → last_moment h ≤ e.call.moment → is_live (held_of h) w e.call.moment ≡ true → asker_of w h ≡ side_of e.call.role → Before
-    spent_now x b is_live own =
-        let gone = rw own at (left_old w (asker_of w h) e.call.moment (unspent w h) (held_of h) is_live (held_now w h e.call.moment b i)) in
+    spent_now x b is_live_lem own =
+        let gone = rw own at (left_old w (asker_of w h) e.call.moment (unspent w h) (held_of h) is_live_lem (held_now w h e.call.moment b i)) in
         absurd (not_empty (rw (unspent_next h w x) (stay_old w e.call.moment t (omega (arith, last_next h w x)) (those (λ k. not (is_found w (side_of e.call.role) e.call.moment k)) (unspent w h)) gone)) l)
 
     back : Effect w h e → Before
     back (still x) = passes x (omega (arith, last_next h w x)) l
     back (moved x b) = passes x (omega (arith, last_next h w x)) l
-    back (touched x b is_live) = accepted_now x b is_live
-    back (spent x b is_live own) = spent_now x b is_live own
+    back (touched x b is_live_lem) = accepted_now x b is_live_lem
+    back (spent x b is_live_lem own) = spent_now x b is_live_lem own
     back (prompted x b not_live known) = passes x (omega (arith, last_next h w x)) l
 
 -- runs
@@ -180,7 +180,7 @@ module _ {D : Type 0} (𝒞 : Caller D) (keeping : Keeps 𝒞) (w : ℕ) (within
   pub one_found_at : (ds : List D) (s t : ℕ) → last_moment (past ds) ≤ t → length (held_for w (past ds) s t) ≤ 1
   one_found_at ds s t late = rw (found_held w (past ds) s t (invariant ds) late) (go (eqb (asker_of w (past ds)) s) (one_held_at ds t late))
     where
-      go : (b : Bool) → length (held_at w (past ds) t) ≤ 1 → length (if b then held_at w (past ds) t else []) ≤ 1
+      go : (b : Bool) → length (held_at w (past ds) t) ≤ 1 → length (when b then held_at w (past ds) t else []) ≤ 1
       go true m = m
       go false m = omega arith
 

@@ -9,7 +9,7 @@ use native.Mathlib.Omega.{arith}
 use lib.Dec.{ltb, leb}
 use lib.ListN.{length}
 use borrow.Author.Tests.{ltb-true, leb-true, lt-ltb}
-use Rattle.outcome.specs.Notation.{if◌then◌else◌}
+use Rattle.outcome.specs.Notation.{when◌then◌else◌}
 use Rattle.u2f_up_stated.specs.Moments.{is_bad_side, is_r1}
 use Rattle.u2f_up_stated.specs.History.{Role, Touching, Checking, Asking, Settling, TooShort, Came, RefusedBy, TouchAccepted, TouchIgnored, TouchFound, NoTouchFound, PromptStands, NoPromptStands, Event, Mark, side_of, is_any, held_for, last_moment, is_prompt_standing, latest_prompt, latest_touch, is_after, is_standing_by, unrefused, foretold}
 use Rattle.u2f_up_stated.specs.Terms.{RefusedAt, NamesBadSide}
@@ -21,11 +21,11 @@ both false b e = absurd (false≢true e)
 
 -- two cases, neither of them a refusal
 module _ (y n : Came) (refusal_y : (m : ℕ) → RefusedBy m ≡ y → ⊥) (refusal_n : (m : ℕ) → RefusedBy m ≡ n → ⊥) (apart : n ≡ y → ⊥) where
-  pub no_refusal : (m : ℕ) (b : Bool) → (if b then y else n) ≡ RefusedBy m → ⊥
+  pub no_refusal : (m : ℕ) (b : Bool) → (when b then y else n) ≡ RefusedBy m → ⊥
   no_refusal m true e = refusal_y m (sym e)
   no_refusal m false e = refusal_n m (sym e)
 
-  pub is_yes : (b : Bool) → (if b then y else n) ≡ y → b ≡ true
+  pub is_yes : (b : Bool) → (when b then y else n) ≡ y → b ≡ true
   is_yes true e = refl
   is_yes false e = absurd (apart e)
 
@@ -106,7 +106,7 @@ module _ (w : ℕ) (h : List Event) (t : ℕ) (k : Role) where
   unfolding foretold
   way = go (is_bad_side (side_of k)) refl (is_r1 (last_moment h) t) refl
     where
-      go : (c : Bool) → is_bad_side (side_of k) ≡ c → (b : Bool) → is_r1 (last_moment h) t ≡ b → Way (if c then RefusedBy 8 else if b then RefusedBy 1 else unrefused w h k t)
+      go : (c : Bool) → is_bad_side (side_of k) ≡ c → (b : Bool) → is_r1 (last_moment h) t ≡ b → Way (when c then RefusedBy 8 else when b then RefusedBy 1 else unrefused w h k t)
       go true n b e = r8 (named_none (side_of k) n)
       go false n true e = r1 (named_one (side_of k) n) (r1_refused h t e)
       go false n false e = given (named_one (side_of k) n) (passed h t e)
@@ -159,14 +159,14 @@ module _ (w : ℕ) (h : List Event) (t : ℕ) (k : Role) where
         due _ (given n p) e = (n, p, e)
 
     -- yes: side and moment pass, and what was asked is so
-    yes : (b : Bool) (y n : Came) → ((m : ℕ) → RefusedBy m ≡ y → ⊥) → ((m : ℕ) → RefusedBy m ≡ n → ⊥) → (n ≡ y → ⊥) → unrefused w h k t ≡ (if b then y else n)
+    yes : (b : Bool) (y n : Came) → ((m : ℕ) → RefusedBy m ≡ y → ⊥) → ((m : ℕ) → RefusedBy m ≡ n → ⊥) → (n ≡ y → ⊥) → unrefused w h k t ≡ (when b then y else n)
         → (o ≡ y) ↔ ((NamesBadSide k → ⊥) × (RefusedAt h t → ⊥) × (b ≡ true))
     yes b y n ry rn apart u = (λ q. let x = passes y ry q in (x.0, x.1, is_yes y n ry rn apart b (sym u ∙ x.2)), λ q. f ∙ back told way q)
       where
         back : (c : Came) → Way c → (NamesBadSide k → ⊥) × (RefusedAt h t → ⊥) × (b ≡ true) → c ≡ y
         back _ (r8 m) q = absurd (q.0 m)
         back _ (r1 m r) q = absurd (q.1 r)
-        back _ (given m p) q = u ∙ ap (λ (c : Bool). if c then y else n) q.2
+        back _ (given m p) q = u ∙ ap (λ (c : Bool). when c then y else n) q.2
 
 -- a standing prompt, in the document's words
 abbrev Standing : ℕ → List Event → ℕ → Type 0
@@ -220,12 +220,12 @@ module _ (w : ℕ) (h : List Event) (t : ℕ) (o : Came) where
   checks (Checking s) f q = (s, refl)
   checks Touching f q = absurd (other Touching f (λ e. two (is_prompt_standing w h t) e) q)
     where
-      two : (b : Bool) → (if b then TouchAccepted else TouchIgnored) ≡ TouchFound → ⊥
+      two : (b : Bool) → (when b then TouchAccepted else TouchIgnored) ≡ TouchFound → ⊥
       two true e = let z : ◌≡◌ {A = ℕ} 0 1 = cc in omega arith
       two false e = let z : ◌≡◌ {A = ℕ} 0 1 = cc in omega arith
   checks Asking f q = absurd (other Asking f (λ e. two (is_prompt_standing w h t) e) q)
     where
-      two : (b : Bool) → (if b then PromptStands else NoPromptStands) ≡ TouchFound → ⊥
+      two : (b : Bool) → (when b then PromptStands else NoPromptStands) ≡ TouchFound → ⊥
       two true e = let z : ◌≡◌ {A = ℕ} 0 1 = cc in omega arith
       two false e = let z : ◌≡◌ {A = ℕ} 0 1 = cc in omega arith
   checks (Settling s) f q = absurd (other (Settling s) f (λ e. let z : ◌≡◌ {A = ℕ} 0 1 = cc in omega arith) q)

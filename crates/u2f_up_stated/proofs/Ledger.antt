@@ -7,9 +7,8 @@ use native.Mathlib.Omega.{arith}
 use lib.Dec.{eqb}
 use lib.ListN.{length}
 use borrow.Author.Tests.{eq-eqb, ltb-false}
-use Rattle.outcome.specs.Notation.{if◌then◌else◌}
 use Rattle.u2f_up_stated.specs.Moments.{is_live, is_bad_side}
-use Rattle.u2f_up_stated.specs.History.{Event, Mark, touch_mark, side_of, those, is_spending, is_spending_for, is_young, is_of, is_found, is_any, held_at, held_for, lapsed, last_moment, unspent, accepted, asker_of, served, spenders, spenders_of}
+use Rattle.u2f_up_stated.specs.History.{Event, Mark, side_of, those, is_spending, is_spending_for, is_young, is_of, is_found, is_any, held_at, held_for, lapsed, last_moment, unspent, accepted, asker_of, served, spenders, spenders_of}
 use Rattle.u2f_up_stated.proofs.Lists.{one, count, count_next, count_append, count_split, count_all, length_those}
 use Rattle.u2f_up_stated.proofs.Runs.{held_of, Sorted, Effect, still, moved, touched, spent, prompted}
 use Rattle.u2f_up_stated.proofs.Touches.{Inv, held_now, accepted_next, served_next, unspent_next, live_held, found_held, at_most_one, window_of}
@@ -30,17 +29,17 @@ module _ (w : ℕ) (picks : Mark → Bool) where
     pub balanced_next : Effect w h e → Balanced w picks (e ∷ h)
     balanced_next (still x) = passes x
     balanced_next (moved x late) = passes x
-    balanced_next (touched x late is_live) = rw (accepted_next h w x, served_next h w x, unspent_next h w x) (omega arith)
-    balanced_next (spent x late is_live own) =
+    balanced_next (touched x late is_live_lem) = rw (accepted_next h w x, served_next h w x, unspent_next h w x) (omega arith)
+    balanced_next (spent x late is_live_lem own) =
         rw (accepted_next h w x, served_next h w x, unspent_next h w x)
         (omega (arith, count_append picks (held_for w h (side_of e.call.role) e.call.moment) (served w h), count_split (is_found w (side_of e.call.role) e.call.moment) picks (unspent w h)))
     balanced_next (prompted x late not_live known) = passes x
 
 -- what a call that spends takes: one touch, of its own side
 one_held : (w : ℕ) (h : List Event) (t : ℕ) (i : Inv w h) → last_moment h ≤ t → is_live (held_of h) w t ≡ true → (k : Mark) × (held_for w h (asker_of w h) t ≡ k ∷ []) × (k.side ≡ asker_of w h)
-one_held w h t i late is_live =
+one_held w h t i late is_live_lem =
     let now = held_now w h t late i in
-    let one = only (held_at w h t) (at_most_one w (asker_of w h) t (unspent w h) (held_of h) now) (sym (live_held w h t i late) ∙ is_live) in
+    let one = only (held_at w h t) (at_most_one w (asker_of w h) t (unspent w h) (held_of h) now) (sym (live_held w h t i late) ∙ is_live_lem) in
     (one.0, found_held w h (asker_of w h) t i late ∙ rw (eq-eqb (asker_of w h) (asker_of w h) refl) one.1, (window_of w (asker_of w h) t (unspent w h) (held_of h) one.0 now one.1).1)
   where
     only : (ks : List Mark) → length ks ≤ 1 → is_any ks ≡ true → (k : Mark) × (ks ≡ k ∷ [])
@@ -69,8 +68,8 @@ module _ (w : ℕ) (h : List Event) (e : Event) (i : Inv w h) (o : OneEach w h) 
   }
 
   spends_one : Sorted w h e true false true false → last_moment h ≤ e.call.moment → is_live (held_of h) w e.call.moment ≡ true → asker_of w h ≡ side_of e.call.role → OneEach w (e ∷ h)
-  spends_one x late is_live own =
-      let k = one_held w h e.call.moment i late is_live in
+  spends_one x late is_live_lem own =
+      let k = one_held w h e.call.moment i late is_live_lem in
       let taken : held_for w h (side_of e.call.role) e.call.moment ≡ k.0 ∷ [] = rw own at k.1 in
       record {
         each = rw (served_next h w x, taken) (omega (arith, o.each, those_next is_spending e h true x.spends));
@@ -84,8 +83,8 @@ module _ (w : ℕ) (h : List Event) (e : Event) (i : Inv w h) (o : OneEach w h) 
   pub one_next : Effect w h e → OneEach w (e ∷ h)
   one_next (still x) = passes_one x
   one_next (moved x late) = passes_one x
-  one_next (touched x late is_live) = passes_one x
-  one_next (spent x late is_live own) = spends_one x late is_live own
+  one_next (touched x late is_live_lem) = passes_one x
+  one_next (spent x late is_live_lem own) = spends_one x late is_live_lem own
   one_next (prompted x late not_live known) = passes_one x
 
 -- every touch is of one of the two sides
@@ -109,8 +108,8 @@ module _ (w : ℕ) (h : List Event) (e : Event) (i : Inv w h) (two : TwoSides w 
   pub two_next : Effect w h e → TwoSides w (e ∷ h)
   two_next (still x) = passes_two x
   two_next (moved x late) = passes_two x
-  two_next (touched x late is_live) = rw (accepted_next h w x) (one_of (asker_of w h) i.real (accepted w h) (length h) two)
-  two_next (spent x late is_live own) = passes_two x
+  two_next (touched x late is_live_lem) = rw (accepted_next h w x) (one_of (asker_of w h) i.real (accepted w h) (length h) two)
+  two_next (spent x late is_live_lem own) = passes_two x
   two_next (prompted x late not_live known) = passes_two x
 
 -- spent, lapsed or live

@@ -6,7 +6,7 @@ use mathlib.Core.List.{List, [], ◌∷◌, ◌++◌}
 use native.Mathlib.Omega.{arith}
 use lib.ListN.{length}
 use borrow.Author.Tests.{ltb-true, ltb-false, lt-ltb}
-use Rattle.outcome.specs.Notation.{if◌then◌else◌}
+use Rattle.outcome.specs.Notation.{when◌then◌else◌}
 use Rattle.u2f_up_stated.specs.History.{Mark, those, is_young, is_of, is_found}
 
 abbrev pub one : Bool → ℕ
@@ -25,7 +25,7 @@ module _ {A : Type 0} where
   length_those picks [] = refl
   length_those picks (k ∷ ks) = go (picks k) (length_those picks ks)
     where
-      go : (b : Bool) → length (those picks ks) ≡ count picks ks → length (if b then k ∷ those picks ks else those picks ks) ≡ one b + count picks ks
+      go : (b : Bool) → length (those picks ks) ≡ count picks ks → length (when b then k ∷ those picks ks else those picks ks) ≡ one b + count picks ks
       go true h = omega arith
       go false h = omega arith
 
@@ -43,7 +43,7 @@ module _ {A : Type 0} where
   count_split picks also (k ∷ ks) = go (picks k) (count_split picks also ks)
     where
       go : (b : Bool) → count also ks ≡ count also (those picks ks) + count also (those (λ k. not (picks k)) ks)
-          → one (also k) + count also ks ≡ count also (if b then k ∷ those picks ks else those picks ks) + count also (if not b then k ∷ those (λ k. not (picks k)) ks else those (λ k. not (picks k)) ks)
+          → one (also k) + count also ks ≡ count also (when b then k ∷ those picks ks else those picks ks) + count also (when not b then k ∷ those (λ k. not (picks k)) ks else those (λ k. not (picks k)) ks)
       go true h = omega arith
       go false h = omega arith
 
@@ -56,8 +56,8 @@ pub stay_old : (w t u : ℕ) → t ≤ u → (ks : List Mark) → AllOld w t ks 
 stay_old w t u later [] h = refl
 stay_old w t u later (k ∷ ks) h = go (is_young w t k) refl h (is_young w u k) refl (stay_old w t u later ks)
   where
-    go : (b : Bool) → is_young w t k ≡ b → (if b then k ∷ those (is_young w t) ks else those (is_young w t) ks) ≡ []
-        → (c : Bool) → is_young w u k ≡ c → (AllOld w t ks → AllOld w u ks) → (if c then k ∷ those (is_young w u) ks else those (is_young w u) ks) ≡ []
+    go : (b : Bool) → is_young w t k ≡ b → (when b then k ∷ those (is_young w t) ks else those (is_young w t) ks) ≡ []
+        → (c : Bool) → is_young w u k ≡ c → (AllOld w t ks → AllOld w u ks) → (when c then k ∷ those (is_young w u) ks else those (is_young w u) ks) ≡ []
     go true e h c f ih = let z : ◌≡◌ {A = ℕ} 0 1 = cc in absurd (omega arith)
     go false e h true f ih = absurd (omega (arith, ltb-false t (k.moment + w) e, ltb-true u (k.moment + w) f))
     go false e h false f ih = ih h
@@ -67,8 +67,8 @@ pub picks_old : (w t : ℕ) (picks : Mark → Bool) (ks : List Mark) → AllOld 
 picks_old w t picks [] h = refl
 picks_old w t picks (k ∷ ks) h = go (is_young w t k) refl h (picks k) (picks_old w t picks ks)
   where
-    go : (b : Bool) → is_young w t k ≡ b → (if b then k ∷ those (is_young w t) ks else those (is_young w t) ks) ≡ [] → (c : Bool)
-        → (AllOld w t ks → AllOld w t (those picks ks)) → those (is_young w t) (if c then k ∷ those picks ks else those picks ks) ≡ []
+    go : (b : Bool) → is_young w t k ≡ b → (when b then k ∷ those (is_young w t) ks else those (is_young w t) ks) ≡ [] → (c : Bool)
+        → (AllOld w t ks → AllOld w t (those picks ks)) → those (is_young w t) (when c then k ∷ those picks ks else those picks ks) ≡ []
     go true e h c ih = let z : ◌≡◌ {A = ℕ} 0 1 = cc in absurd (omega arith)
     go false e h true ih = rw e (ih h)
     go false e h false ih = ih h
@@ -78,8 +78,8 @@ pub finds_none : (w s t : ℕ) (ks : List Mark) → AllOld w t ks → those (is_
 finds_none w s t [] h = refl
 finds_none w s t (k ∷ ks) h = go (is_young w t k) refl h (finds_none w s t ks)
   where
-    go : (b : Bool) → is_young w t k ≡ b → (if b then k ∷ those (is_young w t) ks else those (is_young w t) ks) ≡ []
-        → (AllOld w t ks → those (is_found w s t) ks ≡ []) → (if b && is_of s k then k ∷ those (is_found w s t) ks else those (is_found w s t) ks) ≡ []
+    go : (b : Bool) → is_young w t k ≡ b → (when b then k ∷ those (is_young w t) ks else those (is_young w t) ks) ≡ []
+        → (AllOld w t ks → those (is_found w s t) ks ≡ []) → (when b && is_of s k then k ∷ those (is_found w s t) ks else those (is_found w s t) ks) ≡ []
     go true e h ih = let z : ◌≡◌ {A = ℕ} 0 1 = cc in absurd (omega arith)
     go false e h ih = ih h
 

@@ -7,14 +7,12 @@ use native.Mathlib.Omega.{arith}
 use native.Mathlib.Decide.{dec_lt}
 use mathlib.Core.Logic.{inl}
 use borrow.Author.Tests.{eq-eqb, ne_eqb, not-true, not-false}
-use lib.Dec.{eqb}
 use lib.ListN.{length, get_or, set}
 use lib.Seq.{get_or-set_same, get_or-set_other, lt-length-set}
-use Rattle.outcome.specs.Notation.{if◌then◌else◌}
 use Rattle.outcome.specs.Outcome.{Outcome, Gives}
 use Rattle.outcome.proofs.Laws.{r_gives, gives_same}
 use Rattle.u2f_up_stated.specs.Words.{Window, Closed, Opened, Presence, Finding}
-use Rattle.u2f_up_stated.specs.Moments.{is_live, is_prompting, moved_to, settle_of, checked_of, granted_of}
+use Rattle.u2f_up_stated.specs.Moments.{is_live, moved_to, settle_of, checked_of, granted_of}
 use Rattle.u2f_up_stated.specs.Terms.{BadMoment, LiveNumber}
 use Rattle.u2f_up_stated.proofs.Ways.{SettleWay, settle_way, r6, r8, r1, moves, window_live, window_over, window_is}
 use Rattle.u2f_up_stated.specs.Numbers.{window_of, presence_in, number_of, checked_in, granted_in}
@@ -111,7 +109,7 @@ module _ (s : List ℕ) (n : ℕ) where
       )
 
 -- ---- the touch check: its record, where the last moment has moved
-module _ (s : List ℕ) (side t : ℕ) (long : 4 < length s) (live : Bool) (is_live : live ≡ is_live (window_of (get_or s 2 0)) (get_or s 0 0) t) where
+module _ (s : List ℕ) (side t : ℕ) (long : 4 < length s) (live : Bool) (is_live_lem : live ≡ is_live (window_of (get_or s 2 0)) (get_or s 0 0) t) where
   abbrev found : Finding
   found = checked_in (moved_to (presence_in s) t) side t
 
@@ -121,7 +119,7 @@ module _ (s : List ℕ) (side t : ℕ) (long : 4 < length s) (live : Bool) (is_l
   prompts : (n : ℕ) → n ≡ number_of t → not live ≡ true → (false ≡ found.yes) × (presence_in (set (set (set s 3 t) 1 n) 4 side) ≡ found.presence)
   unfolding checked_in
   prompts n is_n b =
-      let dead : is_live (window_of (get_or s 2 0)) (get_or s 0 0) t ≡ false = sym is_live ∙ not-true live b in (
+      let dead : is_live (window_of (get_or s 2 0)) (get_or s 0 0) t ≡ false = sym is_live_lem ∙ not-true live b in (
         rw dead,
         at_4 (set (set s 3 t) 1 n) side (lt-length-set (set s 3 t) 1 n (lt-length-set s 3 t long))
             ∙ ap (λ (p : Presence). record { w = p.w; prompt = p.prompt; touch = p.touch; last = p.last; asker = side }) (at_1 (set s 3 t) n (lt-length-set s 3 t (omega (arith, long))))
@@ -130,7 +128,7 @@ module _ (s : List ℕ) (side t : ℕ) (long : 4 < length s) (live : Bool) (is_l
 
   module _ (b : not live ≡ false) where
     lives : is_live (window_of (get_or s 2 0)) (get_or s 0 0) t ≡ true
-    lives = sym is_live ∙ not-false live b
+    lives = sym is_live_lem ∙ not-false live b
 
     others : (get_or s 4 0 ≡ side → ⊥) → (false ≡ found.yes) × (presence_in (set s 3 t) ≡ found.presence)
     unfolding checked_in
@@ -163,20 +161,20 @@ module _ (s : List ℕ) (side t : ℕ) (long : 4 < length s) (live : Bool) (is_l
   prompts_it n is_n b = (prompts n is_n b).1
 
 -- ---- the touch
-module _ (s : List ℕ) (t : ℕ) (long : 4 < length s) (live : Bool) (is_prompting : live ≡ is_live (window_of (get_or s 1 0)) 10000 t) where
+module _ (s : List ℕ) (t : ℕ) (long : 4 < length s) (live : Bool) (is_prompting_lem : live ≡ is_live (window_of (get_or s 1 0)) 10000 t) where
   abbrev granted : Finding
   granted = granted_in (moved_to (presence_in s) t) t
 
   not_granted : not live ≡ true → (false ≡ granted.yes) × (presence_in (set s 3 t) ≡ granted.presence)
   unfolding granted_in
   not_granted b =
-      let dead : is_live (window_of (get_or s 1 0)) 10000 t ≡ false = sym is_prompting ∙ not-true live b in
+      let dead : is_live (window_of (get_or s 1 0)) 10000 t ≡ false = sym is_prompting_lem ∙ not-true live b in
       (rw dead, moved_in s t (omega (arith, long)) ∙ rw dead)
 
   grants : (n : ℕ) → n ≡ number_of t → not live ≡ false → (true ≡ granted.yes) × (presence_in (set (set (set s 3 t) 1 0) 2 n) ≡ granted.presence)
   unfolding granted_in
   grants n is_n b =
-      let lives : is_live (window_of (get_or s 1 0)) 10000 t ≡ true = sym is_prompting ∙ not-false live b in (
+      let lives : is_live (window_of (get_or s 1 0)) 10000 t ≡ true = sym is_prompting_lem ∙ not-false live b in (
         rw lives,
         at_2 (set (set s 3 t) 1 0) n (lt-length-set (set s 3 t) 1 0 (lt-length-set s 3 t (omega (arith, long))))
             ∙ ap (λ (p : Presence). record { w = p.w; prompt = p.prompt; touch = window_of n; last = p.last; asker = p.asker }) (at_1 (set s 3 t) 0 (lt-length-set s 3 t (omega (arith, long))))

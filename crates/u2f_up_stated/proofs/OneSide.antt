@@ -1,6 +1,6 @@
 -- From a fresh record, with one side throughout, a run is the base's. While nobody has asked both windows are closed; from the first
 -- prompting refusal on, the asker is that side, and so every touch is its own.
-use Prim.Native.Nat.{ℕ, ◌<◌, ◌≤◌}
+use Prim.Native.Nat.{ℕ, ◌≤◌}
 use mathlib.Core.Path.{◌≡◌, refl, sym, ap, ◌∙◌}
 use mathlib.Core.Bool.{Bool, true, false, false≢true}
 use mathlib.Core.List.{List, [], ◌∷◌}
@@ -12,7 +12,7 @@ use Rattle.outcome.proofs.Laws.{r_word, r_gives, word_gives}
 use Rattle.u2f_up_stated.specs.Words.{Presence, Closed}
 use Rattle.u2f_up_stated.specs.Moments.{Told, is_live, is_r6, is_r8, is_r1, moved_to, settle_of, granted_of, checked_of, gave, refused}
 use Rattle.u2f_up_stated.specs.History.{Role, Touching, Checking, Asking, Settling, TooShort}
-use Rattle.u2f_up_stated.specs.Runs.{Caller, Keeps, after, next, done_by}
+use Rattle.u2f_up_stated.specs.Runs.{Caller, Keeps, after, done_by}
 use Rattle.u2f_up_stated.specs.OneSide.{base_settle_of, base_checked_of, base_by, KeepsToBase, sideless, NamesOnly, OnlySide}
 use Rattle.u2f_up_stated.specs.Claims.{OneSideIsBase}
 use Rattle.u2f_up_stated.proofs.Cases.{settle_r6, settle_r1, settled}

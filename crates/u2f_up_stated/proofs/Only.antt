@@ -8,7 +8,6 @@ use native.Mathlib.Omega.{arith}
 use native.Mathlib.Decide.{ℕ_discrete}
 use Rattle.u2f_up_stated.specs.Words.{Outcome, R, Presence, Finding}
 use Rattle.u2f_up_stated.specs.Moments.{Told}
-use Rattle.u2f_up_stated.specs.Answers.{Answer, Step}
 use Rattle.u2f_up_stated.specs.declared.Ready.TheVariants as Ready'
 use Rattle.u2f_up_stated.specs.declared.Answer.TheVariants as Answer'
 use Rattle.u2f_up_stated.specs.History.{Call, Came, Event, foretold}

@@ -10,7 +10,7 @@ use lib.Dec.{ltb}
 use lib.ListN.{length}
 use borrow.Author.Tests.{lt-ltb, le-ltb}
 use Rattle.u2f_up_stated.specs.Moments.{is_live}
-use Rattle.u2f_up_stated.specs.History.{Event, Mark, latest_prompt, latest_touch, is_standing_by}
+use Rattle.u2f_up_stated.specs.History.{Event, Mark, marked, side_of, latest_prompt, latest_touch, is_standing_by}
 use Rattle.u2f_up_stated.proofs.Runs.{prompt_of, Sorted, Effect, still, moved, touched, spent, prompted, prompt_next, latest_next}
 use Rattle.u2f_up_stated.proofs.Touches.{touch_next}
 
@@ -70,12 +70,12 @@ module _ (w : ℕ) (h : List Event) (e : Event) (g : Agrees w h) where
       record {
         prompt_below = rw p (omega arith);
         accepted_below = rw a (below_more (length h) (latest_touch w h) g.accepted_below);
-        agrees = λ t. rw (p, a, prompt_next h w x) (comes_after _ t (latest_touch w h) g.accepted_below);
+        agrees = λ t. rw (p, a, prompt_next h w x) (comes_after (marked (side_of e.call.role) e h) t (latest_touch w h) g.accepted_below);
       }
 
   pub agrees_next : Effect w h e → Agrees w (e ∷ h)
   agrees_next (still x) = passes x
   agrees_next (moved x late) = passes x
-  agrees_next (touched x late is_live) = accepts x
-  agrees_next (spent x late is_live own) = passes x
+  agrees_next (touched x late is_live_lem) = accepts x
+  agrees_next (spent x late is_live_lem own) = passes x
   agrees_next (prompted x late not_live known) = prompts x

@@ -1,12 +1,12 @@
 -- A run's record is what its history says: each field is read off the events. From this, case by case, what a call does.
 use Prim.Native.Nat.{ℕ, ◌^◌, ◌≤◌}
 use mathlib.Core.Path.{◌≡◌, refl, sym, ap, ◌∙◌}
-use mathlib.Core.Bool.{Bool, true, false, not, ◌||◌, ◌&&◌, true≢false}
+use mathlib.Core.Bool.{Bool, true, false, not, ◌||◌, true≢false}
 use mathlib.Core.List.{List, [], ◌∷◌}
 use mathlib.Core.Option.{Option, some}
 use lib.Dec.{ltb, leb, eqb}
 use borrow.Author.Tests.{ltb-false, eqb-true}
-use Rattle.outcome.specs.Notation.{if◌then◌else◌}
+use Rattle.outcome.specs.Notation.{when◌then◌else◌}
 use Rattle.outcome.specs.Outcome.{Outcome, R, Gives}
 use Rattle.u2f_up_stated.specs.Words.{Presence, Window, Closed, Opened}
 use Rattle.u2f_up_stated.specs.Moments.{Told, is_live, is_r6, is_bad_side, is_r8, is_r1, moved_to, settle_of, granted_of, checked_of, gave, refused}
@@ -22,15 +22,15 @@ is_prompting_refusal w e past = is_prompting_by e (held_at w past e.call.moment)
 unfoldable pub prompt_of : ℕ → List Event → Window
 prompt_of w [] = Closed
 prompt_of w (e ∷ past) =
-    if is_accepted e then Closed
-    else if is_prompting_refusal w e past then Opened e.call.moment
+    when is_accepted e then Closed
+    else when is_prompting_refusal w e past then Opened e.call.moment
     else prompt_of w past
 
 unfoldable pub held_of : List Event → Window
 held_of [] = Closed
 held_of (e ∷ past) =
-    if is_accepted e then Opened e.call.moment
-    else if is_spending e then Closed
+    when is_accepted e then Opened e.call.moment
+    else when is_spending e then Closed
     else held_of past
 
 abbrev pub record_of : ℕ → List Event → Presence
@@ -53,36 +53,36 @@ pub data Effect (w : ℕ) (h : List Event) (e : Event) : Type 0 where
 
 -- each notion that the record has, one event further
 module _ {e : Event} {m a s p : Bool} (h : List Event) (w : ℕ) (x : Sorted w h e m a s p) where
-  pub last_next : last_moment (e ∷ h) ≡ (if m then e.call.moment else last_moment h)
+  pub last_next : last_moment (e ∷ h) ≡ (when m then e.call.moment else last_moment h)
   unfolding last_moment
   last_next = rw x.moves
 
-  pub prompt_next : prompt_of w (e ∷ h) ≡ (if a then Closed else if p then Opened e.call.moment else prompt_of w h)
+  pub prompt_next : prompt_of w (e ∷ h) ≡ (when a then Closed else when p then Opened e.call.moment else prompt_of w h)
   unfolding prompt_of
   prompt_next = rw (x.accepts, x.prompts)
 
-  pub held_next : held_of (e ∷ h) ≡ (if a then Opened e.call.moment else if s then Closed else held_of h)
+  pub held_next : held_of (e ∷ h) ≡ (when a then Opened e.call.moment else when s then Closed else held_of h)
   unfolding held_of
   held_next = rw (x.accepts, x.spends)
 
-  pub latest_next : latest_prompt w (e ∷ h) ≡ (if p then some (marked (side_of e.call.role) e h) else latest_prompt w h)
+  pub latest_next : latest_prompt w (e ∷ h) ≡ (when p then some (marked (side_of e.call.role) e h) else latest_prompt w h)
   unfolding latest_prompt
   latest_next = rw x.prompts
 
-  asked : (b : Bool) (n : Mark) (o : Option Mark) → side_asked (if b then some n else o) ≡ (if b then n.side else side_asked o)
+  asked : (b : Bool) (n : Mark) (o : Option Mark) → side_asked (when b then some n else o) ≡ (when b then n.side else side_asked o)
   asked true n o = refl
   asked false n o = refl
 
-  pub asker_next : asker_of w (e ∷ h) ≡ (if p then side_of e.call.role else asker_of w h)
+  pub asker_next : asker_of w (e ∷ h) ≡ (when p then side_of e.call.role else asker_of w h)
   asker_next = ap side_asked latest_next ∙ asked p (marked (side_of e.call.role) e h) (latest_prompt w h)
 
   abbrev next_record : Presence
   next_record = record {
     w = w;
-    prompt = if a then Closed else if p then Opened e.call.moment else prompt_of w h;
-    touch = if a then Opened e.call.moment else if s then Closed else held_of h;
-    last = if m then e.call.moment else last_moment h;
-    asker = if p then side_of e.call.role else asker_of w h;
+    prompt = when a then Closed else when p then Opened e.call.moment else prompt_of w h;
+    touch = when a then Opened e.call.moment else when s then Closed else held_of h;
+    last = when m then e.call.moment else last_moment h;
+    asker = when p then side_of e.call.role else asker_of w h;
   }
 
   pub record_next : next_record ≡ record_of w (e ∷ h)

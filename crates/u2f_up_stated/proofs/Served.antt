@@ -1,6 +1,6 @@
 -- Which touch served a call: while the touch window of a history is open, its touch is the latest accepted one, it leads the
 -- unspent ones, and it has served nobody.
-use Prim.Native.Nat.{ℕ, suc, ◌+◌, ◌<◌, ◌≤◌}
+use Prim.Native.Nat.{ℕ, suc, ◌<◌, ◌≤◌}
 use mathlib.Core.Path.{◌≡◌, refl, sym, ap, ◌∙◌}
 use mathlib.Core.Bool.{Bool, true, false, true≢false}
 use mathlib.Core.List.{List, [], ◌∷◌, ◌++◌}
@@ -9,7 +9,7 @@ use native.Mathlib.Omega.{arith}
 use lib.Dec.{eqb}
 use lib.ListN.{length}
 use borrow.Author.Tests.{eqb-true, eq-eqb}
-use Rattle.outcome.specs.Notation.{if◌then◌else◌}
+use Rattle.outcome.specs.Notation.{when◌then◌else◌}
 use Rattle.u2f_up_stated.specs.Words.{Window, Closed, Opened}
 use Rattle.u2f_up_stated.specs.Moments.{is_live}
 use Rattle.u2f_up_stated.specs.Terms.{ServesOnce}
@@ -22,7 +22,7 @@ use Rattle.u2f_up_stated.proofs.Touches.{Inv, Held, unspent_next, touch_next, he
 closed_open : (m : ℕ) → Closed ≡ Opened m → ⊥
 closed_open m x = let z : ◌≡◌ {A = ℕ} 0 1 = cc in omega arith
 
-pub servers_next : (w : ℕ) (e : Event) (h : List Event) (s : Bool) → is_spending e ≡ s → servers w (e ∷ h) ≡ (if s then server_of w h ∷ servers w h else servers w h)
+pub servers_next : (w : ℕ) (e : Event) (h : List Event) (s : Bool) → is_spending e ≡ s → servers w (e ∷ h) ≡ (when s then server_of w h ∷ servers w h else servers w h)
 unfolding servers
 servers_next w e h s q = rw q
 
@@ -60,7 +60,7 @@ module _ (w : ℕ) where
         }
 
     spends : {m : Bool} → Sorted w h e m false true false → is_live (held_of h) w e.call.moment ≡ true → Owned (e ∷ h)
-    spends x is_live = by (held_of h) refl is_live
+    spends x is_live_lem = by (held_of h) refl is_live_lem
       where
         named : (k : Mark) → k.number < length h → count (is_named k.number) (servers w h) ≡ 0 → (n : ℕ)
             → (suc (length h) ≤ n → count (is_named n) (some k ∷ servers w h) ≡ 0) × (count (is_named n) (some k ∷ servers w h) ≤ 1)
@@ -84,13 +84,13 @@ module _ (w : ℕ) where
     pub owned_next : Effect w h e → Owned (e ∷ h)
     owned_next (still x) = passes x
     owned_next (moved x late) = passes x
-    owned_next (touched x late is_live) = accepts x
-    owned_next (spent x late is_live own) = spends x is_live
+    owned_next (touched x late is_live_lem) = accepts x
+    owned_next (spent x late is_live_lem own) = spends x is_live_lem
     owned_next (prompted x late not_live known) = passes x
 
     -- the touch that served a call that spends is the one that was held then, and its side is the call's
     pub serves : Inv w h → Effect w h e → is_spending e ≡ true → (k : Mark) × (server_of w h ≡ some k) × (held_at w h e.call.moment ≡ k ∷ []) × (k.side ≡ side_of e.call.role)
-    serves i (spent x late is_live own) s = by (held_of h) refl is_live (held_now w h e.call.moment late i)
+    serves i (spent x late is_live_lem own) s = by (held_of h) refl is_live_lem (held_now w h e.call.moment late i)
       where
         by : (y : Window) → held_of h ≡ y → is_live y w e.call.moment ≡ true → Held w (asker_of w h) e.call.moment (unspent w h) y
             → (k : Mark) × (server_of w h ≡ some k) × (held_at w h e.call.moment ≡ k ∷ []) × (k.side ≡ side_of e.call.role)
@@ -106,7 +106,7 @@ module _ (w : ℕ) where
             front r = cc
     serves i (still x) s = absurd (true≢false (sym s ∙ x.spends))
     serves i (moved x late) s = absurd (true≢false (sym s ∙ x.spends))
-    serves i (touched x late is_live) s = absurd (true≢false (sym s ∙ x.spends))
+    serves i (touched x late is_live_lem) s = absurd (true≢false (sym s ∙ x.spends))
     serves i (prompted x late not_live known) s = absurd (true≢false (sym s ∙ x.spends))
 
 pub serves_once : (w : ℕ) (h : List Event) → Owned w h → ServesOnce w h
@@ -119,7 +119,7 @@ named_later 𝒞 w n [] ds = omega arith
 named_later 𝒞 w n (d ∷ later) ds = go (is_spending (record { call = 𝒞.as_call d; came = comes_to 𝒞 w (later ++ ds) d })) (named_later 𝒞 w n later ds)
   where
     go : (s : Bool) → count (is_named n) (servers w (history 𝒞 w ds)) ≤ count (is_named n) (servers w (history 𝒞 w (later ++ ds)))
-        → count (is_named n) (servers w (history 𝒞 w ds)) ≤ count (is_named n) (if s then server_of w (history 𝒞 w (later ++ ds)) ∷ servers w (history 𝒞 w (later ++ ds)) else servers w (history 𝒞 w (later ++ ds)))
+        → count (is_named n) (servers w (history 𝒞 w ds)) ≤ count (is_named n) (when s then server_of w (history 𝒞 w (later ++ ds)) ∷ servers w (history 𝒞 w (later ++ ds)) else servers w (history 𝒞 w (later ++ ds)))
     go true more = omega arith
     go false more = more
 

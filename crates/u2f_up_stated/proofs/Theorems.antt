@@ -5,7 +5,7 @@ use mathlib.Core.Bool.{Bool}
 use mathlib.Core.List.{List}
 use native.Mathlib.Omega.{arith}
 use borrow.Author.Tests.{eq-eqb, ne_eqb}
-use Rattle.outcome.specs.Notation.{if◌then◌else◌}
+use Rattle.outcome.specs.Notation.{when◌then◌else◌}
 use Rattle.outcome.proofs.Laws.{r_gives, both_are}
 use Rattle.u2f_up_stated.specs.Words.{Outcome, R, Word, Gives, Presence}
 use Rattle.u2f_up_stated.specs.Answers.{Answer, Step, ready_of, outcome_of, told_of}
@@ -16,7 +16,7 @@ use Rattle.u2f_up_stated.specs.Runs.{own}
 use Rattle.u2f_up_stated.specs.OneSide.{base, base_by, base_settle_of, base_checked_of}
 use Rattle.u2f_up_stated.specs.Terms.{BadWindow, BadSide, BadMoment}
 use Rattle.u2f_up_stated.specs.Claims
-use Rattle.u2f_up_stated.proofs.Ways.{bad_window, is_r6, not_r6, is_r1, not_r1, settle_r6, settle_r8, settle_r1, settle_moves, SettleWay, settle_way, settles_first, r_apart, window_live, window_over}
+use Rattle.u2f_up_stated.proofs.Ways.{bad_window, is_r6_lem, not_r6, is_r1_lem, not_r1, settle_r6, settle_r8, settle_r1, settle_moves, SettleWay, settle_way, settles_first, r_apart, window_live, window_over}
 use Rattle.u2f_up_stated.proofs.Ways
 use Rattle.u2f_up_stated.proofs.Numbers.{ready_apart, answer_apart, step_apart}
 use Rattle.u2f_up_stated.proofs.OnNumbers.{closed_is, closed_back, opened_after, opened_back, next_is, number_live, number_over, checked_not_greatest, granted_not_greatest, five_apart}
@@ -27,11 +27,11 @@ use Rattle.u2f_up_stated.proofs.OneSide.{one_side}
 pub MakesExactly : Claims.MakesExactly new_of
 unfolding new_of
 MakesExactly = record {
-  r6 = λ w. (λ e. due w (bad_window w) e, λ b. rw (is_r6 w b));
+  r6 = λ w. (λ e. due w (bad_window w) e, λ b. rw (is_r6_lem w b));
   makes = λ w g. rw (not_r6 w g);
 }
   where
-    due : (w : ℕ) → Dec (BadWindow w) → (if is_r6 w then R 6 else Gives (fresh w)) ≡ R 6 → BadWindow w
+    due : (w : ℕ) → Dec (BadWindow w) → (when is_r6 w then R 6 else Gives (fresh w)) ≡ R 6 → BadWindow w
     due w (yes b) e = b
     due w (no g) e = absurd (r_gives 6 (fresh w) (sym e ∙ rw (not_r6 w g)))
 
@@ -146,8 +146,8 @@ Demand3 = demand_3 own (λ p c. refl)
 pub BaseExactly : Claims.BaseExactly base_settle_of base_checked_of
 unfolding base_settle_of base_checked_of
 BaseExactly = record {
-  r6 = λ p t b. rw (is_r6 p.w b);
-  r1 = λ p t g b. rw (not_r6 p.w g, is_r1 p.last t b);
+  r6 = λ p t b. rw (is_r6_lem p.w b);
+  r1 = λ p t g b. rw (not_r6 p.w g, is_r1_lem p.last t b);
   moves = λ p t g h. rw (not_r6 p.w g, not_r1 p.last t h);
   finds = λ p t h. rw (window_live p.touch p.w t h);
   prompts = λ p t h. rw (window_over p.touch p.w t h);

@@ -9,7 +9,7 @@ use native.Mathlib.Omega.{arith}
 use lib.Dec.{ltb, eqb}
 use lib.ListN.{length}
 use borrow.Author.Tests.{eq-eqb}
-use Rattle.outcome.specs.Notation.{if◌then◌else◌}
+use Rattle.outcome.specs.Notation.{when◌then◌else◌}
 use Rattle.u2f_up_stated.specs.Words.{Window, Closed, Opened}
 use Rattle.u2f_up_stated.specs.Moments.{is_live, is_bad_side}
 use Rattle.u2f_up_stated.specs.History.{Event, Mark, side_of, touch_mark, those, is_young, is_of, is_found, is_any, held_at, held_for, last_moment, latest_prompt, asker_of, unspent, accepted, latest_touch, served}
@@ -21,19 +21,19 @@ module _ {e : Event} {m a s p : Bool} (h : List Event) (w : ℕ) (x : Sorted w h
   abbrev left : List Mark
   left = those (λ k. not (is_found w (side_of e.call.role) e.call.moment k)) (unspent w h)
 
-  pub unspent_next : unspent w (e ∷ h) ≡ (if a then touch_mark w e h ∷ unspent w h else if s then left else unspent w h)
+  pub unspent_next : unspent w (e ∷ h) ≡ (when a then touch_mark w e h ∷ unspent w h else when s then left else unspent w h)
   unfolding unspent
   unspent_next = rw (x.accepts, x.spends)
 
-  pub accepted_next : accepted w (e ∷ h) ≡ (if a then touch_mark w e h ∷ accepted w h else accepted w h)
+  pub accepted_next : accepted w (e ∷ h) ≡ (when a then touch_mark w e h ∷ accepted w h else accepted w h)
   unfolding accepted
   accepted_next = rw x.accepts
 
-  pub touch_next : latest_touch w (e ∷ h) ≡ (if a then some (touch_mark w e h) else latest_touch w h)
+  pub touch_next : latest_touch w (e ∷ h) ≡ (when a then some (touch_mark w e h) else latest_touch w h)
   unfolding latest_touch
   touch_next = rw x.accepts
 
-  pub served_next : served w (e ∷ h) ≡ (if s then held_for w h (side_of e.call.role) e.call.moment ++ served w h else served w h)
+  pub served_next : served w (e ∷ h) ≡ (when s then held_for w h (side_of e.call.role) e.call.moment ++ served w h else served w h)
   unfolding served
   served_next = rw x.spends
 
@@ -67,7 +67,7 @@ prompt_old w last t ks Closed e h = let z : ◌≡◌ {A = ℕ} 0 1 = cc in absu
 prompt_old w last t ks (Opened s) e h = h
 
 -- what is young of what an open touch window holds: its own touch, while it is live
-pub window_young : (w a t : ℕ) (ks : List Mark) (m : ℕ) (h : Held w a t ks (Opened m)) → those (is_young w t) ks ≡ (if ltb t (m + w) then h.0 ∷ [] else [])
+pub window_young : (w a t : ℕ) (ks : List Mark) (m : ℕ) (h : Held w a t ks (Opened m)) → those (is_young w t) ks ≡ (when ltb t (m + w) then h.0 ∷ [] else [])
 window_young w a t ks m h = rw (h.2, h.4, h.3)
 
 -- no live touch: nothing unspent is young
@@ -85,7 +85,7 @@ pub live_any : (w a t : ℕ) (ks : List Mark) (x : Window) → Held w a t ks x �
 live_any w a t ks Closed h = rw h
 live_any w a t ks (Opened m) h = rw (window_young w a t ks m h) (go (ltb t (m + w)))
   where
-    go : (b : Bool) → b ≡ is_any (if b then h.0 ∷ [] else [])
+    go : (b : Bool) → b ≡ is_any (when b then h.0 ∷ [] else [])
     go true = refl
     go false = refl
 
@@ -93,15 +93,15 @@ pub at_most_one : (w a t : ℕ) (ks : List Mark) (x : Window) → Held w a t ks 
 at_most_one w a t ks Closed h = rw h (omega arith)
 at_most_one w a t ks (Opened m) h = rw (window_young w a t ks m h) (go (ltb t (m + w)))
   where
-    go : (b : Bool) → length (if b then h.0 ∷ [] else []) ≤ 1
+    go : (b : Bool) → length (when b then h.0 ∷ [] else []) ≤ 1
     go true = omega arith
     go false = omega arith
 
 -- what a side finds: that touch, if it asked
-pub window_found : (w a s t : ℕ) (ks : List Mark) (x : Window) → Held w a t ks x → those (is_found w s t) ks ≡ (if eqb a s then those (is_young w t) ks else [])
+pub window_found : (w a s t : ℕ) (ks : List Mark) (x : Window) → Held w a t ks x → those (is_found w s t) ks ≡ (when eqb a s then those (is_young w t) ks else [])
 window_found w a s t ks Closed h = go (eqb a s)
   where
-    go : (b : Bool) → those (is_found w s t) ks ≡ (if b then those (is_young w t) ks else [])
+    go : (b : Bool) → those (is_found w s t) ks ≡ (when b then those (is_young w t) ks else [])
     go true = finds_none w s t ks h ∙ sym h
     go false = finds_none w s t ks h
 window_found w a s t ks (Opened m) h = rw h.2 (go (is_young w t h.0) refl)
@@ -109,16 +109,16 @@ window_found w a s t ks (Opened m) h = rw h.2 (go (is_young w t h.0) refl)
     none : those (is_found w s t) h.1 ≡ []
     none = finds_none w s t h.1 h.4
 
-    same : (b : Bool) → (if b then h.0 ∷ those (is_found w s t) h.1 else those (is_found w s t) h.1) ≡ (if b then h.0 ∷ those (is_young w t) h.1 else [])
+    same : (b : Bool) → (when b then h.0 ∷ those (is_found w s t) h.1 else those (is_found w s t) h.1) ≡ (when b then h.0 ∷ those (is_young w t) h.1 else [])
     same true = rw (none, h.4)
     same false = none
 
     go : (b : Bool) → is_young w t h.0 ≡ b
-        → (if b && is_of s h.0 then h.0 ∷ those (is_found w s t) h.1 else those (is_found w s t) h.1) ≡ (if eqb a s then (if b then h.0 ∷ those (is_young w t) h.1 else those (is_young w t) h.1) else [])
-    go true e = ap (λ (j : ℕ). if eqb j s then h.0 ∷ those (is_found w s t) h.1 else those (is_found w s t) h.1) (h.5 e) ∙ same (eqb a s)
+        → (when b && is_of s h.0 then h.0 ∷ those (is_found w s t) h.1 else those (is_found w s t) h.1) ≡ (when eqb a s then (when b then h.0 ∷ those (is_young w t) h.1 else those (is_young w t) h.1) else [])
+    go true e = ap (λ (j : ℕ). when eqb j s then h.0 ∷ those (is_found w s t) h.1 else those (is_found w s t) h.1) (h.5 e) ∙ same (eqb a s)
     go false e = none ∙ old (eqb a s)
       where
-        old : (b : Bool) → [] ≡ (if b then those (is_young w t) h.1 else [])
+        old : (b : Bool) → [] ≡ (when b then those (is_young w t) h.1 else [])
         old true = sym h.4
         old false = refl
 
@@ -127,7 +127,7 @@ pub window_of : (w a t : ℕ) (ks : List Mark) (x : Window) (k : Mark) → Held 
 window_of w a t ks Closed k h e = let z : ◌≡◌ {A = ℕ} 0 1 = cc in absurd (omega arith)
 window_of w a t ks (Opened m) k h e = go (ltb t (m + w)) refl (sym (window_young w a t ks m h) ∙ e)
   where
-    go : (b : Bool) → ltb t (m + w) ≡ b → (if b then h.0 ∷ [] else []) ≡ k ∷ [] → (Opened m ≡ Opened k.moment) × (k.side ≡ a)
+    go : (b : Bool) → ltb t (m + w) ≡ b → (when b then h.0 ∷ [] else []) ≡ k ∷ [] → (Opened m ≡ Opened k.moment) × (k.side ≡ a)
     go true g f = let same : h.0 ≡ k = cc in (cc h.3, rw same at (h.5 (rw h.3 g)))
     go false g f = let z : ◌≡◌ {A = ℕ} 0 1 = cc in absurd (omega arith)
 
@@ -152,22 +152,22 @@ module _ (w : ℕ) (h : List Event) (e : Event) where
     now = held_later w (last_moment h) T late (unspent w h) A (held_of h) i.held
 
     touches : Sorted w h e true true false false → is_live (prompt_of w h) 10000 T ≡ true → Inv w (e ∷ h)
-    touches x is_live = record {
+    touches x is_live_lem = record {
       held = rw (last_next h w x, unspent_next h w x, held_next h w x, asker_next h w x)
-          (touch_mark w e h, unspent w h, refl, refl, stay_old w (last_moment h) T late (unspent w h) (prompt_old w (last_moment h) T (unspent w h) (prompt_of w h) is_live i.prompting), λ y. refl);
+          (touch_mark w e h, unspent w h, refl, refl, stay_old w (last_moment h) T late (unspent w h) (prompt_old w (last_moment h) T (unspent w h) (prompt_of w h) is_live_lem i.prompting), λ y. refl);
       prompting = rw (last_next h w x, unspent_next h w x, prompt_next h w x) tt;
       real = rw (asker_next h w x) i.real;
     }
 
     spends : Sorted w h e true false true false → is_live (held_of h) w T ≡ true → A ≡ side_of e.call.role → Inv w (e ∷ h)
-    spends x is_live own = record {
+    spends x is_live_lem own = record {
       held = rw (last_next h w x, unspent_next h w x, held_next h w x) gone;
       prompting = rw (last_next h w x, unspent_next h w x, prompt_next h w x) (any_window (prompt_of w h));
       real = rw (asker_next h w x) i.real;
     }
       where
         gone : AllOld w T (left h w x)
-        gone = rw own at (left_old w A T (unspent w h) (held_of h) is_live now)
+        gone = rw own at (left_old w A T (unspent w h) (held_of h) is_live_lem now)
 
         any_window : (y : Window) → Prompting w T (left h w x) y
         any_window Closed = tt
@@ -191,8 +191,8 @@ module _ (w : ℕ) (h : List Event) (e : Event) where
     prompting = rw (last_next h w x, unspent_next h w x, prompt_next h w x) (prompting_later w (last_moment h) T late (unspent w h) (prompt_of w h) i.prompting);
     real = rw (asker_next h w x) i.real;
   }
-  keeps (touched x late is_live) i = touches i late x is_live
-  keeps (spent x late is_live own) i = spends i late x is_live own
+  keeps (touched x late is_live_lem) i = touches i late x is_live_lem
+  keeps (spent x late is_live_lem own) i = spends i late x is_live_lem own
   keeps (prompted x late not_live known) i = prompts i late x not_live known
 
 -- the same at a later moment
@@ -202,7 +202,7 @@ held_now w h t late i = held_later w (last_moment h) t late (unspent w h) (asker
 pub live_held : (w : ℕ) (h : List Event) (t : ℕ) → Inv w h → last_moment h ≤ t → is_live (held_of h) w t ≡ is_any (held_at w h t)
 live_held w h t i late = live_any w (asker_of w h) t (unspent w h) (held_of h) (held_now w h t late i)
 
-pub found_held : (w : ℕ) (h : List Event) (s t : ℕ) → Inv w h → last_moment h ≤ t → held_for w h s t ≡ (if eqb (asker_of w h) s then held_at w h t else [])
+pub found_held : (w : ℕ) (h : List Event) (s t : ℕ) → Inv w h → last_moment h ≤ t → held_for w h s t ≡ (when eqb (asker_of w h) s then held_at w h t else [])
 found_held w h s t i late = window_found w (asker_of w h) s t (unspent w h) (held_of h) (held_now w h t late i)
 
 pub inv_at_first : {w : ℕ} → Inv w []

@@ -24,8 +24,8 @@ bad_window w = either (ℕ_discrete w 0) (dec_lt 60000 w)
 pub bad_moment : (last t : ℕ) → Dec (BadMoment last t)
 bad_moment last t = either (dec_le (2 ^ 48) t) (dec_lt t last)
 
-pub is_r6 : (w : ℕ) → BadWindow w → is_r6 w ≡ true
-is_r6 w = ⊎_elim (λ z. rw (eq-eqb w 0 z)) (λ z. rw (lt-ltb 60000 w z, or-true (eqb w 0)))
+pub is_r6_lem : (w : ℕ) → BadWindow w → is_r6 w ≡ true
+is_r6_lem w = ⊎_elim (λ z. rw (eq-eqb w 0 z)) (λ z. rw (lt-ltb 60000 w z, or-true (eqb w 0)))
 
 pub not_r6 : (w : ℕ) → (BadWindow w → ⊥) → is_r6 w ≡ false
 not_r6 w h =
@@ -35,8 +35,8 @@ not_r6 w h =
 pub bad_side : (named asker : ℕ) → Dec (BadSide named asker)
 bad_side named asker = either (dec_lt 1 named) (dec_lt 1 asker)
 
-is_r8 : (named asker : ℕ) → BadSide named asker → is_r8 named asker ≡ true
-is_r8 named asker = ⊎_elim (λ z. rw (lt-ltb 1 named z)) (λ z. rw (lt-ltb 1 asker z, or-true (ltb 1 named)))
+is_r8_lem : (named asker : ℕ) → BadSide named asker → is_r8 named asker ≡ true
+is_r8_lem named asker = ⊎_elim (λ z. rw (lt-ltb 1 named z)) (λ z. rw (lt-ltb 1 asker z, or-true (ltb 1 named)))
 
 not_r8 : (named asker : ℕ) → (BadSide named asker → ⊥) → is_r8 named asker ≡ false
 not_r8 named asker h =
@@ -44,8 +44,8 @@ not_r8 named asker h =
     let q : 1 < asker → ⊥ = λ z. h (inr z) in
     rw (le-ltb 1 named (omega (arith, p)), le-ltb 1 asker (omega (arith, q)))
 
-pub is_r1 : (last t : ℕ) → BadMoment last t → is_r1 last t ≡ true
-is_r1 last t = ⊎_elim (λ z. rw (le-leb (2 ^ 48) t z)) (λ z. rw (lt-ltb t last z, or-true (leb (2 ^ 48) t)))
+pub is_r1_lem : (last t : ℕ) → BadMoment last t → is_r1 last t ≡ true
+is_r1_lem last t = ⊎_elim (λ z. rw (le-leb (2 ^ 48) t z)) (λ z. rw (lt-ltb t last z, or-true (leb (2 ^ 48) t)))
 
 pub not_r1 : (last t : ℕ) → (BadMoment last t → ⊥) → is_r1 last t ≡ false
 not_r1 last t h =
@@ -57,15 +57,15 @@ not_r1 last t h =
 module _ (p : Presence) (s t : ℕ) where
   pub settle_r6 : BadWindow p.w → settle_of p s t ≡ R 6
   unfolding settle_of
-  settle_r6 b = rw (is_r6 p.w b)
+  settle_r6 b = rw (is_r6_lem p.w b)
 
   pub settle_r8 : (BadWindow p.w → ⊥) → BadSide s p.asker → settle_of p s t ≡ R 8
   unfolding settle_of
-  settle_r8 g b = rw (not_r6 p.w g, is_r8 s p.asker b)
+  settle_r8 g b = rw (not_r6 p.w g, is_r8_lem s p.asker b)
 
   pub settle_r1 : (BadWindow p.w → ⊥) → (BadSide s p.asker → ⊥) → BadMoment p.last t → settle_of p s t ≡ R 1
   unfolding settle_of
-  settle_r1 g h b = rw (not_r6 p.w g, not_r8 s p.asker h, is_r1 p.last t b)
+  settle_r1 g h b = rw (not_r6 p.w g, not_r8 s p.asker h, is_r1_lem p.last t b)
 
   pub settle_moves : NotRefused p s t → settle_of p s t ≡ Gives (moved_to p t)
   unfolding settle_of

@@ -1,7 +1,7 @@
 -- What is promised of presence beyond the functions' own promises: open this file first. Proved in proofs/Theorems.antt under the
 -- same names; proofs/Only.antt shows that no other function meets them, proofs/Refuted.antt that wrong ones do not.
-use Rattle.std.specs.Prelude.{List, [], ◌∷◌, length, ◌↔◌}
-use Rattle.u2f_up_stated.specs.Words.{ℕ, ◌+◌, ◌<◌, ◌≤◌, ◌≡◌, Bool, true, false, R, Gives, AtMostOne, Closed, Opened, Outcome, Refusal, refusal_no, Presence, Finding}
+use Rattle.std.specs.Prelude.{List, [], ◌∷◌, length, ◌↔◌, ◌+◌, ◌<◌, ◌≤◌, ◌≡◌}
+use Rattle.u2f_up_stated.specs.Words.{ℕ, Bool, true, false, R, Gives, AtMostOne, Closed, Opened, Outcome, Refusal, refusal_no, Presence, Finding}
 use Rattle.u2f_up_stated.specs.Moments.{Told, checked_of, granted_of}
 use Rattle.u2f_up_stated.specs.Numbers.{presence_in, number_of}
 use Rattle.u2f_up_stated.specs.Answers.{Ready, Answer, Step, ready_of, outcome_of, told_of, lent_step}

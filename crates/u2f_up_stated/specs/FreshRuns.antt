@@ -1,6 +1,6 @@
 -- Demand 3 (Demand.antt) of the calls `ds`, by the definitions or another way of calling, on a fresh record with touch window `w`.
-use Rattle.std.specs.Prelude.{List}
-use Rattle.u2f_up_stated.specs.Words.{ℕ, ◌≡◌, Opened}
+use Rattle.std.specs.Prelude.{List, ◌≡◌}
+use Rattle.u2f_up_stated.specs.Words.{ℕ, Opened}
 use Rattle.u2f_up_stated.specs.Runs.{Caller, after, comes_to, history}
 use Rattle.u2f_up_stated.specs.Demand.{RunMeets}
 

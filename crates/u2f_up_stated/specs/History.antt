@@ -22,7 +22,7 @@ is_moving e = is_timed e.came
 -- The last moment of a history, 0 in a new one.
 unfoldable pub last_moment : List Event → ℕ
 last_moment [] = 0
-last_moment (e ∷ past) = if is_moving e then e.call.moment else last_moment past
+last_moment (e ∷ past) = when is_moving e then e.call.moment else last_moment past
 
 -- A touch, or a prompting refusal: which event it is, counted from 0 in the order of the calls, its moment, and whose it is. Two touches may
 -- share a moment; they never share a number.
@@ -37,7 +37,7 @@ marked s e past = record { number = length past; moment = e.call.moment; side = 
 -- those of a list that the test picks
 abbrev pub those : {A : Type 0} → (A → Bool) → List A → List A
 those picks [] = []
-those picks (a ∷ rest) = if picks a then a ∷ those picks rest else those picks rest
+those picks (a ∷ rest) = when picks a then a ∷ those picks rest else those picks rest
 
 abbrev pub is_any : List Mark → Bool
 is_any [] = false
@@ -73,14 +73,14 @@ unfoldable mutual
   pub latest_prompt : ℕ → List Event → Option Mark
   latest_prompt w [] = none
   latest_prompt w (e ∷ past) =
-      if is_prompting_by e (those (is_young w e.call.moment) (unspent w past)) then some (marked (side_of e.call.role) e past)
+      when is_prompting_by e (those (is_young w e.call.moment) (unspent w past)) then some (marked (side_of e.call.role) e past)
       else latest_prompt w past
 
   pub unspent : ℕ → List Event → List Mark
   unspent w [] = []
   unspent w (e ∷ past) =
-      if is_accepted e then marked (side_asked (latest_prompt w past)) e past ∷ unspent w past
-      else if is_spending e then those (λ k. not (is_found w (side_of e.call.role) e.call.moment k)) (unspent w past)
+      when is_accepted e then marked (side_asked (latest_prompt w past)) e past ∷ unspent w past
+      else when is_spending e then those (λ k. not (is_found w (side_of e.call.role) e.call.moment k)) (unspent w past)
       else unspent w past
 
 -- the asking side: "A prompting refusal makes its side the asker, in place of any earlier."
@@ -103,11 +103,11 @@ held_for w past s t = those (is_found w s t) (unspent w past)
 -- The touches that were accepted, and the latest of them.
 unfoldable pub accepted : ℕ → List Event → List Mark
 accepted w [] = []
-accepted w (e ∷ past) = if is_accepted e then touch_mark w e past ∷ accepted w past else accepted w past
+accepted w (e ∷ past) = when is_accepted e then touch_mark w e past ∷ accepted w past else accepted w past
 
 unfoldable pub latest_touch : ℕ → List Event → Option Mark
 latest_touch w [] = none
-latest_touch w (e ∷ past) = if is_accepted e then some (touch_mark w e past) else latest_touch w past
+latest_touch w (e ∷ past) = when is_accepted e then some (touch_mark w e past) else latest_touch w past
 
 -- 's comes after', in the order of the calls; everything comes after what never was.
 abbrev pub is_after : Mark → Option Mark → Bool
@@ -130,7 +130,7 @@ lapsed w past = those (is_past_w w (last_moment past)) (unspent w past)
 -- The spent touches, call by call. (Used in proofs alone.)
 unfoldable pub served : ℕ → List Event → List Mark
 served w [] = []
-served w (e ∷ past) = if is_spending e then held_for w past (side_of e.call.role) e.call.moment ++ served w past else served w past
+served w (e ∷ past) = when is_spending e then held_for w past (side_of e.call.role) e.call.moment ++ served w past else served w past
 
 -- Which touch served a call that spent one, said without a word of what is spent: the latest accepted one before it.
 abbrev pub server_of : ℕ → List Event → Option Mark
@@ -139,7 +139,7 @@ server_of w past = latest_touch w past
 -- The touches that served the calls of a history, call by call.
 unfoldable pub servers : ℕ → List Event → List (Option Mark)
 servers w [] = []
-servers w (e ∷ past) = if is_spending e then server_of w past ∷ servers w past else servers w past
+servers w (e ∷ past) = when is_spending e then server_of w past ∷ servers w past else servers w past
 
 abbrev pub is_named : ℕ → Option Mark → Bool
 is_named n none = false
@@ -157,17 +157,17 @@ spenders_of s past = length (those (is_spending_for s) past)
 
 -- What a history says of its next call, where neither side nor moment is refused.
 abbrev pub unrefused : ℕ → List Event → Role → ℕ → Came
-unrefused w past Touching t = if is_prompt_standing w past t then TouchAccepted else TouchIgnored
-unrefused w past (Checking s) t = if is_any (held_for w past s t) then TouchFound else NoTouchFound
-unrefused w past Asking t = if is_prompt_standing w past t then PromptStands else NoPromptStands
+unrefused w past Touching t = when is_prompt_standing w past t then TouchAccepted else TouchIgnored
+unrefused w past (Checking s) t = when is_any (held_for w past s t) then TouchFound else NoTouchFound
+unrefused w past Asking t = when is_prompt_standing w past t then PromptStands else NoPromptStands
 unrefused w past (Settling s) t = AnsweredBefore
 unrefused w past (TooShort s) t = RefusedBy 2
 
 -- And before that R8, "for a side other than 0 or 1", then R1, "moment 2^48 or more, or before the record's last moment"
 unfoldable pub foretold : ℕ → List Event → Call → Came
 foretold w past c =
-    if is_bad_side (side_of c.role) then RefusedBy 8
-    else if is_r1 (last_moment past) c.moment then RefusedBy 1
+    when is_bad_side (side_of c.role) then RefusedBy 8
+    else when is_r1 (last_moment past) c.moment then RefusedBy 1
     else unrefused w past c.role c.moment
 
 -- ---- what the demand says of a history, as claims

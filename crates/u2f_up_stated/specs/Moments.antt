@@ -1,7 +1,8 @@
 -- Document 01, 'Moments and touches' and, of 'Refusal numbers', R1 and R6, with document 02, E7, 'A touch belongs to whoever asked':
 -- the presence record, and what touch, check and ask do to it. In a record, w is W, prompt and touch are the two windows, last is the
 -- last moment, asker is the number of the asking side. In `f p s t`, s is the side that the call names.
-use Rattle.u2f_up_stated.specs.Words.{ℕ, ◌+◌, ◌^◌, Bool, true, false, not, ◌||◌, ltb, leb, eqb, if◌then◌else◌}
+use Rattle.std.specs.Prelude.{◌+◌, ◌^◌, ◌||◌}
+use Rattle.u2f_up_stated.specs.Words.{ℕ, Bool, true, false, not, ltb, leb, eqb, when◌then◌else◌}
 use Rattle.u2f_up_stated.specs.Words.{Outcome, R, Word, Gives, Window, Closed, Opened, Presence, Finding}
 
 -- 01, Moments and touches: "A window opened at m with length d is live at t when t < m + d, as whole numbers"
@@ -35,7 +36,7 @@ fresh w = record { w = w; prompt = Closed; touch = Closed; last = 0; asker = 0 }
 -- 01, Moments and touches: "A fresh record is made with a touch window W of 1..60,000 ..; a refused making hands back no record."
 unfoldable pub new_of : ℕ → Outcome Presence
 new_of w =
-    if is_r6 w then R 6
+    when is_r6 w then R 6
     else Gives (fresh w)
 
 -- The four ways in which a record moves; each sets what it names and keeps the rest.
@@ -59,24 +60,24 @@ prompt_opened p s t = record { w = p.w; prompt = Opened t; touch = p.touch; last
 -- 01, Moments and touches: "Touch, check and ask give R6, then R1, before all else."; 02, E7: R8 "after R6 and before R1"
 unfoldable pub settle_of : Presence → (side t : ℕ) → Outcome Presence
 settle_of p s t =
-    if is_r6 p.w then R 6
-    else if is_r8 s p.asker then R 8
-    else if is_r1 p.last t then R 1
+    when is_r6 p.w then R 6
+    else when is_r8 s p.asker then R 8
+    else when is_r1 p.last t then R 1
     else Gives (moved_to p t)
 
 -- 01, Moments and touches: "Touch (grant_up) is accepted when the prompt is live; then the prompt closes and a touch window
 -- opens. Otherwise nothing but the last moment moves." Here the last moment has moved already.
 unfoldable pub granted_of : Presence → ℕ → Finding
 granted_of p t =
-    if is_prompting p t then record { yes = true; presence = touch_opened p t }
+    when is_prompting p t then record { yes = true; presence = touch_opened p t }
     else record { yes = false; presence = p }
 
 -- 01, Moments and touches: "The touch check (consume_up): with a live touch, it is spent; without, a prompt window opens"; 02, E7: "If the
 -- other side reaches the touch check while a touch is live, it gets 6985, nothing is opened or spent"
 unfoldable pub checked_of : Presence → (side t : ℕ) → Finding
 checked_of p s t =
-    if not (is_live p.touch p.w t) then record { yes = false; presence = prompt_opened p s t }
-    else if not (eqb p.asker s) then record { yes = false; presence = p }
+    when not (is_live p.touch p.w t) then record { yes = false; presence = prompt_opened p s t }
+    else when not (eqb p.asker s) then record { yes = false; presence = p }
     else record { yes = true; presence = touch_closed p }
 
 -- What a call comes to: its outcome, and the record after it.

@@ -1,6 +1,6 @@
 -- Ours: the presence record lent as five numbers, in this order: W, prompt, touch, last moment, asker; and the touch check and the touch on it.
-use Rattle.std.specs.Prelude.{get_or, List}
-use Rattle.u2f_up_stated.specs.Words.{ℕ, zero, suc, ◌+◌, eqb, true, false, not, if◌then◌else◌, Window, Closed, Opened, Presence, Finding}
+use Rattle.std.specs.Prelude.{get_or, List, ◌+◌}
+use Rattle.u2f_up_stated.specs.Words.{ℕ, zero, suc, eqb, true, false, not, when◌then◌else◌, Window, Closed, Opened, Presence, Finding}
 use Rattle.u2f_up_stated.specs.Moments.{is_live, is_prompting}
 
 -- DECISIONS, a window as one number: 0 is closed, any other number a window that was opened at the moment before it
@@ -14,16 +14,16 @@ presence_in s = record { w = get_or s 0 0; prompt = window_of (get_or s 1 0); to
 -- a moment's number in a window, one more; the greatest of 64 bits has none after it, and is its own number, which says the moment before. No moment that
 -- settles comes near it
 abbrev pub number_of : ℕ → ℕ
-number_of t = if eqb t 0xffffffffffffffff then 0xffffffffffffffff else t + 1
+number_of t = when eqb t 0xffffffffffffffff then 0xffffffffffffffff else t + 1
 
 -- the touch check and the touch of Moments.antt, where the window that opens has such a number: at a moment that settles they are `checked_of` and `granted_of`
 unfoldable pub checked_in : Presence → (side t : ℕ) → Finding
 checked_in p s t =
-    if not (is_live p.touch p.w t) then record { yes = false; presence = record { w = p.w; prompt = window_of (number_of t); touch = p.touch; last = p.last; asker = s } }
-    else if not (eqb p.asker s) then record { yes = false; presence = p }
+    when not (is_live p.touch p.w t) then record { yes = false; presence = record { w = p.w; prompt = window_of (number_of t); touch = p.touch; last = p.last; asker = s } }
+    else when not (eqb p.asker s) then record { yes = false; presence = p }
     else record { yes = true; presence = record { w = p.w; prompt = p.prompt; touch = Closed; last = p.last; asker = p.asker } }
 
 unfoldable pub granted_in : Presence → ℕ → Finding
 granted_in p t =
-    if is_prompting p t then record { yes = true; presence = record { w = p.w; prompt = Closed; touch = window_of (number_of t); last = p.last; asker = p.asker } }
+    when is_prompting p t then record { yes = true; presence = record { w = p.w; prompt = Closed; touch = window_of (number_of t); last = p.last; asker = p.asker } }
     else record { yes = false; presence = p }

@@ -1,6 +1,6 @@
 -- What each public function promises: of its inputs, its result `r` and, where a record is lent, the record `q` at exit.
-use Rattle.u2f_up_stated.specs.Words.{ℕ, ◌≡◌, Presence, Finding}
-use Rattle.std.specs.Prelude.{List, Bool}
+use Rattle.u2f_up_stated.specs.Words.{ℕ, Presence, Finding}
+use Rattle.std.specs.Prelude.{List, Bool, ◌≡◌}
 use Rattle.u2f_up_stated.specs.Numbers.{presence_in, checked_in, granted_in}
 use Rattle.u2f_up_stated.specs.Moments.{new_of, moved_to, settle_of, checked_of, touch_of, check_of, ask_of}
 use Rattle.u2f_up_stated.specs.Answers.{Ready, Answer, Step, ready_of, outcome_of, told_of}

@@ -1,6 +1,6 @@
 -- Runs: calls on a presence record, each taking the record that the one before gave back, and the history that this makes.
-use Rattle.std.specs.Prelude.{List, [], ◌∷◌}
-use Rattle.u2f_up_stated.specs.Words.{ℕ, Bool, true, if◌then◌else◌, Outcome, R, Word, Gives, ◌≡◌, Presence}
+use Rattle.std.specs.Prelude.{List, [], ◌∷◌, ◌≡◌}
+use Rattle.u2f_up_stated.specs.Words.{ℕ, Bool, true, when◌then◌else◌, Outcome, R, Word, Gives, Presence}
 use Rattle.u2f_up_stated.specs.Moments.{Told, fresh, settle_of, refused, on_settled, touch_of, check_of, ask_of}
 use Rattle.u2f_up_stated.specs.History.{Role, Touching, Checking, Asking, Settling, TooShort, Call, Event}
 use Rattle.u2f_up_stated.specs.History.{Came, RefusedBy, TouchAccepted, TouchIgnored, TouchFound, NoTouchFound, PromptStands, NoPromptStands, AnsweredBefore}
@@ -30,9 +30,9 @@ own = record { as_call = λ c. c; does = λ p c. done_by c.role p c.moment }
 
 -- What came of a call of each role, by its outcome. (No call gives a status word here.)
 abbrev pub came_of_given : Role → Bool → Came
-came_of_given Touching given = if given then TouchAccepted else TouchIgnored
-came_of_given (Checking s) given = if given then TouchFound else NoTouchFound
-came_of_given Asking given = if given then PromptStands else NoPromptStands
+came_of_given Touching given = when given then TouchAccepted else TouchIgnored
+came_of_given (Checking s) given = when given then TouchFound else NoTouchFound
+came_of_given Asking given = when given then PromptStands else NoPromptStands
 came_of_given (Settling s) given = AnsweredBefore
 came_of_given (TooShort s) given = AnsweredBefore
 

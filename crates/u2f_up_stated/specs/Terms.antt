@@ -1,6 +1,6 @@
 -- Words that only the claims use: those of Conditions.antt and of History.antt's end, a live prompt, and what comes before all else.
-use Rattle.std.specs.Prelude.{◌↔◌}
-use Rattle.u2f_up_stated.specs.Words.{ℕ, ◌+◌, ◌<◌, ◌≡◌, R, Opened, Presence}
+use Rattle.std.specs.Prelude.{◌↔◌, ◌+◌, ◌<◌, ◌≡◌}
+use Rattle.u2f_up_stated.specs.Words.{ℕ, R, Opened, Presence}
 use Rattle.u2f_up_stated.specs.Moments.{Told}
 pub use Rattle.u2f_up_stated.specs.Conditions.{BadWindow, BadSide, BadMoment, NotRefused, HasTouch}
 pub use Rattle.u2f_up_stated.specs.History.{RefusedAt, NamesBadSide, ServesOnce}

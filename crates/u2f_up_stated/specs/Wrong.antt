@@ -1,8 +1,8 @@
 -- Wrong programs, each with one fault. proofs/Refuted.antt shows of each that a claim is false of it.
-use Rattle.std.specs.Prelude.{◌%◌, List, [], ◌∷◌, get_or}
-use Rattle.u2f_up_stated.specs.Words.{ℕ, zero, suc, ◌+◌, ◌^◌, Bool, true, false, not, ◌&&◌, ◌||◌, eqb, ltb, leb, if◌then◌else◌, Outcome, R, Gives, refusal_no, Window, Closed, Opened, Presence, Finding}
+use Rattle.std.specs.Prelude.{◌%◌, List, [], ◌∷◌, get_or, ◌+◌, ◌^◌, ◌&&◌, ◌||◌}
+use Rattle.u2f_up_stated.specs.Words.{ℕ, zero, suc, Bool, true, false, not, eqb, ltb, leb, when◌then◌else◌, Outcome, R, Gives, refusal_no, Window, Closed, Opened, Presence, Finding}
 use Rattle.u2f_up_stated.specs.Moments.{fresh, Told, is_live, is_prompting, is_r6, is_bad_side, is_r8, is_r1, moved_to, settle_of, gave, refused, touch_opened, touch_closed, prompt_opened, on_settled, granted_of, checked_of}
-use Rattle.u2f_up_stated.specs.Numbers.{window_of, presence_in, number_of, checked_in, granted_in}
+use Rattle.u2f_up_stated.specs.Numbers.{window_of, presence_in, number_of, checked_in}
 use Rattle.u2f_up_stated.specs.Answers.{Ready, Answer, Step, outcome_of}
 use Rattle.u2f_up_stated.specs.declared.Ready.TheVariants as Ready'
 use Rattle.u2f_up_stated.specs.declared.Answer.TheVariants as Answer'
@@ -15,47 +15,47 @@ abbrev pub refuses_everything : ℕ → Outcome Presence
 refuses_everything w = R 6
 
 abbrev pub takes_zero : ℕ → Outcome Presence
-takes_zero w = if ltb 60000 w then R 6 else Gives (fresh w)
+takes_zero w = when ltb 60000 w then R 6 else Gives (fresh w)
 
 abbrev pub takes60001 : ℕ → Outcome Presence
-takes60001 w = if eqb w 0 then R 6 else if ltb 60001 w then R 6 else Gives (fresh w)
+takes60001 w = when eqb w 0 then R 6 else when ltb 60001 w then R 6 else Gives (fresh w)
 
 abbrev pub refuses60000 : ℕ → Outcome Presence
-refuses60000 w = if eqb w 0 then R 6 else if ltb 59999 w then R 6 else Gives (fresh w)
+refuses60000 w = when eqb w 0 then R 6 else when ltb 59999 w then R 6 else Gives (fresh w)
 
 -- "0 when fresh": side 1
 abbrev pub fresh_side1 : ℕ → Outcome Presence
-fresh_side1 w = if is_r6 w then R 6 else Gives (record { w = w; prompt = Closed; touch = Closed; last = 0; asker = 1 })
+fresh_side1 w = when is_r6 w then R 6 else Gives (record { w = w; prompt = Closed; touch = Closed; last = 0; asker = 1 })
 
 -- ---- settlings, by the tests that they make in turn: R6's, R8's of the named side and the record's, R1's of the last moment
 abbrev settling : (ℕ → Bool) → (ℕ → ℕ → Bool) → (ℕ → ℕ → Bool) → Presence → (side t : ℕ) → Outcome Presence
 settling r6 r8 r1 p s t =
-    if r6 p.w then R 6
-    else if r8 s p.asker then R 8
-    else if r1 p.last t then R 1
+    when r6 p.w then R 6
+    else when r8 s p.asker then R 8
+    else when r1 p.last t then R 1
     else Gives (moved_to p t)
 
 -- "R6, then R1": the other way round
 abbrev pub r1_first : Presence → (side t : ℕ) → Outcome Presence
 r1_first p s t =
-    if is_r1 p.last t then R 1
-    else if is_r6 p.w then R 6
-    else if is_r8 s p.asker then R 8
+    when is_r1 p.last t then R 1
+    else when is_r6 p.w then R 6
+    else when is_r8 s p.asker then R 8
     else Gives (moved_to p t)
 
 -- R8 "after R6 and before R1": after R1, and before R6
 abbrev pub r8_after_r1 : Presence → (side t : ℕ) → Outcome Presence
 r8_after_r1 p s t =
-    if is_r6 p.w then R 6
-    else if is_r1 p.last t then R 1
-    else if is_r8 s p.asker then R 8
+    when is_r6 p.w then R 6
+    else when is_r1 p.last t then R 1
+    else when is_r8 s p.asker then R 8
     else Gives (moved_to p t)
 
 abbrev pub r8_first : Presence → (side t : ℕ) → Outcome Presence
 r8_first p s t =
-    if is_r8 s p.asker then R 8
-    else if is_r6 p.w then R 6
-    else if is_r1 p.last t then R 1
+    when is_r8 s p.asker then R 8
+    else when is_r6 p.w then R 6
+    else when is_r1 p.last t then R 1
     else Gives (moved_to p t)
 
 -- "a side other than 0 or 1": 2 is taken; "or in the record": it is not looked at; "named": nor is that
@@ -91,7 +91,7 @@ touching grants p t = on_settled p (settle_of p p.asker t) (λ q. gave (grants q
 -- "then the prompt closes and a touch window opens": a touch window that is live already stays as it is
 abbrev keeps_older : Presence → ℕ → Finding
 keeps_older p t =
-    if is_prompting p t then record { yes = true; presence = record { w = p.w; prompt = Closed; touch = if is_live p.touch p.w t then p.touch else Opened t; last = p.last; asker = p.asker } }
+    when is_prompting p t then record { yes = true; presence = record { w = p.w; prompt = Closed; touch = when is_live p.touch p.w t then p.touch else Opened t; last = p.last; asker = p.asker } }
     else record { yes = false; presence = p }
 
 abbrev pub leaves_older : Presence → ℕ → Told
@@ -100,7 +100,7 @@ leaves_older = touching keeps_older
 -- "The prompt window is 10,000": a moment less, a moment more
 abbrev granted_within : ℕ → Presence → ℕ → Finding
 granted_within d p t =
-    if is_live p.prompt d t then record { yes = true; presence = touch_opened p t }
+    when is_live p.prompt d t then record { yes = true; presence = touch_opened p t }
     else record { yes = false; presence = p }
 
 abbrev pub window9999 : Presence → ℕ → Told
@@ -111,7 +111,7 @@ window10001 = touching (granted_within 10001)
 
 -- "An accepted touch belongs to the asker": to side 0, whoever asked
 abbrev pub touch_to0 : Presence → ℕ → Told
-touch_to0 = touching (λ p t. if is_prompting p t then record { yes = true; presence = record { w = p.w; prompt = Closed; touch = Opened t; last = p.last; asker = 0 } } else record { yes = false; presence = p })
+touch_to0 = touching (λ p t. when is_prompting p t then record { yes = true; presence = record { w = p.w; prompt = Closed; touch = Opened t; last = p.last; asker = 0 } } else record { yes = false; presence = p })
 
 -- "Otherwise nothing but the last moment moves": a touch leaves even that
 abbrev pub leaves_the_moment : Presence → ℕ → Told
@@ -133,8 +133,8 @@ checking checks p s t = on_settled p (settle_of p s t) (λ q. gave (checks q s t
 -- by what is done with a live touch of the side that checks, and of the other one, and without one
 abbrev by_test : (Window → ℕ → ℕ → Bool) → (own other without : Presence → (side t : ℕ) → Finding) → Presence → (side t : ℕ) → Finding
 by_test live own other without p s t =
-    if not (live p.touch p.w t) then without p s t
-    else if not (eqb p.asker s) then other p s t
+    when not (live p.touch p.w t) then without p s t
+    else when not (eqb p.asker s) then other p s t
     else own p s t
 
 abbrev by : (own other without : Presence → (side t : ℕ) → Finding) → Presence → (side t : ℕ) → Finding
@@ -194,7 +194,7 @@ live_at_the_end = checking (by_test is_live_still spends leaves prompts)
 
 -- "a prompt window opens at t, replacing an older one": an older live one stays
 abbrev pub keeps_older_prompt : Presence → (side t : ℕ) → Told
-keeps_older_prompt = checking (by spends leaves (λ p s t. if is_prompting p t then record { yes = false; presence = record { w = p.w; prompt = p.prompt; touch = p.touch; last = p.last; asker = s } } else prompts p s t))
+keeps_older_prompt = checking (by spends leaves (λ p s t. when is_prompting p t then record { yes = false; presence = record { w = p.w; prompt = p.prompt; touch = p.touch; last = p.last; asker = s } } else prompts p s t))
 
 -- the check by itself moves nothing but the windows: here the last moment too
 abbrev pub moves_again : Presence → (side t : ℕ) → Finding
@@ -222,7 +222,7 @@ exchanged n = record { w = get_or n 0 0; prompt = window_of (get_or n 2 0); touc
 
 -- a moment's number: the sum wraps; the moment itself
 abbrev pub wraps : ℕ → ℕ
-wraps t = if eqb t 0xffffffffffffffff then 0 else t + 1
+wraps t = when eqb t 0xffffffffffffffff then 0 else t + 1
 
 abbrev pub no_one_more : ℕ → ℕ
 no_one_more t = t
@@ -259,7 +259,7 @@ check_moves_nothing n s t = checked_in (presence_in n) s t
 abbrev accepted_by : (Presence → ℕ → Presence) → List ℕ → ℕ → Finding
 accepted_by opens n t =
     let p = moved_to (presence_in n) t in
-    if is_prompting p t then record { yes = true; presence = opens p t } else record { yes = false; presence = p }
+    when is_prompting p t then record { yes = true; presence = opens p t } else record { yes = false; presence = p }
 
 abbrev pub leaves_prompt : List ℕ → ℕ → Finding
 leaves_prompt = accepted_by (λ p t. record { w = p.w; prompt = p.prompt; touch = window_of (number_of t); last = p.last; asker = p.asker })
@@ -290,15 +290,15 @@ keeps_spent = calling granted_of stays_spent
 -- honours no touch: an accepted one opens nothing. Fails `foretells` and `finds`, at the first check after an accepted touch, and
 -- `one_held`: after the next prompt another is accepted, and the history holds two.
 abbrev pub opens_nothing : Caller Call
-opens_nothing = calling (λ p t. if is_prompting p t then record { yes = true; presence = record { w = p.w; prompt = Closed; touch = Closed; last = p.last; asker = p.asker } } else record { yes = false; presence = p }) checked_of
+opens_nothing = calling (λ p t. when is_prompting p t then record { yes = true; presence = record { w = p.w; prompt = Closed; touch = Closed; last = p.last; asker = p.asker } } else record { yes = false; presence = p }) checked_of
 
 -- one prompt lets in touch after touch. Fails `accepts`, at the second touch after it.
 abbrev pub keeps_prompt : Caller Call
-keeps_prompt = calling (λ p t. if is_prompting p t then record { yes = true; presence = record { w = p.w; prompt = p.prompt; touch = Opened t; last = p.last; asker = p.asker } } else record { yes = false; presence = p }) checked_of
+keeps_prompt = calling (λ p t. when is_prompting p t then record { yes = true; presence = record { w = p.w; prompt = p.prompt; touch = Opened t; last = p.last; asker = p.asker } } else record { yes = false; presence = p }) checked_of
 
 -- an accepted touch opens its window at the prompt's moment. Fails `holds`, where the moments differ.
 abbrev pub opens_at_prompt : Caller Call
-opens_at_prompt = calling (λ p t. if is_prompting p t then record { yes = true; presence = record { w = p.w; prompt = Closed; touch = p.prompt; last = p.last; asker = p.asker } } else record { yes = false; presence = p }) checked_of
+opens_at_prompt = calling (λ p t. when is_prompting p t then record { yes = true; presence = record { w = p.w; prompt = Closed; touch = p.prompt; last = p.last; asker = p.asker } } else record { yes = false; presence = p }) checked_of
 
 -- honours the first touch only. A window opened at 2^48, which no touch opens, says that one was spent: from then on every touch
 -- is accepted as ever, and every check is an ordinary 6985. Fails `foretells`, at the second accepted touch's check.
@@ -308,8 +308,8 @@ is_used_up (Opened m) = leb (2 ^ 48) m
 
 abbrev pub first_only : Caller Call
 first_only = calling
-    (λ p t. if is_prompting p t then record { yes = true; presence = record { w = p.w; prompt = Closed; touch = if is_used_up p.touch then p.touch else Opened t; last = p.last; asker = p.asker } } else record { yes = false; presence = p })
-    (λ p s t. if is_used_up p.touch then prompts p s t else by (λ p s t. record { yes = true; presence = record { w = p.w; prompt = p.prompt; touch = Opened (2 ^ 48); last = p.last; asker = p.asker } }) leaves prompts p s t)
+    (λ p t. when is_prompting p t then record { yes = true; presence = record { w = p.w; prompt = Closed; touch = when is_used_up p.touch then p.touch else Opened t; last = p.last; asker = p.asker } } else record { yes = false; presence = p })
+    (λ p s t. when is_used_up p.touch then prompts p s t else by (λ p s t. record { yes = true; presence = record { w = p.w; prompt = p.prompt; touch = Opened (2 ^ 48); last = p.last; asker = p.asker } }) leaves prompts p s t)
 
 -- 02, E7, over a run: the other side is served; its 6985 opens a prompt, or gives it the touch; the asker is not replaced. The first fails
 -- `finds` and `serves`, at that side's check, and `side_totals` of the side that was served
@@ -367,10 +367,10 @@ short_moves = record { as_call = λ c. c; does = λ p c. short_does c.role p c.m
 
 -- ---- what stands for the base: the touch check asks whose the touch is; settling looks at the record's side
 abbrev pub base_asks_whose : Presence → ℕ → Finding
-base_asks_whose p t = if is_live p.touch p.w t && not (eqb p.asker 0) then record { yes = false; presence = p } else base_checked_of p t
+base_asks_whose p t = when is_live p.touch p.w t && not (eqb p.asker 0) then record { yes = false; presence = p } else base_checked_of p t
 
 abbrev pub base_looks_at_side : Presence → ℕ → Outcome Presence
-base_looks_at_side p t = if is_bad_side p.asker then R 8 else base_settle_of p t
+base_looks_at_side p t = when is_bad_side p.asker then R 8 else base_settle_of p t
 
 -- ---- a history that no program here made, in the order of the calls: a check at 0 prompts, a touch at 1 is accepted, and checks at 2
 -- and at 3 spend it

@@ -1,6 +1,6 @@
 -- The names that Calls.antt is written with.
 pub use Rattle.std.specs.Prelude.{ℕ, ◌+◌, ◌≤◌, ◌≡◌, ◌⊎◌, length, get_or, Bool, not, List, [], ◌∷◌, eqb, leb}
-pub use Rattle.outcome.specs.Notation.{if◌then◌else◌}
+pub use Rattle.outcome.specs.Notation.{when◌then◌else◌}
 pub use Rattle.outcome.specs.Outcome.{last_refusal}
 pub use Rattle.u2f_up_stated.specs.History.{Role, Touching, Checking, Asking, Call, Came, RefusedBy, AnsweredBefore, Event}
 pub use Rattle.u2f_up_stated.specs.Runs.{came_of_given}

@@ -1,0 +1,10 @@
+-- `brinecandle_consume_up` meets its contract: refused, or the touch check on the numbers.
+use borrow.Author.Rules.{rules}
+use Rattle.panel_stated.proofs.Cases
+use Rattle.panel.proofs.brinecandle_consume_up.Goals as goal
+
+pub returns-in-Refused : goal.returns-in-Refused
+returns-in-Refused c = (search (rules, Cases.check_refused), search (rules, Cases.check_kept))
+
+pub returns-in-Record : goal.returns-in-Record
+returns-in-Record c = (search (rules, Cases.check_found), search (rules, Cases.check_moved))

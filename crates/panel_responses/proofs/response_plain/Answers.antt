@@ -1,0 +1,10 @@
+-- `response_plain` meets its contract.
+use borrow.Author.Rules.{rules}
+use Rattle.panel_stated.proofs.Cases
+use Rattle.panel_responses.proofs.response_plain.Goals as goal
+
+pub returns-in-Refused : goal.returns-in-Refused
+returns-in-Refused c = search (rules, Cases.response_refused)
+
+pub returns-in-Response : goal.returns-in-Response
+returns-in-Response c = search (rules, Cases.response_read_lem)

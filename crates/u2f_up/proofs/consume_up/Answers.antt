@@ -1,0 +1,10 @@
+-- `u2f_up::consume_up` meets its contract: each return is a law of proofs/Cases.antt.
+use borrow.Author.Rules.{rules}
+use Rattle.u2f_up_stated.proofs.Cases
+use Rattle.u2f_up.proofs.consume_up.Goals as goal
+
+pub returns-in-Refused : goal.returns-in-Refused
+returns-in-Refused c = search (rules, Cases.check_refused)
+
+pub returns-in-Record : goal.returns-in-Record
+returns-in-Record c = search (rules, Cases.check_found)
