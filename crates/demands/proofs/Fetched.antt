@@ -145,12 +145,12 @@ module _ (P : Panel) (M : Meets P) where
     fetched_same r [] = refl
     fetched_same r (i ∷ is) =
         ap₂ (λ (a : List ℕ) (k : Remainder). a ++ fetched P body k is) (bytes_same r i) (left_same r i)
-        ∙ ap (λ (l : List ℕ). response_body_of (S.sent_in decision_of remainder_left part_left body r (visit_of i)) ++ l) (fetched_same _ is)
+        ∙ ap (λ (l : List ℕ). response_body_of (S.sent_in decision_of remainder_left part_left body r (visit_of i)) ++ l) (fetched_same (S.left_in decision_of remainder_left part_left body r (visit_of i)) is)
 
     pub after_same : (r : Remainder) (is : List ToDecide) → left_after P body r is ≡ S.left_over decision_of remainder_left part_left body r (visits is)
     unfolding left_after
     after_same r [] = refl
-    after_same r (i ∷ is) = ap (λ (k : Remainder). left_after P body k is) (left_same r i) ∙ after_same _ is
+    after_same r (i ∷ is) = ap (λ (k : Remainder). left_after P body k is) (left_same r i) ∙ after_same (S.left_in decision_of remainder_left part_left body r (visit_of i)) is
 
     each_fetches : {is : List ToDecide} → Each (IsC0 P) is → S.Each S.IsFetch (visits is)
     each_fetches none = S.none

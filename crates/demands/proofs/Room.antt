@@ -1,6 +1,6 @@
 -- Room, for the data sheet: of a panel that meets its contracts, by what R2 tells (ctap1_stated's `room_missing`, signing_stated's `finish_short`).
 use Prim.Native.Nat.{ℕ, ◌+◌, ◌-◌, ◌<◌, ◌≤◌}
-use mathlib.Core.Path.{◌≡◌, refl, ap, sym, ◌∙◌}
+use mathlib.Core.Path.{◌≡◌, refl, ap, sym, subst, ◌∙◌}
 use mathlib.Core.Logic.{◌⊎◌, inl, inr, ⊎_elim}
 use mathlib.Core.List.{List}
 use native.Mathlib.Omega.{arith}
@@ -10,6 +10,7 @@ use Rattle.apdu_stated.specs.Answers.{Says}
 use Rattle.apdu_stated.specs.Reading.{read_by, say_of, lengths_of, short_of, extended_of, after_data}
 use Rattle.command_stated.specs.Command.{GetResponse, Register, command_of, on_reading, by_instruction, register_of}
 use Rattle.response_stated.specs.Parts.{part_length}
+use Rattle.signing_stated.specs.Words.{Order}
 use Rattle.signing_stated.specs.Finishing.{finish_of, length_of, room_needed}
 use Rattle.signing_stated.proofs.Laws.{finish_short, finish_within}
 use Rattle.u2f_up_stated.specs.declared.Presence.{Presence}
@@ -87,7 +88,7 @@ module _ (P : Panel) (M : Meets P) where
     -- the room that it asks for was there at the decision
     room : room_needed (to_end (decided_by i).order.kind f).order ≤ n
     room =
-        rw (is_its P M i f lent.ordered lent.order lent.block)
+        subst (λ (o : Order). room_needed o ≤ n) (sym (is_its P M i f lent.ordered lent.order lent.block))
         (omega (arith, s.reply, order_has_room (presence_in i.presence) i.moment (inputs_in i) (order_given P M i lent.ordered)))
 
     finish_served : (P.finish f).said.answer ≡ 2 → ⊥
