@@ -5,13 +5,14 @@ tried=0
 # the words that CHECK is run with, where a part of the repository is enough
 only=
 
-fresh_copy() {
+# all but what is built, and .git
+whole_copy() {
     rm -rf "$room/copy"
     mkdir "$room/copy" || return 1
-    # all but what is built, and .git
-    for part in .ci *; do
-        [ "$part" = target ] || cp -R "$part" "$room/copy" || return 1
-    done
+    tar -cf - --warning=no-file-changed --no-wildcards-match-slash --exclude=./target --exclude=./.git --exclude='./crates/*/out' . | tar -xf - -C "$room/copy"
+}
+fresh_copy() {
+    whole_copy
 }
 
 trial() { # CHECK FILE SED-EDIT

@@ -41,10 +41,15 @@ needs_rt() {
     exit 1
 }
 
-# The toolchain's folder.
+# The toolchain's folder: its compiler is toolchain/bin/clang, its linker bin/rattle-link.
 kit() {
-    [ -n "${RATTLE_HOME:-}" ] || needs_rt
-    echo "${RATTLE_HOME:-$(dirname "$(dirname "$(rt doc)")")}"
+    needs_rt
+    dirname "$(rt doc)"
+}
+
+# What was changed in the crates since FILE was made. What rt makes of them, crates/NAME/out, is none of it.
+newer_than() { # FILE
+    find crates crates.txt -path 'crates/*/out' -prune -o -type f -newer "$1" -print
 }
 
 # A command that is heard only where it fails.
@@ -68,13 +73,16 @@ version_symbol() {
     echo "brinecandle_is_$(version | tr . _)"
 }
 
-# Makes the archive, target/staticlib/libpanel.a. Its code is written only once its crate is proved: not twice for the same text.
+# Makes the archive, target/staticlib/libpanel.a: that of `rt lib` in the panel's folder, which writes code only once the crate is proved, and
+# proves what is kept from no earlier run. Not twice for the same text.
 proved_archive() { # LOG
     made=target/staticlib/libpanel.a
-    if [ ! -f "$made" ] || [ -n "$(find crates crates.txt -type f -newer "$made")" ]; then
+    if [ ! -f "$made" ] || [ -n "$(newer_than "$made")" ]; then
         needs_rt
         echo "Proving the panel's core, which takes some minutes ($1 says how far it is)" >&2
-        quietly "$1" rt staticlib panel
+        quietly "$1" env -C crates/panel rt lib
+        mkdir -p target/staticlib
+        cp crates/panel/out/libpanel.a "$made"
     fi
     mark "$made"
 }
@@ -83,7 +91,7 @@ proved_archive() { # LOG
 mark() { # ARCHIVE
     symbol=$(version_symbol)
     [ "$(LC_ALL=C grep -aoE 'brinecandle_is_[0-9]+_[0-9]+' "$1" | sort -u)" != "$symbol" ] || return 0
-    tools=$(kit)/on/$(uname -m)/toolchain/bin
+    tools=$(kit)/toolchain/bin
     echo "const char $symbol = 1;" |
         "$tools/clang" --target=x86_64-unknown-linux-gnu -x c -c -o "$(dirname "$1")/version.o" - &&
         "$tools/llvm-ar" rcsD "$1" "$(dirname "$1")/version.o" || {
