@@ -10,8 +10,8 @@ import time
 from panel import ROOT, Trouble
 
 LOG = ROOT / "target" / "firmware" / "panel.log"  # where firmware/build keeps what the prover says
-# of the archive's own crate it says no more than that the archive is there
-PROVED = re.compile(r"^rt: (?:(\w+) proved \((.*)\)$|target/staticlib/lib(\w+)\.a has )", re.MULTILINE)
+# which crate is being proved, and that it is. What an earlier run built is not named
+PROVED = re.compile(r"^rt: chose --jobs \d+ for (\w+)$|^logic=proved functions=(\d+) ", re.MULTILINE)
 QUIET = 20  # seconds after which it says that it is still there
 
 
@@ -32,7 +32,7 @@ def to_prove(crate):
     for line in (ROOT / "crates.txt").read_text().splitlines():
         name, colon, others = line.split("#")[0].partition(":")
         if colon:
-            leans[name.strip()] = others.split()
+            leans[name.split()[0]] = others.split()
     found, waiting = set(), [crate]
     while waiting:
         name = waiting.pop()
@@ -53,12 +53,13 @@ class Progress:
     def look(self):
         if not LOG.exists():
             return
-        for name, how, archived in PROVED.findall(LOG.read_text(errors="replace")):
-            name = name or archived
-            if name not in self.told:
-                self.told.add(name)
+        crate = None
+        for begun, functions in PROVED.findall(LOG.read_text(errors="replace")):
+            crate = begun or crate
+            if functions and crate and crate not in self.told:
+                self.told.add(crate)
                 self.last = time.monotonic()
-                tell(f"  {len(self.told):>2} of {len(self.crates | self.told)}  {name} proved ({how or 'and the archive written'})")
+                tell(f"  {len(self.told):>2} of {len(self.crates | self.told)}  {crate} proved ({functions} functions)")
         if time.monotonic() - self.last > QUIET:
             self.last = time.monotonic()
             tell(f"  {self.last - self.begun:.0f} s, still at it")
