@@ -74,13 +74,13 @@ version_symbol() {
 }
 
 # Makes the archive, target/staticlib/libpanel.a: that of `rt lib` in the panel's folder, which writes code only once the crate is proved, and
-# proves what is kept from no earlier run. Not twice for the same text.
+# proves what is kept from no earlier run. Not twice for the same text. For every x86-64 processor: rt's own choice is x86-64-v2, with SSE4.
 proved_archive() { # LOG
     made=target/staticlib/libpanel.a
     if [ ! -f "$made" ] || [ -n "$(newer_than "$made")" ]; then
         needs_rt
         echo "Proving the panel's core, which takes some minutes ($1 says how far it is)" >&2
-        quietly "$1" env -C crates/panel rt lib
+        quietly "$1" env -C crates/panel rt lib --cpu x86-64
         mkdir -p target/staticlib
         cp crates/panel/out/libpanel.a "$made"
     fi
