@@ -11,6 +11,7 @@ const LEAST: u64 = 394;
 const MOST: u64 = 0xffff_ffff_ffff_fffd;
 
 // The figures for a reply buffer of `room` bytes.
+#[tactic(auto, using(datasheet_stated::proofs::Cases::row_short, datasheet_stated::proofs::Cases::row_long, datasheet_stated::proofs::Cases::row_within))]
 pub fn row(room: u64) -> Sheet
     ensures { SheetSaid room result }
 {

@@ -215,7 +215,7 @@ pub extern "C" fn brinecandle_decide(
     part: &mut [u8],
 ) -> DecisionSaid
     ensures { BrinecandleDecide (record {
-      presence = presence.entry.now;
+      presence = presence.old;
       session = session.old;
       frame = frame.now;
       side = side;
@@ -228,7 +228,7 @@ pub extern "C" fn brinecandle_decide(
       reply = reply.old;
       block = block.old;
       part = part.old;
-    }) result presence.exit.now session.new reply.new block.new part.new }
+    }) result presence.new session.new reply.new block.new part.new }
 {
     let decided = session::decide(
         presence,

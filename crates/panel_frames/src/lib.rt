@@ -13,6 +13,7 @@ use command::{Ctap1Flags, U2fCommand};
 use outcome::{ApduStatusCode, FaultNumbers};
 use panel_stated::{CommandSaid, FrameSaid, Shaped, Wrote};
 
+#[tactic(auto, unfolding(panel_stated::specs::Numbers::shape_of))]
 pub fn shape_numbered(number: u32) -> Shaped
     ensures { ShapeNumbered number result }
 {

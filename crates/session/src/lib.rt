@@ -130,7 +130,7 @@ fn commanded(
 ) -> Decision
     requires { (reading_of reading ≡ read_of frame.now) × (limit ≡ frame_limit frame.now) }
     ensures { Commanded (record {
-      presence = presence.entry.now;
+      presence = presence.old;
       session = session.now;
       frame = frame.now;
       side = side;
@@ -143,7 +143,7 @@ fn commanded(
       reply = reply.old;
       block = block.old;
       part = part.old;
-    }) result presence.exit.now reply.new block.new part.new }
+    }) result presence.new reply.new block.new part.new }
 {
     let room = reply.len();
     let read = command::on_reading(frame, reading);
@@ -209,7 +209,7 @@ pub fn decide(
     part: &mut [u8],
 ) -> SessionDecision
     ensures { Decide (record {
-      presence = presence.entry.now;
+      presence = presence.old;
       session = session.now;
       frame = frame.now;
       side = side;
@@ -222,7 +222,7 @@ pub fn decide(
       reply = reply.old;
       block = block.old;
       part = part.old;
-    }) result presence.exit.now reply.new block.new part.new }
+    }) result presence.new reply.new block.new part.new }
 {
     let ready = u2f_up::settle(u2f_up::record_lent(presence), side, t);
     match ready {

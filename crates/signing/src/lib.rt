@@ -66,7 +66,7 @@ pub fn register_order(
     block: &mut [u8; 385],
 ) -> Head
     ensures { RegisterOrder (record {
-      application = application.entry.now;
+      application = application.now;
       challenge = challenge.now;
       handle = handle.now;
       x = x.now;
@@ -108,7 +108,7 @@ pub fn authenticate_order(
     counter: u32,
     block: &mut [u8; 385],
 ) -> Head
-    ensures { AuthenticateOrder (record { application = application.entry.now; challenge = challenge.now; present = present; counter = counter }) result block.new }
+    ensures { AuthenticateOrder (record { application = application.now; challenge = challenge.now; present = present; counter = counter }) result block.new }
 {
     if application.len() != 32 {
         return unfit(block);

@@ -140,6 +140,7 @@ fn granted(settled: Presence, t: u64) -> Finding
 // The touch check on a settled record: without a live touch a prompt opens for the side that checks; a live touch is spent if it is
 // that side's, and left where it is if not: field by field, which takes a decision that comes here up to 28 instructions less than the
 // record as a whole. For callers that settled the moment themselves and had more to look at before they came here.
+#[tactic(auto, using(u2f_up_stated::proofs::Cases::checked_prompts, u2f_up_stated::proofs::Cases::checked_other, u2f_up_stated::proofs::Cases::checked_own))]
 pub fn touch_check(presence: Presence, side: u64, t: u64) -> Finding
     ensures { TouchCheck presence side t result }
 {

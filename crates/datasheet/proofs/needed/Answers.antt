@@ -1,6 +1,5 @@
 -- `needed` meets its contract: no buffer, or the room.
 use native.Mathlib.Omega.{arith}
-use borrow.Author.Rules.{rules}
 use Rattle.datasheet_stated.proofs.Cases
 use Rattle.datasheet.proofs.needed.Goals as goal
 

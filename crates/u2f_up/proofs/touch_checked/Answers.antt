@@ -4,7 +4,6 @@ use mathlib.Core.Bool.{not}
 use borrow.Author.Rules.{rules}
 use Prim.Native.Nat.{◌<◌}
 use lib.ListN.{length}
-use lib.Seq.{lt-length-set}
 use Rattle.u2f_up_stated.proofs.OnNumbers
 use Rattle.u2f_up.proofs.touch_checked.Goals as goal
 
@@ -19,12 +18,6 @@ returns-then-asker-side c =
     let a = c.args in
     let long : 4 < length a.numbers.now = search rules in
     (search (rules, OnNumbers.others_no), OnNumbers.others_kept a.numbers.now a.side a.t long _ c.is_number_live-live.ensures (ap not c.if-not-live.false) c.if-asker-side.true)
-
-pub bounds-whole-2-2 : goal.bounds-whole-2-2
-bounds-whole-2-2 c =
-    let a = c.args in
-    let long : 2 < length a.numbers.now = search rules in
-    lt-length-set a.numbers.now 3 a.t long
 
 pub returns : goal.returns
 returns c =
