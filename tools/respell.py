@@ -29,6 +29,16 @@ APART_IN = {
 }
 for _p in "proofs/Lost proofs/RoomForParts proofs/Refuted proofs/Reached specs/Room specs/Sessions specs/Demands/Words specs/Demands specs/Demands/Bodies".split():
     APART_IN[f"crates/demands/{_p}.antt"] = {"first_of": "first_part_of"}
+# where a rule would read badly
+EXACT = {
+    "oneAtATime": "one_at_a_time",
+    "wantsABody": "wants_a_body",
+    "askerOf8Bits": "asker_of_8_bits",
+    "limitOf8Bits": "limit_of_8_bits",
+    "without3E": "without_3e",
+    "withoutCase3E": "without_case_3e",
+    "le7ForCase2S": "le7_for_case_2s",
+}
 HERE = {}  # the names of the file at hand that go another way
 FIELDS = set()
 
@@ -51,6 +61,8 @@ def snake(word, here=None):
         return here[word]
     if word in APART:
         return APART[word]
+    if word in EXACT:
+        return EXACT[word]
     first = word[0]
     if not (first.isalpha() or first == "_") or not re.search(r"[A-Za-z]", word):
         return word
@@ -143,6 +155,7 @@ def turn_source(text):
 
 def contracts(text):
     text = re.sub(r"\bspecs\.Contracts\b", "specs.Promises", text)
+    text = re.sub(r"(?<=_stated's )Contracts\.antt", "Promises.antt", text)
     text = re.sub(r"(?m)^(\s*pub mod )Contracts$", r"\1Promises", text)
     return re.sub(r"\bspecs/Contracts\.antt", "specs/Promises.antt", text)
 

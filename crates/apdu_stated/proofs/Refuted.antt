@@ -67,9 +67,9 @@ pub short_lc_zero : Claims.NoShapeExactly InTable Wrong.short_lc_zero → ⊥
 unfolding small
 short_lc_zero exact = word_gives _ _ (sym ((exact (try (0 ∷ 1 ∷ [])) (bytes_of (try (0 ∷ 1 ∷ [])) refl)).1 (omega arith, no_row)).is)
 
-pub without_case3_e : Claims.IsoExactly Wrong.without_case3_e → ⊥
+pub without_case_3e : Claims.IsoExactly Wrong.without_case_3e → ⊥
 unfolding read_by say_of lengths_of extended_of after_data
-without_case3_e exact = let t = (exact (try (0 ∷ 0 ∷ 1 ∷ 0xAA ∷ [])) Case3E (omega arith)).0 refl in word_gives _ _ t.1
+without_case_3e exact = let t = (exact (try (0 ∷ 0 ∷ 1 ∷ 0xAA ∷ [])) Case3E (omega arith)).0 refl in word_gives _ _ t.1
 
 -- of no ISO case, and no tolerated form
 of_none : (c : IsoCase) → is_case c (0 ∷ 1 ∷ []) ≡ false
@@ -410,12 +410,12 @@ unfolding write_by carried_by frame_of payload_of lc_fits le_fits
 strict_wants_data exact = r_gives _ _ (ap (λ (o : Outcome ℕ × List ℕ). o.0) (exact.other (parts_of h0 Instruction [] 0) nine (λ e. omega arith)))
 
 -- ---- ISO's Nc and Ne
-pub le7_for_case2_s : Claims.IsoCounts Wrong.le7_for_case2_s → ⊥
+pub le7_for_case_2s : Claims.IsoCounts Wrong.le7_for_case_2s → ⊥
 unfolding read_by say_of lengths_of
-le7_for_case2_s exact = omega (arith, le_is _ _ (exact (try (5 ∷ [])) Case2S (omega arith, refl)))
+le7_for_case_2s exact = omega (arith, le_is _ _ (exact (try (5 ∷ [])) Case2S (omega arith, refl)))
 
-pub le7_for_case2_sstrict : Claims.StrictIsIso Wrong.le7_for_case2_s → ⊥
-le7_for_case2_sstrict exact = le7_for_case2_s exact.counts
+pub le7_for_case2_sstrict : Claims.StrictIsIso Wrong.le7_for_case_2s → ⊥
+le7_for_case2_sstrict exact = le7_for_case_2s exact.counts
 
 pub nc_for_ne : Claims.IsoCounts Wrong.nc_for_ne → ⊥
 unfolding read_by say_of lengths_of short_of

@@ -47,13 +47,13 @@ abbrev pub short_lc_zero : List ℕ → Outcome Says
 short_lc_zero frame = when eqb (length frame) 6 && eqb (byte frame 4) 0 then Gives (saying (header_of frame) 4 5 0 (byte frame 5)) else read_of frame
 
 -- ISO's case 3E left out of the table
-abbrev without3_e : Outcome Says → Outcome Says
-without3_e (Gives s) = when eqb s.shape 5 then SW 0x6700 else Gives s
-without3_e (Word s) = Word s
-without3_e (R n) = R n
+abbrev without_3e : Outcome Says → Outcome Says
+without_3e (Gives s) = when eqb s.shape 5 then SW 0x6700 else Gives s
+without_3e (Word s) = Word s
+without_3e (R n) = R n
 
-abbrev pub without_case3_e : List ℕ → Outcome Says
-without_case3_e frame = without3_e (read_of frame)
+abbrev pub without_case_3e : List ℕ → Outcome Says
+without_case_3e frame = without_3e (read_of frame)
 
 -- a row that ISO lacks: `00 01` is a shape numbered 9
 abbrev pub ninth_shape : List ℕ → Outcome Says
@@ -272,8 +272,8 @@ saying_le le shape (R n) = R n
 saying_le le shape (Word w) = Word w
 saying_le le shape (Gives s) = when eqb s.shape shape then Gives (saying s.header s.shape s.data_at s.lc (le s)) else Gives s
 
-abbrev pub le7_for_case2_s : List ℕ → Outcome Says
-le7_for_case2_s frame = saying_le (λ (s : Says). 7) 2 (strict_of frame)
+abbrev pub le7_for_case_2s : List ℕ → Outcome Says
+le7_for_case_2s frame = saying_le (λ (s : Says). 7) 2 (strict_of frame)
 
 abbrev pub nc_for_ne : List ℕ → Outcome Says
 nc_for_ne frame = saying_le (λ (s : Says). s.lc) 4 (strict_of frame)

@@ -1,6 +1,6 @@
 -- What the public functions promise: of what is lent in, of the result, and of the record's numbers and the buffer as they are then. The record's moment is settled
 -- before: a refusal leaves its numbers, every other answer moves the last moment. No remainder is looked at: GET RESPONSE is decided by the session
--- (session_stated's Contracts.antt, `Decide`, which is the decision as a whole).
+-- (session_stated's Promises.antt, `Decide`, which is the decision as a whole).
 use Rattle.std.specs.Prelude.{◌≡◌}
 use Rattle.ctap1_stated.specs.Words.{ℕ, List, length, R, Word, Refusal, refusal_no, ApduStatusCode, word_of, HardwareSaid, Enrolment, unfetched, Decision, alone_from, handed_of, handed_from, left_from}
 use Rattle.ctap1_stated.specs.Numbers.{hardware_of}

@@ -2,7 +2,7 @@
 #![tactic(auto)]
 
 // The figures for a reply buffer of `room` bytes, each in bytes.
-#[derive(Drop)]
+#[derive(Clone, Copy)]
 pub struct Figures {
     pub room: u64,
     // the longest certificate that no Register is refused for, whatever its handle
@@ -19,7 +19,7 @@ pub struct Figures {
 }
 
 // The row of a buffer: its figures; or none, where it is shorter than a Register may ask for, or a response to be as long as no number says.
-#[derive(Drop)]
+#[derive(Clone, Copy)]
 pub enum Sheet {
     Row(Figures),
     TooShort,
@@ -27,7 +27,7 @@ pub enum Sheet {
 }
 
 // The buffer that a certificate needs, by its length, or that there is none.
-#[derive(Drop)]
+#[derive(Clone, Copy)]
 pub enum RoomNeeded {
     Room(u64),
     NoBuffer,

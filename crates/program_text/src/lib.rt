@@ -12,7 +12,7 @@ use std::io;
 use std::rt::{Env, Files};
 
 // What a word says, or that it is none of what was asked for.
-#[derive(Drop)]
+#[derive(Clone, Copy)]
 pub enum Said {
     Is(u64),
     Not,

@@ -9,7 +9,7 @@ use program_text::Said;
 pub use state::{State, fresh};
 
 // What a line with a frame comes to: a frame that stays, one that is so many bytes now, one in no shape, or none.
-#[derive(Drop)]
+#[derive(Clone, Copy)]
 enum Line {
     Kept,
     Converted(usize),

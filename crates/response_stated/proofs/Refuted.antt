@@ -57,8 +57,8 @@ pub body_with_status : Claims.ReadsExactly Wrong.body_with_status → ⊥
 body_with_status p =
     omega (arith, ap (λ (r : Response). r.length) (gives_same _ _ ((p.reads (0x90 ∷ 0x00 ∷ []) 0 0x9000).1 ([], refl, record { sw1 = 0x90; sw2 = 0x00; are = refl; is = refl }))))
 
-pub wants_abody : Claims.ReadsExactly Wrong.wants_abody → ⊥
-wants_abody p = let under : 2 < 2 = (p.r2 (0x90 ∷ 0x00 ∷ [])).0 refl in omega arith
+pub wants_a_body : Claims.ReadsExactly Wrong.wants_a_body → ⊥
+wants_a_body p = let under : 2 < 2 = (p.r2 (0x90 ∷ 0x00 ∷ [])).0 refl in omega arith
 
 pub cut_with_status : Claims.BodyExactly Wrong.cut_with_status → ⊥
 cut_with_status p = omega (arith, ap length (p.before [] 0x90 0x00))
@@ -267,9 +267,9 @@ does_not_move_counted p =
     let over : 3 ≤ 2 = p.at_most (1 ∷ 2 ∷ []) 2 (ask 1 ∷ ask 1 ∷ ask 1 ∷ []) (omega arith) (omega arith) (also (inl (omega arith)) (also (inl (omega arith)) (also (inl (omega arith)) none))) in
     omega arith
 
-pub one_at_atime : Claims.NumberOfParts Wrong.one_at_atime → ⊥
+pub one_at_a_time : Claims.NumberOfParts Wrong.one_at_a_time → ⊥
 unfolding next_part_of part_length left_status read_response_of
-one_at_atime p =
+one_at_a_time p =
     omega (arith, p.exactly (1 ∷ 2 ∷ []) 2 2 1 (ask 2 ∷ ask 2 ∷ []) (omega arith) (omega arith) (up 0 (omega arith) (omega arith)) (also (refl, omega arith) (also (refl, omega arith) none)) (omega arith))
 
 -- ---- views

@@ -26,7 +26,7 @@ pub record WritesExactly (write : Writer) : Type 0 where
   pub refused : (body : List ℕ) (status : ℕ) (old : List ℕ) (n : ℕ) → (write body status old).0 ≡ R n → (write body status old).1 ≡ old
 
 -- 02, E2: "Reading a response under two bytes gives R2", and nothing else does; any other bytes are a body and a status, and are read as them.
--- Rejects the low byte first (`read_low_first`), a body that counts the status (`body_with_status`), R2 for two bytes (`wants_abody`). Bites at 90 00.
+-- Rejects the low byte first (`read_low_first`), a body that counts the status (`body_with_status`), R2 for two bytes (`wants_a_body`). Bites at 90 00.
 pub record ReadsExactly (read : List ℕ → Outcome Response) : Type 0 where
   pub r2 : (bytes : List ℕ) → (read bytes ≡ R 2) ↔ (length bytes < 2)
   pub reads : (bytes : List ℕ) (n status : ℕ)
@@ -153,7 +153,7 @@ pub record PartsJoin (next : Sender) : Type 0 where
       → joined next body (rest 0 n) fetches ++ part ≡ take n body
 
 -- Ours: a body of n bytes takes at most n parts (one where n is 0), and exactly n / L rounded up (one where n is 0) where every limit is L, counted up to
--- the part that carries 9000, of calls that each have room. Rejects a sender that keeps to one byte a call (`one_at_atime`) and `does_not_move`. Bites at 2 bytes.
+-- the part that carries 9000, of calls that each have room. Rejects a sender that keeps to one byte a call (`one_at_a_time`) and `does_not_move`. Bites at 2 bytes.
 pub record NumberOfParts (next : Sender) : Type 0 where
   pub at_most : (body : List ℕ) (n : ℕ) (fetches : List Fetch) → n ≤ length body → 1 ≤ n → Each (HasRoom n) fetches
       → calls_until_done next body (rest 0 n) fetches ≤ n

@@ -56,8 +56,8 @@ body_with_status bytes =
     else Gives (reading (length bytes) (pair_at bytes (length bytes - 2)))
 
 -- a status alone is refused
-abbrev pub wants_abody : List ℕ → Outcome Response
-wants_abody bytes =
+abbrev pub wants_a_body : List ℕ → Outcome Response
+wants_a_body bytes =
     when ltb (length bytes) 3 then R 2
     else Gives (reading (length bytes - 2) (pair_at bytes (length bytes - 2)))
 
@@ -133,8 +133,8 @@ abbrev pub at_most255 : Sender
 at_most255 body r limit old = sending_of body r (when eqb limit 256 then 255 else limit) old
 
 -- whatever the limit, one byte
-abbrev pub one_at_atime : Sender
-one_at_atime body r limit old = sending_of body r 1 old
+abbrev pub one_at_a_time : Sender
+one_at_a_time body r limit old = sending_of body r 1 old
 
 -- the remainder that is handed back is the one that was handed in
 abbrev pub does_not_move : Sender

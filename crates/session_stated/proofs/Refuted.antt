@@ -132,8 +132,8 @@ refuses_c0 c =
 pub count_first : Claims.RemainderStands Wrong.count_first → ⊥
 count_first c = let z : ◌≡◌ {A = ℕ} 2 1 = ap (λ (r : Remainder). r.place) (c 1 2 0) in omega arith
 
-pub limit_of8_bits : Claims.SessionStands Wrong.limit_of8_bits → ⊥
-limit_of8_bits c = let z : ◌≡◌ {A = ℕ} 0 256 = ap (λ (s : Session). s.limit) (c 0 0 256) in omega arith
+pub limit_of_8_bits : Claims.SessionStands Wrong.limit_of_8_bits → ⊥
+limit_of_8_bits c = let z : ◌≡◌ {A = ℕ} 0 256 = ap (λ (s : Session). s.limit) (c 0 0 256) in omega arith
 
 pub good_for_stored : Claims.HardwareStands Wrong.good_for_stored → ⊥
 good_for_stored c = let z : ◌≡◌ {A = ℕ} 0 1 = ap (λ (s : HardwareSaid). s.stored) (c 0 0 1 0 0 0) in omega arith

@@ -100,7 +100,7 @@ pub record SessionParts (decide : Decider) (limit : List ℕ → ℕ) (leaves : 
 -- ---- what is lent as an array
 
 -- Ours: which number is what. A session's three are place and count of what remains, and the limit. Count and place in each other's place (`count_first`) fails the first,
--- and a limit cut to 8 bits (`limit_of8_bits`) the second, at 256.
+-- and a limit cut to 8 bits (`limit_of_8_bits`) the second, at 256.
 abbrev pub RemainderStands : (List ℕ → Remainder) → Type 0
 RemainderStands stands = (place count limit : ℕ) → stands (place ∷ count ∷ limit ∷ []) ≡ rest place count
 

@@ -61,8 +61,8 @@ refuses_c0 p t a = status_result 0x6985 p
 abbrev pub count_first : List ℕ → Remainder
 count_first s = rest (get_or s 1 0) (get_or s 0 0)
 
-abbrev pub limit_of8_bits : List ℕ → Session
-limit_of8_bits s = record { remainder = remainder_in s; limit = get_or s 2 0 % 256 }
+abbrev pub limit_of_8_bits : List ℕ → Session
+limit_of_8_bits s = record { remainder = remainder_in s; limit = get_or s 2 0 % 256 }
 
 abbrev pub good_for_stored : List ℕ → HardwareSaid
 good_for_stored s = record { allowed = get_or s 0 0; attestation = get_or s 1 0; stored = get_or s 3 0; good = get_or s 2 0; counted = get_or s 4 0; counter = get_or s 5 0 }

@@ -12,7 +12,7 @@
 ghost use Rattle.std.specs.Prelude.{◌+◌, ◌-◌, ◌≤◌, ◌≡◌, true, leb, length};
 ghost use Rattle.octets.specs.Bytes.{byte, laid};
 ghost use Rattle.signing_stated.specs.Layouts.{presence_byte, register_body, authenticate_body};
-ghost use Rattle.signing_stated.specs.Orders.{order_with, blank_order, certificate_length, is_of_layout, register_fields_of, authenticate_fields_of};
+ghost use Rattle.signing_stated.specs.Orders.{order_with, blank_order, is_of_layout, register_fields_of, authenticate_fields_of};
 ghost use Rattle.signing_stated.specs.Finishing.{room_of, room_needed, body_of, CountsHandle};
 ghost use Rattle.signing_stated.specs.Promises.{KindNumber, Blank, RegisterOrder, AuthenticateOrder, HasRegisterRoom, HasAuthenticateRoom, Finish};
 

@@ -323,21 +323,28 @@ pub fn is_up_needed(presence: Presence, t: u64) -> Answer
     }
 }
 
+// What any call by value promises of a record and the step that comes back, it promises of a lent record and the answer. Nothing but that
+// promise is known of the call.
+fn stepped<F: FnOnce(Presence) -> Step>(presence: &mut Presence, call: F) -> Answer
+    requires { F.pre call presence.old }
+    ensures { F.post call presence.old (record { answer = result; presence = presence.new }) }
+{
+    let step = call(*presence);
+    *presence = step.presence;
+    step.answer
+}
+
 // The same three on a record lent for writing, as the Rust has them. No branch: the work is done by value.
 pub fn grant_up_lent(presence: &mut Presence, t: u64) -> Answer
     ensures { GrantUpLent presence.old t result presence.new }
 {
-    let step = grant_up(*presence, t);
-    *presence = step.presence;
-    step.answer
+    stepped(presence, |lent| grant_up(lent, t))
 }
 
 pub fn consume_up_lent(presence: &mut Presence, side: u64, t: u64) -> Answer
     ensures { ConsumeUpLent presence.old side t result presence.new }
 {
-    let step = consume_up(*presence, side, t);
-    *presence = step.presence;
-    step.answer
+    stepped(presence, |lent| consume_up(lent, side, t))
 }
 
 // Asking leaves the lent record as it was.

@@ -205,8 +205,8 @@ ask_moves d = let z : ◌≡◌ {A = ℕ} 7 0 = ap (λ (s : Told). s.presence.la
 pub moment_itself : Claims.StandsExactly Wrong.moment_itself → ⊥
 moment_itself d = let z = opened_same ((d.prompt_opened 100 1 0 0 0 0).1 refl) in omega arith
 
-pub asker_of8_bits : Claims.StandsExactly Wrong.asker_of8_bits → ⊥
-asker_of8_bits d = let z : ◌≡◌ {A = ℕ} 0 256 = d.asker 100 0 0 0 256 in omega arith
+pub asker_of_8_bits : Claims.StandsExactly Wrong.asker_of_8_bits → ⊥
+asker_of_8_bits d = let z : ◌≡◌ {A = ℕ} 0 256 = d.asker 100 0 0 0 256 in omega arith
 
 pub exchanged : Claims.StandsExactly Wrong.exchanged → ⊥
 exchanged d = closed_open 0 ((d.prompt_opened 100 1 0 0 0 0).1 refl)

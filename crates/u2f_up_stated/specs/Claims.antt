@@ -80,7 +80,7 @@ pub record AsksExactly (ask : Presence → ℕ → Told) : Type 0 where
 -- ---- the record lent as five numbers
 
 -- Ours: which number is what. In this order W, prompt, touch, last moment, asker, each in full width; a window's number is 0 where it is closed and m + 1
--- where it was opened at m. A window whose number is its moment (`moment_itself`) fails it at 1, an asker cut to 8 bits (`asker_of8_bits`) at 256, and
+-- where it was opened at m. A window whose number is its moment (`moment_itself`) fails it at 1, an asker cut to 8 bits (`asker_of_8_bits`) at 256, and
 -- prompt and touch in each other's place (`exchanged`) where one is open.
 pub record StandsExactly (stands : List ℕ → Presence) : Type 0 where
   pub w : (w prompt touch last asker : ℕ) → (stands (w ∷ prompt ∷ touch ∷ last ∷ asker ∷ [])).w ≡ w

@@ -213,8 +213,8 @@ abbrev pub moment_itself : List ℕ → Presence
 moment_itself n = record { w = get_or n 0 0; prompt = window_at (get_or n 1 0); touch = window_at (get_or n 2 0); last = get_or n 3 0; asker = get_or n 4 0 }
 
 -- the asker is cut to 8 bits
-abbrev pub asker_of8_bits : List ℕ → Presence
-asker_of8_bits n = record { w = get_or n 0 0; prompt = window_of (get_or n 1 0); touch = window_of (get_or n 2 0); last = get_or n 3 0; asker = get_or n 4 0 % 256 }
+abbrev pub asker_of_8_bits : List ℕ → Presence
+asker_of_8_bits n = record { w = get_or n 0 0; prompt = window_of (get_or n 1 0); touch = window_of (get_or n 2 0); last = get_or n 3 0; asker = get_or n 4 0 % 256 }
 
 -- prompt and touch stand in each other's place
 abbrev pub exchanged : List ℕ → Presence
