@@ -1,5 +1,6 @@
 pub mod Notation
 pub mod Outcome
+pub mod NotDone
 pub mod Terms
 pub mod Promises
 pub mod Claims

@@ -3,16 +3,17 @@
 #![tactic(auto)]
 
 ghost use Rattle.std.specs.Prelude.{◌≡◌};
-ghost use Rattle.outcome.specs.Outcome.{fault_pair, fault_kind};
+ghost use Rattle.outcome.specs.Outcome.{fault_pair};
+ghost use Rattle.outcome.specs.NotDone.{IsRefused, IsStatus};
 ghost use Rattle.outcome.specs.Promises.{StatusNumber, Fault, NoFault, RefusalNumber};
 
 // What is wrong with a frame's length: it ends too early, at its length; it goes on too long, from the first byte that no field
 // can claim; or its Lc does not fit its INS.
 #[derive(Clone, Copy)]
 pub enum LengthFault {
-    Missing,
-    Surplus,
-    LcAgainstIns,
+    Missing = 1,
+    Surplus = 2,
+    LcAgainstIns = 3,
 }
 
 // ISO 7816-4's status words, as far as the panel answers them. The names are those of the Rust's `ApduStatusCode`.
@@ -34,14 +35,37 @@ pub enum ApduStatusCode {
 // Why nothing was done. Which is which stands beside the numbers in specs/Outcome.antt.
 #[derive(Clone, Copy)]
 pub enum Refusal {
-    R1,
-    R2,
-    R3,
-    R4,
-    R5,
-    R6,
-    R7,
-    R8,
+    R1 = 1,
+    R2 = 2,
+    R3 = 3,
+    R4 = 4,
+    R5 = 5,
+    R6 = 6,
+    R7 = 7,
+    R8 = 8,
+}
+
+// Why a call that can end in both ways has no result: a refusal, or a status word.
+#[derive(Clone, Copy)]
+pub enum NotDone {
+    Refused(Refusal),
+    Status(ApduStatusCode),
+}
+
+impl From<Refusal> for NotDone {
+    ghost from_gives = { IsRefused };
+
+    fn from(why: Refusal) -> NotDone {
+        NotDone::Refused(why)
+    }
+}
+
+impl From<ApduStatusCode> for NotDone {
+    ghost from_gives = { IsStatus };
+
+    fn from(status: ApduStatusCode) -> NotDone {
+        NotDone::Status(status)
+    }
 }
 
 // The status word as the number that goes out.
@@ -81,22 +105,12 @@ pub fn no_fault() -> FaultNumbers
     pair(0, 0)
 }
 
-fn fault_number(fault: LengthFault) -> u16
-    ensures { result ≡ fault_kind fault }
-{
-    match fault {
-        LengthFault::Missing => 1,
-        LengthFault::Surplus => 2,
-        LengthFault::LcAgainstIns => 3,
-    }
-}
-
 // What a status word says of the length.
 pub fn fault(status: ApduStatusCode) -> FaultNumbers
     ensures { Fault status result }
 {
     match status {
-        ApduStatusCode::WrongLength(fault, place) => pair(fault_number(fault), place),
+        ApduStatusCode::WrongLength(fault, place) => pair(fault as u16, place),
         ApduStatusCode::Success => no_fault(),
         ApduStatusCode::WrongData => no_fault(),
         ApduStatusCode::CondUseNotSatisfied => no_fault(),
@@ -112,14 +126,5 @@ pub fn fault(status: ApduStatusCode) -> FaultNumbers
 pub fn refusal_number(refusal: Refusal) -> u8
     ensures { RefusalNumber refusal result }
 {
-    match refusal {
-        Refusal::R1 => 1,
-        Refusal::R2 => 2,
-        Refusal::R3 => 3,
-        Refusal::R4 => 4,
-        Refusal::R5 => 5,
-        Refusal::R6 => 6,
-        Refusal::R7 => 7,
-        Refusal::R8 => 8,
-    }
+    refusal as u8
 }
