@@ -8,7 +8,7 @@ ghost use Rattle.outcome.specs.Outcome.{Gives};
 ghost use Rattle.apdu_stated.specs.Answers.{says_of};
 ghost use Rattle.u2f_up_stated.specs.Moments.{moved_to};
 ghost use Rattle.u2f_up_stated.specs.Numbers.{presence_in, checked_in};
-ghost use Rattle.ctap1_stated.specs.Words.{Ordered, enrolment_of, alone_from, left_from};
+ghost use Rattle.ctap1_stated.specs.Words.{Ordered, enrolment_in, alone_from, left_from};
 ghost use Rattle.ctap1_stated.specs.Numbers.{hardware_of};
 ghost use Rattle.ctap1_stated.specs.Path.{Orders, enrolment_order, counted_ending};
 ghost use Rattle.ctap1_stated.specs.Decision.{end_alone, end_block, touch_checked, left_of};
@@ -16,7 +16,7 @@ ghost use Rattle.ctap1_stated.specs.Promises.{Refused, Answered, Version, Regist
 
 use apdu::Apdu;
 use command::Ctap1Flags;
-pub use ctap1_stated::{Decision, DecisionAnswer, HardwareSaid};
+pub use ctap1_stated::{Call, Decision, DecisionAnswer, HardwareSaid, NewKey};
 use outcome::{ApduStatusCode, Refusal};
 use signing::Head;
 
@@ -72,29 +72,17 @@ pub fn version(presence: &mut [u64; 5], t: u64, reply: &mut [u8]) -> Decision
     }
 }
 
-fn enrol(
-    frame: &[u8],
-    says: Apdu,
-    handle: &[u8],
-    certificate: &[u8],
-    x: &[u8; 32],
-    y: &[u8; 32],
-    block: &mut [u8; 385],
-) -> Decision
-    ensures result_value { alone_from result ≡ end_alone (Orders (enrolment_order frame.now (says_of says)
-        (enrolment_of handle.now certificate.now x.now y.now)) false) }
-    ensures block_after { block.new ≡ end_block (Orders (enrolment_order frame.now (says_of says)
-        (enrolment_of handle.now certificate.now x.now y.now)) false) block.old }
+fn enrol(frame: &[u8], says: Apdu, key: NewKey, block: &mut [u8; 385]) -> Decision
+    ensures result_value { alone_from result ≡ end_alone (Orders (enrolment_order frame.now (says_of says) (enrolment_in key.entry)) false) }
+    ensures block_after { block.new ≡ end_block (Orders (enrolment_order frame.now (says_of says) (enrolment_in key.entry)) false) block.old }
 {
-    let application = command::application(frame, says);
-    let challenge = command::challenge(frame, says);
     let order = signing::register_order(
-        application,
-        challenge,
-        handle,
-        x,
-        y,
-        certificate.len(),
+        command::application(frame, says),
+        command::challenge(frame, says),
+        key.handle,
+        key.x,
+        key.y,
+        key.certificate.len(),
         block,
     );
     ordered(order, false)
@@ -102,39 +90,34 @@ fn enrol(
 
 // The room is asked for first: a touch that is spent on a reply which then does not fit is lost.
 pub fn register(
-    frame: &[u8],
-    side: u64,
-    t: u64,
+    call: Call,
+    says: Apdu,
     presence: &mut [u64; 5],
     hardware: HardwareSaid,
-    handle: &[u8],
-    certificate: &[u8],
-    x: &[u8; 32],
-    y: &[u8; 32],
+    key: NewKey,
     room: usize,
-    says: Apdu,
     block: &mut [u8; 385],
 ) -> Decision
-    ensures { Register frame.now side t presence.old hardware
-        (record { new_handle = handle.now; certificate = certificate.now; x = x.now; y = y.now })
+    ensures { Register call.entry.frame.now call.entry.side call.entry.t presence.old hardware
+        (record { new_handle = key.entry.handle.now; certificate = key.entry.certificate.now; x = key.entry.x.now; y = key.entry.y.now })
         room says block.old result presence.new block.new }
 {
-    if !signing::has_register_room(room, handle.len(), certificate.len()) {
+    if !signing::has_register_room(room, key.handle.len(), key.certificate.len()) {
         return refused(Refusal::R2);
     }
-    if !u2f_up::touch_checked(presence, side, t) {
+    if !u2f_up::touch_checked(presence, call.side, call.t) {
         return answered(ApduStatusCode::CondUseNotSatisfied);
     }
     if hardware.stored != YES {
         return answered(ApduStatusCode::InternalException);
     }
-    if 255 < handle.len() {
+    if 255 < key.handle.len() {
         return answered(ApduStatusCode::InternalException);
     }
     if hardware.attestation != PRESENT {
         return answered(ApduStatusCode::InternalException);
     }
-    enrol(frame, says, handle, certificate, x, y, block)
+    enrol(call.frame, says, key, block)
 }
 
 // The counter is taken last: no check comes after it.
@@ -159,54 +142,49 @@ fn counted(
 }
 
 fn enforce(
+    call: Call,
+    says: Apdu,
     presence: &mut [u64; 5],
     hardware: HardwareSaid,
-    frame: &[u8],
-    says: Apdu,
-    side: u64,
-    t: u64,
     block: &mut [u8; 385],
 ) -> Decision
     ensures { left_from result (presence_in presence.new) block.new ≡ left_of
-        (touch_checked (checked_in (moved_to (presence_in presence.old) t) side t) (counted_ending frame.now (says_of says) true (hardware_of hardware).counter))
-        block.old }
+        (touch_checked (checked_in (moved_to (presence_in presence.old) call.entry.t) call.entry.side call.entry.t)
+        (counted_ending call.entry.frame.now (says_of says) true (hardware_of hardware).counter)) block.old }
 {
-    if !u2f_up::touch_checked(presence, side, t) {
+    if !u2f_up::touch_checked(presence, call.side, call.t) {
         return answered(ApduStatusCode::CondUseNotSatisfied);
     }
-    counted(hardware, frame, says, true, block)
+    counted(hardware, call.frame, says, true, block)
 }
 
 // A check-only 6985 is the good answer: it looks at no touch, asks for no room and leaves the windows alone.
 pub fn authenticate(
-    frame: &[u8],
-    side: u64,
-    t: u64,
+    call: Call,
+    flags: Ctap1Flags,
+    says: Apdu,
     presence: &mut [u64; 5],
     hardware: HardwareSaid,
     room: usize,
-    flags: Ctap1Flags,
-    says: Apdu,
     block: &mut [u8; 385],
 ) -> Decision
-    ensures { Authenticate frame.now side t presence.old hardware room flags says block.old result
-        presence.new block.new }
+    ensures { Authenticate call.entry.frame.now call.entry.side call.entry.t presence.old hardware room flags says block.old result presence.new block.new }
 {
     let p1 = command::flags_number(flags);
     if hardware.good != YES {
-        u2f_up::moved(presence, t);
+        u2f_up::moved(presence, call.t);
         return answered(ApduStatusCode::WrongData);
     }
     if p1 == 0x07 {
-        u2f_up::moved(presence, t);
+        u2f_up::moved(presence, call.t);
         return answered(ApduStatusCode::CondUseNotSatisfied);
     }
     if !signing::has_authenticate_room(room) {
         return refused(Refusal::R2);
     }
     if p1 == 0x03 {
-        return enforce(presence, hardware, frame, says, side, t, block);
+        return enforce(call, says, presence, hardware, block);
     }
-    u2f_up::moved(presence, t);
-    counted(hardware, frame, says, false, block)
+    u2f_up::moved(presence, call.t);
+    counted(hardware, call.frame, says, false, block)
 }

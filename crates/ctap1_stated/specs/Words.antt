@@ -12,6 +12,7 @@ pub use Rattle.response_stated.specs.Words.{rest}
 pub use Rattle.ctap1_stated.specs.declared.Allowed.{Allowed}
 pub use Rattle.ctap1_stated.specs.declared.Attestation.{Attestation}
 use Rattle.ctap1_stated.specs.declared.Attestation.TheVariants as Attestation'
+use Rattle.ctap1_stated.specs.declared.NewKey.{NewKey}
 pub use Rattle.ctap1_stated.specs.declared.Counter.{Counter}
 pub use Rattle.ctap1_stated.specs.declared.Hardware.{Hardware}
 pub use Rattle.ctap1_stated.specs.declared.HardwareSaid.{HardwareSaid}
@@ -29,6 +30,10 @@ pub record Enrolment : Type 0 where
 
 abbrev pub enrolment_of : (new_handle certificate x y : List ℕ) → Enrolment
 enrolment_of new_handle certificate x y = record { new_handle = new_handle; certificate = certificate; x = x; y = y }
+
+-- of a new key as it is lent
+abbrev pub enrolment_in : NewKey → Enrolment
+enrolment_in k = enrolment_of k.handle.now k.certificate.now k.x.now k.y.now
 
 -- what is lent, piece by piece: `room` and `part_room` are the lengths of the two buffers
 abbrev pub inputs_from : (side : ℕ) (frame : List ℕ) → Hardware → Enrolment → (room : ℕ) → Remainder → (part_room : ℕ) → Inputs

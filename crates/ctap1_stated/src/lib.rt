@@ -53,6 +53,23 @@ pub struct Hardware {
     pub counter: Counter,
 }
 
+// A frame, the side that it came from, and the moment.
+#[derive(Clone, Copy)]
+pub struct Call<'a> {
+    pub frame: &'a [u8],
+    pub side: u64,
+    pub t: u64,
+}
+
+// The new key that a Register would hand out: its handle, the attestation certificate that goes with it, and the public key's two halves.
+#[derive(Clone, Copy)]
+pub struct NewKey<'a> {
+    pub handle: &'a [u8],
+    pub certificate: &'a [u8],
+    pub x: &'a [u8; 32],
+    pub y: &'a [u8; 32],
+}
+
 // What a decision is answered with. A status word is its number, and the kind and place of a 6700: numbers, so that it is told where it is found. A part is GET
 // RESPONSE's: its response's length, and what remains after it.
 #[derive(Clone, Copy)]

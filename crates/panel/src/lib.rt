@@ -10,7 +10,7 @@ ghost use Rattle.panel_stated.specs.Promises.{BrinecandleRead, BrinecandleReadSt
 
 use apdu::Reading;
 use apdu_table::TableReading;
-use ctap1_stated::DecisionAnswer;
+use ctap1_stated::{Call, DecisionAnswer, NewKey};
 use panel_stated::{
     Asked, CommandSaid, DecisionSaid, FrameSaid, Kinded, OrderNumbers, ResponseSaid, RoomSaid,
     Wrote,
@@ -230,21 +230,14 @@ pub extern "C" fn brinecandle_decide(
       part = part.old;
     }) result presence.new session.new reply.new block.new part.new }
 {
-    let decided = session::decide(
-        presence,
-        session,
-        frame,
-        side,
-        t,
-        hardware,
+    let call = Call { frame, side, t };
+    let key = NewKey {
         handle,
         certificate,
         x,
         y,
-        reply,
-        block,
-        part,
-    );
+    };
+    let decided = session::decide(presence, session, call, hardware, key, reply, block, part);
     let decision = decided.decision;
     let limit = decided.limit;
     let answer = decision.answer;

@@ -13,11 +13,11 @@ ghost use Rattle.ctap1_stated.specs.Path.{limit_on, frame_limit, fetch_path};
 ghost use Rattle.ctap1_stated.specs.Decision.{along};
 ghost use Rattle.ctap1_stated.specs.Session.{is_get_response, part_after};
 ghost use Rattle.session_stated.specs.Held.{hardware_in};
-ghost use Rattle.session_stated.specs.Promises.{Commanded, RemainderLent, Decide, Stated, Dropped, Left, RoomForResponse};
+ghost use Rattle.session_stated.specs.Promises.{to_decide, Commanded, RemainderLent, Decide, Stated, Dropped, Left, RoomForResponse};
 
 use apdu::Reading;
 use command::U2fCommand;
-use ctap1::{Decision, DecisionAnswer, HardwareSaid};
+use ctap1::{Call, Decision, DecisionAnswer, HardwareSaid, NewKey};
 use outcome::ApduStatusCode;
 use response::{NextPart, Remainder, ResponseRoom};
 pub use session_stated::SessionDecision;
@@ -114,78 +114,65 @@ fn fetched(
 fn commanded(
     presence: &mut [u64; 5],
     session: &[u64; 3],
-    frame: &[u8],
+    call: Call,
     reading: Reading,
-    side: u64,
-    t: u64,
     hardware: &[u32; 6],
-    handle: &[u8],
-    certificate: &[u8],
-    x: &[u8; 32],
-    y: &[u8; 32],
+    key: NewKey,
     limit: u64,
     reply: &mut [u8],
     block: &mut [u8; 385],
     part: &mut [u8],
 ) -> Decision
-    requires { (reading_of reading ≡ read_of frame.now) × (limit ≡ frame_limit frame.now) }
-    ensures { Commanded (record {
-      presence = presence.old;
-      session = session.now;
-      frame = frame.now;
-      side = side;
-      moment = t;
-      hardware = hardware.now;
-      new_handle = handle.now;
-      certificate = certificate.now;
-      x = x.now;
-      y = y.now;
-      reply = reply.old;
-      block = block.old;
-      part = part.old;
-    }) result presence.new reply.new block.new part.new }
+    requires { (reading_of reading ≡ read_of call.frame.now) × (limit ≡ frame_limit call.frame.now) }
+    ensures { Commanded (to_decide presence.old session.now call.entry hardware.now key.entry reply.old block.old part.old)
+        result presence.new reply.new block.new part.new }
 {
     let room = reply.len();
-    let read = command::on_reading(frame, reading);
+    let read = command::on_reading(call.frame, reading);
     match read {
         U2fCommand::Status(status) => {
-            u2f_up::moved(presence, t);
+            u2f_up::moved(presence, call.t);
             ctap1::answered(status)
         }
-        U2fCommand::Version => ctap1::version(presence, t, reply),
+        U2fCommand::Version => ctap1::version(presence, call.t, reply),
         U2fCommand::GetResponse => fetched(
             presence,
-            t,
+            call.t,
             remainder_lent(session),
             limit,
             reply,
             part,
         ),
-        U2fCommand::Register(asked) => ctap1::register(
-            frame,
-            side,
-            t,
+        U2fCommand::Register(says) => ctap1::register(
+            call,
+            says,
             presence,
             hardware_lent(hardware),
-            handle,
-            certificate,
-            x,
-            y,
+            key,
             room,
-            asked,
             block,
         ),
-        U2fCommand::Authenticate(flags, asked) => ctap1::authenticate(
-            frame,
-            side,
-            t,
-            presence,
-            hardware_lent(hardware),
-            room,
+        U2fCommand::Authenticate(flags, says) => ctap1::authenticate(
+            call,
             flags,
-            asked,
+            says,
+            presence,
+            hardware_lent(hardware),
+            room,
             block,
         ),
+    }
+}
+
+// A decision that its frame has no part in, and what the frame says to the session.
+fn beside_frame(decision: Decision, frame: &[u8]) -> SessionDecision
+    ensures { (result.decision ≡ decision) × (result.limit ≡ frame_limit frame.now) × (result.fetches ≡ is_get_response (read_of frame.now)) }
+{
+    let reading = apdu::read(frame);
+    SessionDecision {
+        decision,
+        limit: limit_of(reading),
+        fetches: is_get_response(reading),
     }
 }
 
@@ -196,14 +183,9 @@ fn commanded(
 pub fn decide(
     presence: &mut [u64; 5],
     session: &[u64; 3],
-    frame: &[u8],
-    side: u64,
-    t: u64,
+    call: Call,
     hardware: &[u32; 6],
-    handle: &[u8],
-    certificate: &[u8],
-    x: &[u8; 32],
-    y: &[u8; 32],
+    key: NewKey,
     reply: &mut [u8],
     block: &mut [u8; 385],
     part: &mut [u8],
@@ -211,68 +193,43 @@ pub fn decide(
     ensures { Decide (record {
       presence = presence.old;
       session = session.now;
-      frame = frame.now;
-      side = side;
-      moment = t;
+      frame = call.entry.frame.now;
+      side = call.entry.side;
+      moment = call.entry.t;
       hardware = hardware.now;
-      new_handle = handle.now;
-      certificate = certificate.now;
-      x = x.now;
-      y = y.now;
+      new_handle = key.entry.handle.now;
+      certificate = key.entry.certificate.now;
+      x = key.entry.x.now;
+      y = key.entry.y.now;
       reply = reply.old;
       block = block.old;
       part = part.old;
     }) result presence.new reply.new block.new part.new }
 {
-    let ready = u2f_up::settle(u2f_up::record_lent(presence), side, t);
+    let ready = u2f_up::settle(u2f_up::record_lent(presence), call.side, call.t);
     match ready {
-        Ready::Refused(why) => {
-            let reading = apdu::read(frame);
-            SessionDecision {
-                decision: ctap1::refused(why),
-                limit: limit_of(reading),
-                fetches: is_get_response(reading),
-            }
-        }
+        Ready::Refused(why) => beside_frame(ctap1::refused(why), call.frame),
         Ready::Record(_) => {
             let allowed = hardware[0];
             if YES < allowed {
-                u2f_up::moved(presence, t);
-                let reading = apdu::read(frame);
-                return SessionDecision {
-                    decision: ctap1::answered(ApduStatusCode::InternalException),
-                    limit: limit_of(reading),
-                    fetches: is_get_response(reading),
-                };
+                u2f_up::moved(presence, call.t);
+                return beside_frame(
+                    ctap1::answered(ApduStatusCode::InternalException),
+                    call.frame,
+                );
             }
             if allowed == NO {
-                u2f_up::moved(presence, t);
-                let reading = apdu::read(frame);
-                return SessionDecision {
-                    decision: ctap1::answered(ApduStatusCode::CommandNotAllowed),
-                    limit: limit_of(reading),
-                    fetches: is_get_response(reading),
-                };
+                u2f_up::moved(presence, call.t);
+                return beside_frame(
+                    ctap1::answered(ApduStatusCode::CommandNotAllowed),
+                    call.frame,
+                );
             }
-            let reading = apdu::read(frame);
+            let reading = apdu::read(call.frame);
             let limit = limit_of(reading);
             let fetches = is_get_response(reading);
             let decision = commanded(
-                presence,
-                session,
-                frame,
-                reading,
-                side,
-                t,
-                hardware,
-                handle,
-                certificate,
-                x,
-                y,
-                limit,
-                reply,
-                block,
-                part,
+                presence, session, call, reading, hardware, key, limit, reply, block, part,
             );
             SessionDecision {
                 decision,

@@ -8,7 +8,9 @@ use Rattle.response_stated.specs.declared.Remainder.{Remainder}
 use Rattle.response_stated.specs.declared.ResponseRoom.{ResponseRoom}
 use Rattle.response_stated.specs.Words.{rest, room_said}
 use Rattle.ctap1_stated.specs.Words.{Inputs, DecisionResult, inputs_from, enrolment_of, left_from}
+use Rattle.ctap1_stated.specs.declared.Call.{Call}
 use Rattle.ctap1_stated.specs.declared.Decision.{Decision}
+use Rattle.ctap1_stated.specs.declared.NewKey.{NewKey}
 use Rattle.ctap1_stated.specs.Numbers.{hardware_of}
 use Rattle.ctap1_stated.specs.Path.{frame_limit, command_path}
 use Rattle.ctap1_stated.specs.Decision.{decision_of, reply_left, left_of}
@@ -32,6 +34,25 @@ pub record ToDecide : Type 0 where
   pub reply : List ℕ
   pub block : List ℕ
   pub part : List ℕ
+
+-- of a call and a new key as they are lent, beside the rest
+abbrev pub to_decide : (presence session : List ℕ) → Call → (hardware : List ℕ) → NewKey → (reply block part : List ℕ) → ToDecide
+to_decide presence session call hardware key reply block part =
+    record {
+      presence = presence;
+      session = session;
+      frame = call.frame.now;
+      side = call.side;
+      moment = call.t;
+      hardware = hardware;
+      new_handle = key.handle.now;
+      certificate = key.certificate.now;
+      x = key.x.now;
+      y = key.y.now;
+      reply = reply;
+      block = block;
+      part = part;
+    }
 
 -- the same with another record, session and reply buffer
 abbrev pub lending : (presence session reply : List ℕ) → ToDecide → ToDecide

@@ -12,8 +12,8 @@ returns-then-not-touch_checked c = search (rules, Cases.register_no_touch)
 pub returns-then-hardware-ne-YES : goal.returns-then-hardware-ne-YES
 returns-then-hardware-ne-YES c = search (rules, Cases.register_not_stored, Cases.no_said)
 
-pub returns-then-handle-gt255 : goal.returns-then-handle-gt255
-returns-then-handle-gt255 c = search (rules, Cases.register_long, Cases.yes_said)
+pub returns-then-key-gt255 : goal.returns-then-key-gt255
+returns-then-key-gt255 c = search (rules, Cases.register_long, Cases.yes_said)
 
 pub returns-then-hardware-ne-PRESENT : goal.returns-then-hardware-ne-PRESENT
 returns-then-hardware-ne-PRESENT c = search (rules, Cases.register_no_attestation, Cases.yes_said, Cases.not_there)
