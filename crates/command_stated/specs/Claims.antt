@@ -4,8 +4,7 @@
 use Rattle.std.specs.Prelude.{◌↔◌, ◌⊎◌, ◌+◌, ◌≤◌, ◌<◌, ◌≡◌, ◌||◌, ◌∷◌, ◌++◌}
 use Rattle.command_stated.specs.Words.{ℕ, true, eqb, List, length, AtMostOne, StatusWord, Outcome, R, Word, SW, Gives, ApduStatusCode, word_of, HasStatus, wrong_length, byte, part_of, Apdu, Place}
 use Rattle.outcome.specs.Terms.{PairsExactly}
-use Rattle.apdu_stated.specs.Answers.{Says, says_of, reading_of}
-use Rattle.apdu_stated.specs.declared.Reading.{Reading}
+use Rattle.apdu_stated.specs.Answers.{Says, says_of, reading_of, Reading}
 use Rattle.apdu_stated.specs.Reading.{read_of, data_of}
 use Rattle.apdu_stated.specs.Terms.{span}
 use Rattle.command_stated.specs.Command.{Ctap1Flags, CheckOnly, EnforceUpAndSign, DontEnforceUpAndSign, U2fCommand, Command, Register, Authenticate, Version, GetResponse, flags_no, command_said, command_of}

@@ -1,8 +1,7 @@
 -- What each public function of `command` promises of its result, on every input.
 use Rattle.std.specs.Prelude.{◌≡◌}
 use Rattle.command_stated.specs.Words.{ℕ, List, Apdu, Place}
-use Rattle.apdu_stated.specs.declared.Reading.{Reading}
-use Rattle.apdu_stated.specs.Answers.{says_of, reading_of}
+use Rattle.apdu_stated.specs.Answers.{says_of, reading_of, Reading}
 use Rattle.command_stated.specs.Command.{Ctap1Flags, U2fCommand, flags_no, command_said, by_instruction, on_reading, command_of, challenge_place_of, application_place_of, handle_place_of, challenge_of, application_of, handle_of}
 
 abbrev pub FlagsNumber : Ctap1Flags → ℕ → Type 0

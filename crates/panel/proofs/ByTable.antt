@@ -6,9 +6,8 @@ use Rattle.outcome.specs.Outcome.{Word, word_of}
 use Rattle.outcome.specs.declared.ApduStatusCode.{ApduStatusCode}
 use Rattle.apdu_stated.specs.declared.Entry.{Entry}
 use Rattle.apdu_table_stated.specs.Rows.{table_of}
-use Rattle.apdu_table_stated.specs.Answers.{row_says_of, table_reading_of, read_by_rows}
+use Rattle.apdu_table_stated.specs.Answers.{row_says_of, table_reading_of, read_by_rows, TableReading}
 use Rattle.apdu_table_stated.specs.declared.RowSays.{RowSays}
-use Rattle.apdu_table_stated.specs.declared.TableReading.{TableReading}
 use Rattle.apdu_table_stated.specs.declared.TableReading.TheVariants.{Frame, Status}
 use Rattle.apdu_table_stated.proofs.Laws.{same_reading}
 use Rattle.panel_stated.specs.Exports.{frame_numbers, said_numbers, reads_of}

@@ -4,10 +4,9 @@ use mathlib.Core.Path.{◌≡◌, ap, sym, ◌∙◌}
 use mathlib.Core.List.{List}
 use Rattle.outcome.specs.Outcome.{Outcome, Word, Gives, word_of}
 use Rattle.outcome.specs.declared.ApduStatusCode.{ApduStatusCode}
-use Rattle.apdu_stated.specs.Answers.{Says, says_of, reading_of}
+use Rattle.apdu_stated.specs.Answers.{Says, says_of, reading_of, Reading}
 use Rattle.apdu_stated.specs.Reading.{read_of}
 use Rattle.apdu_stated.specs.declared.Apdu.{Apdu}
-use Rattle.apdu_stated.specs.declared.Reading.{Reading}
 use Rattle.apdu_stated.specs.declared.Reading.TheVariants.{Frame, Status}
 use Rattle.command_stated.specs.Command.{command_said, by_instruction, command_of}
 use Rattle.command_stated.specs.declared.U2fCommand.{U2fCommand}

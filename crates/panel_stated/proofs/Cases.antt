@@ -5,6 +5,7 @@ use mathlib.Core.List.{List}
 use borrow.Author.Tests.{ne_eqb, not-true, not-false}
 use lib.ListN.{length, get_or, set}
 use lib.Seq.{lt-length-set}
+use Rattle.std.specs.Prelude.{Ok, Err}
 use Rattle.outcome.specs.Notation.{when◌then◌else◌}
 use Rattle.outcome.proofs.Laws.{r_gives}
 use Rattle.outcome.specs.Outcome.{Outcome, R, Word, Gives, status_no, fault_of, word_of, refusal_no, no_fault}
@@ -12,7 +13,7 @@ use Rattle.outcome.specs.declared.FaultNumbers.{FaultNumbers}
 use Rattle.outcome.specs.declared.ApduStatusCode.{ApduStatusCode}
 use Rattle.outcome.specs.declared.Refusal.{Refusal}
 use Rattle.apdu_stated.specs.Words.{shape_no}
-use Rattle.apdu_stated.specs.Answers.{says_of, written_of}
+use Rattle.apdu_stated.specs.Answers.{says_of, written_of, Written}
 use Rattle.apdu_stated.specs.Reading.{place_of}
 use Rattle.apdu_stated.specs.Table.{in_row}
 use Rattle.apdu_stated.specs.declared.Entry.{Entry}
@@ -23,8 +24,6 @@ use Rattle.apdu_stated.specs.declared.ApduHeader.{ApduHeader}
 use Rattle.apdu_stated.specs.declared.Case.{Case}
 use Rattle.apdu_stated.specs.declared.Case.TheVariants.{Instruction, Le1, Lc1Data, Lc1DataLe1, Lc3Data, Lc3DataLe2, Le3}
 use Rattle.apdu_stated.specs.declared.Place.{Place}
-use Rattle.apdu_stated.specs.declared.Written.{Written}
-use Rattle.apdu_stated.specs.declared.Written.TheVariants as Written'
 use Rattle.command_stated.specs.Command.{Register, Authenticate, flags_no, command_said, handle_place_of}
 use Rattle.command_stated.specs.declared.Ctap1Flags.{Ctap1Flags}
 use Rattle.command_stated.specs.declared.U2fCommand.{U2fCommand}
@@ -125,10 +124,10 @@ module _ (read : U2fCommand) (r : CommandSaid) where
 
 -- ---- writing
 module _ (written : Written) where
-  pub wrote_refusal : (why : Refusal) (n : ℕ) → written ≡ Written'.Refused why → n ≡ refusal_no why → ◌≡◌ {A = Wrote} (record { answer = n; length = 0 }) (length_numbers (written_of written))
+  pub wrote_refusal : (why : Refusal) (n : ℕ) → written ≡ Err why → n ≡ refusal_no why → ◌≡◌ {A = Wrote} (record { answer = n; length = 0 }) (length_numbers (written_of written))
   wrote_refusal why n z is = rw (is, z)
 
-  pub wrote_frame : (n : ℕ) → written ≡ Written'.Frame n → ◌≡◌ {A = Wrote} (record { answer = 0x9000; length = n }) (length_numbers (written_of written))
+  pub wrote_frame : (n : ℕ) → written ≡ Ok n → ◌≡◌ {A = Wrote} (record { answer = 0x9000; length = n }) (length_numbers (written_of written))
   wrote_frame n z = rw z
 
 -- a shape's number is that shape

@@ -9,14 +9,13 @@ use native.Mathlib.Decide.{ℕ_discrete}
 use borrow.Author.Tests.{ne_eqb}
 use lib.Dec.{ltb, eqb}
 use lib.ListN.{length}
+use Rattle.std.specs.Prelude.{Ok}
 use Rattle.outcome.specs.Notation.{when◌then◌else◌}
 use Rattle.outcome.specs.Outcome.{StatusWord, Outcome, R, Word, SW, Gives, word_of, refusal_no}
 use Rattle.outcome.specs.declared.ApduStatusCode.{ApduStatusCode}
 use Rattle.outcome.specs.declared.Refusal.{Refusal}
-use Rattle.apdu_stated.specs.Answers.{Says, says_of, reading_of}
+use Rattle.apdu_stated.specs.Answers.{Says, says_of, reading_of, Reading}
 use Rattle.apdu_stated.specs.Reading.{read_of}
-use Rattle.apdu_stated.specs.declared.Reading.{Reading}
-use Rattle.apdu_stated.specs.declared.Reading.TheVariants as Reading'
 use Rattle.apdu_stated.specs.declared.Apdu.{Apdu}
 use Rattle.command_stated.specs.Command.{Command, command_said, on_reading, command_of, flags_no}
 use Rattle.command_stated.proofs.Laws.{of_reading}
@@ -373,10 +372,10 @@ module _ (i : Inputs) (kept : Presence) (t : ℕ) (s : Ready) (is_s : ready_of s
       yes_part new h n q = part_by Allowed'.Yes new (is_k ∙ yes_is k h n) q
 
 -- ---- what the session goes on with
-pub limit_of_frame : (r : Reading) (a : Apdu) (n : ℕ) → r ≡ Reading'.Frame a → n ≡ limit_of (says_of a) → n ≡ limit_on (reading_of r)
+pub limit_of_frame : (r : Reading) (a : Apdu) (n : ℕ) → r ≡ Ok a → n ≡ limit_of (says_of a) → n ≡ limit_on (reading_of r)
 limit_of_frame r a n e is = is ∙ ap (λ (x : Reading). limit_on (reading_of x)) (sym e)
 
-pub asks_of_frame : (r : Reading) (a : Apdu) → r ≡ Reading'.Frame a → eqb a.header.ins 0xC0 ≡ is_get_response (reading_of r)
+pub asks_of_frame : (r : Reading) (a : Apdu) → r ≡ Ok a → eqb a.header.ins 0xC0 ≡ is_get_response (reading_of r)
 asks_of_frame r a e = ap (λ (x : Reading). is_get_response (reading_of x)) (sym e)
 
 module _ (frame : List ℕ) (r : Reading) (is_r : reading_of r ≡ read_of frame) where
