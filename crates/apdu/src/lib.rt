@@ -37,6 +37,7 @@ fn wrong_length(fault: LengthFault, place: usize) -> Result<Apdu, ApduStatusCode
 
 // Reads any bytes as a frame, by one of the two tables. The header is fetched after the lengths: before, it would hold a register
 // meanwhile.
+#[tactic(auto, unfolding(apdu_stated::specs::Reading::read_by, apdu_stated::specs::Reading::say_of))]
 fn read_by(frame: &[u8], entry: Entry) -> Result<Apdu, ApduStatusCode>
     ensures { reading_of result ≡ read_by entry frame.now }
 {
@@ -90,6 +91,7 @@ pub fn data_place(says: Apdu) -> Place
 }
 
 // The data of a frame that says this, as a part of the frame; empty where there is none.
+#[tactic(auto, unfolding(apdu_stated::specs::Reading::data_of))]
 pub fn data(frame: &[u8], says: Apdu) -> &[u8]
     ensures { Data frame.now says result.now }
 {

@@ -33,6 +33,7 @@ fn row_of(columns: &[u8; 4]) -> Row
 }
 
 // A field of three bytes begins with 00, as far as the frame goes.
+#[tactic(auto, unfolding(apdu_table_stated::specs::Trying::begins))]
 fn begins(long: usize, place: usize, frame: &[u8]) -> bool
     ensures { result ≡ begins long place frame.now }
 {
@@ -46,6 +47,7 @@ fn begins(long: usize, place: usize, frame: &[u8]) -> bool
 }
 
 // What an Lc field of so many bytes says, behind the header.
+#[tactic(auto, unfolding(apdu_table_stated::specs::Trying::lc_in))]
 fn lc_in(long: usize, frame: &[u8]) -> u16
     requires { long < 256 }
     ensures { result ≡ lc_in long frame.now }
@@ -63,6 +65,7 @@ fn lc_in(long: usize, frame: &[u8]) -> u16
 }
 
 // The frame can begin as the row does. A row whose fields have other lengths than fields do fits nothing.
+#[tactic(auto, unfolding(apdu_table_stated::specs::Trying::opens, apdu_table_stated::specs::Trying::begins))]
 fn opens(row: Row, frame: &[u8]) -> bool
     ensures { result ≡ opens row frame.now }
 {
@@ -76,6 +79,7 @@ fn opens(row: Row, frame: &[u8]) -> bool
 }
 
 // How many bytes of the frame the row's fields claim; 0 where the row does not stand at its front.
+#[tactic(auto, unfolding(apdu_table_stated::specs::Trying::stands))]
 fn claimed(row: Row, frame: &[u8]) -> usize
     requires { (row.lc_field < 256) × (row.le_field < 256) }
     ensures { result ≡ claimed row frame.now }
@@ -164,6 +168,7 @@ fn says(row: Row, frame: &[u8]) -> RowSays
 }
 
 // Reads any bytes by the rows of any table.
+#[tactic(auto, using(apdu_table_stated::proofs::Cases::found_lc, apdu_table_stated::proofs::Cases::found_le, apdu_table_stated::proofs::Cases::found_end), unfolding(apdu_table_stated::specs::Answers::read_by_rows))]
 pub fn read_rows(table: &[[u8; 4]], frame: &[u8]) -> Result<RowSays, ApduStatusCode>
     ensures { ReadRows table.now frame.now result }
 {

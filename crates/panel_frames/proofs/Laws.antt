@@ -9,7 +9,7 @@ use Rattle.apdu_stated.specs.Reading.{read_of}
 use Rattle.apdu_stated.specs.declared.Apdu.{Apdu}
 use Rattle.apdu_stated.specs.declared.Reading.TheVariants.{Frame, Status}
 use Rattle.command_stated.specs.Command.{command_said, by_instruction, command_of}
-use Rattle.command_stated.specs.declared.U2fCommand.{U2fCommand}
+use Rattle.command_stated.specs.Command.{CommandReading}
 use Rattle.command_stated.proofs.Laws as Command'
 use Rattle.panel_stated.specs.Exports.{frame_numbers, command_numbers}
 use Rattle.panel_stated.specs.declared.FrameSaid.{FrameSaid}
@@ -24,7 +24,7 @@ module _ (o : Outcome Says) (reading : Reading) (is_reading : reading_of reading
   frame_unread s z is = is ∙ ap frame_numbers (ap reading_of (sym z) ∙ is_reading)
 
 module _ (frame : List ℕ) (reading : Reading) (is_reading : reading_of reading ≡ read_of frame) where
-  pub command_read : (r : CommandSaid) (says : Apdu) (c : U2fCommand) → reading ≡ Frame says → command_said c ≡ by_instruction frame (says_of says) → r ≡ command_numbers (command_said c) → r ≡ command_numbers (command_of frame)
+  pub command_read : (r : CommandSaid) (says : Apdu) (c : CommandReading) → reading ≡ Frame says → command_said c ≡ by_instruction frame (says_of says) → r ≡ command_numbers (command_said c) → r ≡ command_numbers (command_of frame)
   command_read r says c z by is = is ∙ ap command_numbers (Command'.on_frame frame reading is_reading says (command_said c) z by)
 
   pub command_unread : (r : CommandSaid) (s : ApduStatusCode) → reading ≡ Status s → r ≡ command_numbers (Word (word_of s)) → r ≡ command_numbers (command_of frame)

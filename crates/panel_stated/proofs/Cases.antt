@@ -26,7 +26,7 @@ use Rattle.apdu_stated.specs.declared.Case.TheVariants.{Instruction, Le1, Lc1Dat
 use Rattle.apdu_stated.specs.declared.Place.{Place}
 use Rattle.command_stated.specs.Command.{Register, Authenticate, flags_no, command_said, handle_place_of}
 use Rattle.command_stated.specs.declared.Ctap1Flags.{Ctap1Flags}
-use Rattle.command_stated.specs.declared.U2fCommand.{U2fCommand}
+use Rattle.command_stated.specs.Command.{CommandReading}
 use Rattle.command_stated.specs.declared.U2fCommand.TheVariants as U2fCommand'
 use Rattle.panel_stated.specs.Words.{FrameSaid, CommandSaid, Wrote, Shaped, Asked, OrderNumbers, DecisionSaid, ResponseSaid, RoomSaid, Kinded, Session, presence_in, remainder_in, session_in, session_after}
 use Rattle.panel_stated.specs.Numbers.{answer_no, shape_of, is_yes, kind_of, no_order}
@@ -106,20 +106,20 @@ pub frame_said : (s : ApduStatusCode) (n : ℕ) (fault : FaultNumbers) → n ≡
 frame_said s n fault is is_fault = rw (is, is_fault)
 
 -- ---- command reading
-module _ (read : U2fCommand) (r : CommandSaid) where
-  pub command_register : (says : Apdu) → read ≡ U2fCommand'.Register says → r ≡ command_numbers (Gives (Register (says_of says))) → r ≡ command_numbers (command_said read)
+module _ (read : CommandReading) (r : CommandSaid) where
+  pub command_register : (says : Apdu) → read ≡ Ok (U2fCommand'.Register says) → r ≡ command_numbers (Gives (Register (says_of says))) → r ≡ command_numbers (command_said read)
   command_register says z is = is ∙ rw z
 
-  pub command_authenticate : (flags : Ctap1Flags) (says : Apdu) → read ≡ U2fCommand'.Authenticate flags says → r ≡ command_numbers (Gives (Authenticate (flags_no flags) (says_of says))) → r ≡ command_numbers (command_said read)
+  pub command_authenticate : (flags : Ctap1Flags) (says : Apdu) → read ≡ Ok (U2fCommand'.Authenticate flags says) → r ≡ command_numbers (Gives (Authenticate (flags_no flags) (says_of says))) → r ≡ command_numbers (command_said read)
   command_authenticate flags says z is = is ∙ rw z
 
-  pub command_version : (fault : FaultNumbers) → read ≡ U2fCommand'.Version → fault ≡ no_fault → r ≡ bare_command (record { number = 0x9000; kind = fault.kind; place = fault.place }) 0x03 → r ≡ command_numbers (command_said read)
+  pub command_version : (fault : FaultNumbers) → read ≡ Ok U2fCommand'.Version → fault ≡ no_fault → r ≡ bare_command (record { number = 0x9000; kind = fault.kind; place = fault.place }) 0x03 → r ≡ command_numbers (command_said read)
   command_version fault z is_fault is = is ∙ rw (is_fault, z)
 
-  pub command_get_response : (fault : FaultNumbers) → read ≡ U2fCommand'.GetResponse → fault ≡ no_fault → r ≡ bare_command (record { number = 0x9000; kind = fault.kind; place = fault.place }) 0xC0 → r ≡ command_numbers (command_said read)
+  pub command_get_response : (fault : FaultNumbers) → read ≡ Ok U2fCommand'.GetResponse → fault ≡ no_fault → r ≡ bare_command (record { number = 0x9000; kind = fault.kind; place = fault.place }) 0xC0 → r ≡ command_numbers (command_said read)
   command_get_response fault z is_fault is = is ∙ rw (is_fault, z)
 
-  pub command_status : (s : ApduStatusCode) (n : ℕ) (fault : FaultNumbers) → read ≡ U2fCommand'.Status s → n ≡ status_no s → fault ≡ fault_of s → r ≡ bare_command (record { number = n; kind = fault.kind; place = fault.place }) 0 → r ≡ command_numbers (command_said read)
+  pub command_status : (s : ApduStatusCode) (n : ℕ) (fault : FaultNumbers) → read ≡ Err s → n ≡ status_no s → fault ≡ fault_of s → r ≡ bare_command (record { number = n; kind = fault.kind; place = fault.place }) 0 → r ≡ command_numbers (command_said read)
   command_status s n fault z is_n is_fault is = is ∙ rw (is_n, is_fault, z)
 
 -- ---- writing
