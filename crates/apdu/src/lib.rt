@@ -14,7 +14,7 @@ ghost use Rattle.apdu_stated.specs.Reading.{read_by};
 ghost use Rattle.apdu_stated.specs.Promises.{ShapeNumber, Read, ReadStrict, DataPlace, Data};
 
 pub use apdu_shapes::strict_has;
-pub use apdu_stated::{Apdu, ApduHeader, Case, Place, Reading, Written};
+pub use apdu_stated::{Apdu, ApduHeader, Case, Place};
 use apdu_stated::{Entry, Lengths};
 pub use apdu_write::{write, write_strict};
 use outcome::{ApduStatusCode, LengthFault};
@@ -25,31 +25,24 @@ const APDU_HEADER_LEN: usize = 4;
 pub fn shape_number(shape: Case) -> u8
     ensures { ShapeNumber shape result }
 {
-    match shape {
-        Case::Instruction => 1,
-        Case::Le1 => 2,
-        Case::Lc1Data => 3,
-        Case::Lc1DataLe1 => 4,
-        Case::Lc3Data => 5,
-        Case::Lc3DataLe2 => 7,
-        Case::Le3 => 8,
-    }
+    shape as u8
 }
 
 // 6700, with what is wrong and where.
-fn wrong_length(fault: LengthFault, place: usize) -> Reading
+fn wrong_length(fault: LengthFault, place: usize) -> Result<Apdu, ApduStatusCode>
     ensures { reading_of result ≡ wrong_length (fault_kind fault) place }
 {
-    Reading::Status(ApduStatusCode::WrongLength(fault, place))
+    Err(ApduStatusCode::WrongLength(fault, place))
 }
 
 // Reads any bytes as a frame, by one of the two tables. The header is fetched after the lengths: before, it would hold a register
 // meanwhile.
-fn read_by(frame: &[u8], entry: Entry) -> Reading
+#[tactic(auto, unfolding(apdu_stated::specs::Reading::read_by, apdu_stated::specs::Reading::say_of))]
+fn read_by(frame: &[u8], entry: Entry) -> Result<Apdu, ApduStatusCode>
     ensures { reading_of result ≡ read_by entry frame.now }
 {
     if frame.len() < APDU_HEADER_LEN {
-        return Reading::Status(ApduStatusCode::WrongData);
+        return Err(ApduStatusCode::WrongData);
     }
     let found = apdu_shapes::payload(&frame[APDU_HEADER_LEN..], entry);
     let header = ApduHeader {
@@ -59,7 +52,7 @@ fn read_by(frame: &[u8], entry: Entry) -> Reading
         p2: frame[3],
     };
     match found {
-        Lengths::Found(shape, lc, le) => Reading::Frame(Apdu {
+        Lengths::Found(shape, lc, le) => Ok(Apdu {
             header,
             shape,
             lc: lc as u16,
@@ -71,14 +64,14 @@ fn read_by(frame: &[u8], entry: Entry) -> Reading
 }
 
 // Reads any bytes as a frame: what it says, or 6a80 under four bytes, or 6700 where it is in no shape.
-pub fn read(frame: &[u8]) -> Reading
+pub fn read(frame: &[u8]) -> Result<Apdu, ApduStatusCode>
     ensures { Read frame.now result }
 {
     read_by(frame, Entry::Ordinary)
 }
 
 // The strict entry: ISO 7816-3's seven cases. An extended Lc of 0 with more behind it is in no shape here.
-pub fn read_strict(frame: &[u8]) -> Reading
+pub fn read_strict(frame: &[u8]) -> Result<Apdu, ApduStatusCode>
     ensures { ReadStrict frame.now result }
 {
     read_by(frame, Entry::Strict)
@@ -98,6 +91,7 @@ pub fn data_place(says: Apdu) -> Place
 }
 
 // The data of a frame that says this, as a part of the frame; empty where there is none.
+#[tactic(auto, unfolding(apdu_stated::specs::Reading::data_of))]
 pub fn data(frame: &[u8], says: Apdu) -> &[u8]
     ensures { Data frame.now says result.now }
 {

@@ -2,6 +2,7 @@
 use Prim.Native.Nat.{ℕ}
 use mathlib.Core.Path.{◌≡◌, refl, ap, ap₂, ◌∙◌}
 use lib.Dec.{eqb}
+use Rattle.std.specs.Prelude.{Ok, Err}
 use Rattle.outcome.specs.Notation.{when◌then◌else◌}
 use Rattle.outcome.specs.Outcome.{Outcome, R, Word, Gives}
 use Rattle.outcome.specs.declared.ApduStatusCode.TheVariants.{Success}
@@ -10,8 +11,6 @@ use Rattle.outcome.proofs.Laws.{status_of, status_back, refusal_of, refusal_back
 use Rattle.apdu_stated.specs.Words.{Case, Instruction, Le1, Lc1Data, Lc1DataLe1, Lc3Data, Lc3DataLe2, Le3, shape_no}
 use Rattle.apdu_stated.specs.Table.{TableRow, columns}
 use Rattle.apdu_stated.specs.Answers.{Apdu, Says, Reading, Written, says_of, reading_of, written_of}
-use Rattle.apdu_stated.specs.declared.Reading.TheVariants.{Frame, Status}
-use Rattle.apdu_stated.specs.declared.Written.TheVariants
 
 case_of : ℕ → Case
 case_of n =
@@ -47,27 +46,27 @@ pub says_same : (a b : Apdu) → says_of a ≡ says_of b → a ≡ b
 says_same = one_to_one says_of apdu_back apdu_back_lem
 
 reading_back : Outcome Says → Reading
-reading_back (R n) = Status Success
-reading_back (Word w) = Status (status_of w)
-reading_back (Gives said) = Frame (apdu_back said)
+reading_back (R n) = Err Success
+reading_back (Word w) = Err (status_of w)
+reading_back (Gives said) = Ok (apdu_back said)
 
 reading_back_lem : (r : Reading) → reading_back (reading_of r) ≡ r
 unfolding reading_back
-reading_back_lem (Frame a) = ap Frame (apdu_back_lem a)
-reading_back_lem (Status s) = ap Status (status_back s)
+reading_back_lem (Ok a) = ap Ok (apdu_back_lem a)
+reading_back_lem (Err s) = ap Err (status_back s)
 
 pub reading_same : (a b : Reading) → reading_of a ≡ reading_of b → a ≡ b
 reading_same = one_to_one reading_of reading_back reading_back_lem
 
 written_back : Outcome ℕ → Written
-written_back (R n) = TheVariants.Refused (refusal_of n)
-written_back (Word w) = TheVariants.Frame 0
-written_back (Gives n) = TheVariants.Frame n
+written_back (R n) = Err (refusal_of n)
+written_back (Word w) = Ok 0
+written_back (Gives n) = Ok n
 
 written_back_lem : (r : Written) → written_back (written_of r) ≡ r
 unfolding written_back
-written_back_lem (TheVariants.Refused r) = ap TheVariants.Refused (refusal_back r)
-written_back_lem (TheVariants.Frame n) = refl
+written_back_lem (Err r) = ap Err (refusal_back r)
+written_back_lem (Ok n) = refl
 
 pub written_same : (a b : Written) → written_of a ≡ written_of b → a ≡ b
 written_same = one_to_one written_of written_back written_back_lem

@@ -7,6 +7,7 @@ use native.Mathlib.Omega.{arith}
 use native.Mathlib.Decide.{ℕ_discrete, dec_lt}
 use lib.ListN.{length}
 use lib.Seq.{ext_get_or}
+use Rattle.std.specs.Prelude.{Ok, Err}
 use Rattle.outcome.specs.Notation.{Determines, Determines2, Determines3}
 use Rattle.outcome.specs.Outcome.{Outcome}
 use Rattle.octets.specs.Bytes.{AreBytes}
@@ -19,8 +20,6 @@ use Rattle.apdu_stated.specs.declared.Lengths.TheVariants.{Found, Missing, Surpl
 use Rattle.apdu_stated.specs.Writing.{Parts}
 use Rattle.apdu_stated.specs.Terms.{InTable, LcZero, apdu_of, Carries, IsIso}
 use Rattle.apdu_stated.specs.Iso.{IsoCase}
-use Rattle.apdu_stated.specs.declared.Reading.TheVariants as Reading'
-use Rattle.apdu_stated.specs.declared.Written.TheVariants as Written'
 use Rattle.apdu_stated.specs.Claims
 use Rattle.apdu_stated.proofs.Ways.{TableOf}
 use Rattle.apdu_stated.proofs.Readings.{payload_exactly}
@@ -155,12 +154,12 @@ StrictWriteOtherwise write f g p q w old = go (ℕ_discrete (shape_no w.shape) 7
 
 -- ---- views
 pub ReadingSaidExactly : Determines Claims.ReadingSaidExactly
-ReadingSaidExactly f g p q (Reading'.Frame a) = (p.frame _ a).1 refl ∙ sym ((q.frame _ a).1 refl)
-ReadingSaidExactly f g p q (Reading'.Status s) = (p.status _ s).1 refl ∙ sym ((q.status _ s).1 refl)
+ReadingSaidExactly f g p q (Ok a) = (p.frame _ a).1 refl ∙ sym ((q.frame _ a).1 refl)
+ReadingSaidExactly f g p q (Err s) = (p.status _ s).1 refl ∙ sym ((q.status _ s).1 refl)
 
 pub WrittenSaidExactly : Determines Claims.WrittenSaidExactly
-WrittenSaidExactly f g p q (Written'.Refused why) = (p.refused _ why).1 refl ∙ sym ((q.refused _ why).1 refl)
-WrittenSaidExactly f g p q (Written'.Frame n) = (p.frame _ n).1 refl ∙ sym ((q.frame _ n).1 refl)
+WrittenSaidExactly f g p q (Err why) = (p.refused _ why).1 refl ∙ sym ((q.refused _ why).1 refl)
+WrittenSaidExactly f g p q (Ok n) = (p.frame _ n).1 refl ∙ sym ((q.frame _ n).1 refl)
 
 -- ---- ISO's cases: of two readings that have their counts, on every frame of a case
 pub IsoCounts : (f g : List ℕ → Outcome Says) → Claims.IsoCounts f → Claims.IsoCounts g → (frame : List ℕ) (c : IsoCase) → IsIso c frame → f frame ≡ g frame

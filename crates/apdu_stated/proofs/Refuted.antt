@@ -5,6 +5,7 @@ use mathlib.Core.Bool.{false, true≢false}
 use mathlib.Core.List.{List, [], ◌∷◌}
 use native.Mathlib.Omega.{arith}
 use lib.ListN.{length, get_or}
+use Rattle.std.specs.Prelude.{Ok, Err}
 use Rattle.outcome.specs.Outcome.{StatusWord, Outcome, R, Word, SW, Gives}
 use Rattle.outcome.proofs.Laws.{gives_same, word_same, sw_same, word_gives, r_gives}
 use Rattle.octets.specs.Bytes.{byte, part_of}
@@ -18,8 +19,6 @@ use Rattle.apdu_stated.specs.Iso.{IsoCase, Case1, Case2S, Case3S, Case4S, Case2E
 use Rattle.apdu_stated.specs.Terms.{full, plain, whole, pair, frame_with, saying, InTable, InStrictTable, OldForm, LongestFront, EndsEarly, in_lc, in_short_data, in_extended_data, row1, row2, row4, row8, IsFrameOf, Carries, shape2, shape3, CarriesStrictly, AreParts, apdu_of}
 use Rattle.apdu_stated.specs.declared.Lengths.TheVariants.{Missing, Surplus}
 use Rattle.outcome.specs.declared.ApduStatusCode.TheVariants as Status'
-use Rattle.apdu_stated.specs.declared.Reading.TheVariants as Reading'
-use Rattle.apdu_stated.specs.declared.Written.TheVariants as Written'
 use Rattle.apdu_stated.specs.Claims
 use Rattle.apdu_stated.specs.Wrong
 use Rattle.apdu_stated.proofs.Theorems
@@ -433,10 +432,10 @@ strict_wants_data_iso exact = r_gives 5 _ (ap (λ (o : Outcome ℕ × List ℕ).
 
 -- ---- views
 pub always6a80 : Claims.ReadingSaidExactly Wrong.always6a80 → ⊥
-always6a80 exact = omega (arith, ap (λ (w : StatusWord). w.number) (word_same _ _ ((exact.status (Reading'.Status Status'.ClaInvalid) Status'.ClaInvalid).1 refl)))
+always6a80 exact = omega (arith, ap (λ (w : StatusWord). w.number) (word_same _ _ ((exact.status (Err Status'.ClaInvalid) Status'.ClaInvalid).1 refl)))
 
 pub lc_for_le : Claims.ReadingSaidExactly Wrong.lc_for_le → ⊥
-lc_for_le exact = omega (arith, le_is _ _ ((exact.frame (Reading'.Frame (apdu_of h0 Le1 0 5)) (apdu_of h0 Le1 0 5)).1 refl))
+lc_for_le exact = omega (arith, le_is _ _ ((exact.frame (Ok (apdu_of h0 Le1 0 5)) (apdu_of h0 Le1 0 5)).1 refl))
 
 pub header_counted_twice : Claims.WrittenSaidExactly Wrong.header_counted_twice → ⊥
-header_counted_twice exact = omega (arith, gives_same _ _ ((exact.frame (Written'.Frame 4) 4).1 refl))
+header_counted_twice exact = omega (arith, gives_same _ _ ((exact.frame (Ok 4) 4).1 refl))

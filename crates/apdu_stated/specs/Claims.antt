@@ -3,7 +3,7 @@
 -- proofs/Theorems.antt, nothing else does by proofs/Only.antt, and the programs of Wrong.antt do not by proofs/Refuted.antt. The words
 -- `LongestFront`, `Carries`, `CarriesStrictly`, `OldForm`, `Differ`: Terms.antt. A claim that takes a table is made of both: of `read_of` and `writing_of` with `InTable`,
 -- of `strict_of` and `strict_writing_of` with `InStrictTable`.
-use Rattle.std.specs.Prelude.{◌↔◌, ◌+◌, ◌≤◌, ◌<◌, ◌≡◌, ◌∷◌, ◌++◌}
+use Rattle.std.specs.Prelude.{◌↔◌, ◌+◌, ◌≤◌, ◌<◌, ◌≡◌, ◌∷◌, ◌++◌, Ok, Err}
 use Rattle.outcome.specs.Notation.{AtMostOne}
 use Rattle.outcome.specs.Outcome.{Outcome, R, Word, Gives, wrong_length, word_of, refusal_no}
 use Rattle.outcome.specs.declared.Refusal.{Refusal}
@@ -14,8 +14,6 @@ use Rattle.apdu_stated.specs.Words.{ℕ, Bool, true, false, List, [], map, lengt
 use Rattle.apdu_stated.specs.Answers.{Apdu, Place, Reading, Written, Says, says_of, reading_of, written_of}
 use Rattle.apdu_stated.specs.Table.{TableRow, columns}
 use Rattle.apdu_stated.specs.Reading.{Entry, Ordinary, Strict}
-use Rattle.apdu_stated.specs.declared.Reading.TheVariants as Reading'
-use Rattle.apdu_stated.specs.declared.Written.TheVariants as Written'
 use Rattle.apdu_stated.specs.Writing.{Parts, parts_of}
 use Rattle.apdu_stated.specs.Iso.{IsoCase, is_case, shape_for, ne_of, is_tolerated}
 pub use Rattle.apdu_stated.specs.InTable.{ReadExactly, ShortExactly, NoShapeExactly}
@@ -287,12 +285,12 @@ pub record StrictThereAndBack (strict : List ℕ → Outcome Says) (cut : List �
 -- words, and no other has them. Rejects a view that gives 6a80 for every status word (`always6a80`), one that says Lc for Le (`lc_for_le`), and one that counts the header twice
 -- (`header_counted_twice`).
 pub record ReadingSaidExactly (said : Reading → Outcome Says) : Type 0 where
-  pub frame : (r : Reading) (a : Apdu) → (said r ≡ Gives (says_of a)) ↔ (r ≡ Reading'.Frame a)
-  pub status : (r : Reading) (s : ApduStatusCode) → (said r ≡ Word (word_of s)) ↔ (r ≡ Reading'.Status s)
+  pub frame : (r : Reading) (a : Apdu) → (said r ≡ Gives (says_of a)) ↔ (r ≡ Ok a)
+  pub status : (r : Reading) (s : ApduStatusCode) → (said r ≡ Word (word_of s)) ↔ (r ≡ Err s)
 
 pub record WrittenSaidExactly (said : Written → Outcome ℕ) : Type 0 where
-  pub refused : (r : Written) (why : Refusal) → (said r ≡ R (refusal_no why)) ↔ (r ≡ Written'.Refused why)
-  pub frame : (r : Written) (n : ℕ) → (said r ≡ Gives n) ↔ (r ≡ Written'.Frame n)
+  pub refused : (r : Written) (why : Refusal) → (said r ≡ R (refusal_no why)) ↔ (r ≡ Err why)
+  pub frame : (r : Written) (n : ℕ) → (said r ≡ Gives n) ↔ (r ≡ Ok n)
 
 -- ---- the numbers tell the cases apart
 

@@ -1,12 +1,10 @@
 -- Wrong programs, one fault each. proofs/Refuted.antt shows the claim that is false of each.
-use Rattle.std.specs.Prelude.{ℕ, ◌+◌, ◌-◌, replicate, ◌&&◌, ◌++◌}
+use Rattle.std.specs.Prelude.{ℕ, ◌+◌, ◌-◌, replicate, ◌&&◌, ◌++◌, Ok, Err}
 use Rattle.outcome.specs.Notation.{when◌then◌else◌}
 use Rattle.outcome.specs.Outcome.{Outcome, R, Word, SW, Gives, missing_at, surplus_at, word_of, refusal_no}
 use Rattle.octets.specs.Bytes.{byte, pair_at, part_of, laid}
 use Rattle.apdu_stated.specs.Words.{Bool, List, [], length, leb, ltb, eqb, Case, shape_no}
 use Rattle.apdu_stated.specs.Answers.{Apdu, Place, Reading, Written, Says, says_of}
-use Rattle.apdu_stated.specs.declared.Reading.TheVariants as Reading'
-use Rattle.apdu_stated.specs.declared.Written.TheVariants as Written'
 use Rattle.apdu_stated.specs.Table.{TableRow, columns, row_of, lc_least, lc_fits, le_read, can_carry, carried_by}
 use Rattle.apdu_stated.specs.Reading.{Ordinary, Strict, lengths_of, read_of, strict_of, header_of}
 use Rattle.apdu_stated.specs.Writing.{Parts, parts_of, frame_of, write_by, buffer_by, writing_of, strict_writing_of}
@@ -280,13 +278,13 @@ nc_for_ne frame = saying_le (λ (s : Says). s.lc) 4 (strict_of frame)
 
 -- ---- views: one number for every status word; Lc in the place of Le; a header that is counted twice
 abbrev pub always6a80 : Reading → Outcome Says
-always6a80 (Reading'.Frame a) = Gives (says_of a)
-always6a80 (Reading'.Status s) = SW 0x6a80
+always6a80 (Ok a) = Gives (says_of a)
+always6a80 (Err s) = SW 0x6a80
 
 abbrev pub lc_for_le : Reading → Outcome Says
-lc_for_le (Reading'.Frame a) = Gives (says_of (apdu_of a.header a.shape a.lc a.lc))
-lc_for_le (Reading'.Status s) = Word (word_of s)
+lc_for_le (Ok a) = Gives (says_of (apdu_of a.header a.shape a.lc a.lc))
+lc_for_le (Err s) = Word (word_of s)
 
 abbrev pub header_counted_twice : Written → Outcome ℕ
-header_counted_twice (Written'.Refused why) = R (refusal_no why)
-header_counted_twice (Written'.Frame n) = Gives (4 + n)
+header_counted_twice (Err why) = R (refusal_no why)
+header_counted_twice (Ok n) = Gives (4 + n)

@@ -1,8 +1,6 @@
 // Command frames of ISO 7816-3: what a frame says. No function: apdu has them.
 #![tactic(auto)]
 
-use outcome::{ApduStatusCode, Refusal};
-
 #[derive(Clone, Copy)]
 pub struct ApduHeader {
     pub cla: u8,
@@ -11,16 +9,16 @@ pub struct ApduHeader {
     pub p2: u8,
 }
 
-// The seven shapes; the sixth of document 01 is retired. The names say the fields after the header: Lc3DataLe2 has three bytes of Lc, data and two of Le.
+// The seven shapes by their numbers; the sixth of document 01 is retired. The names say the fields after the header: Lc3DataLe2 has three bytes of Lc, data and two of Le.
 #[derive(Clone, Copy)]
 pub enum Case {
-    Instruction,
-    Le1,
-    Lc1Data,
-    Lc1DataLe1,
-    Lc3Data,
-    Lc3DataLe2,
-    Le3,
+    Instruction = 1,
+    Le1 = 2,
+    Lc1Data = 3,
+    Lc1DataLe1 = 4,
+    Lc3Data = 5,
+    Lc3DataLe2 = 7,
+    Le3 = 8,
 }
 
 // A row of the table: how many bytes the Lc field has, the least Lc, and how many bytes the Le field has.
@@ -38,12 +36,6 @@ pub struct Apdu {
     pub shape: Case,
     pub lc: u16,
     pub le: u32,
-}
-
-#[derive(Clone, Copy)]
-pub enum Reading {
-    Frame(Apdu),
-    Status(ApduStatusCode),
 }
 
 // Which table a frame is read by: the seven shapes, or ISO 7816-3's seven cases, which have no Lc of 0.
@@ -67,10 +59,4 @@ pub enum Lengths {
 pub struct Place {
     pub start: usize,
     pub end: usize,
-}
-
-#[derive(Clone, Copy)]
-pub enum Written {
-    Refused(Refusal),
-    Frame(usize),
 }

@@ -7,25 +7,23 @@
 
 mod rows;
 
-ghost use Rattle.std.specs.Prelude.{◌+◌, ◌≤◌, ◌<◌, ◌≡◌, ◌||◌, [], length, get_or};
+ghost use Rattle.std.specs.Prelude.{◌+◌, ◌≤◌, ◌<◌, ◌≡◌, ◌||◌, length};
 ghost use Rattle.apdu_table_stated.specs.Rows.{row_from};
 ghost use Rattle.apdu_table_stated.specs.Trying.{begins, lc_in, opens, ends_early, claimed, row_end};
 ghost use Rattle.apdu_table_stated.specs.Answers.{says_by, row_says_of};
 ghost use Rattle.apdu_table_stated.specs.Promises.{TryRows, ReadRows, ReadByTable, ReadStrictByTable};
 
 use apdu_stated::ApduHeader;
-pub use apdu_table_stated::{Row, RowSays, TableReading, Tried};
+pub use apdu_table_stated::{NoRow, Row, RowSays};
 use outcome::{ApduStatusCode, LengthFault};
 pub use rows::{ordinary, strict};
 
 const APDU_HEADER_LEN: usize = 4;
 
-// The row at a place of the table.
-fn row_at(table: &[[u8; 4]], i: usize) -> Row
-    requires { i < length table.now }
-    ensures { (result ≡ row_from (get_or table.now i [])) × (result.lc_field < 256) × (result.le_field < 256) }
+// The row that four numbers say.
+fn row_of(columns: &[u8; 4]) -> Row
+    ensures { (result ≡ row_from columns.now) × (result.lc_field < 256) × (result.le_field < 256) }
 {
-    let columns = table[i];
     Row {
         number: columns[0],
         lc_field: octets::wide(columns[1]),
@@ -35,6 +33,7 @@ fn row_at(table: &[[u8; 4]], i: usize) -> Row
 }
 
 // A field of three bytes begins with 00, as far as the frame goes.
+#[tactic(auto, unfolding(apdu_table_stated::specs::Trying::begins))]
 fn begins(long: usize, place: usize, frame: &[u8]) -> bool
     ensures { result ≡ begins long place frame.now }
 {
@@ -48,6 +47,7 @@ fn begins(long: usize, place: usize, frame: &[u8]) -> bool
 }
 
 // What an Lc field of so many bytes says, behind the header.
+#[tactic(auto, unfolding(apdu_table_stated::specs::Trying::lc_in))]
 fn lc_in(long: usize, frame: &[u8]) -> u16
     requires { long < 256 }
     ensures { result ≡ lc_in long frame.now }
@@ -65,6 +65,7 @@ fn lc_in(long: usize, frame: &[u8]) -> u16
 }
 
 // The frame can begin as the row does. A row whose fields have other lengths than fields do fits nothing.
+#[tactic(auto, unfolding(apdu_table_stated::specs::Trying::opens, apdu_table_stated::specs::Trying::begins))]
 fn opens(row: Row, frame: &[u8]) -> bool
     ensures { result ≡ opens row frame.now }
 {
@@ -78,6 +79,7 @@ fn opens(row: Row, frame: &[u8]) -> bool
 }
 
 // How many bytes of the frame the row's fields claim; 0 where the row does not stand at its front.
+#[tactic(auto, unfolding(apdu_table_stated::specs::Trying::stands))]
 fn claimed(row: Row, frame: &[u8]) -> usize
     requires { (row.lc_field < 256) × (row.le_field < 256) }
     ensures { result ≡ claimed row frame.now }
@@ -116,31 +118,29 @@ fn ends_early(early: bool, row: Row, frame: &[u8]) -> bool
 
 // Tries the rows of any table in turn: the first that fits; where none does, whether bytes are missing, else how many can be claimed.
 #[tactic(auto, using(apdu_table_stated::proofs::Cases::is_short, apdu_table_stated::proofs::Cases::at_start, apdu_table_stated::proofs::Cases::fits_at, apdu_table_stated::proofs::Cases::ends_early_lem, apdu_table_stated::proofs::Cases::goes_on))]
-pub fn try_rows(table: &[[u8; 4]], frame: &[u8]) -> Tried
+pub fn try_rows(table: &[[u8; 4]], frame: &[u8]) -> Result<Row, NoRow>
     ensures { TryRows table.now frame.now result }
 {
     if frame.len() < APDU_HEADER_LEN {
-        return Tried::UnderFour;
+        return Err(NoRow::UnderFour);
     }
-    let mut i = 0;
     let mut early = false;
     let mut most = 0;
-    while i < table.len() {
-        let row = row_at(table, i);
+    for columns in table {
+        let row = row_of(columns);
         let n = claimed(row, frame);
         if n == frame.len() {
-            return Tried::ByRow(row);
+            return Ok(row);
         }
         early = ends_early(early, row, frame);
         if most < n {
             most = n;
         }
-        i += 1;
     }
     if early {
-        return Tried::Early;
+        return Err(NoRow::Early);
     }
-    Tried::Beyond(most)
+    Err(NoRow::Beyond(most))
 }
 
 // What a frame says by a row that fits it.
@@ -168,26 +168,23 @@ fn says(row: Row, frame: &[u8]) -> RowSays
 }
 
 // Reads any bytes by the rows of any table.
-pub fn read_rows(table: &[[u8; 4]], frame: &[u8]) -> TableReading
+#[tactic(auto, using(apdu_table_stated::proofs::Cases::found_lc, apdu_table_stated::proofs::Cases::found_le, apdu_table_stated::proofs::Cases::found_end), unfolding(apdu_table_stated::specs::Answers::read_by_rows))]
+pub fn read_rows(table: &[[u8; 4]], frame: &[u8]) -> Result<RowSays, ApduStatusCode>
     ensures { ReadRows table.now frame.now result }
 {
-    let tried = try_rows(table, frame);
-    match tried {
-        Tried::UnderFour => TableReading::Status(ApduStatusCode::WrongData),
-        Tried::ByRow(row) => TableReading::Frame(says(row, frame)),
-        Tried::Early => TableReading::Status(ApduStatusCode::WrongLength(
+    match try_rows(table, frame) {
+        Ok(row) => Ok(says(row, frame)),
+        Err(NoRow::UnderFour) => Err(ApduStatusCode::WrongData),
+        Err(NoRow::Early) => Err(ApduStatusCode::WrongLength(
             LengthFault::Missing,
             frame.len(),
         )),
-        Tried::Beyond(place) => TableReading::Status(ApduStatusCode::WrongLength(
-            LengthFault::Surplus,
-            place,
-        )),
+        Err(NoRow::Beyond(place)) => Err(ApduStatusCode::WrongLength(LengthFault::Surplus, place)),
     }
 }
 
 // By the ordinary table: document 01's without its row 6.
-pub fn read(frame: &[u8]) -> TableReading
+pub fn read(frame: &[u8]) -> Result<RowSays, ApduStatusCode>
     ensures { ReadByTable frame.now result }
 {
     let table = ordinary();
@@ -195,7 +192,7 @@ pub fn read(frame: &[u8]) -> TableReading
 }
 
 // By ISO's.
-pub fn read_strict(frame: &[u8]) -> TableReading
+pub fn read_strict(frame: &[u8]) -> Result<RowSays, ApduStatusCode>
     ensures { ReadStrictByTable frame.now result }
 {
     let table = strict();

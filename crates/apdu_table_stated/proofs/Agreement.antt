@@ -12,7 +12,7 @@ use Rattle.outcome.specs.Outcome.{missing_at, surplus_at}
 use Rattle.apdu_stated.specs.Reading.{read_by, lengths_of, say_of}
 use Rattle.apdu_stated.specs.declared.Lengths.{Lengths}
 use Rattle.apdu_stated.proofs.Laws.{way, read_under, read_by_lem, say_missing, say_surplus}
-use Rattle.apdu_table_stated.specs.Words.{Entry, Ordinary, Strict, Row, Tried, UnderFour}
+use Rattle.apdu_table_stated.specs.Words.{Entry, Ordinary, Strict, Row, Tried, Err, UnderFour}
 use Rattle.apdu_table_stated.specs.Rows.{table_of}
 use Rattle.apdu_table_stated.specs.Trying.{ends_early, claimed, in_turn, tried_of}
 use Rattle.apdu_table_stated.specs.Answers.{answer_of, read_by_rows}
@@ -56,7 +56,7 @@ is_has Strict is_5 = behind (behind (behind (behind here)))
 is_has Strict is_7 = behind (behind (behind (behind (behind here))))
 is_has Strict is_8 = behind (behind (behind (behind (behind (behind here)))))
 
-pub tried_short : (rows : List Row) (frame : List ℕ) → length frame < 4 → tried_of rows frame ≡ UnderFour
+pub tried_short : (rows : List Row) (frame : List ℕ) → length frame < 4 → tried_of rows frame ≡ Err UnderFour
 unfolding tried_of
 tried_short rows frame h = rw (lt-ltb (length frame) 4 h)
 

@@ -12,7 +12,7 @@ use Rattle.outcome.specs.Outcome.{Outcome, SW, Gives, wrong_length}
 use Rattle.outcome.proofs.Laws.{gives_same, word_gives}
 use Rattle.octets.specs.Bytes.{AreBytes}
 use Rattle.apdu_stated.proofs.Laws.{number_is, kind_is, place_is}
-use Rattle.apdu_table_stated.specs.Words.{Says, Row, Tried, UnderFour, ByRow, Early, Beyond}
+use Rattle.apdu_table_stated.specs.Words.{Says, Row, Tried, Ok, Err, UnderFour, Early, Beyond}
 use Rattle.apdu_table_stated.specs.Trying.{stands, fits, claimed, row_end, in_turn, tried_of}
 use Rattle.apdu_table_stated.specs.Answers.{says_by, answer_of, read_by_rows}
 use Rattle.apdu_table_stated.specs.Terms.{OfRow, IsOf, OfTable, EarlyIn, Has, here, behind, First, this, later, MostClaimed, a_part, no_part}
@@ -42,7 +42,7 @@ pub first_has : {rows : List Row} {frame : List ℕ} {r : Row} → First rows fr
 first_has (this o) = here
 first_has (later n f) = behind (first_has f)
 
-of_first : {rows : List Row} {frame : List ℕ} {r : Row} → AreBytes frame → (early : Bool) (most : ℕ) → First rows frame r → in_turn rows frame early most ≡ ByRow r
+of_first : {rows : List Row} {frame : List ℕ} {r : Row} → AreBytes frame → (early : Bool) (most : ℕ) → First rows frame r → in_turn rows frame early most ≡ Ok r
 of_first bytes early most (this {r} {rows} {frame} o) = rw (fit_of r frame o)
 of_first bytes early most (later {r} {x} {rows} {frame} n f) =
     rw (Columns.is_false (fits x frame) (λ e. n (is_of x frame bytes e))) (of_first bytes _ _ f)
@@ -101,7 +101,7 @@ module _ (rows : List Row) (frame : List ℕ) where
 module _ (rows : List Row) (frame : List ℕ) where
   -- what was tried, by every way through it
   data Way : Tried → Type 0 where
-    under : length frame < 4 → Way UnderFour
+    under : length frame < 4 → Way (Err UnderFour)
     by_turn : {t : Tried} → 4 ≤ length frame → Turn rows frame false 0 t → Way t
 
   way : Way (tried_of rows frame)
@@ -111,45 +111,45 @@ module _ (rows : List Row) (frame : List ℕ) where
       go (yes h) = subst Way (sym (tried_short rows frame h)) (under h)
       go (no h) = subst Way (sym (tried_turn rows frame (omega arith))) (by_turn (omega arith) (turn rows frame false 0))
 
-  is_short : (tried_of rows frame ≡ UnderFour) ↔ (length frame < 4)
+  is_short : (tried_of rows frame ≡ Err UnderFour) ↔ (length frame < 4)
   is_short = (λ e. go (tried_of rows frame) way e, tried_short rows frame)
     where
-      never : (t : Tried) → Turn rows frame false 0 t → t ≡ UnderFour → length frame < 4
+      never : (t : Tried) → Turn rows frame false 0 t → t ≡ Err UnderFour → length frame < 4
       never _ (chosen r c) e = let z : ◌≡◌ {A = ℕ} 0 1 = cc in absurd (omega arith)
       never _ (short n s) e = let z : ◌≡◌ {A = ℕ} 0 1 = cc in absurd (omega arith)
       never _ (past_all k n s l b a c) e = let z : ◌≡◌ {A = ℕ} 0 1 = cc in absurd (omega arith)
 
-      go : (t : Tried) → Way t → t ≡ UnderFour → length frame < 4
+      go : (t : Tried) → Way t → t ≡ Err UnderFour → length frame < 4
       go _ (under h) e = h
       go _ (by_turn h t) e = never _ t e
 
   module _ (bytes : AreBytes frame) where
-    fits_exactly : (r : Row) → (tried_of rows frame ≡ ByRow r) ↔ First rows frame r
+    fits_exactly : (r : Row) → (tried_of rows frame ≡ Ok r) ↔ First rows frame r
     fits_exactly r = (λ e. go (tried_of rows frame) way e, λ f. tried_turn rows frame (first_long f) ∙ of_first bytes false 0 f)
       where
-        go : (t : Tried) → Way t → t ≡ ByRow r → First rows frame r
+        go : (t : Tried) → Way t → t ≡ Ok r → First rows frame r
         go _ (under h) e = let z : ◌≡◌ {A = ℕ} 0 1 = cc in absurd (omega arith)
         go _ (by_turn h (chosen x c)) e = let same : x ≡ r = cc in subst (First rows frame) same (first_row_of bytes c)
         go _ (by_turn h (short n s)) e = let z : ◌≡◌ {A = ℕ} 0 1 = cc in absurd (omega arith)
         go _ (by_turn h (past_all k n s l b a c)) e = let z : ◌≡◌ {A = ℕ} 0 1 = cc in absurd (omega arith)
 
-    early_exactly : (tried_of rows frame ≡ Early) ↔ ((4 ≤ length frame) × ((r : Row) → Has rows r → IsOf r frame → ⊥) × ((r : Row) × Has rows r × EarlyIn r frame))
+    early_exactly : (tried_of rows frame ≡ Err Early) ↔ ((4 ≤ length frame) × ((r : Row) → Has rows r → IsOf r frame → ⊥) × ((r : Row) × Has rows r × EarlyIn r frame))
     early_exactly = (λ e. go (tried_of rows frame) way e, λ x. back (tried_of rows frame) way x.0 x.1 x.2)
       where
-        go : (t : Tried) → Way t → t ≡ Early → (4 ≤ length frame) × ((r : Row) → Has rows r → IsOf r frame → ⊥) × ((r : Row) × Has rows r × EarlyIn r frame)
+        go : (t : Tried) → Way t → t ≡ Err Early → (4 ≤ length frame) × ((r : Row) → Has rows r → IsOf r frame → ⊥) × ((r : Row) × Has rows r × EarlyIn r frame)
         go _ (under h) e = let z : ◌≡◌ {A = ℕ} 0 1 = cc in absurd (omega arith)
         go _ (by_turn h (chosen x c)) e = let z : ◌≡◌ {A = ℕ} 0 1 = cc in absurd (omega arith)
         go _ (by_turn h (short n (inl s))) e = absurd (true≢false (sym s))
         go _ (by_turn h (short n (inr s))) e = (h, λ r m o. true≢false (sym (fit_of r frame o) ∙ n r m), (s.0, s.1, early_in s.0 frame h s.2))
         go _ (by_turn h (past_all k n s l b a c)) e = let z : ◌≡◌ {A = ℕ} 0 1 = cc in absurd (omega arith)
 
-        back : (t : Tried) → Way t → 4 ≤ length frame → ((r : Row) → Has rows r → IsOf r frame → ⊥) → ((r : Row) × Has rows r × EarlyIn r frame) → t ≡ Early
+        back : (t : Tried) → Way t → 4 ≤ length frame → ((r : Row) → Has rows r → IsOf r frame → ⊥) → ((r : Row) × Has rows r × EarlyIn r frame) → t ≡ Err Early
         back _ (under h) l n x = absurd (omega arith)
         back _ (by_turn h (chosen r c)) l n x = absurd (n r (chosen_has c) (is_of r frame bytes (chosen_fits c)))
         back _ (by_turn h (short m s)) l n x = refl
         back _ (by_turn h (past_all k m s no_early b a c)) l n x = absurd (true≢false (sym (in_early x.0 frame h x.2) ∙ no_early x.0 x.1))
 
-    goes_on_exactly : (k : ℕ) → (tried_of rows frame ≡ Beyond k) ↔ ((4 ≤ length frame) × ((r : Row) → Has rows r → EarlyIn r frame → ⊥) × (k < length frame) × MostClaimed rows frame k)
+    goes_on_exactly : (k : ℕ) → (tried_of rows frame ≡ Err (Beyond k)) ↔ ((4 ≤ length frame) × ((r : Row) → Has rows r → EarlyIn r frame → ⊥) × (k < length frame) × MostClaimed rows frame k)
     goes_on_exactly k = (λ e. go (tried_of rows frame) way e, λ x. back (tried_of rows frame) way x.0 x.1 x.2 x.3)
       where
         -- the most is not all: a row that claims all fits
@@ -157,7 +157,7 @@ module _ (rows : List Row) (frame : List ℕ) where
         not_all m h n (inl z) e = omega arith
         not_all m h n (inr (r, i, c)) e = true≢false (sym (Columns.claimed_all r frame (omega arith) (c ∙ e)) ∙ n r i)
 
-        go : (t : Tried) → Way t → t ≡ Beyond k → (4 ≤ length frame) × ((r : Row) → Has rows r → EarlyIn r frame → ⊥) × (k < length frame) × MostClaimed rows frame k
+        go : (t : Tried) → Way t → t ≡ Err (Beyond k) → (4 ≤ length frame) × ((r : Row) → Has rows r → EarlyIn r frame → ⊥) × (k < length frame) × MostClaimed rows frame k
         go _ (under h) e = let z : ◌≡◌ {A = ℕ} 0 1 = cc in absurd (omega arith)
         go _ (by_turn h (chosen x c)) e = let z : ◌≡◌ {A = ℕ} 0 1 = cc in absurd (omega arith)
         go _ (by_turn h (short n s)) e = let z : ◌≡◌ {A = ℕ} 0 1 = cc in absurd (omega arith)
@@ -175,7 +175,7 @@ module _ (rows : List Row) (frame : List ℕ) where
             below : (m : ℕ) → m ≤ length frame → (m ≡ length frame → ⊥) → m ≡ k → k < length frame
             below m l d same = omega arith
 
-        back : (t : Tried) → Way t → 4 ≤ length frame → ((r : Row) → Has rows r → EarlyIn r frame → ⊥) → k < length frame → MostClaimed rows frame k → t ≡ Beyond k
+        back : (t : Tried) → Way t → 4 ≤ length frame → ((r : Row) → Has rows r → EarlyIn r frame → ⊥) → k < length frame → MostClaimed rows frame k → t ≡ Err (Beyond k)
         back _ (under h) l n less most = absurd (omega arith)
         back _ (by_turn h (chosen r c)) l n less most =
             let fit = Columns.fits_of r frame (chosen_fits c) in
@@ -184,7 +184,7 @@ module _ (rows : List Row) (frame : List ℕ) where
             absurd (omega (arith, fit.1))
         back _ (by_turn h (short m (inl s))) l n less most = absurd (true≢false (sym s))
         back _ (by_turn h (short m (inr s))) l n less most = absurd (n s.0 s.1 (early_in s.0 frame h s.2))
-        back _ (by_turn h (past_all m no_fit s no_early b bound at)) l n less most = ap Beyond (same at (claimed_by rows frame k most))
+        back _ (by_turn h (past_all m no_fit s no_early b bound at)) l n less most = ap (λ (n : ℕ). Err (Beyond n)) (same at (claimed_by rows frame k most))
           where
             up : (a b : ℕ) → ((r : Row) → Has rows r → claimed r frame ≤ b) → (a ≡ 0) ⊎ ((r : Row) × Has rows r × (claimed r frame ≡ a)) → a ≤ b
             up a b f (inl z) = omega arith
@@ -201,10 +201,10 @@ pub same_tries : (try : List Row → List ℕ → Tried) → Claims.TriesExactly
 same_tries try x rows frame bytes = go (tried_of rows frame) refl
   where
     go : (t : Tried) → tried_of rows frame ≡ t → try rows frame ≡ t
-    go UnderFour e = (x.short rows frame).1 ((tries_exactly.short rows frame).0 e)
-    go (ByRow r) e = (x.by_row rows frame bytes r).1 ((tries_exactly.by_row rows frame bytes r).0 e)
-    go Early e = (x.early rows frame bytes).1 ((tries_exactly.early rows frame bytes).0 e)
-    go (Beyond k) e = (x.beyond rows frame bytes k).1 ((tries_exactly.beyond rows frame bytes k).0 e)
+    go (Err UnderFour) e = (x.short rows frame).1 ((tries_exactly.short rows frame).0 e)
+    go (Ok r) e = (x.by_row rows frame bytes r).1 ((tries_exactly.by_row rows frame bytes r).0 e)
+    go (Err Early) e = (x.early rows frame bytes).1 ((tries_exactly.early rows frame bytes).0 e)
+    go (Err (Beyond k)) e = (x.beyond rows frame bytes k).1 ((tries_exactly.beyond rows frame bytes k).0 e)
 
 -- ---- what is answered, each exactly when
 module _ (rows : List Row) (frame : List ℕ) where
@@ -213,30 +213,30 @@ module _ (rows : List Row) (frame : List ℕ) where
   answer_of_lem t e = ap (answer_of frame) (sym e)
 
   short_answer : (read_by_rows rows frame ≡ SW 0x6a80) ↔ (length frame < 4)
-  short_answer = (λ e. go (tried_of rows frame) refl e, λ h. sym (answer_of_lem UnderFour ((is_short rows frame).1 h)))
+  short_answer = (λ e. go (tried_of rows frame) refl e, λ h. sym (answer_of_lem (Err UnderFour) ((is_short rows frame).1 h)))
     where
       go : (t : Tried) → tried_of rows frame ≡ t → read_by_rows rows frame ≡ SW 0x6a80 → length frame < 4
-      go UnderFour t e = (is_short rows frame).0 t
-      go (ByRow r) t e = absurd (word_gives _ _ (sym (answer_of_lem (ByRow r) t ∙ e)))
-      go Early t e = let n = number_is _ _ (answer_of_lem Early t ∙ e) in absurd (omega arith)
-      go (Beyond k) t e = let n = number_is _ _ (answer_of_lem (Beyond k) t ∙ e) in absurd (omega arith)
+      go (Err UnderFour) t e = (is_short rows frame).0 t
+      go (Ok r) t e = absurd (word_gives _ _ (sym (answer_of_lem (Ok r) t ∙ e)))
+      go (Err Early) t e = let n = number_is _ _ (answer_of_lem (Err Early) t ∙ e) in absurd (omega arith)
+      go (Err (Beyond k)) t e = let n = number_is _ _ (answer_of_lem (Err (Beyond k)) t ∙ e) in absurd (omega arith)
 
   module _ (bytes : AreBytes frame) where
     reads_answer : (says : Says) → (read_by_rows rows frame ≡ Gives says) ↔ ((r : Row) × (content : List ℕ) × First rows frame r × OfRow r frame says content)
     reads_answer says = (λ e. go (tried_of rows frame) refl e, back)
       where
         go : (t : Tried) → tried_of rows frame ≡ t → read_by_rows rows frame ≡ Gives says → (r : Row) × (content : List ℕ) × First rows frame r × OfRow r frame says content
-        go UnderFour t e = absurd (word_gives _ _ (answer_of_lem UnderFour t ∙ e))
-        go (ByRow r) t e =
+        go (Err UnderFour) t e = absurd (word_gives _ _ (answer_of_lem (Err UnderFour) t ∙ e))
+        go (Ok r) t e =
             let f = (fits_exactly rows frame bytes r).0 t in
             let o = first_row f in
-            let same : o.0 ≡ says = sym (said_of r frame o.1 o.0 o.2) ∙ gives_same _ _ (answer_of_lem (ByRow r) t ∙ e) in
+            let same : o.0 ≡ says = sym (said_of r frame o.1 o.0 o.2) ∙ gives_same _ _ (answer_of_lem (Ok r) t ∙ e) in
             (r, o.1, f, subst (λ (s : Says). OfRow r frame s o.1) same o.2)
-        go Early t e = absurd (word_gives _ _ (answer_of_lem Early t ∙ e))
-        go (Beyond k) t e = absurd (word_gives _ _ (answer_of_lem (Beyond k) t ∙ e))
+        go (Err Early) t e = absurd (word_gives _ _ (answer_of_lem (Err Early) t ∙ e))
+        go (Err (Beyond k)) t e = absurd (word_gives _ _ (answer_of_lem (Err (Beyond k)) t ∙ e))
 
         back : ((r : Row) × (content : List ℕ) × First rows frame r × OfRow r frame says content) → read_by_rows rows frame ≡ Gives says
-        back (r, content, f, o) = sym (answer_of_lem (ByRow r) ((fits_exactly rows frame bytes r).1 f)) ∙ ap Gives (said_of r frame content says o)
+        back (r, content, f, o) = sym (answer_of_lem (Ok r) ((fits_exactly rows frame bytes r).1 f)) ∙ ap Gives (said_of r frame content says o)
 
     missing_answer : (k : ℕ) → (read_by_rows rows frame ≡ wrong_length 1 k)
         ↔ ((4 ≤ length frame) × ((r : Row) → Has rows r → IsOf r frame → ⊥) × ((r : Row) × Has rows r × EarlyIn r frame) × (k ≡ length frame))
@@ -244,22 +244,22 @@ module _ (rows : List Row) (frame : List ℕ) where
       where
         go : (t : Tried) → tried_of rows frame ≡ t → read_by_rows rows frame ≡ wrong_length 1 k
             → (4 ≤ length frame) × ((r : Row) → Has rows r → IsOf r frame → ⊥) × ((r : Row) × Has rows r × EarlyIn r frame) × (k ≡ length frame)
-        go UnderFour t e = let n = number_is _ _ (answer_of_lem UnderFour t ∙ e) in absurd (omega arith)
-        go (ByRow r) t e = absurd (word_gives _ _ (sym (answer_of_lem (ByRow r) t ∙ e)))
-        go Early t e = let x = (early_exactly rows frame bytes).0 t in (x.0, x.1, x.2, sym (place_is _ _ (answer_of_lem Early t ∙ e)))
-        go (Beyond m) t e = let n = kind_is _ _ (answer_of_lem (Beyond m) t ∙ e) in absurd (omega arith)
+        go (Err UnderFour) t e = let n = number_is _ _ (answer_of_lem (Err UnderFour) t ∙ e) in absurd (omega arith)
+        go (Ok r) t e = absurd (word_gives _ _ (sym (answer_of_lem (Ok r) t ∙ e)))
+        go (Err Early) t e = let x = (early_exactly rows frame bytes).0 t in (x.0, x.1, x.2, sym (place_is _ _ (answer_of_lem (Err Early) t ∙ e)))
+        go (Err (Beyond m)) t e = let n = kind_is _ _ (answer_of_lem (Err (Beyond m)) t ∙ e) in absurd (omega arith)
 
         back : ((4 ≤ length frame) × ((r : Row) → Has rows r → IsOf r frame → ⊥) × ((r : Row) × Has rows r × EarlyIn r frame) × (k ≡ length frame)) → read_by_rows rows frame ≡ wrong_length 1 k
-        back (h, n, x, e) = sym (answer_of_lem Early ((early_exactly rows frame bytes).1 (h, n, x))) ∙ ap (wrong_length 1) (sym e)
+        back (h, n, x, e) = sym (answer_of_lem (Err Early) ((early_exactly rows frame bytes).1 (h, n, x))) ∙ ap (wrong_length 1) (sym e)
 
     surplus_answer : (k : ℕ) → (read_by_rows rows frame ≡ wrong_length 2 k) ↔ ((4 ≤ length frame) × ((r : Row) → Has rows r → EarlyIn r frame → ⊥) × (k < length frame) × MostClaimed rows frame k)
-    surplus_answer k = (λ e. go (tried_of rows frame) refl e, λ x. sym (answer_of_lem (Beyond k) ((goes_on_exactly rows frame bytes k).1 x)))
+    surplus_answer k = (λ e. go (tried_of rows frame) refl e, λ x. sym (answer_of_lem (Err (Beyond k)) ((goes_on_exactly rows frame bytes k).1 x)))
       where
         go : (t : Tried) → tried_of rows frame ≡ t → read_by_rows rows frame ≡ wrong_length 2 k → (4 ≤ length frame) × ((r : Row) → Has rows r → EarlyIn r frame → ⊥) × (k < length frame) × MostClaimed rows frame k
-        go UnderFour t e = let n = number_is _ _ (answer_of_lem UnderFour t ∙ e) in absurd (omega arith)
-        go (ByRow r) t e = absurd (word_gives _ _ (sym (answer_of_lem (ByRow r) t ∙ e)))
-        go Early t e = let n = kind_is _ _ (answer_of_lem Early t ∙ e) in absurd (omega arith)
-        go (Beyond m) t e = let same : m ≡ k = place_is _ _ (answer_of_lem (Beyond m) t ∙ e) in (goes_on_exactly rows frame bytes k).0 (t ∙ ap Beyond same)
+        go (Err UnderFour) t e = let n = number_is _ _ (answer_of_lem (Err UnderFour) t ∙ e) in absurd (omega arith)
+        go (Ok r) t e = absurd (word_gives _ _ (sym (answer_of_lem (Ok r) t ∙ e)))
+        go (Err Early) t e = let n = kind_is _ _ (answer_of_lem (Err Early) t ∙ e) in absurd (omega arith)
+        go (Err (Beyond m)) t e = let same : m ≡ k = place_is _ _ (answer_of_lem (Err (Beyond m)) t ∙ e) in (goes_on_exactly rows frame bytes k).0 (t ∙ ap (λ (n : ℕ). Err (Beyond n)) same)
 
 pub answers_exactly : Claims.AnswersExactly read_by_rows
 answers_exactly = record { reads = reads_answer; short = short_answer; missing = missing_answer; surplus = surplus_answer }
@@ -269,7 +269,7 @@ pub same_answers : (read : List Row → List ℕ → Outcome Says) → Claims.An
 same_answers read x rows frame bytes = go (tried_of rows frame) refl
   where
     go : (t : Tried) → tried_of rows frame ≡ t → read rows frame ≡ read_by_rows rows frame
-    go UnderFour t = let e = sym (answer_of_lem rows frame UnderFour t) in (x.short rows frame).1 ((answers_exactly.short rows frame).0 e) ∙ sym e
-    go (ByRow r) t = let e = sym (answer_of_lem rows frame (ByRow r) t) in (x.reads rows frame bytes _).1 ((answers_exactly.reads rows frame bytes _).0 e) ∙ sym e
-    go Early t = let e = sym (answer_of_lem rows frame Early t) in (x.missing rows frame bytes _).1 ((answers_exactly.missing rows frame bytes _).0 e) ∙ sym e
-    go (Beyond k) t = let e = sym (answer_of_lem rows frame (Beyond k) t) in (x.surplus rows frame bytes k).1 ((answers_exactly.surplus rows frame bytes k).0 e) ∙ sym e
+    go (Err UnderFour) t = let e = sym (answer_of_lem rows frame (Err UnderFour) t) in (x.short rows frame).1 ((answers_exactly.short rows frame).0 e) ∙ sym e
+    go (Ok r) t = let e = sym (answer_of_lem rows frame (Ok r) t) in (x.reads rows frame bytes _).1 ((answers_exactly.reads rows frame bytes _).0 e) ∙ sym e
+    go (Err Early) t = let e = sym (answer_of_lem rows frame (Err Early) t) in (x.missing rows frame bytes _).1 ((answers_exactly.missing rows frame bytes _).0 e) ∙ sym e
+    go (Err (Beyond k)) t = let e = sym (answer_of_lem rows frame (Err (Beyond k)) t) in (x.surplus rows frame bytes k).1 ((answers_exactly.surplus rows frame bytes k).0 e) ∙ sym e

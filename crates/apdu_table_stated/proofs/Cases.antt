@@ -13,7 +13,7 @@ use lib.Dec.{ltb, eqb}
 use Rattle.outcome.specs.Notation.{when◌then◌else◌}
 use Rattle.outcome.specs.Outcome.{Outcome, SW, Gives, missing_at, surplus_at}
 use Rattle.octets.specs.Bytes.{byte}
-use Rattle.apdu_table_stated.specs.Words.{Says, Entry, Row, Tried, UnderFour, ByRow, Early, Beyond}
+use Rattle.apdu_table_stated.specs.Words.{Says, Entry, Row, NoRow, Tried, Ok, Err, UnderFour, Early, Beyond}
 use Rattle.apdu_table_stated.specs.Rows.{numbered, table_of, row_from, rows_of, columns_of}
 use Rattle.apdu_table_stated.specs.Trying.{is_row, begins, lc_in, data_end, row_end, opens, stands, fits, ends_early, claimed, greater, in_turn, tried_of}
 use Rattle.apdu_table_stated.specs.Answers.{says_by, answer_of, read_by_rows}
@@ -141,14 +141,14 @@ module _ (table : List (List ℕ)) (frame : List ℕ) (long : 4 ≤ length frame
   at_start = record { within = omega arith; same = refl }
 
   module _ (i : ℕ) (early : Bool) (most : ℕ) (at : At table frame i early most) where
-    pub at_end : length table ≤ i → (when early then Early else Beyond most) ≡ tried_of (rows_of table) frame
+    pub at_end : length table ≤ i → (when early then Err Early else Err (Beyond most)) ≡ tried_of (rows_of table) frame
     at_end h = ap (λ (t : List (List ℕ)). in_turn (rows_of t) frame early most) (sym (drop_of_length-le table h)) ∙ at.same ∙ sym (tried_turn (rows_of table) frame long)
 
-    pub ends_early_lem : length table ≤ i → early ≡ true → Early ≡ tried_of (rows_of table) frame
-    ends_early_lem h e = ap (λ (b : Bool). when b then Early else Beyond most) (sym e) ∙ at_end h
+    pub ends_early_lem : length table ≤ i → early ≡ true → Err Early ≡ tried_of (rows_of table) frame
+    ends_early_lem h e = ap (λ (b : Bool). when b then Err Early else Err (Beyond most)) (sym e) ∙ at_end h
 
-    pub goes_on : length table ≤ i → early ≡ false → Beyond most ≡ tried_of (rows_of table) frame
-    goes_on h e = ap (λ (b : Bool). when b then Early else Beyond most) (sym e) ∙ at_end h
+    pub goes_on : length table ≤ i → early ≡ false → Err (Beyond most) ≡ tried_of (rows_of table) frame
+    goes_on h e = ap (λ (b : Bool). when b then Err Early else Err (Beyond most)) (sym e) ∙ at_end h
 
     module _ (h : i < length table) (r : Row) (is_r : r ≡ row_from (get_or table i [])) (n : ℕ) (is_n : n ≡ claimed r frame) where
       rows_from : rows_of (drop i table) ≡ r ∷ rows_of (drop (i + 1) table)
@@ -157,10 +157,10 @@ module _ (table : List (List ℕ)) (frame : List ℕ) (long : 4 ≤ length frame
       turned : in_turn (r ∷ rows_of (drop (i + 1) table)) frame early most ≡ in_turn (rows_of table) frame false 0
       turned = ap (λ (rows : List Row). in_turn rows frame early most) (sym rows_from) ∙ at.same
 
-      pub fits_at : n ≡ length frame → ByRow r ≡ tried_of (rows_of table) frame
+      pub fits_at : n ≡ length frame → Ok r ≡ tried_of (rows_of table) frame
       fits_at e =
           let f : fits r frame ≡ true = Columns.claimed_all r frame (omega arith) (sym is_n ∙ e) in
-          ap (λ (b : Bool). when b then ByRow r else in_turn (rows_of (drop (i + 1) table)) frame (early || ends_early r frame) (greater most (claimed r frame))) (sym f)
+          ap (λ (b : Bool). when b then Ok r else in_turn (rows_of (drop (i + 1) table)) frame (early || ends_early r frame) (greater most (claimed r frame))) (sym f)
           ∙ turned ∙ sym (tried_turn (rows_of table) frame long)
 
       module _ (differs : n ≡ length frame → ⊥) (sooner : Bool) (is_sooner : sooner ≡ (early || ends_early r frame)) where
@@ -173,7 +173,7 @@ module _ (table : List (List ℕ)) (frame : List ℕ) (long : 4 ≤ length frame
               within = omega arith;
               same =
                   rw (e, is_sooner, is_n)
-                  (sym (ap (λ (b : Bool). when b then ByRow r else in_turn (rows_of (drop (i + 1) table)) frame (early || ends_early r frame) (greater most (claimed r frame))) misfit) ∙ turned);
+                  (sym (ap (λ (b : Bool). when b then Ok r else in_turn (rows_of (drop (i + 1) table)) frame (early || ends_early r frame) (greater most (claimed r frame))) misfit) ∙ turned);
             }
 
         pub next_more : (m : ℕ) → most < n → m ≡ n → At table frame (i + 1) sooner m
@@ -182,7 +182,7 @@ module _ (table : List (List ℕ)) (frame : List ℕ) (long : 4 ≤ length frame
         pub next_same : (m : ℕ) → n ≤ most → m ≡ most → At table frame (i + 1) sooner m
         next_same m less e = next m (e ∙ rw (le-ltb most n less))
 
-pub is_short : (table : List (List ℕ)) (frame : List ℕ) → length frame < 4 → UnderFour ≡ tried_of (rows_of table) frame
+pub is_short : (table : List (List ℕ)) (frame : List ℕ) → length frame < 4 → Err UnderFour ≡ tried_of (rows_of table) frame
 is_short table frame h = sym (tried_short (rows_of table) frame h)
 
 -- ---- the answers
@@ -191,32 +191,32 @@ module _ (rows : List Row) (frame : List ℕ) (t : Tried) (is_t : t ≡ tried_of
   unfolding read_by_rows
   read_is u e = ap (answer_of frame) (sym e ∙ is_t)
 
-  pub read_short : t ≡ UnderFour → SW 0x6a80 ≡ read_by_rows rows frame
-  read_short e = read_is UnderFour e
+  pub read_short : (why : NoRow) → t ≡ Err why → why ≡ UnderFour → SW 0x6a80 ≡ read_by_rows rows frame
+  read_short why e is = read_is (Err UnderFour) (e ∙ ap Err is)
 
-  pub read_fits : (r : Row) (said : Says) → said ≡ says_by r frame → t ≡ ByRow r → Gives said ≡ read_by_rows rows frame
-  read_fits r said is e = ap Gives is ∙ read_is (ByRow r) e
+  pub read_fits : (r : Row) (said : Says) → said ≡ says_by r frame → t ≡ Ok r → Gives said ≡ read_by_rows rows frame
+  read_fits r said is e = ap Gives is ∙ read_is (Ok r) e
 
-  pub read_early : t ≡ Early → missing_at (length frame) ≡ read_by_rows rows frame
-  read_early e = read_is Early e
+  pub read_early : (why : NoRow) → t ≡ Err why → why ≡ Early → missing_at (length frame) ≡ read_by_rows rows frame
+  read_early why e is = read_is (Err Early) (e ∙ ap Err is)
 
-  pub read_on : (place : ℕ) → t ≡ Beyond place → surplus_at place ≡ read_by_rows rows frame
-  read_on place e = read_is (Beyond place) e
+  pub read_on : (why : NoRow) (place : ℕ) → t ≡ Err why → why ≡ Beyond place → surplus_at place ≡ read_by_rows rows frame
+  read_on why place e is = read_is (Err (Beyond place)) (e ∙ ap Err is)
 
   -- the row that was found fits: its fields are small, and it ends where the frame does
-  found_fits : (r : Row) → t ≡ ByRow r → fits r frame ≡ true
+  found_fits : (r : Row) → t ≡ Ok r → fits r frame ≡ true
   found_fits r e = go (dec_lt (length frame) 4)
     where
-      by : (u : Tried) → Turn rows frame false 0 u → ByRow r ≡ u → fits r frame ≡ true
+      by : (u : Tried) → Turn rows frame false 0 u → Ok r ≡ u → fits r frame ≡ true
       by _ (chosen x c) q = let same : r ≡ x = cc in rw same (chosen_fits c)
       by _ (short a b) q = let z : ◌≡◌ {A = ℕ} 0 1 = cc in absurd (omega arith)
       by _ (past_all k a b c d f g) q = let z : ◌≡◌ {A = ℕ} 0 1 = cc in absurd (omega arith)
 
       go : Dec (length frame < 4) → fits r frame ≡ true
-      go (yes h) = let q : ByRow r ≡ UnderFour = sym e ∙ is_t ∙ tried_short rows frame h in let z : ◌≡◌ {A = ℕ} 0 1 = cc in absurd (omega arith)
+      go (yes h) = let q : Ok r ≡ Err UnderFour = sym e ∙ is_t ∙ tried_short rows frame h in let z : ◌≡◌ {A = ℕ} 0 1 = cc in absurd (omega arith)
       go (no h) = by (in_turn rows frame false 0) (turn rows frame false 0) (sym e ∙ is_t ∙ tried_turn rows frame (omega arith))
 
-  pub found_lc : (r : Row) → t ≡ ByRow r → r.lc_field ≤ 3
+  pub found_lc : (r : Row) → t ≡ Ok r → r.lc_field ≤ 3
   found_lc r e = small (Columns.row_lc r (Columns.fits_of r frame (found_fits r e)).0.is_row)
     where
       small : {k : ℕ} → Columns.IsLc k → k ≤ 3
@@ -224,10 +224,10 @@ module _ (rows : List Row) (frame : List ℕ) (t : Tried) (is_t : t ≡ tried_of
       small Columns.lc_1 = omega arith
       small Columns.lc_3 = omega arith
 
-  pub found_le : (r : Row) → t ≡ ByRow r → r.le_field ≤ 3
+  pub found_le : (r : Row) → t ≡ Ok r → r.le_field ≤ 3
   found_le r e = Columns.le_most_lem (Columns.row_le r (Columns.fits_of r frame (found_fits r e)).0.is_row)
 
-  pub found_end : (r : Row) → t ≡ ByRow r → row_end r frame ≡ length frame
+  pub found_end : (r : Row) → t ≡ Ok r → row_end r frame ≡ length frame
   found_end r e = (Columns.fits_of r frame (found_fits r e)).1
 
 -- a table that is given as its rows, four numbers each

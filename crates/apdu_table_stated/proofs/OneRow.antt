@@ -8,7 +8,7 @@ use native.Mathlib.Decide.{dec_lt}
 use lib.ListN.{length}
 use Rattle.outcome.specs.Outcome.{Gives}
 use Rattle.outcome.proofs.Laws.{gives_same, word_gives}
-use Rattle.apdu_table_stated.specs.Words.{Says, Row, Tried, ByRow}
+use Rattle.apdu_table_stated.specs.Words.{Says, Row, Tried, Ok}
 use Rattle.apdu_table_stated.specs.Trying.{fits, in_turn}
 use Rattle.apdu_table_stated.specs.Answers.{says_by, answer_of, read_by_rows}
 use Rattle.apdu_table_stated.proofs.Turns.{Chosen, at_once, further, Turn, chosen, short, past_all, turn}
@@ -38,5 +38,5 @@ module _ (r : Row) (frame : List ℕ) where
   pub one_reads : 4 ≤ length frame → fits r frame ≡ true → read_by_rows (r ∷ []) frame ≡ Gives (says_by r frame)
   unfolding read_by_rows
   one_reads long f =
-      let first : in_turn (r ∷ []) frame false 0 ≡ ByRow r = rw f in
+      let first : in_turn (r ∷ []) frame false 0 ≡ Ok r = rw f in
       ap (answer_of frame) (tried_turn (r ∷ []) frame long ∙ first)

@@ -5,9 +5,8 @@ use mathlib.Core.List.{List, [], ◌∷◌}
 use Rattle.outcome.specs.Notation.{Determines}
 use Rattle.outcome.specs.Outcome.{Outcome}
 use Rattle.octets.specs.Bytes.{AreBytes}
-use Rattle.apdu_table_stated.specs.Words.{Says, Entry, Row, Tried}
+use Rattle.apdu_table_stated.specs.Words.{Ok, Err, Says, Entry, Row, Tried}
 use Rattle.apdu_table_stated.specs.Rows.{table_of}
-use Rattle.apdu_table_stated.specs.declared.TableReading.TheVariants.{Frame, Status}
 use Rattle.apdu_table_stated.specs.Claims
 use Rattle.apdu_table_stated.proofs.AnyTable.{same_tries, same_answers}
 
@@ -33,5 +32,5 @@ ColumnsExactly f g k l p q = (
 )
 
 pub SaidExactly : Determines Claims.SaidExactly
-SaidExactly f g p q (Frame s) = p.frame s.header s.number s.start s.lc s.le ∙ sym (q.frame s.header s.number s.start s.lc s.le)
-SaidExactly f g p q (Status s) = p.status s ∙ sym (q.status s)
+SaidExactly f g p q (Ok s) = p.frame s.header s.number s.start s.lc s.le ∙ sym (q.frame s.header s.number s.start s.lc s.le)
+SaidExactly f g p q (Err s) = p.status s ∙ sym (q.status s)

@@ -12,11 +12,10 @@ use Rattle.octets.proofs.Laws.{small, bytes_of}
 use Rattle.apdu_stated.proofs.Laws.{place_is, read_exactly}
 use Rattle.apdu_stated.specs.Reading.{read_by, say_of, lengths_of, short_of, extended_of, after_data}
 use Rattle.apdu_stated.specs.Terms.{plain, whole, pair, frame_with, saying}
-use Rattle.apdu_table_stated.specs.Words.{ApduHeader, Says, Ordinary, Strict, Row, ByRow}
+use Rattle.apdu_table_stated.specs.Words.{ApduHeader, Says, Ordinary, Strict, Row, Tried, Ok, Err}
 use Rattle.apdu_table_stated.specs.Rows.{numbered, table_of, columns_of}
 use Rattle.apdu_table_stated.specs.Trying.{begins, lc_in, le_in, opens, stands, tried_of}
 use Rattle.apdu_table_stated.specs.Answers.{TableReading, table_reading_of, read_by_rows}
-use Rattle.apdu_table_stated.specs.declared.TableReading.TheVariants as TableReading'
 use Rattle.apdu_table_stated.specs.Terms.{OfRow, no_lc, three_lc, no_le, one_le, three_le, First, this, here, behind}
 use Rattle.apdu_table_stated.specs.Claims
 use Rattle.apdu_table_stated.specs.Wrong
@@ -42,7 +41,7 @@ shape_is a b e = ap (λ (s : Says). s.shape) (gives_same a b e)
 lc_is : (a b : Says) → Gives a ≡ Gives b → a.lc ≡ b.lc
 lc_is a b e = ap (λ (s : Says). s.lc) (gives_same a b e)
 
-row_number_is : (a b : Row) → ByRow a ≡ ByRow b → a.number ≡ b.number
+row_number_is : (a b : Row) → ◌≡◌ {A = Tried} (Ok a) (Ok b) → a.number ≡ b.number
 row_number_is a b e = let same : a ≡ b = cc in ap (λ (r : Row). r.number) same
 
 -- ---- tables
@@ -199,7 +198,7 @@ unfolding small tried_of stands opens begins lc_in le_in
 least_said_for_lc claim =
     let x = (claim.reads (table_of Ordinary) (try (2 ∷ 0xAA ∷ 0xBB ∷ [])) (bytes_of (try (2 ∷ 0xAA ∷ 0xBB ∷ [])) refl) (saying h0 3 5 1 0)).0 refl in
     let row : First (table_of Ordinary) (try (2 ∷ 0xAA ∷ 0xBB ∷ [])) x.0 = x.2 in
-    let is : ByRow x.0 ≡ ByRow (numbered 3 1 1 0) = sym (((Theorems.TriesExactly).by_row (table_of Ordinary) (try (2 ∷ 0xAA ∷ 0xBB ∷ [])) (bytes_of (try (2 ∷ 0xAA ∷ 0xBB ∷ [])) refl) x.0).1 row) in
+    let is : ◌≡◌ {A = Tried} (Ok x.0) (Ok (numbered 3 1 1 0)) = sym (((Theorems.TriesExactly).by_row (table_of Ordinary) (try (2 ∷ 0xAA ∷ 0xBB ∷ [])) (bytes_of (try (2 ∷ 0xAA ∷ 0xBB ∷ [])) refl) x.0).1 row) in
     let same : x.0 ≡ numbered 3 1 1 0 = cc in
     let said = said_of x.0 (try (2 ∷ 0xAA ∷ 0xBB ∷ [])) x.1 (saying h0 3 5 1 0) x.3 in
     let lc : lc_in x.0.lc_field (try (2 ∷ 0xAA ∷ 0xBB ∷ [])) ≡ 1 = ap (λ (s : Says). s.lc) said in
@@ -215,7 +214,7 @@ pub start_one_on : Claims.SaidExactly Wrong.start_one_on → ⊥
 start_one_on claim = let z : ◌≡◌ {A = ℕ} 5 4 = ap (λ (s : Says). s.data_at) (gives_same _ _ (claim.frame h0 1 4 0 0)) in omega arith
 
 surplus_is : ℕ → TableReading
-surplus_is place = TableReading'.Status (Status'.WrongLength Fault'.Surplus place)
+surplus_is place = Err (Status'.WrongLength Fault'.Surplus place)
 
 pub pair_unsaid_at_all : Claims.SaidExactly Wrong.pair_unsaid → ⊥
 pair_unsaid_at_all claim = let z : ◌≡◌ {A = ℕ} 0 7 = place_is _ _ (claim.status (Status'.WrongLength Fault'.Surplus 7)) in omega arith

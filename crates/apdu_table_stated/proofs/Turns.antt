@@ -7,7 +7,7 @@ use mathlib.Core.Logic.{◌⊎◌, inl, inr}
 use native.Mathlib.Omega.{arith}
 use lib.Dec.{ltb}
 use borrow.Author.Tests.{ltb-true, ltb-false}
-use Rattle.apdu_table_stated.specs.Words.{Row, Tried, ByRow, Early, Beyond}
+use Rattle.apdu_table_stated.specs.Words.{Row, Tried, Ok, Err, Early, Beyond}
 use Rattle.apdu_table_stated.specs.Trying.{fits, ends_early, claimed, greater, in_turn}
 use Rattle.apdu_table_stated.specs.Terms.{Has, here, behind}
 use Rattle.apdu_table_stated.proofs.Columns.{either}
@@ -26,10 +26,10 @@ chosen_fits (at_once e) = e
 chosen_fits (further e c) = chosen_fits c
 
 pub data Turn (rows : List Row) (frame : List ℕ) (early : Bool) (most : ℕ) : Tried → Type 0 where
-  chosen : (r : Row) → Chosen rows frame r → Turn rows frame early most (ByRow r)
-  short : ((r : Row) → Has rows r → fits r frame ≡ false) → (early ≡ true) ⊎ ((r : Row) × Has rows r × (ends_early r frame ≡ true)) → Turn rows frame early most Early
+  chosen : (r : Row) → Chosen rows frame r → Turn rows frame early most (Ok r)
+  short : ((r : Row) → Has rows r → fits r frame ≡ false) → (early ≡ true) ⊎ ((r : Row) × Has rows r × (ends_early r frame ≡ true)) → Turn rows frame early most (Err Early)
   past_all : (k : ℕ) → ((r : Row) → Has rows r → fits r frame ≡ false) → early ≡ false → ((r : Row) → Has rows r → ends_early r frame ≡ false)
-      → most ≤ k → ((r : Row) → Has rows r → claimed r frame ≤ k) → (k ≡ most) ⊎ ((r : Row) × Has rows r × (claimed r frame ≡ k)) → Turn rows frame early most (Beyond k)
+      → most ≤ k → ((r : Row) → Has rows r → claimed r frame ≤ k) → (k ≡ most) ⊎ ((r : Row) × Has rows r × (claimed r frame ≡ k)) → Turn rows frame early most (Err (Beyond k))
 
 -- the greater of two, by plain facts
 pub record Greater (a b g : ℕ) : Type 0 where

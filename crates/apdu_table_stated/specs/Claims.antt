@@ -4,7 +4,7 @@
 -- `AnswersExactly`, on rows of four numbers `ColumnsExactly`, and no other answer by these two tables `SameReading`; `OneRowFits`, `ExamplesRead` and
 -- `RowsAsTheTable` stand beside them. Words: Terms.antt.
 use Rattle.std.specs.Prelude.{◌↔◌, ◌≤◌, ◌<◌, ◌≡◌, ◌∷◌}
-use Rattle.apdu_table_stated.specs.Words.{ℕ, List, [], map, length, drop, AtMostOne, Outcome, Word, Gives, SW, word_of, wrong_length, AreBytes, Says, saying, Reading, reading_of, ApduStatusCode, Entry, Ordinary, Strict, ApduHeader, Case, Instruction, Le1, Lc1Data, Lc1DataLe1, Lc3Data, Lc3DataLe2, Le3, shape_no, Row, Tried, UnderFour, ByRow, Early, Beyond}
+use Rattle.apdu_table_stated.specs.Words.{ℕ, List, [], map, length, drop, AtMostOne, Outcome, Word, Gives, SW, word_of, wrong_length, AreBytes, Says, saying, Reading, reading_of, ApduStatusCode, Entry, Ordinary, Strict, ApduHeader, Case, Instruction, Le1, Lc1Data, Lc1DataLe1, Lc3Data, Lc3DataLe2, Le3, shape_no, Row, Tried, Ok, Err, UnderFour, Early, Beyond}
 use Rattle.apdu_stated.specs.Promises.{Read, ReadStrict}
 use Rattle.apdu_stated.specs.Table.{lc_field, le_field, least_of}
 use Rattle.apdu_stated.specs.Reading.{read_by}
@@ -14,7 +14,6 @@ use Rattle.apdu_table_stated.specs.Rows.{numbered, columns_of, rows_of}
 use Rattle.apdu_table_stated.specs.Terms.{OfRow, IsOf, OfTable, EarlyIn, Has, First, MostClaimed}
 use Rattle.apdu_table_stated.specs.Promises.{OrdinaryRows, StrictRows, TryRows, ReadRows, ReadByTable, ReadStrictByTable}
 use Rattle.apdu_table_stated.specs.Answers.{TableReading, table_reading_of}
-use Rattle.apdu_table_stated.specs.declared.TableReading.TheVariants as TableReading'
 
 -- ---- the two tables
 
@@ -53,19 +52,19 @@ ExamplesRead table read = map (λ (e : Example). read (table Ordinary) e.frame) 
 
 -- ---- any table: nothing in the reader knows a shape by name
 
--- What comes of trying the rows of any table. Short exactly when the frame is under four bytes; ByRow r exactly when r is the first row that the
+-- What comes of trying the rows of any table. Short exactly when the frame is under four bytes; the row r exactly when r is the first row that the
 -- frame is of; Early exactly when it is of no row and ends early in at least one; Beyond k exactly when it is of no row, ends early in none, and k bytes
 -- is the most that a row claims from its front. Rejects a reader that knows the ordinary rows whatever it is given (`knows_its_rows`), one that takes the last row that
 -- fits (`last_that_fits`), and one that looks for missing bytes before it tries the rows (`early_first`). Bites at an empty table, at two rows of equal
 -- columns and different numbers, and at 00 03 00 00 | 00 FF FF.
 pub record TriesExactly (try : List Row → List ℕ → Tried) : Type 0 where
-  pub short : (rows : List Row) (frame : List ℕ) → (try rows frame ≡ UnderFour) ↔ (length frame < 4)
-  pub by_row : (rows : List Row) (frame : List ℕ) → AreBytes frame → (r : Row) → (try rows frame ≡ ByRow r) ↔ First rows frame r
+  pub short : (rows : List Row) (frame : List ℕ) → (try rows frame ≡ Err UnderFour) ↔ (length frame < 4)
+  pub by_row : (rows : List Row) (frame : List ℕ) → AreBytes frame → (r : Row) → (try rows frame ≡ Ok r) ↔ First rows frame r
   pub early : (rows : List Row) (frame : List ℕ) → AreBytes frame
-      → (try rows frame ≡ Early)
+      → (try rows frame ≡ Err Early)
       ↔ ((4 ≤ length frame) × ((r : Row) → Has rows r → IsOf r frame → ⊥) × ((r : Row) × Has rows r × EarlyIn r frame))
   pub beyond : (rows : List Row) (frame : List ℕ) → AreBytes frame → (k : ℕ)
-      → (try rows frame ≡ Beyond k)
+      → (try rows frame ≡ Err (Beyond k))
       ↔ ((4 ≤ length frame) × ((r : Row) → Has rows r → EarlyIn r frame → ⊥) × (k < length frame) × MostClaimed rows frame k)
 
 -- What is answered by any table: what the frame says by its first row, 01's 6a80, 02's E1 kinds 1 and 2 with their places, each exactly when. Rejects
@@ -108,8 +107,8 @@ pub record ColumnsExactly (from : List ℕ → Row) (to : Row → List ℕ) : Ty
 -- that starts one byte on (`start_one_on`), and a status word without its pair (`pair_unsaid`). Bites at every frame, and at 6700.
 pub record SaidExactly (said : TableReading → Outcome Says) : Type 0 where
   pub frame : (h : ApduHeader) (number start lc le : ℕ)
-      → said (TableReading'.Frame (record { header = h; number = number; start = start; lc = lc; le = le })) ≡ Gives (saying h number start lc le)
-  pub status : (s : ApduStatusCode) → said (TableReading'.Status s) ≡ Word (word_of s)
+      → said (Ok (record { header = h; number = number; start = start; lc = lc; le = le })) ≡ Gives (saying h number start lc le)
+  pub status : (s : ApduStatusCode) → said (Err s) ≡ Word (word_of s)
 
 -- Two answers that say the same are one: so a contract that fixes what is said fixes the answer. Rejects a view that drops the pair of a 6700
 -- (`pair_unsaid`). Bites at two places of surplus bytes.

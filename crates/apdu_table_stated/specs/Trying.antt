@@ -2,7 +2,7 @@
 -- its three columns alone, and what comes of trying the rows in turn. Document 01, 'Eight frame shapes': "A frame is CLA INS P1 P2 and a
 -- payload", of an Lc field, data and an Le field. Document 02, E1: where the length of a frame that no row fits went wrong.
 use Rattle.std.specs.Prelude.{◌+◌, ◌&&◌, ◌||◌, ◌∷◌}
-use Rattle.apdu_table_stated.specs.Words.{ℕ, Bool, false, not, List, [], length, leb, ltb, eqb, when◌then◌else◌, byte, pair_at, le_read, Row, Tried, UnderFour, ByRow, Early, Beyond}
+use Rattle.apdu_table_stated.specs.Words.{ℕ, Bool, false, not, List, [], length, leb, ltb, eqb, when◌then◌else◌, byte, pair_at, le_read, Row, Tried, Ok, Err, UnderFour, Early, Beyond}
 
 -- the lengths that fields have: Lc in 0, 1 or 3 bytes, Le in 0 to 3. Ours: a row of other lengths fits no frame, claims no byte, and no frame ends
 -- early in it; any two of these lengths make a row
@@ -69,11 +69,11 @@ greater a b = when ltb a b then b else a
 -- The rows in turn: the first that fits. Where none does: whether the frame ends early in one of them, which outweighs the rest, else the
 -- most that one claims. `early` and `most` are what the rows before came to.
 abbrev pub in_turn : List Row → List ℕ → (early : Bool) → (most : ℕ) → Tried
-in_turn [] frame early most = when early then Early else Beyond most
+in_turn [] frame early most = when early then Err Early else Err (Beyond most)
 in_turn (r ∷ rows) frame early most =
-    when fits r frame then ByRow r
+    when fits r frame then Ok r
     else in_turn rows frame (early || ends_early r frame) (greater most (claimed r frame))
 
 -- "A frame under 4 bytes gives 6a80"
 unfoldable pub tried_of : List Row → List ℕ → Tried
-tried_of rows frame = when ltb (length frame) 4 then UnderFour else in_turn rows frame false 0
+tried_of rows frame = when ltb (length frame) 4 then Err UnderFour else in_turn rows frame false 0

@@ -1,11 +1,10 @@
 -- Tables and readers that are wrong: each fails a claim of Claims.antt, by proofs/Refuted.antt.
 use Rattle.std.specs.Prelude.{reverse, ◌+◌, ◌&&◌, ◌||◌, ◌∷◌}
-use Rattle.apdu_table_stated.specs.Words.{ℕ, Bool, false, List, [], length, eqb, ltb, when◌then◌else◌, byte, Outcome, Word, SW, Gives, word_of, surplus_at, missing_at, Says, Entry, Ordinary, Strict, Row, Tried, UnderFour, ByRow, Early, Beyond}
+use Rattle.apdu_table_stated.specs.Words.{ℕ, Bool, false, List, [], length, eqb, ltb, when◌then◌else◌, byte, Outcome, Word, SW, Gives, word_of, surplus_at, missing_at, Says, Entry, Ordinary, Strict, Row, Tried, Ok, Err, UnderFour, Early, Beyond}
 use Rattle.apdu_stated.specs.Reading.{read_by}
 use Rattle.apdu_table_stated.specs.Rows.{numbered, table_of}
 use Rattle.apdu_table_stated.specs.Trying.{stands, row_end, ends_early, tried_of}
 use Rattle.apdu_table_stated.specs.Answers.{TableReading, says_by, answer_of, row_says_of}
-use Rattle.apdu_table_stated.specs.declared.TableReading.TheVariants as TableReading'
 
 -- ---- tables
 
@@ -38,8 +37,8 @@ numbered_by_place Strict = numbered 1 0 0 0 ∷ numbered 2 0 0 1 ∷ numbered 3 
 
 -- "answers by the row that fits": here by the first that stands at the frame's front, also where it is too short
 abbrev first_standing : List Row → List ℕ → Tried
-first_standing [] frame = Early
-first_standing (r ∷ rows) frame = when stands r frame then ByRow r else first_standing rows frame
+first_standing [] frame = Err Early
+first_standing (r ∷ rows) frame = when stands r frame then Ok r else first_standing rows frame
 
 abbrev pub first_too_short : List Row → List ℕ → Outcome Says
 first_too_short rows frame = when ltb (length frame) 4 then SW 0x6a80 else answer_of frame (first_standing rows frame)
@@ -50,10 +49,10 @@ first_end [] frame = 0
 first_end (r ∷ rows) frame = when stands r frame then row_end r frame else first_end rows frame
 
 abbrev placed_by : List Row → List ℕ → Tried → Tried
-placed_by rows frame UnderFour = UnderFour
-placed_by rows frame (ByRow r) = ByRow r
-placed_by rows frame Early = Early
-placed_by rows frame (Beyond k) = Beyond (first_end rows frame)
+placed_by rows frame (Err UnderFour) = Err UnderFour
+placed_by rows frame (Ok r) = Ok r
+placed_by rows frame (Err Early) = Err Early
+placed_by rows frame (Err (Beyond k)) = Err (Beyond (first_end rows frame))
 
 abbrev pub place_of_first : List Row → List ℕ → Outcome Says
 place_of_first rows frame = answer_of frame (placed_by rows frame (tried_of rows frame))
@@ -81,28 +80,28 @@ any_early (r ∷ rows) frame = ends_early r frame || any_early rows frame
 
 abbrev pub early_first : List Row → List ℕ → Tried
 early_first rows frame =
-    when ltb (length frame) 4 then UnderFour
-    else when any_early rows frame then Early
+    when ltb (length frame) 4 then Err UnderFour
+    else when any_early rows frame then Err Early
     else tried_of rows frame
 
 -- "for missing bytes the frame's length": here 4, where the payload begins
 abbrev missing_at4 : List ℕ → Tried → Outcome Says
-missing_at4 frame UnderFour = SW 0x6a80
-missing_at4 frame (ByRow r) = Gives (says_by r frame)
-missing_at4 frame Early = missing_at 4
-missing_at4 frame (Beyond k) = surplus_at k
+missing_at4 frame (Err UnderFour) = SW 0x6a80
+missing_at4 frame (Ok r) = Gives (says_by r frame)
+missing_at4 frame (Err Early) = missing_at 4
+missing_at4 frame (Err (Beyond k)) = surplus_at k
 
 abbrev pub missing_at_the_payload : List Row → List ℕ → Outcome Says
 missing_at_the_payload rows frame = missing_at4 frame (tried_of rows frame)
 
 -- a frame says its Lc: here its row's least
 abbrev least_said : List ℕ → Tried → Outcome Says
-least_said frame UnderFour = SW 0x6a80
-least_said frame (ByRow r) =
+least_said frame (Err UnderFour) = SW 0x6a80
+least_said frame (Ok r) =
     let s = says_by r frame in
     Gives (record { header = s.header; shape = s.shape; data_at = s.data_at; lc = r.lc_least; le = s.le })
-least_said frame Early = missing_at (length frame)
-least_said frame (Beyond k) = surplus_at k
+least_said frame (Err Early) = missing_at (length frame)
+least_said frame (Err (Beyond k)) = surplus_at k
 
 abbrev pub least_for_lc : List Row → List ℕ → Outcome Says
 least_for_lc rows frame = least_said frame (tried_of rows frame)
@@ -115,10 +114,10 @@ least_last columns = numbered (byte columns 0) (byte columns 1) (byte columns 3)
 
 -- where the data starts: here one byte on
 abbrev pub start_one_on : TableReading → Outcome Says
-start_one_on (TableReading'.Frame s) = Gives (record { header = s.header; shape = s.number; data_at = s.start + 1; lc = s.lc; le = s.le })
-start_one_on (TableReading'.Status s) = Word (word_of s)
+start_one_on (Ok s) = Gives (record { header = s.header; shape = s.number; data_at = s.start + 1; lc = s.lc; le = s.le })
+start_one_on (Err s) = Word (word_of s)
 
 -- the number of a status word alone
 abbrev pub pair_unsaid : TableReading → Outcome Says
-pair_unsaid (TableReading'.Frame s) = Gives (row_says_of s)
-pair_unsaid (TableReading'.Status s) = SW (word_of s).number
+pair_unsaid (Ok s) = Gives (row_says_of s)
+pair_unsaid (Err s) = SW (word_of s).number

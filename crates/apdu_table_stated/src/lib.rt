@@ -2,7 +2,6 @@
 #![tactic(auto)]
 
 use apdu_stated::ApduHeader;
-use outcome::ApduStatusCode;
 
 // A row of a table: the shape's number, the length of its Lc field, the least Lc, the length of its Le field.
 #[derive(Clone, Copy)]
@@ -13,12 +12,11 @@ pub struct Row {
     pub le_field: usize,
 }
 
-// What comes of trying a table's rows on a frame: it is under four bytes; it is of this row; it ends before a row's Lc field or data
-// does; or it goes on behind the most that a row can claim of it.
+// Why no row of a table fits a frame: it is under four bytes; it ends before a row's Lc field or data does; or it goes on behind the
+// most that a row can claim of it.
 #[derive(Clone, Copy)]
-pub enum Tried {
+pub enum NoRow {
     UnderFour,
-    ByRow(Row),
     Early,
     Beyond(usize),
 }
@@ -31,10 +29,4 @@ pub struct RowSays {
     pub start: u8,
     pub lc: u16,
     pub le: u32,
-}
-
-#[derive(Clone, Copy)]
-pub enum TableReading {
-    Frame(RowSays),
-    Status(ApduStatusCode),
 }

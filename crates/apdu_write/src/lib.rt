@@ -12,7 +12,7 @@ ghost use Rattle.apdu_stated.specs.Table.{lc_field, lc_most, lc_bytes, le_bytes}
 ghost use Rattle.apdu_stated.specs.Writing.{parts_of, payload_of, frame_of};
 ghost use Rattle.apdu_stated.specs.Promises.{Write, WriteStrict};
 
-use apdu_stated::{ApduHeader, Case, Written};
+use apdu_stated::{ApduHeader, Case};
 use outcome::Refusal;
 
 const APDU_HEADER_LEN: usize = 4;
@@ -61,19 +61,19 @@ fn put_frame(out: &mut [u8], header: ApduHeader, shape: Case, content: &[u8], le
 
 // Writes a frame at the front of out and says its length: R5 where the shape cannot carry the data or Le, then R2 where
 // out is shorter than the frame. A refusal leaves out as it was.
-pub fn write(header: ApduHeader, shape: Case, content: &[u8], le: u32, out: &mut [u8]) -> Written
+pub fn write(header: ApduHeader, shape: Case, content: &[u8], le: u32, out: &mut [u8]) -> Result<usize, Refusal>
     ensures { Write (record { header = header; shape = shape; content = content.now; le = le }) out.old result out.new }
 {
     if !apdu_shapes::fits(shape, content.len(), le) {
-        return Written::Refused(Refusal::R5);
+        return Err(Refusal::R5);
     }
     let row = apdu_shapes::row(shape);
     let n = APDU_HEADER_LEN + row.lc_field + content.len() + row.le_field;
     if out.len() < n {
-        return Written::Refused(Refusal::R2);
+        return Err(Refusal::R2);
     }
     put_frame(out, header, shape, content, le);
-    Written::Frame(n)
+    Ok(n)
 }
 
 // The strict writer, by ISO's seven cases: R5 for shape 7 without data, then as the writer.
@@ -83,11 +83,11 @@ pub fn write_strict(
     content: &[u8],
     le: u32,
     out: &mut [u8],
-) -> Written
+) -> Result<usize, Refusal>
     ensures { WriteStrict (record { header = header; shape = shape; content = content.now; le = le }) out.old result out.new }
 {
     if !apdu_shapes::strict_has(shape, content.len()) {
-        return Written::Refused(Refusal::R5);
+        return Err(Refusal::R5);
     }
     write(header, shape, content, le, out)
 }

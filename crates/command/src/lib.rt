@@ -13,7 +13,7 @@ ghost use Rattle.apdu_stated.specs.Answers.{says_of};
 ghost use Rattle.command_stated.specs.Command.{command_said, authenticate_of, get_response_of};
 ghost use Rattle.command_stated.specs.Promises.{FlagsNumber, Instructed, OnReading, ReadCommand, ChallengePlace, ApplicationPlace, HandlePlace, Challenge, Application, KeyHandle};
 
-use apdu::{Apdu, Place, Reading};
+use apdu::{Apdu, Place};
 pub use command_stated::{Ctap1Flags, U2fCommand};
 use outcome::{ApduStatusCode, LengthFault};
 
@@ -32,11 +32,7 @@ const GET_RESPONSE: u8 = 0xc0;
 pub fn flags_number(flags: Ctap1Flags) -> u8
     ensures { FlagsNumber flags result }
 {
-    match flags {
-        Ctap1Flags::CheckOnly => 0x07,
-        Ctap1Flags::EnforceUpAndSign => 0x03,
-        Ctap1Flags::DontEnforceUpAndSign => 0x08,
-    }
+    flags as u8
 }
 
 // The length that the byte at i says, and 0 where there is no byte.
@@ -47,14 +43,15 @@ fn length_at(s: &[u8], i: usize) -> usize
 }
 
 // 6700 for an Lc that does not fit INS.
-fn against_ins() -> U2fCommand
+fn against_ins() -> Result<U2fCommand, ApduStatusCode>
     ensures { command_said result ≡ against_ins }
 {
-    U2fCommand::Status(ApduStatusCode::WrongLength(LengthFault::LcAgainstIns, 4))
+    Err(ApduStatusCode::WrongLength(LengthFault::LcAgainstIns, 4))
 }
 
 // The handle's length is looked at before P1, as the Rust does.
-fn authenticate(frame: &[u8], says: Apdu) -> U2fCommand
+#[tactic(auto, unfolding(command_stated::specs::Command::authenticate_of))]
+fn authenticate(frame: &[u8], says: Apdu) -> Result<U2fCommand, ApduStatusCode>
     ensures { command_said result ≡ authenticate_of frame.now (says_of says) }
 {
     let lc = says.lc as usize;
@@ -68,49 +65,51 @@ fn authenticate(frame: &[u8], says: Apdu) -> U2fCommand
     let header = says.header;
     let p1 = header.p1;
     if p1 == 0x03 {
-        return U2fCommand::Authenticate(Ctap1Flags::EnforceUpAndSign, says);
+        return Ok(U2fCommand::Authenticate(Ctap1Flags::EnforceUpAndSign, says));
     }
     if p1 == 0x07 {
-        return U2fCommand::Authenticate(Ctap1Flags::CheckOnly, says);
+        return Ok(U2fCommand::Authenticate(Ctap1Flags::CheckOnly, says));
     }
     if p1 == 0x08 {
-        return U2fCommand::Authenticate(Ctap1Flags::DontEnforceUpAndSign, says);
+        return Ok(U2fCommand::Authenticate(Ctap1Flags::DontEnforceUpAndSign, says));
     }
-    U2fCommand::Status(ApduStatusCode::WrongData)
+    Err(ApduStatusCode::WrongData)
 }
 
-fn get_response(says: Apdu) -> U2fCommand
+#[tactic(auto, unfolding(command_stated::specs::Command::get_response_of))]
+fn get_response(says: Apdu) -> Result<U2fCommand, ApduStatusCode>
     ensures { command_said result ≡ get_response_of (says_of says) }
 {
     let header = says.header;
     let lc = says.lc;
     if header.p1 != 0 {
-        return U2fCommand::Status(ApduStatusCode::IncorrectP1P2);
+        return Err(ApduStatusCode::IncorrectP1P2);
     }
     if header.p2 != 0 {
-        return U2fCommand::Status(ApduStatusCode::IncorrectP1P2);
+        return Err(ApduStatusCode::IncorrectP1P2);
     }
     if lc != 0 {
         return against_ins();
     }
-    U2fCommand::GetResponse
+    Ok(U2fCommand::GetResponse)
 }
 
 // What a frame that says this asks for: by CLA, then by INS.
-pub fn instructed(frame: &[u8], says: Apdu) -> U2fCommand
+#[tactic(auto, unfolding(command_stated::specs::Command::by_instruction, command_stated::specs::Command::register_of, command_stated::specs::Command::version_of))]
+pub fn instructed(frame: &[u8], says: Apdu) -> Result<U2fCommand, ApduStatusCode>
     ensures { Instructed frame.now says result }
 {
     let header = says.header;
     let ins = header.ins;
     let lc = says.lc;
     if header.cla != CTAP1_CLA {
-        return U2fCommand::Status(ApduStatusCode::ClaInvalid);
+        return Err(ApduStatusCode::ClaInvalid);
     }
     if ins == U2F_REGISTER {
         if lc != 64 {
             return against_ins();
         }
-        return U2fCommand::Register(says);
+        return Ok(U2fCommand::Register(says));
     }
     if ins == U2F_AUTHENTICATE {
         return authenticate(frame, says);
@@ -119,26 +118,25 @@ pub fn instructed(frame: &[u8], says: Apdu) -> U2fCommand
         if lc != 0 {
             return against_ins();
         }
-        return U2fCommand::Version;
+        return Ok(U2fCommand::Version);
     }
     if ins == GET_RESPONSE {
         return get_response(says);
     }
-    U2fCommand::Status(ApduStatusCode::InsInvalid)
+    Err(ApduStatusCode::InsInvalid)
 }
 
 // What a frame asks for that was read so.
-pub fn on_reading(frame: &[u8], reading: Reading) -> U2fCommand
+#[tactic(auto, unfolding(command_stated::specs::Command::on_reading))]
+pub fn on_reading(frame: &[u8], reading: Result<Apdu, ApduStatusCode>) -> Result<U2fCommand, ApduStatusCode>
     ensures { OnReading frame.now reading result }
 {
-    match reading {
-        Reading::Frame(says) => instructed(frame, says),
-        Reading::Status(status) => U2fCommand::Status(status),
-    }
+    instructed(frame, reading?)
 }
 
 // Reads any bytes as a command.
-pub fn read_command(frame: &[u8]) -> U2fCommand
+#[tactic(auto, unfolding(command_stated::specs::Command::command_of))]
+pub fn read_command(frame: &[u8]) -> Result<U2fCommand, ApduStatusCode>
     ensures { ReadCommand frame.now result }
 {
     on_reading(frame, apdu::read(frame))
@@ -180,6 +178,7 @@ pub fn handle_place(says: Apdu) -> Place
 }
 
 // The three as parts of the frame; empty where they would pass its end.
+#[tactic(auto, unfolding(command_stated::specs::Command::challenge_of))]
 pub fn challenge(frame: &[u8], says: Apdu) -> &[u8]
     ensures { Challenge frame.now says result.now }
 {
@@ -187,6 +186,7 @@ pub fn challenge(frame: &[u8], says: Apdu) -> &[u8]
     octets::part(frame, at.start, at.end)
 }
 
+#[tactic(auto, unfolding(command_stated::specs::Command::application_of))]
 pub fn application(frame: &[u8], says: Apdu) -> &[u8]
     ensures { Application frame.now says result.now }
 {
@@ -194,6 +194,7 @@ pub fn application(frame: &[u8], says: Apdu) -> &[u8]
     octets::part(frame, at.start, at.end)
 }
 
+#[tactic(auto, unfolding(command_stated::specs::Command::handle_of))]
 pub fn key_handle(frame: &[u8], says: Apdu) -> &[u8]
     ensures { KeyHandle frame.now says result.now }
 {

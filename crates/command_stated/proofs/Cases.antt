@@ -5,15 +5,14 @@ use mathlib.Core.Bool.{true, not}
 use mathlib.Core.List.{List}
 use borrow.Author.Tests.{lt-ltb, le-ltb, eq-eqb, ne_eqb}
 use lib.ListN.{length, get_or-eq_default}
+use Rattle.std.specs.Prelude.{Ok, Err}
 use Rattle.outcome.specs.Notation.{when◌then◌else◌}
 use Rattle.outcome.specs.Outcome.{StatusWord, Outcome, Word, SW, Gives, against_ins, word_of}
 use Rattle.outcome.specs.declared.ApduStatusCode.{ApduStatusCode}
 use Rattle.octets.specs.Bytes.{byte, part_of}
-use Rattle.apdu_stated.specs.Answers.{Says, says_of, reading_of}
+use Rattle.apdu_stated.specs.Answers.{Says, says_of, reading_of, Reading}
 use Rattle.apdu_stated.specs.declared.Apdu.{Apdu}
 use Rattle.apdu_stated.specs.declared.Place.{Place}
-use Rattle.apdu_stated.specs.declared.Reading.{Reading}
-use Rattle.apdu_stated.specs.declared.Reading.TheVariants as Reading'
 use Rattle.apdu_stated.specs.Reading.{read_of, data_of, place_of}
 use Rattle.command_stated.specs.Command.{Command, Register, Authenticate, Version, GetResponse, is_control, register_of, authenticate_of, version_of, get_response_of, by_instruction, on_reading, command_of, challenge_place_of, application_place_of, challenge_of, application_of, handle_place_of, handle_of}
 
@@ -111,11 +110,11 @@ module _ (frame : List ℕ) (said : Says) where
 
 -- ---- on a reading that is handed in
 module _ (frame : List ℕ) (r : Reading) where
-  pub of_frame : (says : Apdu) (o : Outcome Command) → r ≡ Reading'.Frame says → o ≡ by_instruction frame (says_of says) → o ≡ on_reading frame (reading_of r)
+  pub of_frame : (says : Apdu) (o : Outcome Command) → r ≡ Ok says → o ≡ by_instruction frame (says_of says) → o ≡ on_reading frame (reading_of r)
   unfolding on_reading
   of_frame says o e b = b ∙ ap (λ (x : Reading). on_reading frame (reading_of x)) (sym e)
 
-  pub of_status : (s : ApduStatusCode) → r ≡ Reading'.Status s → Word (word_of s) ≡ on_reading frame (reading_of r)
+  pub of_status : (s : ApduStatusCode) → r ≡ Err s → Word (word_of s) ≡ on_reading frame (reading_of r)
   unfolding on_reading
   of_status s e = ap (λ (x : Reading). on_reading frame (reading_of x)) (sym e)
 
@@ -125,14 +124,14 @@ module _ (frame : List ℕ) (r : Reading) where
 
 -- ---- on the reading
 module _ (frame : List ℕ) (r : Reading) (is_r : reading_of r ≡ read_of frame) where
-  pub reading_is : (says : Apdu) → r ≡ Reading'.Frame says → read_of frame ≡ Gives (says_of says)
+  pub reading_is : (says : Apdu) → r ≡ Ok says → read_of frame ≡ Gives (says_of says)
   reading_is says e = sym is_r ∙ ap reading_of e
 
-  pub on_frame : (says : Apdu) (o : Outcome Command) → r ≡ Reading'.Frame says → o ≡ by_instruction frame (says_of says) → o ≡ command_of frame
+  pub on_frame : (says : Apdu) (o : Outcome Command) → r ≡ Ok says → o ≡ by_instruction frame (says_of says) → o ≡ command_of frame
   unfolding command_of on_reading
   on_frame says o e b = b ∙ ap (on_reading frame) (sym (reading_is says e))
 
-  pub on_status : (s : ApduStatusCode) → r ≡ Reading'.Status s → Word (word_of s) ≡ command_of frame
+  pub on_status : (s : ApduStatusCode) → r ≡ Err s → Word (word_of s) ≡ command_of frame
   unfolding command_of on_reading
   on_status s e = ap (on_reading frame) (ap reading_of (sym e) ∙ is_r)
 

@@ -5,6 +5,7 @@ use mathlib.Core.List.{List}
 use mathlib.Core.Logic.{inl, inr}
 use native.Mathlib.Omega.{arith}
 use lib.ListN.{length}
+use Rattle.std.specs.Prelude.{Ok, Err}
 use Rattle.outcome.specs.Notation.{Determines, Determines2}
 use Rattle.outcome.specs.Outcome.{StatusWord, Outcome, R, Word, Gives}
 use Rattle.outcome.proofs.Laws.{word_same, word_gives}
@@ -99,8 +100,8 @@ FlagsNumberExactly f g p q EnforceUpAndSign = p.enforce ∙ sym q.enforce
 FlagsNumberExactly f g p q DontEnforceUpAndSign = p.do_not_enforce ∙ sym q.do_not_enforce
 
 pub SaidExactly : Determines Claims.SaidExactly
-SaidExactly f g p q (U2fCommand'.Register a) = (p.register _ a).1 refl ∙ sym ((q.register _ a).1 refl)
-SaidExactly f g p q (U2fCommand'.Authenticate flags a) = (p.authenticate _ flags a).1 refl ∙ sym ((q.authenticate _ flags a).1 refl)
-SaidExactly f g p q U2fCommand'.Version = (p.version _).1 refl ∙ sym ((q.version _).1 refl)
-SaidExactly f g p q U2fCommand'.GetResponse = (p.get_response _).1 refl ∙ sym ((q.get_response _).1 refl)
-SaidExactly f g p q (U2fCommand'.Status s) = (p.status _ s).1 refl ∙ sym ((q.status _ s).1 refl)
+SaidExactly f g p q (Ok (U2fCommand'.Register a)) = (p.register _ a).1 refl ∙ sym ((q.register _ a).1 refl)
+SaidExactly f g p q (Ok (U2fCommand'.Authenticate flags a)) = (p.authenticate _ flags a).1 refl ∙ sym ((q.authenticate _ flags a).1 refl)
+SaidExactly f g p q (Ok U2fCommand'.Version) = (p.version _).1 refl ∙ sym ((q.version _).1 refl)
+SaidExactly f g p q (Ok U2fCommand'.GetResponse) = (p.get_response _).1 refl ∙ sym ((q.get_response _).1 refl)
+SaidExactly f g p q (Err s) = (p.status _ s).1 refl ∙ sym ((q.status _ s).1 refl)

@@ -5,6 +5,7 @@ use mathlib.Core.List.{List, [], ◌∷◌, ◌++◌}
 use mathlib.Core.Logic.{inl, inr}
 use native.Mathlib.Omega.{arith}
 use lib.ListN.{length, replicate}
+use Rattle.std.specs.Prelude.{Ok, Err}
 use Rattle.outcome.specs.Outcome.{StatusWord, Outcome, R, Word, Gives}
 use Rattle.outcome.specs.Terms.{HasStatus}
 use Rattle.outcome.proofs.Laws.{gives_same, word_same, word_gives}
@@ -301,14 +302,14 @@ named (R n) = 0
 
 pub version_for_fetch : Claims.SaidExactly Wrong.version_for_fetch → ⊥
 unfolding named
-version_for_fetch exact = omega (arith, ap named ((exact.version U2fCommand'.Version).1 refl))
+version_for_fetch exact = omega (arith, ap named ((exact.version (Ok U2fCommand'.Version)).1 refl))
 
 pub register_for_login : Claims.SaidExactly Wrong.register_for_login → ⊥
 unfolding named
 register_for_login exact =
     let a : Apdu = apdu_of (head 0x00 0x01 0x00) Lc1Data 64 0 in
-    omega (arith, ap named ((exact.register (U2fCommand'.Register a) a).1 refl))
+    omega (arith, ap named ((exact.register (Ok (U2fCommand'.Register a)) a).1 refl))
 
 pub pair_unsaid : Claims.SaidExactly Wrong.pair_unsaid → ⊥
 unfolding named
-pair_unsaid exact = omega (arith, ap named ((exact.status (U2fCommand'.Status (Status'.WrongLength Fault'.Surplus 9)) (Status'.WrongLength Fault'.Surplus 9)).1 refl))
+pair_unsaid exact = omega (arith, ap named ((exact.status (Err (Status'.WrongLength Fault'.Surplus 9)) (Status'.WrongLength Fault'.Surplus 9)).1 refl))

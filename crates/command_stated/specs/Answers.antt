@@ -1,5 +1,6 @@
 -- Commands, and what the source's types say in the documents' words.
-use Rattle.command_stated.specs.Words.{ℕ, Outcome, Word, Gives, word_of}
+use Rattle.std.specs.Prelude.{Result, Ok, Err}
+use Rattle.command_stated.specs.Words.{ℕ, Outcome, Word, Gives, ApduStatusCode, word_of}
 use Rattle.apdu_stated.specs.Answers.{Says, says_of}
 pub use Rattle.command_stated.specs.declared.Ctap1Flags.{Ctap1Flags}
 pub use Rattle.command_stated.specs.declared.Ctap1Flags.TheVariants.{CheckOnly, EnforceUpAndSign, DontEnforceUpAndSign}
@@ -19,9 +20,13 @@ flags_no CheckOnly = 0x07
 flags_no EnforceUpAndSign = 0x03
 flags_no DontEnforceUpAndSign = 0x08
 
-abbrev pub command_said : U2fCommand → Outcome Command
-command_said (U2fCommand'.Register says) = Gives (Register (says_of says))
-command_said (U2fCommand'.Authenticate flags says) = Gives (Authenticate (flags_no flags) (says_of says))
-command_said U2fCommand'.Version = Gives Version
-command_said U2fCommand'.GetResponse = Gives GetResponse
-command_said (U2fCommand'.Status s) = Word (word_of s)
+-- what the reading of a command answers: a command, or the status word that answers its frame
+abbrev pub CommandReading : Type 0
+CommandReading = Result U2fCommand ApduStatusCode
+
+abbrev pub command_said : CommandReading → Outcome Command
+command_said (Ok (U2fCommand'.Register says)) = Gives (Register (says_of says))
+command_said (Ok (U2fCommand'.Authenticate flags says)) = Gives (Authenticate (flags_no flags) (says_of says))
+command_said (Ok U2fCommand'.Version) = Gives Version
+command_said (Ok U2fCommand'.GetResponse) = Gives GetResponse
+command_said (Err s) = Word (word_of s)

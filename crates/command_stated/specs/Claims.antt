@@ -1,14 +1,13 @@
 -- What is promised of command reading. Each claim takes the program as its argument; the definitions of Command.antt meet it by
 -- proofs/Theorems.antt, nothing else does by proofs/Only.antt, and the programs of Wrong.antt do not by proofs/Refuted.antt.
 -- What a frame says (`read_of`, `data_of`) is apdu_stated's, and determined there.
-use Rattle.std.specs.Prelude.{◌↔◌, ◌⊎◌, ◌+◌, ◌≤◌, ◌<◌, ◌≡◌, ◌||◌, ◌∷◌, ◌++◌}
+use Rattle.std.specs.Prelude.{◌↔◌, ◌⊎◌, ◌+◌, ◌≤◌, ◌<◌, ◌≡◌, ◌||◌, ◌∷◌, ◌++◌, Ok, Err}
 use Rattle.command_stated.specs.Words.{ℕ, true, eqb, List, length, AtMostOne, StatusWord, Outcome, R, Word, SW, Gives, ApduStatusCode, word_of, HasStatus, wrong_length, byte, part_of, Apdu, Place}
 use Rattle.outcome.specs.Terms.{PairsExactly}
-use Rattle.apdu_stated.specs.Answers.{Says, says_of, reading_of}
-use Rattle.apdu_stated.specs.declared.Reading.{Reading}
+use Rattle.apdu_stated.specs.Answers.{Says, says_of, reading_of, Reading}
 use Rattle.apdu_stated.specs.Reading.{read_of, data_of}
 use Rattle.apdu_stated.specs.Terms.{span}
-use Rattle.command_stated.specs.Command.{Ctap1Flags, CheckOnly, EnforceUpAndSign, DontEnforceUpAndSign, U2fCommand, Command, Register, Authenticate, Version, GetResponse, flags_no, command_said, command_of}
+use Rattle.command_stated.specs.Command.{Ctap1Flags, CheckOnly, EnforceUpAndSign, DontEnforceUpAndSign, CommandReading, Command, Register, Authenticate, Version, GetResponse, flags_no, command_said, command_of}
 use Rattle.command_stated.specs.declared.U2fCommand.TheVariants as U2fCommand'
 use Rattle.command_stated.specs.Promises.{FlagsNumber, Instructed, OnReading, ReadCommand, ChallengePlace, ApplicationPlace, HandlePlace, Challenge, Application, KeyHandle}
 use Rattle.command_stated.specs.Terms.{WrongLc, WrongParameters, WrongControl, UnknownInstruction}
@@ -200,29 +199,29 @@ abbrev pub FlagsOneToOne : Type 0
 FlagsOneToOne = (a b : Ctap1Flags) → flags_no a ≡ flags_no b → a ≡ b
 
 abbrev pub CommandOneToOne : Type 0
-CommandOneToOne = (a b : U2fCommand) → command_said a ≡ command_said b → a ≡ b
+CommandOneToOne = (a b : CommandReading) → command_said a ≡ command_said b → a ≡ b
 
 -- ---- what an answer says, and the contracts
 
 -- Each command with what its frame says, an Authenticate with its P1, a status word with its number and pair: each case has its words, and no other has
 -- them. Rejects a view with Version and GetResponse in each other's place (`version_for_fetch`), one that takes a Register for an Authenticate (`register_for_login`), and
 -- one that drops a status word's pair (`pair_unsaid`).
-pub record SaidExactly (said : U2fCommand → Outcome Command) : Type 0 where
-  pub register : (c : U2fCommand) (a : Apdu) → (said c ≡ Gives (Register (says_of a))) ↔ (c ≡ U2fCommand'.Register a)
-  pub authenticate : (c : U2fCommand) (flags : Ctap1Flags) (a : Apdu) → (said c ≡ Gives (Authenticate (flags_no flags) (says_of a))) ↔ (c ≡ U2fCommand'.Authenticate flags a)
-  pub version : (c : U2fCommand) → (said c ≡ Gives Version) ↔ (c ≡ U2fCommand'.Version)
-  pub get_response : (c : U2fCommand) → (said c ≡ Gives GetResponse) ↔ (c ≡ U2fCommand'.GetResponse)
-  pub status : (c : U2fCommand) (s : ApduStatusCode) → (said c ≡ Word (word_of s)) ↔ (c ≡ U2fCommand'.Status s)
+pub record SaidExactly (said : CommandReading → Outcome Command) : Type 0 where
+  pub register : (c : CommandReading) (a : Apdu) → (said c ≡ Gives (Register (says_of a))) ↔ (c ≡ Ok (U2fCommand'.Register a))
+  pub authenticate : (c : CommandReading) (flags : Ctap1Flags) (a : Apdu) → (said c ≡ Gives (Authenticate (flags_no flags) (says_of a))) ↔ (c ≡ Ok (U2fCommand'.Authenticate flags a))
+  pub version : (c : CommandReading) → (said c ≡ Gives Version) ↔ (c ≡ Ok U2fCommand'.Version)
+  pub get_response : (c : CommandReading) → (said c ≡ Gives GetResponse) ↔ (c ≡ Ok U2fCommand'.GetResponse)
+  pub status : (c : CommandReading) (s : ApduStatusCode) → (said c ≡ Word (word_of s)) ↔ (c ≡ Err s)
 
 -- Whatever meets a function's contract meets the claim on it, the functions that no call from C comes to as well. One that takes what a frame says as the code
 -- holds it gives what whatever meets the claim gives of the numbers. A contract of `key_handle` that names the application fails it, with code to match.
 pub record ContractsAsClaimed : Type 0 where
   pub flags_number : (f : Ctap1Flags → ℕ) → ((flags : Ctap1Flags) → FlagsNumber flags (f flags)) → FlagsNumberExactly f
-  pub instructed : (f : List ℕ → Apdu → U2fCommand) → ((frame : List ℕ) (a : Apdu) → Instructed frame a (f frame a))
+  pub instructed : (f : List ℕ → Apdu → CommandReading) → ((frame : List ℕ) (a : Apdu) → Instructed frame a (f frame a))
       → (g : List ℕ → Says → Outcome Command) → InstructedExactly g → (frame : List ℕ) (a : Apdu) → command_said (f frame a) ≡ g frame (says_of a)
-  pub on_reading : (f : List ℕ → Reading → U2fCommand) → ((frame : List ℕ) (r : Reading) → OnReading frame r (f frame r))
+  pub on_reading : (f : List ℕ → Reading → CommandReading) → ((frame : List ℕ) (r : Reading) → OnReading frame r (f frame r))
       → (g : List ℕ → Outcome Says → Outcome Command) → OnReadingExactly g → (frame : List ℕ) (r : Reading) → command_said (f frame r) ≡ g frame (reading_of r)
-  pub read_command : (f : List ℕ → U2fCommand) → ((frame : List ℕ) → ReadCommand frame (f frame)) → CommandExactly (λ frame. command_said (f frame))
+  pub read_command : (f : List ℕ → CommandReading) → ((frame : List ℕ) → ReadCommand frame (f frame)) → CommandExactly (λ frame. command_said (f frame))
   pub challenge_place : (f : Apdu → Place) → ((a : Apdu) → ChallengePlace a (f a)) → (g : Says → Place) → ChallengePlaceExactly g → (a : Apdu) → f a ≡ g (says_of a)
   pub application_place : (f : Apdu → Place) → ((a : Apdu) → ApplicationPlace a (f a)) → (g : Says → Place) → ApplicationPlaceExactly g → (a : Apdu) → f a ≡ g (says_of a)
   pub handle_place : (f : Apdu → Place) → ((a : Apdu) → HandlePlace a (f a)) → (g : Says → Place) → HandlePlaceExactly g → (a : Apdu) → f a ≡ g (says_of a)

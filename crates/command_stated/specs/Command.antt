@@ -4,7 +4,7 @@
 -- is `Register said`, `Authenticate p1 said`, `Version` or `GetResponse`.
 mod Words
 use Words.*
-pub use Rattle.command_stated.specs.Answers.{Command, Register, Authenticate, Version, GetResponse, Ctap1Flags, CheckOnly, EnforceUpAndSign, DontEnforceUpAndSign, flags_no, U2fCommand, command_said}
+pub use Rattle.command_stated.specs.Answers.{Command, Register, Authenticate, Version, GetResponse, Ctap1Flags, CheckOnly, EnforceUpAndSign, DontEnforceUpAndSign, flags_no, U2fCommand, CommandReading, command_said}
 
 -- "01 Register: Lc not 64 gives 6700. P1 is not looked at."
 unfoldable pub register_of : Says → Outcome Command

@@ -1,22 +1,21 @@
 -- What each public function of `command` promises of its result, on every input.
 use Rattle.std.specs.Prelude.{◌≡◌}
 use Rattle.command_stated.specs.Words.{ℕ, List, Apdu, Place}
-use Rattle.apdu_stated.specs.declared.Reading.{Reading}
-use Rattle.apdu_stated.specs.Answers.{says_of, reading_of}
-use Rattle.command_stated.specs.Command.{Ctap1Flags, U2fCommand, flags_no, command_said, by_instruction, on_reading, command_of, challenge_place_of, application_place_of, handle_place_of, challenge_of, application_of, handle_of}
+use Rattle.apdu_stated.specs.Answers.{says_of, reading_of, Reading}
+use Rattle.command_stated.specs.Command.{Ctap1Flags, CommandReading, flags_no, command_said, by_instruction, on_reading, command_of, challenge_place_of, application_place_of, handle_place_of, challenge_of, application_of, handle_of}
 
 abbrev pub FlagsNumber : Ctap1Flags → ℕ → Type 0
 FlagsNumber flags r = r ≡ flags_no flags
 
 -- of a frame, and what it is said to say
-abbrev pub Instructed : List ℕ → Apdu → U2fCommand → Type 0
+abbrev pub Instructed : List ℕ → Apdu → CommandReading → Type 0
 Instructed frame says r = command_said r ≡ by_instruction frame (says_of says)
 
 -- of a frame, and how it was read
-abbrev pub OnReading : List ℕ → Reading → U2fCommand → Type 0
+abbrev pub OnReading : List ℕ → Reading → CommandReading → Type 0
 OnReading frame reading r = command_said r ≡ on_reading frame (reading_of reading)
 
-abbrev pub ReadCommand : List ℕ → U2fCommand → Type 0
+abbrev pub ReadCommand : List ℕ → CommandReading → Type 0
 ReadCommand frame r = command_said r ≡ command_of frame
 
 abbrev pub ChallengePlace : Apdu → Place → Type 0

@@ -1,11 +1,11 @@
 -- Wrong programs, one fault each. proofs/Refuted.antt shows the claim that is false of each.
-use Rattle.std.specs.Prelude.{◌+◌}
+use Rattle.std.specs.Prelude.{◌+◌, Ok, Err}
 use Rattle.command_stated.specs.Words.{ℕ, not, List, [], length, ltb, eqb, when◌then◌else◌, StatusWord, Outcome, R, Word, SW, Gives, wrong_length, against_ins, word_of, byte, part_of, Place}
 use Rattle.command_stated.specs.declared.U2fCommand.TheVariants as U2fCommand'
 use Rattle.apdu_stated.specs.Answers.{Says, says_of}
 use Rattle.apdu_stated.specs.Reading.{read_of, data_of}
 use Rattle.apdu_stated.specs.Terms.{span}
-use Rattle.command_stated.specs.Command.{Ctap1Flags, CheckOnly, EnforceUpAndSign, DontEnforceUpAndSign, U2fCommand, flags_no, Command, Register, Authenticate, Version, GetResponse, is_control, register_of, authenticate_of, version_of, get_response_of, by_instruction, command_of, challenge_of}
+use Rattle.command_stated.specs.Command.{Ctap1Flags, CheckOnly, EnforceUpAndSign, DontEnforceUpAndSign, CommandReading, flags_no, Command, Register, Authenticate, Version, GetResponse, is_control, register_of, authenticate_of, version_of, get_response_of, by_instruction, command_of, challenge_of}
 
 -- a frame that is read, and then something else than the definition's tests
 abbrev on_read : (Says → Outcome Command) → Outcome Says → Outcome Command
@@ -220,23 +220,23 @@ numbered_by_place EnforceUpAndSign = 2
 numbered_by_place DontEnforceUpAndSign = 3
 
 -- ---- views: Version and GetResponse in each other's place; a Register said as an Authenticate; a status word without its pair
-abbrev pub version_for_fetch : U2fCommand → Outcome Command
-version_for_fetch (U2fCommand'.Register a) = Gives (Register (says_of a))
-version_for_fetch (U2fCommand'.Authenticate flags a) = Gives (Authenticate (flags_no flags) (says_of a))
-version_for_fetch U2fCommand'.Version = Gives GetResponse
-version_for_fetch U2fCommand'.GetResponse = Gives Version
-version_for_fetch (U2fCommand'.Status s) = Word (word_of s)
+abbrev pub version_for_fetch : CommandReading → Outcome Command
+version_for_fetch (Ok (U2fCommand'.Register a)) = Gives (Register (says_of a))
+version_for_fetch (Ok (U2fCommand'.Authenticate flags a)) = Gives (Authenticate (flags_no flags) (says_of a))
+version_for_fetch (Ok U2fCommand'.Version) = Gives GetResponse
+version_for_fetch (Ok U2fCommand'.GetResponse) = Gives Version
+version_for_fetch (Err s) = Word (word_of s)
 
-abbrev pub register_for_login : U2fCommand → Outcome Command
-register_for_login (U2fCommand'.Register a) = Gives (Authenticate 0x03 (says_of a))
-register_for_login (U2fCommand'.Authenticate flags a) = Gives (Register (says_of a))
-register_for_login U2fCommand'.Version = Gives Version
-register_for_login U2fCommand'.GetResponse = Gives GetResponse
-register_for_login (U2fCommand'.Status s) = Word (word_of s)
+abbrev pub register_for_login : CommandReading → Outcome Command
+register_for_login (Ok (U2fCommand'.Register a)) = Gives (Authenticate 0x03 (says_of a))
+register_for_login (Ok (U2fCommand'.Authenticate flags a)) = Gives (Register (says_of a))
+register_for_login (Ok U2fCommand'.Version) = Gives Version
+register_for_login (Ok U2fCommand'.GetResponse) = Gives GetResponse
+register_for_login (Err s) = Word (word_of s)
 
-abbrev pub pair_unsaid : U2fCommand → Outcome Command
-pair_unsaid (U2fCommand'.Register a) = Gives (Register (says_of a))
-pair_unsaid (U2fCommand'.Authenticate flags a) = Gives (Authenticate (flags_no flags) (says_of a))
-pair_unsaid U2fCommand'.Version = Gives Version
-pair_unsaid U2fCommand'.GetResponse = Gives GetResponse
-pair_unsaid (U2fCommand'.Status s) = SW (word_of s).number
+abbrev pub pair_unsaid : CommandReading → Outcome Command
+pair_unsaid (Ok (U2fCommand'.Register a)) = Gives (Register (says_of a))
+pair_unsaid (Ok (U2fCommand'.Authenticate flags a)) = Gives (Authenticate (flags_no flags) (says_of a))
+pair_unsaid (Ok U2fCommand'.Version) = Gives Version
+pair_unsaid (Ok U2fCommand'.GetResponse) = Gives GetResponse
+pair_unsaid (Err s) = SW (word_of s).number

@@ -2,18 +2,16 @@
 #![tactic(auto)]
 
 use apdu_stated::Apdu;
-use outcome::ApduStatusCode;
 
 // The control byte P1 of an Authenticate.
 #[derive(Clone, Copy)]
 pub enum Ctap1Flags {
-    CheckOnly,
-    EnforceUpAndSign,
-    DontEnforceUpAndSign,
+    CheckOnly = 0x07,
+    EnforceUpAndSign = 0x03,
+    DontEnforceUpAndSign = 0x08,
 }
 
-// A command with what its frame says, or the status word that answers the frame. The vendor's own commands have no
-// variant: like every other INS they are 6d00.
+// A command with what its frame says. The vendor's own commands have no variant: like every other INS they are 6d00.
 #[derive(Clone, Copy)]
 pub enum U2fCommand {
     Register(Apdu),
@@ -21,5 +19,4 @@ pub enum U2fCommand {
     Version,
     // for the wireless reader: the next part of a body
     GetResponse,
-    Status(ApduStatusCode),
 }

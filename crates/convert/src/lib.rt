@@ -10,10 +10,9 @@ ghost use Rattle.apdu_table_stated.specs.Answers.{table_reading_of, row_says_of}
 ghost use Rattle.convert_stated.specs.Converting.{old_row, old_of, new_shape, new_parts, copied, kept_by};
 ghost use Rattle.convert_stated.specs.Promises.{OldFormTold, Leaves, Convert};
 
-use apdu::{Case, Reading, Written};
-use apdu_table::{RowSays, TableReading};
-pub use convert_stated::Converted;
-use outcome::Refusal;
+use apdu::Case;
+use apdu_table::RowSays;
+use outcome::{ApduStatusCode, NotDone, Refusal};
 
 // A row of a table, as apdu_table::read_rows takes it.
 const OLD: [[u8; 4]; 1] = [
@@ -27,7 +26,7 @@ fn old_row() -> [[u8; 4]; 1]
 }
 
 // What a frame says by that row.
-fn old(frame: &[u8]) -> TableReading
+fn old(frame: &[u8]) -> Result<RowSays, ApduStatusCode>
     ensures { table_reading_of result ≡ old_of frame.now }
 {
     let table = old_row();
@@ -38,10 +37,7 @@ fn old(frame: &[u8]) -> TableReading
 pub fn is_old(frame: &[u8]) -> bool
     ensures { OldFormTold frame.now result }
 {
-    match old(frame) {
-        TableReading::Frame(_) => true,
-        TableReading::Status(_) => false,
-    }
+    old(frame).is_ok()
 }
 
 fn new_shape(lc: u16) -> Case
@@ -51,44 +47,41 @@ fn new_shape(lc: u16) -> Case
 }
 
 // Writes a frame of the old form anew.
-fn renew(frame: &[u8], said: RowSays, out: &mut [u8]) -> Converted
+#[tactic(auto, unfolding(apdu_stated::specs::Reading::data_of))]
+fn renew(frame: &[u8], said: RowSays, out: &mut [u8]) -> Result<usize, NotDone>
     ensures { Leaves (writing_of (new_parts frame.now (row_says_of said)) out.old) result out.new }
 {
     let start = said.start as usize;
     let content = octets::part(frame, start, start + (said.lc as usize));
-    match apdu::write(said.header, new_shape(said.lc), content, said.le, out) {
-        Written::Refused(why) => Converted::Refused(why),
-        Written::Frame(n) => Converted::Frame(n),
-    }
+    Ok(apdu::write(said.header, new_shape(said.lc), content, said.le, out)?)
 }
 
-fn copy(frame: &[u8], out: &mut [u8]) -> Converted
+fn copy(frame: &[u8], out: &mut [u8]) -> Result<usize, NotDone>
     ensures { Leaves (copied frame.now out.old) result out.new }
 {
     let n = frame.len();
     if out.len() < n {
-        return Converted::Refused(Refusal::R2);
+        return Err(NotDone::Refused(Refusal::R2));
     }
     octets::put_long(out, frame);
-    Converted::Frame(n)
+    Ok(n)
 }
 
-fn keep(frame: &[u8], out: &mut [u8]) -> Converted
+fn keep(frame: &[u8], out: &mut [u8]) -> Result<usize, NotDone>
     ensures { Leaves (kept_by frame.now (read_of frame.now) out.old) result out.new }
 {
-    match apdu::read(frame) {
-        Reading::Frame(_) => copy(frame, out),
-        Reading::Status(status) => Converted::Status(status),
-    }
+    apdu::read(frame)?;
+    copy(frame, out)
 }
 
 // Writes what the frame becomes at the front of out, and says its length. The reader's status where the frame is in no shape and not of the old
 // form; R2 where out is shorter than the result. Neither changes out.
-pub fn convert(frame: &[u8], out: &mut [u8]) -> Converted
+#[tactic(auto, unfolding(convert_stated::specs::Converting::convert_of))]
+pub fn convert(frame: &[u8], out: &mut [u8]) -> Result<usize, NotDone>
     ensures { Convert frame.now out.old result out.new }
 {
     match old(frame) {
-        TableReading::Frame(said) => renew(frame, said, out),
-        TableReading::Status(_) => keep(frame, out),
+        Ok(said) => renew(frame, said, out),
+        Err(_) => keep(frame, out),
     }
 }

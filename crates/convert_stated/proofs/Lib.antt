@@ -1,7 +1,6 @@
 pub mod OldForms
 pub mod Becoming
 pub mod Ways
-pub mod Cases
 pub mod Numbers
 pub mod Theorems
 pub mod Only

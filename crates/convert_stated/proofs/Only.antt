@@ -6,7 +6,7 @@ use mathlib.Core.List.{List}
 use Rattle.outcome.specs.Notation.{Determines}
 use Rattle.outcome.specs.Outcome.{Outcome}
 use Rattle.octets.specs.Bytes.{AreBytes}
-use Rattle.convert_stated.specs.declared.Converted.TheVariants.{Frame, Refused, Status}
+use Rattle.convert_stated.specs.Words.{Ok, Err, Refused, Status}
 use Rattle.convert_stated.specs.Claims
 use Rattle.convert_stated.proofs.OldForms.{old_form}
 use Rattle.convert_stated.proofs.Ways.{Way, short, wrote, status, way}
@@ -38,6 +38,6 @@ ConvertExactly f g p q frame before bytes = go (way frame before bytes)
         both (x ∙ sym y) (p.left frame before w x ∙ sym (q.left frame before w y))
 
 pub SaidExactly : Determines Claims.SaidExactly
-SaidExactly f g p q (Frame n) = p.frame n ∙ sym (q.frame n)
-SaidExactly f g p q (Refused r) = p.refused r ∙ sym (q.refused r)
-SaidExactly f g p q (Status s) = p.status s ∙ sym (q.status s)
+SaidExactly f g p q (Ok n) = p.frame n ∙ sym (q.frame n)
+SaidExactly f g p q (Err (Refused r)) = p.refused r ∙ sym (q.refused r)
+SaidExactly f g p q (Err (Status s)) = p.status s ∙ sym (q.status s)

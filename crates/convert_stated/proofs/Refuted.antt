@@ -23,8 +23,7 @@ use Rattle.apdu_table_stated.specs.Trying.{begins, lc_in, le_in, opens, stands, 
 use Rattle.apdu_table_stated.specs.Answers.{read_by_rows}
 use Rattle.convert_stated.specs.Converting.{convert_of}
 use Rattle.convert_stated.specs.Terms.{Old, row6, Holds, by_table, by_old, Becomes, as_shape_7, as_shape_8, unchanged, EmptySeven}
-use Rattle.convert_stated.specs.declared.Converted.{Converted}
-use Rattle.convert_stated.specs.declared.Converted.TheVariants as Converted'
+use Rattle.convert_stated.specs.Words.{Ok, Err, Refused, Status, Converted}
 use Rattle.convert_stated.specs.Answers.{converted_of}
 use Rattle.convert_stated.specs.Claims
 use Rattle.convert_stated.specs.Wrong
@@ -267,7 +266,7 @@ r2_one_byte_early_again claim = r_gives _ _ (answer_is _ _ (claim four (replicat
 
 -- ---- what the code holds
 surplus_is : ℕ → Converted
-surplus_is place = Converted'.Status (Status'.WrongLength Fault'.Surplus place)
+surplus_is place = Err (Status (Status'.WrongLength Fault'.Surplus place))
 
 pub pair_unsaid : Claims.SaidExactly Wrong.pair_unsaid → ⊥
 pair_unsaid exact = omega (arith, ap (λ (w : StatusWord). w.place) (word_same _ _ (exact.status (Status'.WrongLength Fault'.Surplus 7))))

@@ -19,7 +19,7 @@ use Rattle.apdu_stated.specs.Reading.{read_of, strict_of, data_of}
 use Rattle.apdu_stated.specs.Terms.{InTable, OldForm}
 use Rattle.apdu_stated.proofs.Laws.{reads_entry, of_table, write_exactly, WriteWay, unfit, no_room, written, write_way, read_exactly, strict_zero_at}
 use Rattle.convert_stated.specs.Converting.{old_of, is_old, new_parts, kept_by, convert_by, convert_of}
-use Rattle.convert_stated.specs.declared.Converted.{Converted}
+use Rattle.convert_stated.specs.Words.{Converted}
 use Rattle.convert_stated.specs.Answers.{converted_of}
 use Rattle.convert_stated.specs.Terms.{Becomes, as_shape_7, as_shape_8, unchanged, EmptySeven}
 use Rattle.convert_stated.specs.Claims

@@ -4,11 +4,10 @@
 -- `ConvertsToItself` stand beside `ConvertExactly`: the first and the last speak of results alone, and one that refuses everything meets them. `before` is what the buffer held. Words: Terms.antt, and
 -- apdu_stated's `InTable`, `OldForm`.
 use Rattle.std.specs.Prelude.{◌↔◌, ◌+◌, ◌≤◌, ◌<◌, ◌≡◌, ◌++◌}
-use Rattle.convert_stated.specs.Words.{ℕ, Bool, true, List, length, take, drop, AtMostOne, StatusWord, Outcome, R, Word, Gives, word_of, refusal_no, ApduStatusCode, Refusal, AreBytes, ApduHeader, Says, read_of, strict_of, data_of, OldForm, Converted}
+use Rattle.convert_stated.specs.Words.{ℕ, Ok, Err, Refused, Status, Bool, true, List, length, take, drop, AtMostOne, StatusWord, Outcome, R, Word, Gives, word_of, refusal_no, ApduStatusCode, Refusal, AreBytes, ApduHeader, Says, read_of, strict_of, data_of, OldForm, Converted}
 use Rattle.convert_stated.specs.Terms.{Old, Holds, Becomes, EmptySeven}
 use Rattle.convert_stated.specs.Promises.{OldFormTold, Convert}
 use Rattle.convert_stated.specs.Answers.{converted_of}
-use Rattle.convert_stated.specs.declared.Converted.TheVariants as Converted'
 
 -- ---- which frames are of the old form
 
@@ -76,9 +75,9 @@ ConvertsToItself convert =
 
 -- What an answer says, in the documents' numbers. Rejects a status word without its pair (`pair_unsaid`). Bites at 6700.
 pub record SaidExactly (said : Converted → Outcome ℕ) : Type 0 where
-  pub frame : (n : ℕ) → said (Converted'.Frame n) ≡ Gives n
-  pub refused : (r : Refusal) → said (Converted'.Refused r) ≡ R (refusal_no r)
-  pub status : (s : ApduStatusCode) → said (Converted'.Status s) ≡ Word (word_of s)
+  pub frame : (n : ℕ) → said (Ok n) ≡ Gives n
+  pub refused : (r : Refusal) → said (Err (Refused r)) ≡ R (refusal_no r)
+  pub status : (s : ApduStatusCode) → said (Err (Status s)) ≡ Word (word_of s)
 
 -- Two answers that say the same are one. Rejects `pair_unsaid`. Bites at two places of surplus bytes.
 abbrev pub AnswersOneToOne : (Converted → Outcome ℕ) → Type 0

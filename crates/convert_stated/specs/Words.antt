@@ -1,9 +1,12 @@
 -- The notation that the other files of specs/ are written in, and the words that they take from apdu_stated and apdu_table_stated.
-pub use Rattle.std.specs.Prelude.{ℕ, ◌+◌, ◌≤◌, ◌<◌, ◌≡◌, Bool, true, false, not, ◌&&◌, List, [], ◌∷◌, ◌++◌, length, take, drop, ltb, eqb}
+pub use Rattle.std.specs.Prelude.{ℕ, ◌+◌, ◌≤◌, ◌<◌, ◌≡◌, Bool, true, false, not, ◌&&◌, List, [], ◌∷◌, ◌++◌, length, take, drop, ltb, eqb, Result, Ok, Err}
 pub use Rattle.outcome.specs.Notation.{when◌then◌else◌, AtMostOne}
 pub use Rattle.outcome.specs.Outcome.{StatusWord, Outcome, R, Word, Gives, word_of, refusal_no, wrong_length}
 pub use Rattle.outcome.specs.declared.ApduStatusCode.{ApduStatusCode}
 pub use Rattle.outcome.specs.declared.Refusal.{Refusal}
+pub use Rattle.outcome.specs.declared.NotDone.{NotDone}
+pub use Rattle.outcome.specs.declared.NotDone.TheVariants.{Refused, Status}
+pub use Rattle.outcome.specs.NotDone.{not_done_of}
 pub use Rattle.octets.specs.Bytes.{AreBytes, byte, pair_at, laid}
 pub use Rattle.apdu_stated.specs.declared.ApduHeader.{ApduHeader}
 pub use Rattle.apdu_stated.specs.declared.Case.{Case}
@@ -15,4 +18,7 @@ pub use Rattle.apdu_stated.specs.Terms.{IsPair, OneByteLe, frame_with, InTable, 
 pub use Rattle.apdu_table_stated.specs.declared.Row.{Row}
 pub use Rattle.apdu_table_stated.specs.Rows.{numbered}
 pub use Rattle.apdu_table_stated.specs.Answers.{read_by_rows}
-pub use Rattle.convert_stated.specs.declared.Converted.{Converted}
+
+-- what a conversion comes to: the length of what was written, or why nothing was
+abbrev pub Converted : Type 0
+Converted = Result ℕ NotDone

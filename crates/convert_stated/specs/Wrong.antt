@@ -1,12 +1,11 @@
 -- Wrong programs, one fault each; `two_steps` joins two. proofs/Refuted.antt shows the claim that is false of each.
 use Rattle.std.specs.Prelude.{take, replicate, ◌+◌, ◌&&◌, ◌∷◌}
-use Rattle.convert_stated.specs.Words.{ℕ, Bool, false, List, [], length, ltb, eqb, when◌then◌else◌, Outcome, R, Word, Gives, word_of, refusal_no, byte, pair_at, laid, Says, read_of, data_of, Lc3DataLe2, Le3, Parts, parts_of, writing_of, Converted}
+use Rattle.convert_stated.specs.Words.{ℕ, Ok, Err, Refused, Status, Bool, false, List, [], length, ltb, eqb, when◌then◌else◌, Outcome, R, Word, Gives, word_of, refusal_no, byte, pair_at, laid, Says, read_of, data_of, Lc3DataLe2, Le3, Parts, parts_of, writing_of, Converted}
 use Rattle.outcome.specs.Outcome.{SW}
 use Rattle.apdu_stated.specs.Table.{le_read}
 use Rattle.apdu_stated.specs.Reading.{header_of}
 use Rattle.apdu_stated.specs.Terms.{saying}
 use Rattle.convert_stated.specs.Converting.{old_of, new_parts, copied, kept_by, is_old, convert_of}
-use Rattle.convert_stated.specs.declared.Converted.TheVariants as Converted'
 
 -- ---- which frames are of the old form
 
@@ -157,6 +156,6 @@ status_writes frame before = spoilt_by_word (convert_of frame before) frame
 
 -- the number of a status word alone
 abbrev pub pair_unsaid : Converted → Outcome ℕ
-pair_unsaid (Converted'.Frame n) = Gives n
-pair_unsaid (Converted'.Refused r) = R (refusal_no r)
-pair_unsaid (Converted'.Status s) = SW (word_of s).number
+pair_unsaid (Ok n) = Gives n
+pair_unsaid (Err (Refused r)) = R (refusal_no r)
+pair_unsaid (Err (Status s)) = SW (word_of s).number

@@ -1,12 +1,2 @@
-// What a conversion of a frame comes to. No function: convert has them.
+// The definitions, claims and theorems of convert. No type and no function: what a conversion comes to is a `Result<usize, NotDone>`.
 #![tactic(auto)]
-
-use outcome::{ApduStatusCode, Refusal};
-
-// The length of what was written; or a refusal; or the reader's status word for a frame that is in no shape and not of the old form.
-#[derive(Clone, Copy)]
-pub enum Converted {
-    Frame(usize),
-    Refused(Refusal),
-    Status(ApduStatusCode),
-}

@@ -8,7 +8,7 @@ mod rows;
 
 ghost use Rattle.std.specs.Prelude.{◌≤◌, length};
 
-use apdu::{Apdu, Case, Reading};
+use apdu::{Apdu, Case};
 use program_spell::{number, words};
 use std::io::Read;
 use std::rt::Env;
@@ -33,10 +33,9 @@ fn print_frame(out: &impl Print, says: Apdu) -> bool {
 }
 
 fn print_reading(out: &impl Print, frame: &[u8]) -> bool {
-    let reading = apdu::read(frame);
-    let said = match reading {
-        Reading::Frame(says) => print_frame(out, says),
-        Reading::Status(status) => program_spell::status_word(out, true, b"SW ", status),
+    let said = match apdu::read(frame) {
+        Ok(says) => print_frame(out, says),
+        Err(status) => program_spell::status_word(out, true, b"SW ", status),
     };
     words(out, said, b"\n")
 }

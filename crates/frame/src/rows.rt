@@ -1,10 +1,11 @@
 // What the argument `table` asks for: by each of the two tables of crate table, the row that fits the frame, with its columns, and what
 // the frame says by it; or the status word, and what is wrong with the length and where.
-use apdu_table::{TableReading, Tried};
+use apdu_table::{NoRow, Row, RowSays};
+use outcome::ApduStatusCode;
 use program_spell::{number, words};
 
-fn print_tried(out: &impl Print, good: bool, tried: Tried) -> bool {
-    let Tried::ByRow(row) = tried else {
+fn print_tried(out: &impl Print, good: bool, tried: Result<Row, NoRow>) -> bool {
+    let Ok(row) = tried else {
         return words(out, good, b": no row");
     };
     let named = number(out, good, b": row ", row.number as u64);
@@ -13,13 +14,17 @@ fn print_tried(out: &impl Print, good: bool, tried: Tried) -> bool {
     number(out, least, b", Le field ", row.le_field as u64)
 }
 
-fn print_reading(out: &impl Print, good: bool, reading: TableReading) -> bool {
+fn print_reading(
+    out: &impl Print,
+    good: bool,
+    reading: Result<RowSays, ApduStatusCode>,
+) -> bool {
     let said = match reading {
-        TableReading::Frame(says) => {
+        Ok(says) => {
             let lc = number(out, good, b": Lc ", says.lc as u64);
             number(out, lc, b", Le ", says.le as u64)
         }
-        TableReading::Status(status) => program_spell::status(out, good, b": SW ", status),
+        Err(status) => program_spell::status(out, good, b": SW ", status),
     };
     words(out, said, b"\n")
 }

@@ -8,9 +8,9 @@ ghost use Rattle.apdu_table_stated.specs.Answers.{table_reading_of};
 ghost use Rattle.panel_stated.specs.Exports.{frame_numbers};
 ghost use Rattle.panel_stated.specs.Promises.{BrinecandleRead, BrinecandleReadStrict, BrinecandleReadByTable, BrinecandleReadStrictByTable, BrinecandleWrite, BrinecandleWriteStrict, BrinecandleReadCommand, BrinecandleNew, BrinecandleGrantUp, BrinecandleConsumeUp, BrinecandleIsUpNeeded, BrinecandleDecide, BrinecandleFinish, BrinecandleWriteResponse, BrinecandleReadResponse, BrinecandleNextPart, BrinecandleResponseRoom};
 
-use apdu::Reading;
-use apdu_table::TableReading;
+use apdu_table::RowSays;
 use ctap1_stated::{Call, DecisionAnswer, NewKey};
+use outcome::ApduStatusCode;
 use panel_stated::{
     Asked, CommandSaid, DecisionSaid, FrameSaid, Kinded, OrderNumbers, ResponseSaid, RoomSaid,
     Wrote,
@@ -27,8 +27,8 @@ pub extern "C" fn brinecandle_read(frame: &[u8]) -> FrameSaid
 {
     let reading = apdu::read(frame);
     match reading {
-        Reading::Frame(says) => return panel_frames::frame_numbers(says),
-        Reading::Status(status) => return panel_frames::frame_status(status),
+        Ok(says) => return panel_frames::frame_numbers(says),
+        Err(status) => return panel_frames::frame_status(status),
     }
 }
 
@@ -39,17 +39,17 @@ pub extern "C" fn brinecandle_read_strict(frame: &[u8]) -> FrameSaid
 {
     let reading = apdu::read_strict(frame);
     match reading {
-        Reading::Frame(says) => return panel_frames::frame_numbers(says),
-        Reading::Status(status) => return panel_frames::frame_status(status),
+        Ok(says) => return panel_frames::frame_numbers(says),
+        Err(status) => return panel_frames::frame_status(status),
     }
 }
 
 // A frame by its row, or a status word, as plain numbers.
-fn table_plain(reading: TableReading) -> FrameSaid
+fn table_plain(reading: Result<RowSays, ApduStatusCode>) -> FrameSaid
     ensures { result ≡ frame_numbers (table_reading_of reading) }
 {
     match reading {
-        TableReading::Frame(says) => {
+        Ok(says) => {
             let header = says.header;
             let start = says.start as usize;
             FrameSaid {
@@ -67,7 +67,7 @@ fn table_plain(reading: TableReading) -> FrameSaid
                 place: 0,
             }
         }
-        TableReading::Status(status) => panel_frames::frame_status(status),
+        Err(status) => panel_frames::frame_status(status),
     }
 }
 

@@ -8,9 +8,9 @@ ghost use Rattle.command_stated.specs.Command.{flags_no, Register, Authenticate}
 ghost use Rattle.panel_stated.specs.Exports.{bare_command, command_numbers, length_numbers};
 ghost use Rattle.panel_stated.specs.Promises.{ShapeNumbered, FramePlain, FrameStatusPlain, StrictPlain, WritePlain, CommandPlain, BrinecandleReadCommand};
 
-use apdu::{Apdu, ApduHeader, Case, Reading, Written};
+use apdu::{Apdu, ApduHeader, Case};
 use command::{Ctap1Flags, U2fCommand};
-use outcome::{ApduStatusCode, FaultNumbers};
+use outcome::{ApduStatusCode, FaultNumbers, Refusal};
 use panel_stated::{CommandSaid, FrameSaid, Shaped, Wrote};
 
 #[tactic(auto, unfolding(panel_stated::specs::Numbers::shape_of))]
@@ -72,15 +72,15 @@ pub fn frame_status(status: ApduStatusCode) -> FrameSaid
     }
 }
 
-fn wrote_said(written: Written) -> Wrote
+fn wrote_said(written: Result<usize, Refusal>) -> Wrote
     ensures { result ≡ length_numbers (written_of written) }
 {
     match written {
-        Written::Refused(why) => Wrote {
+        Err(why) => Wrote {
             answer: outcome::refusal_number(why) as u16,
             length: 0,
         },
-        Written::Frame(length) => Wrote {
+        Ok(length) => Wrote {
             answer: 0x9000,
             length,
         },
@@ -163,15 +163,15 @@ fn bare(answer: u16, command: u8, fault: FaultNumbers) -> CommandSaid
     }
 }
 
-pub fn command_plain(read: U2fCommand) -> CommandSaid
+pub fn command_plain(read: Result<U2fCommand, ApduStatusCode>) -> CommandSaid
     ensures { CommandPlain read result }
 {
     match read {
-        U2fCommand::Register(says) => register_numbers(says),
-        U2fCommand::Authenticate(flags, says) => authenticate_numbers(flags, says),
-        U2fCommand::Version => bare(0x9000, 0x03, outcome::no_fault()),
-        U2fCommand::GetResponse => bare(0x9000, 0xc0, outcome::no_fault()),
-        U2fCommand::Status(status) => bare(
+        Ok(U2fCommand::Register(says)) => register_numbers(says),
+        Ok(U2fCommand::Authenticate(flags, says)) => authenticate_numbers(flags, says),
+        Ok(U2fCommand::Version) => bare(0x9000, 0x03, outcome::no_fault()),
+        Ok(U2fCommand::GetResponse) => bare(0x9000, 0xc0, outcome::no_fault()),
+        Err(status) => bare(
             outcome::status_number(status),
             0,
             outcome::fault(status),
@@ -180,12 +180,13 @@ pub fn command_plain(read: U2fCommand) -> CommandSaid
 }
 
 // Reads any bytes as a command. Not by `read_command`: that has one caller, the decision, so that it is compiled into it.
+#[tactic(auto, unfolding(command_stated::specs::Command::command_of, command_stated::specs::Command::on_reading))]
 pub fn read_command_plain(frame: &[u8]) -> CommandSaid
     ensures { BrinecandleReadCommand frame.now result }
 {
     let reading = apdu::read(frame);
     match reading {
-        Reading::Frame(says) => command_plain(command::instructed(frame, says)),
-        Reading::Status(status) => command_plain(U2fCommand::Status(status)),
+        Ok(says) => command_plain(command::instructed(frame, says)),
+        Err(status) => command_plain(Err(status)),
     }
 }

@@ -5,6 +5,7 @@ use mathlib.Core.List.{List}
 use borrow.Author.Tests.{ne_eqb, not-true, not-false}
 use lib.ListN.{length, get_or, set}
 use lib.Seq.{lt-length-set}
+use Rattle.std.specs.Prelude.{Ok, Err}
 use Rattle.outcome.specs.Notation.{when◌then◌else◌}
 use Rattle.outcome.proofs.Laws.{r_gives}
 use Rattle.outcome.specs.Outcome.{Outcome, R, Word, Gives, status_no, fault_of, word_of, refusal_no, no_fault}
@@ -12,7 +13,7 @@ use Rattle.outcome.specs.declared.FaultNumbers.{FaultNumbers}
 use Rattle.outcome.specs.declared.ApduStatusCode.{ApduStatusCode}
 use Rattle.outcome.specs.declared.Refusal.{Refusal}
 use Rattle.apdu_stated.specs.Words.{shape_no}
-use Rattle.apdu_stated.specs.Answers.{says_of, written_of}
+use Rattle.apdu_stated.specs.Answers.{says_of, written_of, Written}
 use Rattle.apdu_stated.specs.Reading.{place_of}
 use Rattle.apdu_stated.specs.Table.{in_row}
 use Rattle.apdu_stated.specs.declared.Entry.{Entry}
@@ -23,11 +24,9 @@ use Rattle.apdu_stated.specs.declared.ApduHeader.{ApduHeader}
 use Rattle.apdu_stated.specs.declared.Case.{Case}
 use Rattle.apdu_stated.specs.declared.Case.TheVariants.{Instruction, Le1, Lc1Data, Lc1DataLe1, Lc3Data, Lc3DataLe2, Le3}
 use Rattle.apdu_stated.specs.declared.Place.{Place}
-use Rattle.apdu_stated.specs.declared.Written.{Written}
-use Rattle.apdu_stated.specs.declared.Written.TheVariants as Written'
 use Rattle.command_stated.specs.Command.{Register, Authenticate, flags_no, command_said, handle_place_of}
 use Rattle.command_stated.specs.declared.Ctap1Flags.{Ctap1Flags}
-use Rattle.command_stated.specs.declared.U2fCommand.{U2fCommand}
+use Rattle.command_stated.specs.Command.{CommandReading}
 use Rattle.command_stated.specs.declared.U2fCommand.TheVariants as U2fCommand'
 use Rattle.panel_stated.specs.Words.{FrameSaid, CommandSaid, Wrote, Shaped, Asked, OrderNumbers, DecisionSaid, ResponseSaid, RoomSaid, Kinded, Session, presence_in, remainder_in, session_in, session_after}
 use Rattle.panel_stated.specs.Numbers.{answer_no, shape_of, is_yes, kind_of, no_order}
@@ -107,28 +106,28 @@ pub frame_said : (s : ApduStatusCode) (n : ℕ) (fault : FaultNumbers) → n ≡
 frame_said s n fault is is_fault = rw (is, is_fault)
 
 -- ---- command reading
-module _ (read : U2fCommand) (r : CommandSaid) where
-  pub command_register : (says : Apdu) → read ≡ U2fCommand'.Register says → r ≡ command_numbers (Gives (Register (says_of says))) → r ≡ command_numbers (command_said read)
+module _ (read : CommandReading) (r : CommandSaid) where
+  pub command_register : (says : Apdu) → read ≡ Ok (U2fCommand'.Register says) → r ≡ command_numbers (Gives (Register (says_of says))) → r ≡ command_numbers (command_said read)
   command_register says z is = is ∙ rw z
 
-  pub command_authenticate : (flags : Ctap1Flags) (says : Apdu) → read ≡ U2fCommand'.Authenticate flags says → r ≡ command_numbers (Gives (Authenticate (flags_no flags) (says_of says))) → r ≡ command_numbers (command_said read)
+  pub command_authenticate : (flags : Ctap1Flags) (says : Apdu) → read ≡ Ok (U2fCommand'.Authenticate flags says) → r ≡ command_numbers (Gives (Authenticate (flags_no flags) (says_of says))) → r ≡ command_numbers (command_said read)
   command_authenticate flags says z is = is ∙ rw z
 
-  pub command_version : (fault : FaultNumbers) → read ≡ U2fCommand'.Version → fault ≡ no_fault → r ≡ bare_command (record { number = 0x9000; kind = fault.kind; place = fault.place }) 0x03 → r ≡ command_numbers (command_said read)
+  pub command_version : (fault : FaultNumbers) → read ≡ Ok U2fCommand'.Version → fault ≡ no_fault → r ≡ bare_command (record { number = 0x9000; kind = fault.kind; place = fault.place }) 0x03 → r ≡ command_numbers (command_said read)
   command_version fault z is_fault is = is ∙ rw (is_fault, z)
 
-  pub command_get_response : (fault : FaultNumbers) → read ≡ U2fCommand'.GetResponse → fault ≡ no_fault → r ≡ bare_command (record { number = 0x9000; kind = fault.kind; place = fault.place }) 0xC0 → r ≡ command_numbers (command_said read)
+  pub command_get_response : (fault : FaultNumbers) → read ≡ Ok U2fCommand'.GetResponse → fault ≡ no_fault → r ≡ bare_command (record { number = 0x9000; kind = fault.kind; place = fault.place }) 0xC0 → r ≡ command_numbers (command_said read)
   command_get_response fault z is_fault is = is ∙ rw (is_fault, z)
 
-  pub command_status : (s : ApduStatusCode) (n : ℕ) (fault : FaultNumbers) → read ≡ U2fCommand'.Status s → n ≡ status_no s → fault ≡ fault_of s → r ≡ bare_command (record { number = n; kind = fault.kind; place = fault.place }) 0 → r ≡ command_numbers (command_said read)
+  pub command_status : (s : ApduStatusCode) (n : ℕ) (fault : FaultNumbers) → read ≡ Err s → n ≡ status_no s → fault ≡ fault_of s → r ≡ bare_command (record { number = n; kind = fault.kind; place = fault.place }) 0 → r ≡ command_numbers (command_said read)
   command_status s n fault z is_n is_fault is = is ∙ rw (is_n, is_fault, z)
 
 -- ---- writing
 module _ (written : Written) where
-  pub wrote_refusal : (why : Refusal) (n : ℕ) → written ≡ Written'.Refused why → n ≡ refusal_no why → ◌≡◌ {A = Wrote} (record { answer = n; length = 0 }) (length_numbers (written_of written))
+  pub wrote_refusal : (why : Refusal) (n : ℕ) → written ≡ Err why → n ≡ refusal_no why → ◌≡◌ {A = Wrote} (record { answer = n; length = 0 }) (length_numbers (written_of written))
   wrote_refusal why n z is = rw (is, z)
 
-  pub wrote_frame : (n : ℕ) → written ≡ Written'.Frame n → ◌≡◌ {A = Wrote} (record { answer = 0x9000; length = n }) (length_numbers (written_of written))
+  pub wrote_frame : (n : ℕ) → written ≡ Ok n → ◌≡◌ {A = Wrote} (record { answer = 0x9000; length = n }) (length_numbers (written_of written))
   wrote_frame n z = rw z
 
 -- a shape's number is that shape

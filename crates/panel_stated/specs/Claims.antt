@@ -25,7 +25,7 @@ use Rattle.panel_stated.specs.Terms.{SameNumbers, NoShape, IsNumbered, HasData, 
 use Rattle.outcome.specs.declared.ApduStatusCode.{ApduStatusCode}
 use Rattle.outcome.specs.declared.Refusal.{Refusal}
 use Rattle.apdu_stated.specs.declared.Apdu.{Apdu}
-use Rattle.command_stated.specs.declared.U2fCommand.{U2fCommand}
+use Rattle.command_stated.specs.Command.{CommandReading}
 use Rattle.u2f_up_stated.specs.declared.Answer.{Answer}
 use Rattle.signing_stated.specs.declared.Finished.{Finished}
 use Rattle.response_stated.specs.declared.ReadResponse.{ReadResponse}
@@ -405,7 +405,7 @@ pub record ResultsDetermined : Type 0 where
   pub frame_status : (s : ApduStatusCode) → AtMostOne (FrameStatusPlain s)
   pub strict_plain : (n count : ℕ) → AtMostOne (StrictPlain n count)
   pub write_plain : (w : ToWrite) → AtMostOne (λ (r : AfterWriting). WritePlain w r.said r.buffer)
-  pub command_plain : (read : U2fCommand) → AtMostOne (CommandPlain read)
+  pub command_plain : (read : CommandReading) → AtMostOne (CommandPlain read)
   pub refused_asked : (why : Refusal) → AtMostOne (RefusedAsked why)
   pub found_asked : (yes : Bool) → AtMostOne (FoundAsked yes)
   pub fresh_kept : (w : ℕ) → AtMostOne (λ (n : List ℕ). (length n ≡ 5) × FreshKept w n)

@@ -9,7 +9,7 @@ use Rattle.response_stated.specs.Terms.{sending_of}
 use Rattle.apdu_stated.specs.Answers.{says_of}
 use Rattle.apdu_stated.specs.declared.Apdu.{Apdu}
 use Rattle.command_stated.specs.Command.{command_said}
-use Rattle.command_stated.specs.declared.U2fCommand.{U2fCommand}
+use Rattle.command_stated.specs.Command.{CommandReading}
 use Rattle.u2f_up_stated.specs.Moments.{fresh}
 use Rattle.u2f_up_stated.specs.Answers.{outcome_of}
 use Rattle.u2f_up_stated.specs.declared.Answer.{Answer}
@@ -40,7 +40,7 @@ StrictPlain number count r = r ≡ strict_as (shape_of number) count
 abbrev pub WritePlain : ToWrite → Wrote → List ℕ → Type 0
 WritePlain w r after = (r ≡ (writes_of Ordinary w).said) × (after ≡ (writes_of Ordinary w).buffer)
 
-abbrev pub CommandPlain : U2fCommand → CommandSaid → Type 0
+abbrev pub CommandPlain : CommandReading → CommandSaid → Type 0
 CommandPlain read r = r ≡ command_numbers (command_said read)
 
 -- ---- panel_presence

@@ -3,8 +3,7 @@
 
 mod state;
 
-use convert::Converted;
-use outcome::ApduStatusCode;
+use outcome::{ApduStatusCode, NotDone};
 use program_text::Said;
 pub use state::{State, fresh};
 
@@ -25,16 +24,15 @@ fn space() -> [u8; 131072] {
 
 // What a converted frame becomes goes to the front of out.
 fn frame_of(frame: &[u8], out: &mut [u8]) -> Line {
-    let answer = convert::convert(frame, out);
-    match answer {
-        Converted::Frame(n) => {
+    match convert::convert(frame, out) {
+        Ok(n) => {
             if convert::is_old(frame) {
                 return Line::Converted(n);
             }
             Line::Kept
         }
-        Converted::Status(status) => Line::Status(status),
-        Converted::Refused(_) => Line::NoRoom,
+        Err(NotDone::Status(status)) => Line::Status(status),
+        Err(NotDone::Refused(_)) => Line::NoRoom,
     }
 }
 

@@ -15,7 +15,7 @@ ghost use Rattle.ctap1_stated.specs.Session.{is_get_response, part_after};
 ghost use Rattle.session_stated.specs.Held.{hardware_in};
 ghost use Rattle.session_stated.specs.Promises.{to_decide, Commanded, RemainderLent, Decide, Stated, Dropped, Left, RoomForResponse};
 
-use apdu::Reading;
+use apdu::Apdu;
 use command::U2fCommand;
 use ctap1::{Call, Decision, DecisionAnswer, HardwareSaid, NewKey};
 use outcome::ApduStatusCode;
@@ -55,25 +55,22 @@ pub fn remainder_lent(numbers: &[u64; 3]) -> Remainder
 }
 
 // How many bytes of body a frame takes that was read so; bytes in no shape get no body, and 0 stands there.
-fn limit_of(reading: Reading) -> u64
+fn limit_of(reading: Result<Apdu, ApduStatusCode>) -> u64
     ensures { result ≡ limit_on (reading_of reading) }
 {
     match reading {
-        Reading::Frame(says) => response::limit(says),
-        Reading::Status(_) => 0,
+        Ok(says) => response::limit(says),
+        Err(_) => 0,
     }
 }
 
 // Whether a frame that was read so is a GET RESPONSE, whatever it is answered.
-fn is_get_response(reading: Reading) -> bool
+fn is_get_response(reading: Result<Apdu, ApduStatusCode>) -> bool
     ensures { result ≡ is_get_response (reading_of reading) }
 {
     match reading {
-        Reading::Frame(says) => {
-            let header = says.header;
-            header.ins == GET_RESPONSE
-        }
-        Reading::Status(_) => false,
+        Ok(says) => says.header.ins == GET_RESPONSE,
+        Err(_) => false,
     }
 }
 
@@ -115,7 +112,7 @@ fn commanded(
     presence: &mut [u64; 5],
     session: &[u64; 3],
     call: Call,
-    reading: Reading,
+    reading: Result<Apdu, ApduStatusCode>,
     hardware: &[u32; 6],
     key: NewKey,
     limit: u64,
@@ -128,14 +125,13 @@ fn commanded(
         result presence.new reply.new block.new part.new }
 {
     let room = reply.len();
-    let read = command::on_reading(call.frame, reading);
-    match read {
-        U2fCommand::Status(status) => {
+    match command::on_reading(call.frame, reading) {
+        Err(status) => {
             u2f_up::moved(presence, call.t);
             ctap1::answered(status)
         }
-        U2fCommand::Version => ctap1::version(presence, call.t, reply),
-        U2fCommand::GetResponse => fetched(
+        Ok(U2fCommand::Version) => ctap1::version(presence, call.t, reply),
+        Ok(U2fCommand::GetResponse) => fetched(
             presence,
             call.t,
             remainder_lent(session),
@@ -143,7 +139,7 @@ fn commanded(
             reply,
             part,
         ),
-        U2fCommand::Register(says) => ctap1::register(
+        Ok(U2fCommand::Register(says)) => ctap1::register(
             call,
             says,
             presence,
@@ -152,7 +148,7 @@ fn commanded(
             room,
             block,
         ),
-        U2fCommand::Authenticate(flags, says) => ctap1::authenticate(
+        Ok(U2fCommand::Authenticate(flags, says)) => ctap1::authenticate(
             call,
             flags,
             says,
@@ -274,12 +270,12 @@ pub fn left(remainder: Remainder, limit: u64, session: &mut [u64; 3])
 }
 
 // How many bytes a response to this frame can take, where no body to it is longer than `longest`: in no shape a status word alone.
+#[tactic(auto, unfolding(session_stated::specs::Held::frame_room_of))]
 pub fn response_room(frame: &[u8], longest: usize) -> ResponseRoom
     ensures { RoomForResponse frame.now longest result }
 {
-    let reading = apdu::read(frame);
-    match reading {
-        Reading::Frame(says) => response::room(response::limit(says), longest),
-        Reading::Status(_) => ResponseRoom::Bytes(2),
+    match apdu::read(frame) {
+        Ok(says) => response::room(response::limit(says), longest),
+        Err(_) => ResponseRoom::Bytes(2),
     }
 }

@@ -8,16 +8,15 @@ use borrow.Author.Tests.{eq-eqb, ne_eqb, not-true, not-false}
 use lib.Dec.{ltb}
 use lib.ListN.{length, set}
 use lib.Seq.{get_or-set_same, get_or-set_other, lt-length-set}
+use Rattle.std.specs.Prelude.{Ok, Err}
 use Rattle.outcome.specs.Notation.{when◌then◌else◌}
 use Rattle.outcome.specs.Outcome.{Outcome, R, Word, SW, Gives, refusal_no}
 use Rattle.outcome.specs.declared.ApduStatusCode.{ApduStatusCode}
 use Rattle.outcome.specs.declared.Refusal.{Refusal}
 use Rattle.outcome.proofs.Laws.{r_gives}
-use Rattle.apdu_stated.specs.Answers.{Says, says_of, reading_of}
+use Rattle.apdu_stated.specs.Answers.{Says, says_of, reading_of, Reading}
 use Rattle.apdu_stated.specs.Reading.{read_of}
 use Rattle.apdu_stated.specs.declared.Apdu.{Apdu}
-use Rattle.apdu_stated.specs.declared.Reading.{Reading}
-use Rattle.apdu_stated.specs.declared.Reading.TheVariants as Reading'
 use Rattle.response_stated.specs.Words.{Sent, rest, part_sent, room_said}
 use Rattle.response_stated.specs.Parts.{limit_of, part_length, rest_after, next_part_of, part_response, part_laid, response_room_of}
 use Rattle.response_stated.specs.declared.Remainder.{Remainder}
@@ -123,8 +122,8 @@ module _ (frame : List ℕ) (reading : Reading) (is_r : reading_of reading ≡ r
   unfolding frame_room_of
   room_here r e = ap (λ (x : Reading). room_on (reading_of x) longest) (sym e) ∙ ap (λ (o : Outcome Says). room_on o longest) is_r
 
-  pub room_of_frame : (a : Apdu) (limit : ℕ) (r : ResponseRoom) → reading ≡ Reading'.Frame a → limit ≡ limit_of (says_of a) → room_said r ≡ response_room_of limit longest → room_said r ≡ frame_room_of frame longest
-  room_of_frame a limit r e is q = q ∙ ap (λ (n : ℕ). response_room_of n longest) is ∙ room_here (Reading'.Frame a) e
+  pub room_of_frame : (a : Apdu) (limit : ℕ) (r : ResponseRoom) → reading ≡ Ok a → limit ≡ limit_of (says_of a) → room_said r ≡ response_room_of limit longest → room_said r ≡ frame_room_of frame longest
+  room_of_frame a limit r e is q = q ∙ ap (λ (n : ℕ). response_room_of n longest) is ∙ room_here (Ok a) e
 
-  pub room_of_status : (s : ApduStatusCode) → reading ≡ Reading'.Status s → Gives 2 ≡ frame_room_of frame longest
-  room_of_status s e = room_here (Reading'.Status s) e
+  pub room_of_status : (s : ApduStatusCode) → reading ≡ Err s → Gives 2 ≡ frame_room_of frame longest
+  room_of_status s e = room_here (Err s) e

@@ -9,19 +9,18 @@ use native.Mathlib.Decide.{ℕ_discrete}
 use borrow.Author.Tests.{ne_eqb}
 use lib.Dec.{ltb, eqb}
 use lib.ListN.{length}
+use Rattle.std.specs.Prelude.{Ok, Err}
 use Rattle.outcome.specs.Notation.{when◌then◌else◌}
 use Rattle.outcome.specs.Outcome.{StatusWord, Outcome, R, Word, SW, Gives, word_of, refusal_no}
 use Rattle.outcome.specs.declared.ApduStatusCode.{ApduStatusCode}
 use Rattle.outcome.specs.declared.Refusal.{Refusal}
-use Rattle.apdu_stated.specs.Answers.{Says, says_of, reading_of}
+use Rattle.apdu_stated.specs.Answers.{Says, says_of, reading_of, Reading}
 use Rattle.apdu_stated.specs.Reading.{read_of}
-use Rattle.apdu_stated.specs.declared.Reading.{Reading}
-use Rattle.apdu_stated.specs.declared.Reading.TheVariants as Reading'
 use Rattle.apdu_stated.specs.declared.Apdu.{Apdu}
 use Rattle.command_stated.specs.Command.{Command, command_said, on_reading, command_of, flags_no}
 use Rattle.command_stated.proofs.Laws.{of_reading}
 use Rattle.command_stated.specs.declared.Ctap1Flags.{Ctap1Flags}
-use Rattle.command_stated.specs.declared.U2fCommand.{U2fCommand}
+use Rattle.command_stated.specs.Command.{CommandReading}
 use Rattle.command_stated.specs.declared.U2fCommand.TheVariants as U2fCommand'
 use Rattle.u2f_up_stated.specs.Moments.{moved_to, settle_of, checked_of}
 use Rattle.u2f_up_stated.specs.Numbers.{checked_in}
@@ -157,31 +156,31 @@ module _ (check : Presence → Finding) (kept settled : Presence) where
         by false (Gives sent) = refl
 
 -- ---- by the command
-module _ (i : Inputs) (check : Presence → Finding) (kept settled : Presence) (c : U2fCommand) (is_c : command_said c ≡ command_of i.frame) where
+module _ (i : Inputs) (check : Presence → Finding) (kept settled : Presence) (c : CommandReading) (is_c : command_said c ≡ command_of i.frame) where
   abbrev result : Outcome Command → DecisionResult
   result o = along_by check (command_path i o) kept settled
 
   abbrev decided : DecisionResult
   decided = result (command_of i.frame)
 
-  here : (d : U2fCommand) → c ≡ d → result (command_said d) ≡ decided
-  here d e = ap (λ (x : U2fCommand). result (command_said x)) (sym e) ∙ ap result is_c
+  here : (d : CommandReading) → c ≡ d → result (command_said d) ≡ decided
+  here d e = ap (λ (x : CommandReading). result (command_said x)) (sym e) ∙ ap result is_c
 
   module _ (old : List ℕ) where
-    lands : (d : U2fCommand) → c ≡ d → left_of (result (command_said d)) old ≡ left_of decided old
+    lands : (d : CommandReading) → c ≡ d → left_of (result (command_said d)) old ≡ left_of decided old
     lands d e = ap (λ (x : DecisionResult). left_of x old) (here d e)
 
-    pub on_status : (said : Outcome DecisionGives) (top : Head) (used : Bool) (q : Presence) (s : ApduStatusCode) → c ≡ U2fCommand'.Status s → alone said top used ≡ blank_alone (Word (word_of s)) → q ≡ settled
+    pub on_status : (said : Outcome DecisionGives) (top : Head) (used : Bool) (q : Presence) (s : ApduStatusCode) → c ≡ Err s → alone said top used ≡ blank_alone (Word (word_of s)) → q ≡ settled
         → leaves said top used q old ≡ left_of decided old
     unfolding command_path
-    on_status said top used q s e a f = stays said top used _ q settled old a f ∙ lands (U2fCommand'.Status s) e
+    on_status said top used q s e a f = stays said top used _ q settled old a f ∙ lands (Err s) e
 
-    pub on_version : (h : DecisionHanded) → c ≡ U2fCommand'.Version → h ≡ handed_of (along (version_path i.room) kept settled 0 0) → beside h old ≡ left_of decided old
+    pub on_version : (h : DecisionHanded) → c ≡ Ok U2fCommand'.Version → h ≡ handed_of (along (version_path i.room) kept settled 0 0) → beside h old ≡ left_of decided old
     unfolding command_path
-    on_version h e q = with_block h _ old q ∙ version_lands check kept settled i.room old ∙ lands U2fCommand'.Version e
+    on_version h e q = with_block h _ old q ∙ version_lands check kept settled i.room old ∙ lands (Ok U2fCommand'.Version) e
 
     -- the hardware's answers and the remainder as they are taken out of their numbers
-    pub on_register : (x : DecisionLeft) (a : Apdu) (n m : HardwareSaid) → c ≡ U2fCommand'.Register a → n ≡ m → i.hardware ≡ hardware_of m
+    pub on_register : (x : DecisionLeft) (a : Apdu) (n m : HardwareSaid) → c ≡ Ok (U2fCommand'.Register a) → n ≡ m → i.hardware ≡ hardware_of m
         → x ≡ left_of (along_by check (register_path (unfetched i.side i.frame (hardware_of n) (enrolment_of i.new_handle i.certificate i.x i.y) i.room) (says_of a)) kept settled) old
         → x ≡ left_of decided old
     unfolding command_path register_path register_ending
@@ -189,46 +188,46 @@ module _ (i : Inputs) (check : Presence → Finding) (kept settled : Presence) (
         q
         ∙ ap (λ (w : Hardware). left_of (along_by check (register_path (unfetched i.side i.frame w (enrolment_of i.new_handle i.certificate i.x i.y) i.room) (says_of a)) kept settled) old)
         (ap hardware_of is ∙ sym h)
-        ∙ lands (U2fCommand'.Register a) e
+        ∙ lands (Ok (U2fCommand'.Register a)) e
 
-    pub on_authenticate : (x : DecisionLeft) (f : Ctap1Flags) (a : Apdu) (n m : HardwareSaid) → c ≡ U2fCommand'.Authenticate f a → n ≡ m → i.hardware ≡ hardware_of m
+    pub on_authenticate : (x : DecisionLeft) (f : Ctap1Flags) (a : Apdu) (n m : HardwareSaid) → c ≡ Ok (U2fCommand'.Authenticate f a) → n ≡ m → i.hardware ≡ hardware_of m
         → x ≡ left_of (along_by check (login_path i.frame (hardware_of n) i.room (flags_no f) (says_of a)) kept settled) old → x ≡ left_of decided old
     unfolding command_path
     on_authenticate x f a n m e is h q =
         q ∙ ap (λ (w : Hardware). left_of (along_by check (login_path i.frame w i.room (flags_no f) (says_of a)) kept settled) old) (ap hardware_of is ∙ sym h)
-        ∙ lands (U2fCommand'.Authenticate f a) e
+        ∙ lands (Ok (U2fCommand'.Authenticate f a)) e
 
-    pub on_fetch : (h : DecisionHanded) (k : Remainder) (n : ℕ) → c ≡ U2fCommand'.GetResponse → k ≡ i.remainder → n ≡ frame_limit i.frame
+    pub on_fetch : (h : DecisionHanded) (k : Remainder) (n : ℕ) → c ≡ Ok U2fCommand'.GetResponse → k ≡ i.remainder → n ≡ frame_limit i.frame
         → h ≡ handed_of (along (fetch_path i.room k n i.part_room) kept settled 0 0) → beside h old ≡ left_of decided old
     unfolding command_path
     on_fetch h k n e is_k is q =
         with_block h _ old q ∙ fetch_lands check kept settled i.room k n i.part_room old
         ∙ ap₂ (λ (r : Remainder) (z : ℕ). left_of (along_by check (fetch_path i.room r z i.part_room) kept settled) old) is_k is
-        ∙ lands U2fCommand'.GetResponse e
+        ∙ lands (Ok U2fCommand'.GetResponse) e
 
     -- the reply buffer
-    reply_here : (d : U2fCommand) (new : List ℕ) → c ≡ d → new ≡ reply_left (result (command_said d)) old → new ≡ reply_left decided old
+    reply_here : (d : CommandReading) (new : List ℕ) → c ≡ d → new ≡ reply_left (result (command_said d)) old → new ≡ reply_left decided old
     reply_here d new e k = k ∙ ap (λ (x : DecisionResult). reply_left x old) (here d e)
 
-    pub fetch_kept : c ≡ U2fCommand'.GetResponse → old ≡ reply_left decided old
+    pub fetch_kept : c ≡ Ok U2fCommand'.GetResponse → old ≡ reply_left decided old
     unfolding command_path
-    fetch_kept e = reply_here U2fCommand'.GetResponse old e (fetch_reply check kept settled i.room i.remainder (frame_limit i.frame) i.part_room old)
+    fetch_kept e = reply_here (Ok U2fCommand'.GetResponse) old e (fetch_reply check kept settled i.room i.remainder (frame_limit i.frame) i.part_room old)
 
-    pub status_kept : (s : ApduStatusCode) → c ≡ U2fCommand'.Status s → old ≡ reply_left decided old
+    pub status_kept : (s : ApduStatusCode) → c ≡ Err s → old ≡ reply_left decided old
     unfolding command_path
-    status_kept s e = reply_here (U2fCommand'.Status s) old e refl
+    status_kept s e = reply_here (Err s) old e refl
 
-    pub register_kept : (a : Apdu) → c ≡ U2fCommand'.Register a → old ≡ reply_left decided old
+    pub register_kept : (a : Apdu) → c ≡ Ok (U2fCommand'.Register a) → old ≡ reply_left decided old
     unfolding command_path
-    register_kept a e = reply_here (U2fCommand'.Register a) old e (plain_reply _ old (register_plain check kept settled i (says_of a)))
+    register_kept a e = reply_here (Ok (U2fCommand'.Register a)) old e (plain_reply _ old (register_plain check kept settled i (says_of a)))
 
-    pub authenticate_kept : (f : Ctap1Flags) (a : Apdu) → c ≡ U2fCommand'.Authenticate f a → old ≡ reply_left decided old
+    pub authenticate_kept : (f : Ctap1Flags) (a : Apdu) → c ≡ Ok (U2fCommand'.Authenticate f a) → old ≡ reply_left decided old
     unfolding command_path
-    authenticate_kept f a e = reply_here (U2fCommand'.Authenticate f a) old e (plain_reply _ old (authenticate_plain check kept settled i.frame i.hardware i.room (flags_no f) (says_of a)))
+    authenticate_kept f a e = reply_here (Ok (U2fCommand'.Authenticate f a)) old e (plain_reply _ old (authenticate_plain check kept settled i.frame i.hardware i.room (flags_no f) (says_of a)))
 
-    pub version_left : (new : List ℕ) → c ≡ U2fCommand'.Version → new ≡ reply_left (along (version_path i.room) kept settled 0 0) old → new ≡ reply_left decided old
+    pub version_left : (new : List ℕ) → c ≡ Ok U2fCommand'.Version → new ≡ reply_left (along (version_path i.room) kept settled 0 0) old → new ≡ reply_left decided old
     unfolding command_path
-    version_left new e q = reply_here U2fCommand'.Version new e (q ∙ ap (λ (x : DecisionResult). reply_left x old) (version_any check kept settled i.room))
+    version_left new e q = reply_here (Ok U2fCommand'.Version) new e (q ∙ ap (λ (x : DecisionResult). reply_left x old) (version_any check kept settled i.room))
 
   -- the buffer for part and status: a C0's part, or as it was
   module _ (body old : List ℕ) where
@@ -238,33 +237,33 @@ module _ (i : Inputs) (check : Presence → Finding) (kept settled : Presence) (
     abbrev LeavesPart : List ℕ → Type 0
     LeavesPart new = new ≡ part_left i decided body old
 
-    part_here : (d : U2fCommand) (new : List ℕ) → c ≡ d → new ≡ part_left i (result (command_said d)) body old → LeavesPart new
+    part_here : (d : CommandReading) (new : List ℕ) → c ≡ d → new ≡ part_left i (result (command_said d)) body old → LeavesPart new
     part_here d new e k = k ∙ ap (λ (x : DecisionResult). part_left i x body old) (here d e)
 
-    pub fetch_part : (new : List ℕ) (k : Remainder) (n : ℕ) → c ≡ U2fCommand'.GetResponse → k ≡ i.remainder → n ≡ frame_limit i.frame
+    pub fetch_part : (new : List ℕ) (k : Remainder) (n : ℕ) → c ≡ Ok U2fCommand'.GetResponse → k ≡ i.remainder → n ≡ frame_limit i.frame
         → new ≡ part_after (along (fetch_path i.room k n i.part_room) kept settled 0 0).answer (part_response body k n) old → LeavesPart new
     unfolding command_path
     fetch_part new k n e is_k is q =
-        part_here U2fCommand'.GetResponse new e
+        part_here (Ok U2fCommand'.GetResponse) new e
         (q ∙ ap (λ (x : DecisionResult). part_after x.answer (part_response body k n) old) (fetch_any check kept settled i.room k n i.part_room)
         ∙ ap₂ (λ (r : Remainder) (z : ℕ). part_after (along_by check (fetch_path i.room r z i.part_room) kept settled).answer (part_response body r z) old) is_k is)
 
-    pub status_part : (s : ApduStatusCode) → c ≡ U2fCommand'.Status s → LeavesPart old
+    pub status_part : (s : ApduStatusCode) → c ≡ Err s → LeavesPart old
     unfolding command_path
-    status_part s e = part_here (U2fCommand'.Status s) old e refl
+    status_part s e = part_here (Err s) old e refl
 
-    pub version_part_kept : c ≡ U2fCommand'.Version → LeavesPart old
+    pub version_part_kept : c ≡ Ok U2fCommand'.Version → LeavesPart old
     unfolding command_path
-    version_part_kept e = part_here U2fCommand'.Version old e (version_part check kept settled i.room (response (frame_limit i.frame)) old)
+    version_part_kept e = part_here (Ok U2fCommand'.Version) old e (version_part check kept settled i.room (response (frame_limit i.frame)) old)
 
-    pub register_part : (a : Apdu) → c ≡ U2fCommand'.Register a → LeavesPart old
+    pub register_part : (a : Apdu) → c ≡ Ok (U2fCommand'.Register a) → LeavesPart old
     unfolding command_path
-    register_part a e = part_here (U2fCommand'.Register a) old e (plain_part _ (response (frame_limit i.frame)) old (register_plain check kept settled i (says_of a)))
+    register_part a e = part_here (Ok (U2fCommand'.Register a)) old e (plain_part _ (response (frame_limit i.frame)) old (register_plain check kept settled i (says_of a)))
 
-    pub authenticate_part : (f : Ctap1Flags) (a : Apdu) → c ≡ U2fCommand'.Authenticate f a → LeavesPart old
+    pub authenticate_part : (f : Ctap1Flags) (a : Apdu) → c ≡ Ok (U2fCommand'.Authenticate f a) → LeavesPart old
     unfolding command_path
     authenticate_part f a e =
-        part_here (U2fCommand'.Authenticate f a) old e
+        part_here (Ok (U2fCommand'.Authenticate f a)) old e
         (plain_part _ (response (frame_limit i.frame)) old (authenticate_plain check kept settled i.frame i.hardware i.room (flags_no f) (says_of a)))
 
 -- ---- by the moment, and by whether CTAP1 is allowed
@@ -373,10 +372,10 @@ module _ (i : Inputs) (kept : Presence) (t : ℕ) (s : Ready) (is_s : ready_of s
       yes_part new h n q = part_by Allowed'.Yes new (is_k ∙ yes_is k h n) q
 
 -- ---- what the session goes on with
-pub limit_of_frame : (r : Reading) (a : Apdu) (n : ℕ) → r ≡ Reading'.Frame a → n ≡ limit_of (says_of a) → n ≡ limit_on (reading_of r)
+pub limit_of_frame : (r : Reading) (a : Apdu) (n : ℕ) → r ≡ Ok a → n ≡ limit_of (says_of a) → n ≡ limit_on (reading_of r)
 limit_of_frame r a n e is = is ∙ ap (λ (x : Reading). limit_on (reading_of x)) (sym e)
 
-pub asks_of_frame : (r : Reading) (a : Apdu) → r ≡ Reading'.Frame a → eqb a.header.ins 0xC0 ≡ is_get_response (reading_of r)
+pub asks_of_frame : (r : Reading) (a : Apdu) → r ≡ Ok a → eqb a.header.ins 0xC0 ≡ is_get_response (reading_of r)
 asks_of_frame r a e = ap (λ (x : Reading). is_get_response (reading_of x)) (sym e)
 
 module _ (frame : List ℕ) (r : Reading) (is_r : reading_of r ≡ read_of frame) where
@@ -384,7 +383,7 @@ module _ (frame : List ℕ) (r : Reading) (is_r : reading_of r ≡ read_of frame
   unfolding frame_limit
   limit_is n e = e ∙ ap limit_on is_r
 
-  pub command_is : (c : U2fCommand) → command_said c ≡ on_reading frame (reading_of r) → command_said c ≡ command_of frame
+  pub command_is : (c : CommandReading) → command_said c ≡ on_reading frame (reading_of r) → command_said c ≡ command_of frame
   command_is c e = of_reading frame r (command_said c) is_r e
 
   pub asks_is : (b : Bool) → b ≡ is_get_response (reading_of r) → b ≡ is_get_response (read_of frame)

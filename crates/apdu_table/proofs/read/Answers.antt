@@ -1,7 +1,0 @@
--- `read` meets its contract: the table that it lends is its own.
-use borrow.Author.Rules.{rules}
-use Rattle.apdu_table_stated.proofs.Cases
-use Rattle.apdu_table.proofs.read.Goals as goal
-
-pub returns : goal.returns
-returns c = search (rules, Cases.by_table)
