@@ -19,7 +19,7 @@ use Rattle.u2f_up_stated.specs.History.{TouchAccepted, TouchIgnored, TouchFound,
 use Rattle.u2f_up_stated.specs.Runs.{after, history, done_by}
 use Rattle.u2f_up_stated.specs.Terms.{NotRefused, HasTouch}
 use Rattle.u2f_up_stated.specs.declared.Presence.{Presence}
-use Rattle.u2f_up_stated.specs.declared.Window.TheVariants.{Closed, Opened}
+use Rattle.std.specs.Prelude.{None, Some}
 use Rattle.ctap1_stated.specs.Words.{Order, Inputs, DecisionGives, Body, Ordered, Part, DecisionResult, DecisionHanded, Hardware, Remainder, rest, enrolment_of}
 use Rattle.ctap1_stated.specs.Path.{register_ordered, enrolment_order, authenticate_ordered, register_ending, counted_ending, login_path, register_path, version_path, frame_limit, fetch_path, command_path, allowed_path, path_of}
 use Rattle.signing_stated.specs.Orders.{kind_no, certificate_length, is_of_layout, blank_order, register_order_of, authenticate_order_of, block}
@@ -58,7 +58,7 @@ lent frame hardware handle room = record { side = 0; frame = frame; hardware = h
 
 -- a record with a live touch
 abbrev held : Presence
-held = record { w = 1000; prompt = Closed; touch = Opened 0; last = 0; asker = 0 }
+held = record { w = 1000; prompt = None; touch = Some 0; last = 0; asker = 0 }
 
 -- how the frames are read
 abbrev said_of : (ins p1 shape lc at : ℕ) → Says
@@ -175,7 +175,7 @@ challenge_first d =
     omega arith
 
 -- ---- the sentence on the box
-closed_open : (m : ℕ) → Closed ≡ Opened m → ⊥
+closed_open : (m : ℕ) → None ≡ Some m → ⊥
 closed_open m x = let z : ◌≡◌ {A = ℕ} 0 1 = cc in omega arith
 
 untouched : (t : ℕ) → HasTouch (fresh 1000) t → ⊥

@@ -16,10 +16,10 @@ abbrev pub moved_at : Presence → ℕ → Presence
 moved_at p t = record { w = p.w; prompt = p.prompt; touch = p.touch; last = t; asker = p.asker }
 
 abbrev pub spent_at : Presence → ℕ → Presence
-spent_at p t = record { w = p.w; prompt = p.prompt; touch = Closed; last = t; asker = p.asker }
+spent_at p t = record { w = p.w; prompt = p.prompt; touch = None; last = t; asker = p.asker }
 
 abbrev pub prompted_at : Presence → (side t : ℕ) → Presence
-prompted_at p s t = record { w = p.w; prompt = Opened t; touch = p.touch; last = t; asker = s }
+prompted_at p s t = record { w = p.w; prompt = Some t; touch = p.touch; last = t; asker = s }
 
 -- "Register, 130 + h: 00, application, challenge, handle, public key (04, x, y)", with the certificate's length. (`register_order_of` and
 -- `authenticate_order_of` lay the fields out so: signing_stated's Orders.antt.)

@@ -37,10 +37,9 @@ use mathlib.Core.Bool.{true, false, not, Bool}
 use Rattle.u2f_up_stated.specs.Moments.{Told, is_r6, fresh, moved_to, new_of, settle_of, checked_of, granted_of, on_settled, gave, touch_of, check_of, ask_of}
 use Rattle.u2f_up_stated.specs.Numbers.{checked_in, granted_in}
 use Rattle.u2f_up_stated.specs.Answers.{ready_of, outcome_of}
-use Rattle.u2f_up_stated.specs.declared.Answer.{Answer}
-use Rattle.u2f_up_stated.specs.declared.Answer.TheVariants as Answer'
-use Rattle.u2f_up_stated.specs.declared.Ready.{Ready}
-use Rattle.u2f_up_stated.specs.declared.Ready.TheVariants as Ready'
+use Rattle.u2f_up_stated.specs.Words.{Answer}
+use Rattle.std.specs.Prelude.{Ok, Err}
+use Rattle.u2f_up_stated.specs.Words.{Ready}
 use Rattle.u2f_up_stated.specs.declared.Presence.{Presence}
 use Rattle.u2f_up_stated.proofs.Laws.{settles_moved, checked_below, granted_below, five_set}
 use Rattle.signing_stated.specs.Orders.{kind_no}
@@ -203,13 +202,13 @@ pub refused_asked : (why : Refusal) (n : ℕ) → n ≡ refusal_no why → ◌�
 refused_asked why n is = rw is
 
 module _ (answer : Answer) (r : Asked) where
-  pub asked_refused : (why : Refusal) → answer ≡ Answer'.Refused why → r ≡ asked_numbers (R (refusal_no why)) → r ≡ asked_numbers (outcome_of answer)
+  pub asked_refused : (why : Refusal) → answer ≡ Err why → r ≡ asked_numbers (R (refusal_no why)) → r ≡ asked_numbers (outcome_of answer)
   asked_refused why z is = is ∙ rw z
 
-  pub asked_yes : answer ≡ Answer'.Yes → r ≡ asked_numbers (Gives true) → r ≡ asked_numbers (outcome_of answer)
+  pub asked_yes : answer ≡ Ok true → r ≡ asked_numbers (Gives true) → r ≡ asked_numbers (outcome_of answer)
   asked_yes z is = is ∙ rw z
 
-  pub asked_no : answer ≡ Answer'.No → r ≡ asked_numbers (Gives false) → r ≡ asked_numbers (outcome_of answer)
+  pub asked_no : answer ≡ Ok false → r ≡ asked_numbers (Gives false) → r ≡ asked_numbers (outcome_of answer)
   asked_no z is = is ∙ rw z
 
 -- a record that is made
@@ -224,19 +223,19 @@ module _ (w : ℕ) (made : Ready) (is_made : ready_of made ≡ new_of w) where
   made_at : (d : Ready) → made ≡ d → ready_of d ≡ new_of w
   made_at d z = ap ready_of (sym z) ∙ is_made
 
-  pub new_refused : (why : Refusal) (n : ℕ) → made ≡ Ready'.Refused why → n ≡ refusal_no why → n ≡ answer_no (new_of w)
-  new_refused why n z is = is ∙ ap answer_no (made_at (Ready'.Refused why) z)
+  pub new_refused : (why : Refusal) (n : ℕ) → made ≡ Err why → n ≡ refusal_no why → n ≡ answer_no (new_of w)
+  new_refused why n z is = is ∙ ap answer_no (made_at (Err why) z)
 
-  pub new_given : (p : Presence) → made ≡ Ready'.Record p → 0x9000 ≡ answer_no (new_of w)
-  new_given p z = ap answer_no (made_at (Ready'.Record p) z)
+  pub new_given : (p : Presence) → made ≡ Ok p → 0x9000 ≡ answer_no (new_of w)
+  new_given p z = ap answer_no (made_at (Ok p) z)
 
   module _ (kept : Presence) where
-    pub new_kept : (why : Refusal) → made ≡ Ready'.Refused why → kept ≡ made_over (new_of w) kept
-    new_kept why z = ap (λ (o : Outcome Presence). made_over o kept) (made_at (Ready'.Refused why) z)
+    pub new_kept : (why : Refusal) → made ≡ Err why → kept ≡ made_over (new_of w) kept
+    new_kept why z = ap (λ (o : Outcome Presence). made_over o kept) (made_at (Err why) z)
 
-    pub new_made : (p q : Presence) → made ≡ Ready'.Record p → q ≡ fresh w → q ≡ made_over (new_of w) kept
+    pub new_made : (p q : Presence) → made ≡ Ok p → q ≡ fresh w → q ≡ made_over (new_of w) kept
     unfolding new_of
-    new_made p q z is = is ∙ by (is_r6 w) (made_at (Ready'.Record p) z)
+    new_made p q z is = is ∙ by (is_r6 w) (made_at (Ok p) z)
       where
         by : (b : Bool) → Gives p ≡ (when b then R 6 else Gives (fresh w)) → fresh w ≡ made_over (when b then R 6 else Gives (fresh w)) kept
         by true e = absurd (r_gives _ _ (sym e))
@@ -250,34 +249,34 @@ module _ (n : List ℕ) (held : Presence) (is_held_lem : held ≡ presence_in n)
   settles_at : (d : Ready) → ready ≡ d → ready_of d ≡ settle_of (presence_in n) side t
   settles_at d z = ap ready_of (sym z) ∙ settles
 
-  told_refused : (why : Refusal) → ready ≡ Ready'.Refused why → (go : Presence → Told) → record { outcome = R (refusal_no why); presence = presence_in n } ≡ on_settled (presence_in n) (settle_of (presence_in n) side t) go
-  told_refused why z go = ap (λ (o : Outcome Presence). on_settled (presence_in n) o go) (settles_at (Ready'.Refused why) z)
+  told_refused : (why : Refusal) → ready ≡ Err why → (go : Presence → Told) → record { outcome = R (refusal_no why); presence = presence_in n } ≡ on_settled (presence_in n) (settle_of (presence_in n) side t) go
+  told_refused why z go = ap (λ (o : Outcome Presence). on_settled (presence_in n) o go) (settles_at (Err why) z)
 
-  told_moved : (q : Presence) → ready ≡ Ready'.Record q → (go : Presence → Told) → go (moved_to (presence_in n) t) ≡ on_settled (presence_in n) (settle_of (presence_in n) side t) go
+  told_moved : (q : Presence) → ready ≡ Ok q → (go : Presence → Told) → go (moved_to (presence_in n) t) ≡ on_settled (presence_in n) (settle_of (presence_in n) side t) go
   told_moved q z go =
-      ap go (sym (settles_moved (presence_in n) side t q (settles_at (Ready'.Record q) z)).0) ∙ ap (λ (o : Outcome Presence). on_settled (presence_in n) o go) (settles_at (Ready'.Record q) z)
+      ap go (sym (settles_moved (presence_in n) side t q (settles_at (Ok q) z)).0) ∙ ap (λ (o : Outcome Presence). on_settled (presence_in n) o go) (settles_at (Ok q) z)
 
-  early : (q : Presence) → ready ≡ Ready'.Record q → t < 2 ^ 48
-  early q z = (settles_moved (presence_in n) side t q (settles_at (Ready'.Record q) z)).1
+  early : (q : Presence) → ready ≡ Ok q → t < 2 ^ 48
+  early q z = (settles_moved (presence_in n) side t q (settles_at (Ok q) z)).1
 
-  checks_refused : (why : Refusal) → ready ≡ Ready'.Refused why → record { outcome = R (refusal_no why); presence = presence_in n } ≡ check_of (presence_in n) side t
+  checks_refused : (why : Refusal) → ready ≡ Err why → record { outcome = R (refusal_no why); presence = presence_in n } ≡ check_of (presence_in n) side t
   unfolding check_of
   checks_refused why z = told_refused why z (λ q. gave (checked_of q side t))
 
-  pub check_refused : (why : Refusal) (r : Asked) → ready ≡ Ready'.Refused why → r ≡ asked_numbers (R (refusal_no why)) → r ≡ asked_numbers (check_of (presence_in n) side t).outcome
+  pub check_refused : (why : Refusal) (r : Asked) → ready ≡ Err why → r ≡ asked_numbers (R (refusal_no why)) → r ≡ asked_numbers (check_of (presence_in n) side t).outcome
   check_refused why r z is = is ∙ ap (λ (x : Told). asked_numbers x.outcome) (checks_refused why z)
 
-  pub check_kept : (why : Refusal) → ready ≡ Ready'.Refused why → presence_in n ≡ (check_of (presence_in n) side t).presence
+  pub check_kept : (why : Refusal) → ready ≡ Err why → presence_in n ≡ (check_of (presence_in n) side t).presence
   check_kept why z = ap (λ (x : Told). x.presence) (checks_refused why z)
 
-  checks_found : (q : Presence) → ready ≡ Ready'.Record q → gave (checked_in (moved_to (presence_in n) t) side t) ≡ check_of (presence_in n) side t
+  checks_found : (q : Presence) → ready ≡ Ok q → gave (checked_in (moved_to (presence_in n) t) side t) ≡ check_of (presence_in n) side t
   unfolding check_of
   checks_found q z = ap gave (checked_below (moved_to (presence_in n) t) side t (early q z)) ∙ told_moved q z (λ p. gave (checked_of p side t))
 
-  pub check_found : (q : Presence) (found : Bool) (r : Asked) → ready ≡ Ready'.Record q → found ≡ (checked_in (moved_to (presence_in n) t) side t).yes → r ≡ asked_numbers (Gives found) → r ≡ asked_numbers (check_of (presence_in n) side t).outcome
+  pub check_found : (q : Presence) (found : Bool) (r : Asked) → ready ≡ Ok q → found ≡ (checked_in (moved_to (presence_in n) t) side t).yes → r ≡ asked_numbers (Gives found) → r ≡ asked_numbers (check_of (presence_in n) side t).outcome
   check_found q found r z y is = is ∙ ap (λ (b : Bool). asked_numbers (Gives b)) y ∙ ap (λ (x : Told). asked_numbers x.outcome) (checks_found q z)
 
-  pub check_moved : (q after : Presence) → ready ≡ Ready'.Record q → after ≡ (checked_in (moved_to (presence_in n) t) side t).presence → after ≡ (check_of (presence_in n) side t).presence
+  pub check_moved : (q after : Presence) → ready ≡ Ok q → after ≡ (checked_in (moved_to (presence_in n) t) side t).presence → after ≡ (check_of (presence_in n) side t).presence
   check_moved q after z is = is ∙ ap (λ (x : Told). x.presence) (checks_found q z)
 
 -- a touch settles as the record's own side
@@ -285,26 +284,26 @@ module _ (n : List ℕ) (held : Presence) (is_held_lem : held ≡ presence_in n)
   own_side : ready_of ready ≡ settle_of (presence_in n) (presence_in n).asker t
   own_side = is_ready ∙ ap (λ (p : Presence). settle_of p p.asker t) is_held_lem
 
-  touches_refused : (why : Refusal) → ready ≡ Ready'.Refused why → record { outcome = R (refusal_no why); presence = presence_in n } ≡ touch_of (presence_in n) t
+  touches_refused : (why : Refusal) → ready ≡ Err why → record { outcome = R (refusal_no why); presence = presence_in n } ≡ touch_of (presence_in n) t
   unfolding touch_of
   touches_refused why z = told_refused n (presence_in n) refl (presence_in n).asker t ready own_side why z (λ q. gave (granted_of q t))
 
-  pub touch_refused : (why : Refusal) (r : Asked) → ready ≡ Ready'.Refused why → r ≡ asked_numbers (R (refusal_no why)) → r ≡ asked_numbers (touch_of (presence_in n) t).outcome
+  pub touch_refused : (why : Refusal) (r : Asked) → ready ≡ Err why → r ≡ asked_numbers (R (refusal_no why)) → r ≡ asked_numbers (touch_of (presence_in n) t).outcome
   touch_refused why r z is = is ∙ ap (λ (x : Told). asked_numbers x.outcome) (touches_refused why z)
 
-  pub touch_kept : (why : Refusal) → ready ≡ Ready'.Refused why → presence_in n ≡ (touch_of (presence_in n) t).presence
+  pub touch_kept : (why : Refusal) → ready ≡ Err why → presence_in n ≡ (touch_of (presence_in n) t).presence
   touch_kept why z = ap (λ (x : Told). x.presence) (touches_refused why z)
 
-  touches_found : (q : Presence) → ready ≡ Ready'.Record q → gave (granted_in (moved_to (presence_in n) t) t) ≡ touch_of (presence_in n) t
+  touches_found : (q : Presence) → ready ≡ Ok q → gave (granted_in (moved_to (presence_in n) t) t) ≡ touch_of (presence_in n) t
   unfolding touch_of
   touches_found q z =
       ap gave (granted_below (moved_to (presence_in n) t) t (early n (presence_in n) refl (presence_in n).asker t ready own_side q z))
       ∙ told_moved n (presence_in n) refl (presence_in n).asker t ready own_side q z (λ p. gave (granted_of p t))
 
-  pub touch_found : (q : Presence) (found : Bool) (r : Asked) → ready ≡ Ready'.Record q → found ≡ (granted_in (moved_to (presence_in n) t) t).yes → r ≡ asked_numbers (Gives found) → r ≡ asked_numbers (touch_of (presence_in n) t).outcome
+  pub touch_found : (q : Presence) (found : Bool) (r : Asked) → ready ≡ Ok q → found ≡ (granted_in (moved_to (presence_in n) t) t).yes → r ≡ asked_numbers (Gives found) → r ≡ asked_numbers (touch_of (presence_in n) t).outcome
   touch_found q found r z y is = is ∙ ap (λ (b : Bool). asked_numbers (Gives b)) y ∙ ap (λ (x : Told). asked_numbers x.outcome) (touches_found q z)
 
-  pub touch_moved : (q after : Presence) → ready ≡ Ready'.Record q → after ≡ (granted_in (moved_to (presence_in n) t) t).presence → after ≡ (touch_of (presence_in n) t).presence
+  pub touch_moved : (q after : Presence) → ready ≡ Ok q → after ≡ (granted_in (moved_to (presence_in n) t) t).presence → after ≡ (touch_of (presence_in n) t).presence
   touch_moved q after z is = is ∙ ap (λ (x : Told). x.presence) (touches_found q z)
 
 pub ask_at : (n : List ℕ) (held : Presence) (t : ℕ) (a : Answer) (r : Asked) → held ≡ presence_in n → r ≡ asked_numbers (outcome_of a) → outcome_of a ≡ (ask_of held t).outcome → r ≡ asked_numbers (ask_of (presence_in n) t).outcome

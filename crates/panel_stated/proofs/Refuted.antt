@@ -15,7 +15,7 @@ use Rattle.octets.proofs.Laws.{small, bytes_of}
 use Rattle.apdu_stated.specs.Reading.{read_by, lengths_of, say_of, short_of, extended_of, after_data, data_of}
 use Rattle.panel_stated.specs.Terms.{nought, retired, above}
 use Rattle.u2f_up_stated.specs.Moments.{new_of, touch_of, check_of, settle_of, granted_of, checked_of, fresh}
-use Rattle.u2f_up_stated.specs.declared.Window.TheVariants.{Closed, Opened}
+use Rattle.std.specs.Prelude.{None, Some}
 use Rattle.u2f_up_stated.specs.declared.Presence.{Presence}
 use Rattle.ctap1_stated.specs.Words.{Ordered, Part, DecisionResult}
 use Rattle.ctap1_stated.specs.Path.{fetch_path, frame_limit, register_path, register_ending, enrolment_order, version_path, command_path, allowed_path, path_of}
@@ -232,7 +232,7 @@ unfolding decision_of path_of allowed_path command_path version_path register_pa
 record_forgotten p =
     let i = lending (0x00 ∷ 0x01 ∷ 0x00 ∷ 0x00 ∷ 0x40 ∷ replicate 64 0x00) 1 (replicate 139 0) (rest 0 0) [] in
     let x = p.row i in
-    let e : Opened 0 ≡ Closed = ap (λ (q : Presence). q.touch) (x.3 ∙ ap (λ (r : DecisionResult). r.presence) (sym (sound _ _ _ x.0 x.1))) in
+    let e : Some 0 ≡ None = ap (λ (q : Presence). q.touch) (x.3 ∙ ap (λ (r : DecisionResult). r.presence) (sym (sound _ _ _ x.0 x.1))) in
     let z : ◌≡◌ {A = ℕ} 0 1 = cc in
     omega arith
 

@@ -1,7 +1,7 @@
 -- What is promised of the numbers that cross to C, of any function: proofs/Theorems.antt has that the definitions meet it,
 -- proofs/Only.antt that no others meet those that it names, proofs/Refuted.antt that the wrong programs of specs/Wrong.antt do not.
 use Rattle.std.specs.Prelude.{◌↔◌, ◌⊎◌, ◌∷◌, drop, ◌≡◌, ◌≤◌, ◌<◌, ◌+◌}
-use Rattle.panel_stated.specs.Words.{ℕ, Bool, List, AtMostOne, StatusWord, Outcome, R, Word, Gives, HasStatus, last_refusal, Closed, Presence, Order, Head}
+use Rattle.panel_stated.specs.Words.{ℕ, Bool, List, AtMostOne, StatusWord, Outcome, R, Word, Gives, HasStatus, last_refusal, None, Presence, Order, Head}
 use Rattle.panel_stated.specs.Words.{Instruction, Le1, Lc1Data, Lc1DataLe1, Lc3Data, Lc3DataLe2, Le3}
 use Rattle.panel_stated.specs.Words.{OrderNumbers, Shaped, Kinded, presence_in, remainder_in, session_in, hardware_in, frame_room_of}
 use Rattle.panel_stated.specs.Words.{FrameSaid, CommandSaid, Wrote, Asked, DecisionSaid, ResponseSaid, RoomSaid}
@@ -26,7 +26,7 @@ use Rattle.outcome.specs.declared.ApduStatusCode.{ApduStatusCode}
 use Rattle.outcome.specs.declared.Refusal.{Refusal}
 use Rattle.apdu_stated.specs.declared.Apdu.{Apdu}
 use Rattle.command_stated.specs.declared.U2fCommand.{U2fCommand}
-use Rattle.u2f_up_stated.specs.declared.Answer.{Answer}
+use Rattle.u2f_up_stated.specs.Words.{Answer}
 use Rattle.signing_stated.specs.declared.Finished.{Finished}
 use Rattle.response_stated.specs.declared.ReadResponse.{ReadResponse}
 use Rattle.response_stated.specs.declared.WroteResponse.{WroteResponse}
@@ -86,7 +86,7 @@ pub record NoAnswerIs0 (answer : Outcome Bool → ℕ) (decided : Outcome Decisi
 -- record with R6 (`clears_at_r6`) fails it, and one that looks at 16 bits of W (`made_from16_bits`).
 pub record MakeExported (make : (presence : List ℕ) (w : ℕ) → AfterMaking) : Type 0 where
   pub made : (n : List ℕ) (w : ℕ) → 1 ≤ w → w ≤ 60000
-      → ((make n w).said ≡ 0x9000) × (presence_in (make n w).presence ≡ record { w = w; prompt = Closed; touch = Closed; last = 0; asker = 0 })
+      → ((make n w).said ≡ 0x9000) × (presence_in (make n w).presence ≡ record { w = w; prompt = None; touch = None; last = 0; asker = 0 })
   pub refused : (n : List ℕ) (w : ℕ) → (w ≡ 0) ⊎ (60000 < w) → ((make n w).said ≡ 6) × SameNumbers 5 (make n w).presence n
 
 -- "An R refusal changes no buffer and no record", said of the numbers: after a refusal the record that was lent is as it was, number by number, and after a

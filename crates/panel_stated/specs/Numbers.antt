@@ -3,7 +3,7 @@
 use Rattle.std.specs.Prelude.{◌∷◌}
 use Rattle.panel_stated.specs.Words.{ℕ, suc, List, [], eqb, when◌then◌else◌, Outcome, R, Word, Gives, Session}
 use Rattle.panel_stated.specs.Words.{Instruction, Le1, Lc1Data, Lc1DataLe1, Lc3Data, Lc3DataLe2, Le3}
-use Rattle.panel_stated.specs.Words.{Window, Closed, Opened, Presence}
+use Rattle.panel_stated.specs.Words.{Window, None, Some, Presence}
 pub use Rattle.ctap1_stated.specs.Numbers.{allowed_of, attestation_of, is_yes, counter_of, hardware_of}
 use Rattle.panel_stated.specs.Words.{OrderNumbers, Shaped, Kinded, DecisionGives, Body, Ordered, Part}
 use Rattle.signing_stated.specs.declared.Kind.TheVariants.{Register, Authenticate}
@@ -38,8 +38,8 @@ place_no (Gives a) = 0
 
 -- the numbers of a record, and of a session, in their order; what they stand for: `presence_in` (u2f_up_stated's Numbers.antt), `session_in` (session_stated's Held.antt)
 abbrev pub window_no : Window → ℕ
-window_no Closed = 0
-window_no (Opened m) = suc m
+window_no None = 0
+window_no (Some m) = suc m
 
 abbrev pub presence_numbers : Presence → List ℕ
 presence_numbers p = p.w ∷ window_no p.prompt ∷ window_no p.touch ∷ p.last ∷ p.asker ∷ []

@@ -12,7 +12,7 @@ use Rattle.command_stated.specs.Command.{command_said}
 use Rattle.command_stated.specs.declared.U2fCommand.{U2fCommand}
 use Rattle.u2f_up_stated.specs.Moments.{fresh}
 use Rattle.u2f_up_stated.specs.Answers.{outcome_of}
-use Rattle.u2f_up_stated.specs.declared.Answer.{Answer}
+use Rattle.u2f_up_stated.specs.Words.{Answer}
 use Rattle.outcome.specs.Outcome.{word_of, refusal_no}
 use Rattle.outcome.specs.declared.ApduStatusCode.{ApduStatusCode}
 use Rattle.outcome.specs.declared.Refusal.{Refusal}

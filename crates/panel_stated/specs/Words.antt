@@ -7,8 +7,8 @@ pub use Rattle.outcome.specs.Terms.{HasStatus}
 pub use Rattle.apdu_stated.specs.declared.Case.{Case}
 pub use Rattle.apdu_stated.specs.declared.Case.TheVariants.{Instruction, Le1, Lc1Data, Lc1DataLe1, Lc3Data, Lc3DataLe2, Le3}
 pub use Rattle.apdu_stated.specs.declared.ApduHeader.{ApduHeader}
-pub use Rattle.u2f_up_stated.specs.declared.Window.{Window}
-pub use Rattle.u2f_up_stated.specs.declared.Window.TheVariants.{Closed, Opened}
+pub use Rattle.u2f_up_stated.specs.Words.{Window}
+pub use Rattle.std.specs.Prelude.{None, Some}
 pub use Rattle.u2f_up_stated.specs.declared.Presence.{Presence}
 pub use Rattle.signing_stated.specs.declared.Kind.{Kind}
 pub use Rattle.signing_stated.specs.declared.Head.{Head}

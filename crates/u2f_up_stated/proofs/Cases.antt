@@ -7,12 +7,12 @@ use native.Mathlib.Omega.{arith}
 use lib.Dec.{ltb}
 use borrow.Author.Tests.{lt-ltb, le-ltb, le-leb, lt-leb, eq-eqb, ne_eqb, ltb-true, ltb-false}
 use Rattle.outcome.specs.declared.Refusal.{Refusal}
-use Rattle.u2f_up_stated.specs.Words.{Outcome, R, Gives, refusal_no, Presence, Window, Opened, Finding}
+use Rattle.u2f_up_stated.specs.Words.{Outcome, R, Gives, refusal_no, Presence, Window, Some, Finding}
 use Rattle.u2f_up_stated.specs.Moments.{is_live, is_r6, is_r8, is_r1, fresh, new_of, moved_to, touch_opened, touch_closed, prompt_opened, settle_of, granted_of, checked_of}
 use Rattle.u2f_up_stated.specs.Moments.{Told, gave, refused, on_settled, touch_of, check_of, ask_of}
 use Rattle.u2f_up_stated.specs.Answers.{ready_of}
-use Rattle.u2f_up_stated.specs.declared.Ready.{Ready}
-use Rattle.u2f_up_stated.specs.declared.Ready.TheVariants as Ready'
+use Rattle.u2f_up_stated.specs.Words.{Ready}
+use Rattle.std.specs.Prelude.{Ok, Err}
 
 -- R6, R8 and R1, from the comparisons that the code makes
 pub r6_zero : (w : ℕ) → w ≡ 0 → true ≡ is_r6 w
@@ -64,10 +64,10 @@ module _ (p : Presence) (s t : ℕ) (bad : Bool) where
       settled e h f k g l = rw (sym e ∙ h, sym f ∙ k, sym g ∙ l)
 
 -- windows
-pub live_ahead : (window : Window) (m d t : ℕ) → window ≡ Opened m → t < m → true ≡ is_live window d t
+pub live_ahead : (window : Window) (m d t : ℕ) → window ≡ Some m → t < m → true ≡ is_live window d t
 live_ahead window m d t e h = rw e (sym (lt-ltb t (m + d) (omega arith)))
 
-pub live_since : (window : Window) (m d t : ℕ) → window ≡ Opened m → m ≤ t → ltb (t - m) d ≡ is_live window d t
+pub live_since : (window : Window) (m d t : ℕ) → window ≡ Some m → m ≤ t → ltb (t - m) d ≡ is_live window d t
 live_since window m d t e h = rw e (same (ltb (t - m) d) refl)
   where
     same : (b : Bool) → ltb (t - m) d ≡ b → ltb (t - m) d ≡ ltb t (m + d)
@@ -103,37 +103,37 @@ told_as found o e = rw e
 
 -- the calls: a refusal keeps the record that came in, and what is found on the settled record is what is told
 module _ (p : Presence) (side t : ℕ) (ready : Ready) (settles : ready_of ready ≡ settle_of p side t) (s : Told) where
-  told_refused : (why : Refusal) → ready ≡ Ready'.Refused why → s ≡ refused (refusal_no why) p → (go_on : Presence → Told) → s ≡ on_settled p (settle_of p side t) go_on
+  told_refused : (why : Refusal) → ready ≡ Err why → s ≡ refused (refusal_no why) p → (go_on : Presence → Told) → s ≡ on_settled p (settle_of p side t) go_on
   told_refused why is tells go_on = tells ∙ rw (← settles, is)
 
-  told_found : (q : Presence) → ready ≡ Ready'.Record q → (found : Finding) → s ≡ gave found → (f : Presence → Finding) → found ≡ f q
+  told_found : (q : Presence) → ready ≡ Ok q → (found : Finding) → s ≡ gave found → (f : Presence → Finding) → found ≡ f q
       → s ≡ on_settled p (settle_of p side t) (λ x. gave (f x))
   told_found q is found tells f e = tells ∙ rw (← settles, is, ← e)
 
-  pub check_refused : (why : Refusal) → ready ≡ Ready'.Refused why → s ≡ refused (refusal_no why) p → s ≡ check_of p side t
+  pub check_refused : (why : Refusal) → ready ≡ Err why → s ≡ refused (refusal_no why) p → s ≡ check_of p side t
   unfolding check_of
   check_refused why is tells = told_refused why is tells (λ q. gave (checked_of q side t))
 
-  pub check_found : (q : Presence) → ready ≡ Ready'.Record q → (found : Finding) → s ≡ gave found → found ≡ checked_of q side t → s ≡ check_of p side t
+  pub check_found : (q : Presence) → ready ≡ Ok q → (found : Finding) → s ≡ gave found → found ≡ checked_of q side t → s ≡ check_of p side t
   unfolding check_of
   check_found q is found tells = told_found q is found tells (λ x. checked_of x side t)
 
 -- a touch settles as the record's own side
 module _ (p : Presence) (t : ℕ) (ready : Ready) (settles : ready_of ready ≡ settle_of p p.asker t) (s : Told) where
-  pub touch_refused : (why : Refusal) → ready ≡ Ready'.Refused why → s ≡ refused (refusal_no why) p → s ≡ touch_of p t
+  pub touch_refused : (why : Refusal) → ready ≡ Err why → s ≡ refused (refusal_no why) p → s ≡ touch_of p t
   unfolding touch_of
   touch_refused why is tells = told_refused p p.asker t ready settles s why is tells (λ q. gave (granted_of q t))
 
-  pub touch_found : (q : Presence) → ready ≡ Ready'.Record q → (found : Finding) → s ≡ gave found → found ≡ granted_of q t → s ≡ touch_of p t
+  pub touch_found : (q : Presence) → ready ≡ Ok q → (found : Finding) → s ≡ gave found → found ≡ granted_of q t → s ≡ touch_of p t
   unfolding touch_of
   touch_found q is found tells = told_found p p.asker t ready settles s q is found tells (λ x. granted_of x t)
 
 -- asking gives no record back
 module _ (p : Presence) (t : ℕ) (ready : Ready) (settles : ready_of ready ≡ settle_of p p.asker t) where
-  pub ask_refused : (why : Refusal) → ready ≡ Ready'.Refused why → R (refusal_no why) ≡ (ask_of p t).outcome
+  pub ask_refused : (why : Refusal) → ready ≡ Err why → R (refusal_no why) ≡ (ask_of p t).outcome
   unfolding ask_of
   ask_refused why is = rw (← settles, is)
 
-  pub ask_found : (q : Presence) → ready ≡ Ready'.Record q → (live : Bool) (o : Outcome Bool) → live ≡ is_live p.prompt 10000 t → o ≡ Gives live → o ≡ (ask_of p t).outcome
+  pub ask_found : (q : Presence) → ready ≡ Ok q → (live : Bool) (o : Outcome Bool) → live ≡ is_live p.prompt 10000 t → o ≡ Gives live → o ≡ (ask_of p t).outcome
   unfolding ask_of
   ask_found q is live o e h = rw (← settles, is, h, e)
