@@ -1,5 +1,5 @@
 -- The record lent as five numbers: what a store at each place does to the record, and the touch check and the touch on it. It mentions no function.
-use Prim.Native.Nat.{ℕ, zero, suc, ◌+◌, ◌-◌, ◌<◌, ◌^◌}
+use Prim.Native.Nat.{ℕ, zero, suc, ◌+◌, ◌<◌, ◌^◌}
 use mathlib.Core.Path.{◌≡◌, refl, ap, sym, ◌∙◌}
 use mathlib.Core.Bool.{Bool, true, false, not}
 use mathlib.Core.List.{List, [], ◌∷◌}
@@ -20,10 +20,6 @@ use Rattle.u2f_up_stated.specs.Numbers.{window_of, presence_in, number_of, check
 -- ---- a window's number
 pub closed_is : (n : ℕ) → n ≡ 0 → None ≡ window_of n
 closed_is n e = rw e refl
-
-pub opened_is : (n : ℕ) → (n ≡ 0 → ⊥) → Some (n - 1) ≡ window_of n
-opened_is zero not = absurd (not refl)
-opened_is (suc m) not = let before : suc m - 1 ≡ m = omega arith in ap Some before
 
 closed_apart : (m : ℕ) → None ≡ Some m → ⊥
 closed_apart m e = let z : ◌≡◌ {A = ℕ} 0 1 = cc in omega arith
@@ -56,15 +52,8 @@ live_number n d t = by (window_is (window_of n) d t)
     by (yes (m, e, h)) = yes (m, opened_back n m e, h)
     by (no not) = no (λ (m, e, h). not (m, opened_after n m e, h))
 
-pub greatest_is : (t : ℕ) → t ≡ 0xffffffffffffffff → 0xffffffffffffffff ≡ number_of t
-greatest_is t e = rw (eq-eqb t 0xffffffffffffffff e)
-
 pub next_is : (t : ℕ) → (t ≡ 0xffffffffffffffff → ⊥) → t + 1 ≡ number_of t
 next_is t n = rw (ne_eqb t 0xffffffffffffffff n)
-
-pub record_is : (s : List ℕ) (prompt touch : Window) → prompt ≡ window_of (get_or s 1 0) → touch ≡ window_of (get_or s 2 0)
-    → ◌≡◌ {A = Presence} (record { w = get_or s 0 0; prompt = prompt; touch = touch; last = get_or s 3 0; asker = get_or s 4 0 }) (presence_in s)
-record_is s prompt touch p t = rw (p, t)
 
 -- ---- a store at each place
 module _ (s : List ℕ) (n : ℕ) where
@@ -210,10 +199,6 @@ checked_below p side t h = checked_not_greatest p side t (λ e. omega (arith, e,
 
 pub granted_below : (p : Presence) (t : ℕ) → t < 2 ^ 48 → granted_in p t ≡ granted_of p t
 granted_below p t h = granted_not_greatest p t (λ e. omega (arith, e, h))
-
--- a window that is read and then looked at
-pub live_is : (number d t : ℕ) (window : Window) (live : Bool) → window ≡ window_of number → live ≡ is_live window d t → live ≡ is_live (window_of number) d t
-live_is number d t window live w e = e ∙ ap (λ (x : Window). is_live x d t) w
 
 -- ---- five numbers are the record that they stand for, and no others are
 number_back : Window → ℕ
