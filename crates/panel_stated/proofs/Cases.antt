@@ -61,14 +61,10 @@ use Rattle.apdu_stated.proofs.Laws.{strict_out, strict_out_kept, strict_same, st
 use Rattle.response_stated.specs.Words.{Sent, rest, response_read, response_written, part_sent, room_said}
 use Rattle.response_stated.specs.Terms.{sending_of}
 use Rattle.response_stated.specs.declared.Remainder.{Remainder}
-use Rattle.response_stated.specs.declared.ReadResponse.{ReadResponse}
-use Rattle.response_stated.specs.declared.ReadResponse.TheVariants as ReadResponse'
-use Rattle.response_stated.specs.declared.WroteResponse.{WroteResponse}
-use Rattle.response_stated.specs.declared.WroteResponse.TheVariants as WroteResponse'
-use Rattle.response_stated.specs.declared.NextPart.{NextPart}
-use Rattle.response_stated.specs.declared.NextPart.TheVariants as NextPart'
-use Rattle.response_stated.specs.declared.ResponseRoom.{ResponseRoom}
-use Rattle.response_stated.specs.declared.ResponseRoom.TheVariants as ResponseRoom'
+use Rattle.response_stated.specs.Words.{ReadResponse}
+use Rattle.response_stated.specs.Words.{WroteResponse}
+use Rattle.response_stated.specs.Words.{NextPart}
+use Rattle.response_stated.specs.Words.{ResponseRoom}
 use Rattle.panel_stated.specs.declared.Kinded.TheVariants as Kinded'
 
 -- ---- a definition over an outcome, at the outcome that the call's contract names
@@ -409,27 +405,27 @@ module _ (answer : DecisionAnswer) (top : Head) (used : Bool) (q : Presence) (bl
 
 -- ---- responses and parts
 module _ (read : ReadResponse) where
-  pub response_refused : (why : Refusal) (n : ℕ) → read ≡ ReadResponse'.Refused why → n ≡ refusal_no why → ◌≡◌ {A = ResponseSaid} (record { answer = n; status = 0; length = 0 }) (response_numbers (response_read read))
+  pub response_refused : (why : Refusal) (n : ℕ) → read ≡ Err why → n ≡ refusal_no why → ◌≡◌ {A = ResponseSaid} (record { answer = n; status = 0; length = 0 }) (response_numbers (response_read read))
   response_refused why n z is = rw (is, z)
 
   pub response_read_lem : (long status : ℕ) → read ≡ ReadResponse'.Response long status → ◌≡◌ {A = ResponseSaid} (record { answer = 0x9000; status = status; length = long }) (response_numbers (response_read read))
   response_read_lem long status z = rw z
 
 module _ (written : WroteResponse) where
-  pub response_unwritten : (why : Refusal) (n : ℕ) → written ≡ WroteResponse'.Refused why → n ≡ refusal_no why → ◌≡◌ {A = Wrote} (record { answer = n; length = 0 }) (length_numbers (response_written written))
+  pub response_unwritten : (why : Refusal) (n : ℕ) → written ≡ Err why → n ≡ refusal_no why → ◌≡◌ {A = Wrote} (record { answer = n; length = 0 }) (length_numbers (response_written written))
   response_unwritten why n z is = rw (is, z)
 
-  pub response_wrote : (long : ℕ) → written ≡ WroteResponse'.Response long → ◌≡◌ {A = Wrote} (record { answer = 0x9000; length = long }) (length_numbers (response_written written))
+  pub response_wrote : (long : ℕ) → written ≡ Ok long → ◌≡◌ {A = Wrote} (record { answer = 0x9000; length = long }) (length_numbers (response_written written))
   response_wrote long z = rw z
 
 pub refused_part : (why : Refusal) (n : ℕ) → n ≡ refusal_no why → ◌≡◌ {A = Wrote} (record { answer = n; length = 0 }) (record { answer = refusal_no why; length = 0 })
 refused_part why n is = rw is
 
 module _ (room : ResponseRoom) where
-  pub room_refused : (why : Refusal) (n : ℕ) → room ≡ ResponseRoom'.Refused why → n ≡ refusal_no why → ◌≡◌ {A = RoomSaid} (record { answer = n; length = 0 }) (room_numbers (room_said room))
+  pub room_refused : (why : Refusal) (n : ℕ) → room ≡ Err why → n ≡ refusal_no why → ◌≡◌ {A = RoomSaid} (record { answer = n; length = 0 }) (room_numbers (room_said room))
   room_refused why n z is = rw (is, z)
 
-  pub room_bytes : (n : ℕ) → room ≡ ResponseRoom'.Bytes n → ◌≡◌ {A = RoomSaid} (record { answer = 0x9000; length = n }) (room_numbers (room_said room))
+  pub room_bytes : (n : ℕ) → room ≡ Ok n → ◌≡◌ {A = RoomSaid} (record { answer = 0x9000; length = n }) (room_numbers (room_said room))
   room_bytes n z = rw z
 
 -- the next part of what the session says remains
@@ -440,11 +436,11 @@ module _ (session body old : List ℕ) (k : Remainder) (limit : ℕ) (is_k : k �
   sends_at : (d : NextPart) → next ≡ d → part_sent d ≡ (sending_of body (remainder_in session) (get_or session 2 0) old).0
   sends_at d z = ap part_sent (sym z) ∙ sends
 
-  pub next_refused : (why : Refusal) (r : Wrote) → next ≡ NextPart'.Refused why → r ≡ record { answer = refusal_no why; length = 0 } → r ≡ sent_numbers (sending_of body (remainder_in session) (get_or session 2 0) old).0
-  next_refused why r z e = e ∙ ap sent_numbers (sends_at (NextPart'.Refused why) z)
+  pub next_refused : (why : Refusal) (r : Wrote) → next ≡ Err why → r ≡ record { answer = refusal_no why; length = 0 } → r ≡ sent_numbers (sending_of body (remainder_in session) (get_or session 2 0) old).0
+  next_refused why r z e = e ∙ ap sent_numbers (sends_at (Err why) z)
 
-  pub next_kept : (why : Refusal) → next ≡ NextPart'.Refused why → session_in session ≡ sent_over (sending_of body (remainder_in session) (get_or session 2 0) old).0 (session_in session)
-  next_kept why z = ap (λ (o : Outcome Sent). sent_over o (session_in session)) (sends_at (NextPart'.Refused why) z)
+  pub next_kept : (why : Refusal) → next ≡ Err why → session_in session ≡ sent_over (sending_of body (remainder_in session) (get_or session 2 0) old).0 (session_in session)
+  next_kept why z = ap (λ (o : Outcome Sent). sent_over o (session_in session)) (sends_at (Err why) z)
 
   pub next_sent : (n : ℕ) (left : Remainder) (r : Wrote) → next ≡ NextPart'.Part n left → r ≡ record { answer = 0x9000; length = n } → r ≡ sent_numbers (sending_of body (remainder_in session) (get_or session 2 0) old).0
   next_sent n left r z e = e ∙ ap sent_numbers (sends_at (NextPart'.Part n left) z)

@@ -28,9 +28,9 @@ use Rattle.apdu_stated.specs.declared.Apdu.{Apdu}
 use Rattle.command_stated.specs.declared.U2fCommand.{U2fCommand}
 use Rattle.u2f_up_stated.specs.Words.{Answer}
 use Rattle.signing_stated.specs.declared.Finished.{Finished}
-use Rattle.response_stated.specs.declared.ReadResponse.{ReadResponse}
-use Rattle.response_stated.specs.declared.WroteResponse.{WroteResponse}
-use Rattle.response_stated.specs.declared.ResponseRoom.{ResponseRoom}
+use Rattle.response_stated.specs.Words.{ReadResponse}
+use Rattle.response_stated.specs.Words.{WroteResponse}
+use Rattle.response_stated.specs.Words.{ResponseRoom}
 use Rattle.signing_stated.specs.declared.Kind.TheVariants as Kind'
 use Rattle.panel_stated.specs.declared.Shaped.TheVariants as Shaped'
 use Rattle.panel_stated.specs.declared.Kinded.TheVariants as Kinded'
