@@ -58,7 +58,8 @@ use Rattle.ctap1_stated.specs.declared.DecisionAnswer.TheVariants as DecisionAns
 use Rattle.ctap1_stated.proofs.Laws.{leaves}
 use Rattle.apdu_stated.specs.Reading.{read_of}
 use Rattle.apdu_stated.proofs.Laws.{strict_out, strict_out_kept, strict_same, strict_same_buffer}
-use Rattle.response_stated.specs.Words.{Sent, rest, response_read, response_written, part_sent, room_said}
+use Rattle.response_stated.specs.Words.{rest, response_read, response_written, part_sent, room_said}
+use Rattle.response_stated.specs.declared.Sent.{Sent}
 use Rattle.response_stated.specs.Terms.{sending_of}
 use Rattle.response_stated.specs.declared.Remainder.{Remainder}
 use Rattle.response_stated.specs.Words.{ReadResponse}

@@ -16,7 +16,7 @@ use Rattle.apdu_stated.specs.Writing.{Parts, parts_of, writing_by}
 use Rattle.apdu_stated.specs.Claims as Frames
 use Rattle.apdu_stated.proofs.Laws.{TableOf, CarryOf, same_reading, write_exactly, same_writing}
 use Rattle.response_stated.specs.declared.Remainder.{Remainder}
-use Rattle.response_stated.specs.Words.{Sent}
+use Rattle.response_stated.specs.declared.Sent.{Sent}
 use Rattle.response_stated.specs.Terms.{Sender, sending, writing_of, sending_of}
 use Rattle.response_stated.specs.Claims as Responses
 use Rattle.response_stated.specs.Parts.{limit_of, response_room_of}

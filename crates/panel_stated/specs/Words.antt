@@ -15,7 +15,7 @@ pub use Rattle.signing_stated.specs.declared.Head.{Head}
 pub use Rattle.signing_stated.specs.Words.{Order, head_of}
 pub use Rattle.ctap1_stated.specs.declared.Allowed.{Allowed}
 pub use Rattle.ctap1_stated.specs.declared.Attestation.{Attestation}
-pub use Rattle.ctap1_stated.specs.declared.Counter.{Counter}
+pub use Rattle.ctap1_stated.specs.Words.{Counter}
 pub use Rattle.ctap1_stated.specs.declared.Hardware.{Hardware}
 pub use Rattle.ctap1_stated.specs.declared.HardwareSaid.{HardwareSaid}
 pub use Rattle.panel_stated.specs.declared.OrderNumbers.{OrderNumbers}
@@ -44,7 +44,9 @@ pub use Rattle.ctap1_stated.specs.Path.{frame_limit, fetch_path}
 pub use Rattle.ctap1_stated.specs.Decision.{along, decision_of, reply_left, block_after, block_left}
 pub use Rattle.ctap1_stated.specs.Session.{remainder_after, remainder_left, part_after, part_left}
 pub use Rattle.response_stated.specs.declared.Remainder.{Remainder}
-pub use Rattle.response_stated.specs.Words.{Response, Sent, rest, response_read, response_written, part_sent}
+pub use Rattle.response_stated.specs.Words.{rest, response_read, response_written, part_sent}
+pub use Rattle.response_stated.specs.declared.Response.{Response}
+pub use Rattle.response_stated.specs.declared.Sent.{Sent}
 pub use Rattle.response_stated.specs.Responses.{response_of, write_response_of, response_laid, read_response_of}
 pub use Rattle.response_stated.specs.Parts.{next_part_of, part_response, part_laid}
 pub use Rattle.session_stated.specs.declared.Session.{Session}

@@ -159,9 +159,9 @@ pub fn next_part(
 pub fn room(limit: u64, longest: usize) -> Result<usize, Refusal>
     ensures { RoomFor limit longest result }
 {
-    let n = part_length(limit, longest);
-    if LONGEST_PART < n {
+    let part = part_length(limit, longest);
+    if LONGEST_PART < part {
         return Err(Refusal::R2);
     }
-    Ok(n + 2)
+    Ok(part + 2)
 }

@@ -18,7 +18,8 @@ use Rattle.apdu_stated.specs.Reading.{read_of}
 use Rattle.apdu_stated.specs.declared.Apdu.{Apdu}
 use Rattle.apdu_stated.specs.declared.Reading.{Reading}
 use Rattle.apdu_stated.specs.declared.Reading.TheVariants as Reading'
-use Rattle.response_stated.specs.Words.{Sent, rest, part_sent, room_said}
+use Rattle.response_stated.specs.Words.{rest, part_sent, room_said}
+use Rattle.response_stated.specs.declared.Sent.{Sent}
 use Rattle.response_stated.specs.Parts.{limit_of, part_length, rest_after, next_part_of, part_response, part_laid, response_room_of}
 use Rattle.response_stated.specs.declared.Remainder.{Remainder}
 use Rattle.response_stated.specs.Words.{NextPart}

@@ -11,4 +11,3 @@ pub use Rattle.ctap1_stated.specs.Words.{ℕ, Bool, true, false, length, StatusW
 pub use Rattle.ctap1_stated.specs.Path.{frame_limit}
 pub use Rattle.ctap1_stated.specs.declared.Allowed.TheVariants as Allowed'
 pub use Rattle.ctap1_stated.specs.declared.Attestation.TheVariants as Attestation'
-pub use Rattle.ctap1_stated.specs.declared.Counter.TheVariants as Counter'
