@@ -18,10 +18,9 @@ ghost use Rattle.session_stated.specs.Promises.{Commanded, RemainderLent, Decide
 use apdu::Reading;
 use command::U2fCommand;
 use ctap1::{Decision, DecisionAnswer, HardwareSaid};
-use outcome::ApduStatusCode;
-use response::{NextPart, Remainder, ResponseRoom};
+use outcome::{ApduStatusCode, Refusal};
+use response::Remainder;
 pub use session_stated::SessionDecision;
-use u2f_up::Ready;
 
 // Whether CTAP1 is allowed, by its number; above yes it could not be found out.
 const NO: u32 = 0;
@@ -98,11 +97,11 @@ fn fetched(
     }
     let next = response::next_part(reply, remainder, limit, part);
     match next {
-        NextPart::Refused(why) => ctap1::refused(why),
-        NextPart::Part(length, left) => {
+        Err(why) => ctap1::refused(why),
+        Ok(sent) => {
             u2f_up::moved(presence, t);
             Decision {
-                answer: DecisionAnswer::Part(length, left),
+                answer: DecisionAnswer::Part(sent.length, sent.remainder),
                 order: signing::blank(),
                 taken: false,
             }
@@ -226,7 +225,7 @@ pub fn decide(
 {
     let ready = u2f_up::settle(u2f_up::record_lent(presence), side, t);
     match ready {
-        Ready::Refused(why) => {
+        Err(why) => {
             let reading = apdu::read(frame);
             SessionDecision {
                 decision: ctap1::refused(why),
@@ -234,7 +233,7 @@ pub fn decide(
                 fetches: is_get_response(reading),
             }
         }
-        Ready::Record(_) => {
+        Ok(_) => {
             let allowed = hardware[0];
             if YES < allowed {
                 u2f_up::moved(presence, t);
@@ -317,12 +316,12 @@ pub fn left(remainder: Remainder, limit: u64, session: &mut [u64; 3])
 }
 
 // How many bytes a response to this frame can take, where no body to it is longer than `longest`: in no shape a status word alone.
-pub fn response_room(frame: &[u8], longest: usize) -> ResponseRoom
+pub fn response_room(frame: &[u8], longest: usize) -> Result<usize, Refusal>
     ensures { RoomForResponse frame.now longest result }
 {
     let reading = apdu::read(frame);
     match reading {
         Reading::Frame(says) => response::room(response::limit(says), longest),
-        Reading::Status(_) => ResponseRoom::Bytes(2),
+        Reading::Status(_) => Ok(2),
     }
 }

@@ -78,11 +78,11 @@ module _ (kept settled : Presence) (k : Remainder) (limit : ℕ) (body old : Lis
         let two : refusal_no why ≡ 2 = never_other (length body) k limit (length old) (refusal_no why) (ap part_sent (sym z) ∙ is_next) in
         with_record said top used _ kept kept e refl ∙ ap (λ (n : ℕ). handed_of (refusal_result n kept)) two ∙ ap handed_of (sent_is (Err why) z)
 
-    pub next_part : (long : ℕ) (left : Remainder) (head : Head) (q : Presence) → next ≡ NextPart'.Part long left → head ≡ head_of blank_order → q ≡ settled
-        → Fetched (handed (Gives (Part long left)) head false q)
-    next_part long left head q z is f =
-        with_record (Gives (Part long left)) head false (Gives (Part long left)) q settled (with_head (Gives (Part long left)) head (head_of blank_order) false is) f
-        ∙ ap handed_of (sent_is (NextPart'.Part long left) z)
+    pub next_part : (sent : Sent) (head : Head) (q : Presence) → next ≡ Ok sent → head ≡ head_of blank_order → q ≡ settled
+        → Fetched (handed (Gives (Part sent.length sent.remainder)) head false q)
+    next_part sent head q z is f =
+        let part : Outcome DecisionGives = Gives (Part sent.length sent.remainder) in
+        with_record part head false part q settled (with_head part head (head_of blank_order) false is) f ∙ ap handed_of (sent_is (Ok sent) z)
 
     pub next_laid : (new : List ℕ) → new ≡ part_laid (next_part_of (length body) k limit (length old)) (part_response body k limit) old → Laid new
     unfolding fetch_path
