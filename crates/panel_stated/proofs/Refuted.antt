@@ -40,7 +40,6 @@ use Rattle.panel_stated.specs.Numbers.{answer_no, decided_no, shape_of, kind_of}
 use Rattle.panel_stated.specs.Exports.{ToWrite, ToDecide, write_numbered, finish_numbered, touches_of, checks_of, asks_of, decides_of, command_numbers}
 use Rattle.panel_stated.specs.Claims
 use Rattle.panel_stated.specs.Wrong
-use Rattle.panel_stated.specs.declared.Kinded.TheVariants as Kinded'
 
 -- ---- answers
 pub status_as9000 : Claims.AnswerTells Wrong.status_as9000 → ⊥
@@ -83,11 +82,11 @@ shape6_accepted p = let e = p.none 6 (retired refl) in let z : ◌≡◌ {A = �
 
 pub kinds_alike : Claims.KindNumbers Wrong.kinds_alike → ⊥
 kinds_alike p =
-    let e : Kinded'.As Kind'.Register ≡ Kinded'.As Kind'.Authenticate = p.authenticate in let z : ◌≡◌ {A = ℕ} 0 1 = cc in omega arith
+    let e : Some Kind'.Register ≡ Some Kind'.Authenticate = p.authenticate in let z : ◌≡◌ {A = ℕ} 0 1 = cc in omega arith
 
 pub unknown_is_authenticate : Claims.KindNumbers Wrong.unknown_is_authenticate → ⊥
 unknown_is_authenticate p =
-    let e : Kinded'.As Kind'.Authenticate ≡ Kinded'.Nothing = p.none 3 (inr (omega arith)) in let z : ◌≡◌ {A = ℕ} 0 1 = cc in omega arith
+    let e : Some Kind'.Authenticate ≡ None = p.none 3 (inr (omega arith)) in let z : ◌≡◌ {A = ℕ} 0 1 = cc in omega arith
 
 -- an Authenticate order of zeros
 abbrev login : Order

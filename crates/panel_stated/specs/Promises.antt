@@ -17,7 +17,7 @@ use Rattle.outcome.specs.Outcome.{word_of, refusal_no}
 use Rattle.outcome.specs.declared.ApduStatusCode.{ApduStatusCode}
 use Rattle.outcome.specs.declared.Refusal.{Refusal}
 use Rattle.signing_stated.specs.Finishing.{finished_of}
-use Rattle.signing_stated.specs.declared.Finished.{Finished}
+use Rattle.signing_stated.specs.Words.{Finished}
 use Rattle.response_stated.specs.Words.{ReadResponse}
 use Rattle.response_stated.specs.Words.{WroteResponse}
 use Rattle.response_stated.specs.Words.{ResponseRoom}

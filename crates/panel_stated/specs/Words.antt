@@ -8,7 +8,7 @@ pub use Rattle.apdu_stated.specs.declared.Case.{Case}
 pub use Rattle.apdu_stated.specs.declared.Case.TheVariants.{Instruction, Le1, Lc1Data, Lc1DataLe1, Lc3Data, Lc3DataLe2, Le3}
 pub use Rattle.apdu_stated.specs.declared.ApduHeader.{ApduHeader}
 pub use Rattle.u2f_up_stated.specs.Words.{Window}
-pub use Rattle.std.specs.Prelude.{None, Some}
+pub use Rattle.std.specs.Prelude.{Option, None, Some}
 pub use Rattle.u2f_up_stated.specs.declared.Presence.{Presence}
 pub use Rattle.signing_stated.specs.declared.Kind.{Kind}
 pub use Rattle.signing_stated.specs.declared.Head.{Head}
@@ -26,8 +26,6 @@ pub use Rattle.panel_stated.specs.declared.Asked.{Asked}
 pub use Rattle.panel_stated.specs.declared.DecisionSaid.{DecisionSaid}
 pub use Rattle.panel_stated.specs.declared.ResponseSaid.{ResponseSaid}
 pub use Rattle.panel_stated.specs.declared.RoomSaid.{RoomSaid}
-pub use Rattle.panel_stated.specs.declared.Shaped.{Shaped}
-pub use Rattle.panel_stated.specs.declared.Kinded.{Kinded}
 pub use Rattle.apdu_stated.specs.Words.{shape_no}
 pub use Rattle.apdu_stated.specs.Answers.{Says}
 pub use Rattle.apdu_stated.specs.Reading.{read_by, read_of, strict_of, place_of}
@@ -53,3 +51,11 @@ pub use Rattle.session_stated.specs.declared.Session.{Session}
 pub use Rattle.session_stated.specs.Held.{remainder_in, session_in, hardware_in, session_after, frame_room_of}
 pub use Rattle.session_stated.specs.Promises.{ToDecide, inputs_in}
 pub use Rattle.u2f_up_stated.specs.Numbers.{presence_in}
+
+-- a number that is a shape's, or none
+abbrev pub Shaped : Type 0
+Shaped = Option Case
+
+-- a number that is one of the two kinds', or none
+abbrev pub Kinded : Type 0
+Kinded = Option Kind
