@@ -15,7 +15,7 @@ use Rattle.signing_stated.specs.Layouts.{RegisterFields}
 use Rattle.signing_stated.specs.Orders.{AuthenticateParts, kind_no, register_order_of, authenticate_order_for}
 use Rattle.signing_stated.specs.Terms.{RegisterLengths, PartsLengths}
 use Rattle.ctap1_stated.specs.Words.{Remainder, Inputs, Order, DecisionGives, Body, Ordered, Part, DecisionResult}
-use Rattle.ctap1_stated.specs.declared.Counter.TheVariants as Counter'
+use Rattle.std.specs.Prelude.{Some}
 use Rattle.ctap1_stated.specs.Path.{enrolment_order}
 use Rattle.ctap1_stated.specs.Decision.{decision_of}
 use Rattle.ctap1_stated.specs.Terms.{AreBlocks}
@@ -42,7 +42,7 @@ login_in a said p1 n = record { application = application_of a.frame said; chall
 pub data MadeOf (a : Inputs) : (kind : ℕ) → Order → Type 0 where
   of_enrolment : (said : Says) → command_of a.frame ≡ Gives (Register said) → RegisterLengths (enrolment_in a said)
       → MadeOf a 0x01 (register_order_of (enrolment_in a said) (length a.certificate))
-  of_login : (p1 n : ℕ) (said : Says) → command_of a.frame ≡ Gives (Authenticate p1 said) → a.hardware.counter ≡ Counter'.Offered n
+  of_login : (p1 n : ℕ) (said : Says) → command_of a.frame ≡ Gives (Authenticate p1 said) → a.hardware.counter ≡ Some n
       → PartsLengths (login_in a said p1 n) → MadeOf a 0x02 (authenticate_order_for (login_in a said p1 n))
 
 made_as : (a : Inputs) (k l : ℕ) (o : Order) → k ≡ l → MadeOf a l o → MadeOf a k o

@@ -18,9 +18,10 @@ use Rattle.u2f_up_stated.specs.Moments.{Told, fresh, settle_of, granted_of, chec
 use Rattle.u2f_up_stated.specs.History.{TouchAccepted, TouchIgnored, TouchFound, NoTouchFound, last_moment, latest_prompt, latest_touch, is_prompt_standing, side_asked, unspent, foretold}
 use Rattle.u2f_up_stated.specs.Runs.{after, history, done_by}
 use Rattle.u2f_up_stated.specs.Terms.{NotRefused, HasTouch}
+use Rattle.u2f_up_stated.specs.Words.{Window}
 use Rattle.u2f_up_stated.specs.declared.Presence.{Presence}
-use Rattle.u2f_up_stated.specs.declared.Window.TheVariants.{Closed, Opened}
-use Rattle.ctap1_stated.specs.Words.{Order, Inputs, DecisionGives, Body, Ordered, Part, DecisionResult, DecisionHanded, Hardware, Remainder, rest, enrolment_of}
+use Rattle.std.specs.Prelude.{None, Some}
+use Rattle.ctap1_stated.specs.Words.{Counter, Order, Inputs, DecisionGives, Body, Ordered, Part, DecisionResult, DecisionHanded, Hardware, Remainder, rest, enrolment_of}
 use Rattle.ctap1_stated.specs.Path.{register_ordered, enrolment_order, authenticate_ordered, register_ending, counted_ending, login_path, register_path, version_path, frame_limit, fetch_path, command_path, allowed_path, path_of}
 use Rattle.signing_stated.specs.Orders.{kind_no, certificate_length, is_of_layout, blank_order, register_order_of, authenticate_order_of, block}
 use Rattle.signing_stated.specs.Finishing.{finish_of, room_needed}
@@ -35,7 +36,6 @@ use Rattle.ctap1_stated.specs.Claims
 use Rattle.ctap1_stated.specs.Wrong
 use Rattle.ctap1_stated.specs.declared.Allowed.TheVariants as Allowed'
 use Rattle.ctap1_stated.specs.declared.Attestation.TheVariants as Attestation'
-use Rattle.ctap1_stated.specs.declared.Counter.TheVariants as Counter'
 use Rattle.ctap1_stated.proofs.Ways.{sound}
 use Rattle.ctap1_stated.proofs.Commands.{kind_is, presence_is, register_certificate, register_of_layout, register_room_lem, blank_refused}
 
@@ -51,14 +51,14 @@ version_frame = 0x00 ∷ 0x03 ∷ 0x00 ∷ 0x00 ∷ []
 
 -- hardware that works
 abbrev works : Hardware
-works = record { allowed = Allowed'.Yes; stored = true; attestation = Attestation'.Present; good = true; counter = Counter'.Offered 7 }
+works = record { allowed = Allowed'.Yes; stored = true; attestation = Attestation'.Present; good = true; counter = Some 7 }
 
 abbrev lent : List ℕ → Hardware → List ℕ → ℕ → Inputs
 lent frame hardware handle room = record { side = 0; frame = frame; hardware = hardware; new_handle = handle; certificate = []; x = replicate 32 0; y = replicate 32 0; room = room; remainder = rest 0 0; part_room = 0 }
 
 -- a record with a live touch
 abbrev held : Presence
-held = record { w = 1000; prompt = Closed; touch = Opened 0; last = 0; asker = 0 }
+held = record { w = 1000; prompt = None; touch = Some 0; last = 0; asker = 0 }
 
 -- how the frames are read
 abbrev said_of : (ins p1 shape lc at : ℕ) → Says
@@ -96,16 +96,16 @@ two : (m n : ℕ) → ◌≡◌ {A = Outcome DecisionGives} (SW m) (SW n) → m 
 two = sw_same
 
 abbrev forbids : Hardware
-forbids = record { allowed = Allowed'.No; stored = true; attestation = Attestation'.Present; good = true; counter = Counter'.Offered 7 }
+forbids = record { allowed = Allowed'.No; stored = true; attestation = Attestation'.Present; good = true; counter = Some 7 }
 
 abbrev not_stored : Hardware
-not_stored = record { allowed = Allowed'.Yes; stored = false; attestation = Attestation'.Present; good = true; counter = Counter'.Offered 7 }
+not_stored = record { allowed = Allowed'.Yes; stored = false; attestation = Attestation'.Present; good = true; counter = Some 7 }
 
 abbrev not_attested : Hardware
-not_attested = record { allowed = Allowed'.Yes; stored = true; attestation = Attestation'.Missing; good = true; counter = Counter'.Offered 7 }
+not_attested = record { allowed = Allowed'.Yes; stored = true; attestation = Attestation'.Missing; good = true; counter = Some 7 }
 
 abbrev bad_handle : Hardware
-bad_handle = record { allowed = Allowed'.Yes; stored = true; attestation = Attestation'.Present; good = false; counter = Counter'.Offered 7 }
+bad_handle = record { allowed = Allowed'.Yes; stored = true; attestation = Attestation'.Present; good = false; counter = Some 7 }
 
 -- 'no', and three bytes too few
 pub frame_first : Claims.DecidesExactly Wrong.frame_first → ⊥
@@ -175,7 +175,7 @@ challenge_first d =
     omega arith
 
 -- ---- the sentence on the box
-closed_open : (m : ℕ) → Closed ≡ Opened m → ⊥
+closed_open : (m : ℕ) → ◌≡◌ {A = Window} None (Some m) → ⊥
 closed_open m x = let z : ◌≡◌ {A = ℕ} 0 1 = cc in omega arith
 
 untouched : (t : ℕ) → HasTouch (fresh 1000) t → ⊥
@@ -597,7 +597,7 @@ stored_for_good p =
 
 pub unknown_is_counted : Claims.HardwareNumbers Wrong.unknown_is_counted → ⊥
 unknown_is_counted p =
-    let e : Counter'.Offered 0 ≡ Counter'.Failed = p.failed (record { allowed = 1; attestation = 1; stored = 1; good = 1; counted = 2; counter = 0 }) (λ e. omega arith) in
+    let e : ◌≡◌ {A = Counter} (Some 0) None = p.failed (record { allowed = 1; attestation = 1; stored = 1; good = 1; counted = 2; counter = 0 }) (λ e. omega arith) in
     let z : ◌≡◌ {A = ℕ} 0 1 = cc in
     omega arith
 
@@ -607,7 +607,7 @@ forbidden handle certificate =
     record {
       side = 0;
       frame = [];
-      hardware = record { allowed = Allowed'.No; stored = true; attestation = Attestation'.Present; good = true; counter = Counter'.Failed };
+      hardware = record { allowed = Allowed'.No; stored = true; attestation = Attestation'.Present; good = true; counter = None };
       new_handle = handle;
       certificate = certificate;
       x = [];

@@ -43,7 +43,7 @@ use Rattle.ctap1_stated.specs.Table
 use Rattle.ctap1_stated.specs.Claims
 use Rattle.ctap1_stated.specs.Promises as Contract
 use Rattle.ctap1_stated.specs.declared.Allowed.TheVariants as Allowed'
-use Rattle.ctap1_stated.specs.declared.Counter.TheVariants as Counter'
+use Rattle.std.specs.Prelude.{Some}
 use Rattle.ctap1_stated.specs.declared.DecisionAnswer.TheVariants as DecisionAnswer'
 use Rattle.ctap1_stated.proofs.Ways.{Stated, its_own, framed, Way, refused, stated, versioned, fetched, enrolled, signed_03, signed_08, way, row, sound, registering_checks, signing_checks}
 use Rattle.ctap1_stated.proofs.Commands as Commands
@@ -493,7 +493,7 @@ OrdersNeedATouch = record {
         ((λ e. absurd (omega arith), λ e. absurd (omega arith)), (λ e. z, λ e. is))
 
     counter : (p : Presence) (t : ℕ) (a : Inputs) (p1 : ℕ) (said : Says) → command_of a.frame ≡ Gives (Authenticate p1 said) → (r : DecisionResult) → Way p t a r → r.answer ≡ Gives Ordered
-        → (n : ℕ) × (a.hardware.counter ≡ Counter'.Offered n) × (r.taken ≡ true)
+        → (n : ℕ) × (a.hardware.counter ≡ Some n) × (r.taken ≡ true)
         × (byte r.order.bytes 33 * 0x1000000 + byte r.order.bytes 34 * 0x10000 + byte r.order.bytes 35 * 256 + byte r.order.bytes 36 ≡ n)
     counter p t a p1 said c _ (refused m) x = absurd (r_gives _ _ x)
     counter p t a p1 said c _ (stated m q w) x = absurd (word_gives _ _ x)

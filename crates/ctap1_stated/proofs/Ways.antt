@@ -17,7 +17,8 @@ use Rattle.u2f_up_stated.specs.History.{Checking}
 use Rattle.u2f_up_stated.specs.Terms.{BadWindow, BadSide, BadMoment, NotRefused, HasTouch}
 use Rattle.u2f_up_stated.specs.declared.Presence.{Presence}
 use Rattle.u2f_up_stated.proofs.Laws.{bad_window, bad_side, bad_moment, has_touch, settle_r6, settle_r8, settle_r1, settle_moves, checked_own, checked_other, checked_dead}
-use Rattle.response_stated.specs.Words.{Sent, rest}
+use Rattle.response_stated.specs.Words.{rest}
+use Rattle.response_stated.specs.declared.Sent.{Sent}
 use Rattle.response_stated.specs.Parts.{part_length, next_part_of}
 use Rattle.ctap1_stated.specs.Words.{Inputs, DecisionResult, Allowed, Attestation, Counter, is_present}
 use Rattle.ctap1_stated.specs.Path.{PathEnd, Internal, Orders, DecisionPath, Touch, frame_limit, sent_path, fetch_path, register_ordered, authenticate_ordered, enrolment_order, register_ending, counted_ending, login_path, register_path, version_path, authenticate_path, command_path, allowed_path, path_of, role_of}
@@ -27,7 +28,7 @@ use Rattle.ctap1_stated.specs.Table
 use Rattle.ctap1_stated.specs.Table.{Answers}
 use Rattle.ctap1_stated.specs.declared.Allowed.TheVariants as Allowed'
 use Rattle.ctap1_stated.specs.declared.Attestation.TheVariants as Attestation'
-use Rattle.ctap1_stated.specs.declared.Counter.TheVariants as Counter'
+use Rattle.std.specs.Prelude.{Some, None}
 use Rattle.ctap1_stated.proofs.Commands.{never_refused, p1_08}
 
 module _ (a : Inputs) where
@@ -139,13 +140,13 @@ module _ (p : Presence) (t : ℕ) (a : Inputs) where
     counts_03 : (said : Says) → Signing p t a 0x03 said → OwnTouch p t a → (c : Counter) → a.hardware.counter ≡ c
         → Answers p t a (ended (counted_ending a.frame said true c) (touch_closed (moved_to p t)))
     unfolding counted_ending
-    counts_03 said x l Counter'.Failed k = Table.no_counter_03 said x l k
-    counts_03 said x l (Counter'.Offered n) k = Table.signs_03 said n x l k
+    counts_03 said x l None k = Table.no_counter_03 said x l k
+    counts_03 said x l (Some n) k = Table.signs_03 said n x l k
 
     counts_08 : (said : Says) → Signing p t a 0x08 said → (c : Counter) → a.hardware.counter ≡ c → Answers p t a (ended (counted_ending a.frame said false c) (moved_to p t))
     unfolding counted_ending
-    counts_08 said x Counter'.Failed k = Table.no_counter_08 said x k
-    counts_08 said x (Counter'.Offered n) k = Table.signs_08 said n x k
+    counts_08 said x None k = Table.no_counter_08 said x k
+    counts_08 said x (Some n) k = Table.signs_08 said n x k
 
     authenticate_at : (p1 : ℕ) (said : Says) → Comes a (Authenticate p1 said) → At (authenticate_path a p1 said)
     unfolding login_path
@@ -207,9 +208,9 @@ module _ (p : Presence) (t : ℕ) (a : Inputs) where
     versioned : Comes a Version → 6 ≤ a.room → Way (body_result 6 (moved_to p t))
     fetched : Fetching p t a → (sent : Sent) → Way (part_result sent (moved_to p t))
     enrolled : (said : Says) → Registering p t a said → OwnTouch p t a → length a.new_handle ≤ 255 → Way (order_result (register_ordered a said) (touch_closed (moved_to p t)) false)
-    signed_03 : (said : Says) (n : ℕ) → Signing p t a 0x03 said → OwnTouch p t a → a.hardware.counter ≡ Counter'.Offered n
+    signed_03 : (said : Says) (n : ℕ) → Signing p t a 0x03 said → OwnTouch p t a → a.hardware.counter ≡ Some n
         → Way (order_result (authenticate_ordered a said true n) (touch_closed (moved_to p t)) true)
-    signed_08 : (said : Says) (n : ℕ) → Signing p t a 0x08 said → a.hardware.counter ≡ Counter'.Offered n
+    signed_08 : (said : Says) (n : ℕ) → Signing p t a 0x08 said → a.hardware.counter ≡ Some n
         → Way (order_result (authenticate_ordered a said false n) (moved_to p t) true)
 
   pub way : Way (decision_of p t a)

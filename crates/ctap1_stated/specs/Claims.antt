@@ -13,7 +13,7 @@ use Rattle.ctap1_stated.specs.Table.{Answers}
 pub use Rattle.ctap1_stated.specs.Table.{DecidesExactly}
 use Rattle.ctap1_stated.specs.declared.Allowed.TheVariants as Allowed'
 use Rattle.ctap1_stated.specs.declared.Attestation.TheVariants as Attestation'
-use Rattle.ctap1_stated.specs.declared.Counter.TheVariants as Counter'
+use Rattle.std.specs.Prelude.{Some, None}
 use Rattle.ctap1_stated.specs.declared.DecisionAnswer.TheVariants as DecisionAnswer'
 use Rattle.outcome.specs.Terms.{PairsExactly}
 use Rattle.octets.specs.Bytes.{byte, pair_at, laid}
@@ -45,7 +45,7 @@ pub record OrdersNeedATouch (decide : Decider) : Type 0 where
   pub present : (p : Presence) (t : ℕ) (a : Inputs) (p1 : ℕ) (said : Says) → Comes a (Authenticate p1 said) → (decide p t a).answer ≡ Gives Ordered
       → ((byte (decide p t a).order.bytes 32 ≡ 0x01) ↔ (p1 ≡ 0x03)) × ((byte (decide p t a).order.bytes 32 ≡ 0x00) ↔ (p1 ≡ 0x08))
   pub counter : (p : Presence) (t : ℕ) (a : Inputs) (p1 : ℕ) (said : Says) → Comes a (Authenticate p1 said) → (decide p t a).answer ≡ Gives Ordered
-      → (n : ℕ) × (a.hardware.counter ≡ Counter'.Offered n) × ((decide p t a).taken ≡ true)
+      → (n : ℕ) × (a.hardware.counter ≡ Some n) × ((decide p t a).taken ≡ true)
       × (byte (decide p t a).order.bytes 33 * 0x1000000 + byte (decide p t a).order.bytes 34 * 0x10000 + byte (decide p t a).order.bytes 35 * 256 + byte (decide p t a).order.bytes 36 ≡ n)
 
 -- And over a history, E7's headline: a Register order, or an order whose presence byte is 01, made for a side has its own accepted touch of
@@ -261,8 +261,8 @@ pub record HardwareNumbers (lend : HardwareSaid → Hardware) : Type 0 where
   pub not_stored : (n : HardwareSaid) → (n.stored ≡ 1 → ⊥) → (lend n).stored ≡ false
   pub good : (n : HardwareSaid) → n.good ≡ 1 → (lend n).good ≡ true
   pub not_good : (n : HardwareSaid) → (n.good ≡ 1 → ⊥) → (lend n).good ≡ false
-  pub offered : (n : HardwareSaid) → n.counted ≡ 1 → (lend n).counter ≡ Counter'.Offered n.counter
-  pub failed : (n : HardwareSaid) → (n.counted ≡ 1 → ⊥) → (lend n).counter ≡ Counter'.Failed
+  pub offered : (n : HardwareSaid) → n.counted ≡ 1 → (lend n).counter ≡ Some n.counter
+  pub failed : (n : HardwareSaid) → (n.counted ≡ 1 → ⊥) → (lend n).counter ≡ None
 
 -- ---- what the answer says
 

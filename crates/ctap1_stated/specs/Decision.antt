@@ -8,7 +8,7 @@ use Rattle.octets.specs.Bytes.{laid}
 use Rattle.u2f_up_stated.specs.Moments.{settle_of, checked_of}
 use Rattle.u2f_up_stated.specs.declared.Finding.{Finding}
 use Rattle.signing_stated.specs.Orders.{blank_order}
-use Rattle.response_stated.specs.Words.{Sent}
+use Rattle.response_stated.specs.declared.Sent.{Sent}
 
 -- ---- results
 

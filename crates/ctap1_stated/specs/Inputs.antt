@@ -7,7 +7,7 @@ use Words.*
 pub record Inputs : Type 0 where
   pub side : ℕ
   pub frame : List ℕ
-  pub hardware : Hardware  -- allowed: Yes, No, Failed; stored (the new handle); attestation: Present, Missing, Failed; good (the given handle); counter: Offered n, Failed
+  pub hardware : Hardware  -- allowed: Yes, No, Failed; stored (the new handle); attestation: Present, Missing, Failed; good (the given handle); counter: Some n, or None where its reading failed
   pub new_handle : List ℕ
   pub certificate : List ℕ
   pub x : List ℕ  -- the new public key's

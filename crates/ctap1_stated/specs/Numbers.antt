@@ -2,7 +2,7 @@
 use Rattle.ctap1_stated.specs.Words.{ℕ, Bool, eqb, when◌then◌else◌, Allowed, Attestation, Counter, Hardware, HardwareSaid}
 use Rattle.ctap1_stated.specs.declared.Allowed.TheVariants as Allowed'
 use Rattle.ctap1_stated.specs.declared.Attestation.TheVariants as Attestation'
-use Rattle.ctap1_stated.specs.declared.Counter.TheVariants as Counter'
+use Rattle.std.specs.Prelude.{Some, None}
 
 -- 01, The decision: "whether CTAP1 is allowed (yes, no, failed)"
 unfoldable pub allowed_of : ℕ → Allowed
@@ -24,7 +24,7 @@ is_yes n = eqb n 1
 
 -- 01, The decision, 6: "counter answer failed"; "the counter of 32 bits"
 abbrev pub counter_of : (counted counter : ℕ) → Counter
-counter_of counted n = when is_yes counted then Counter'.Offered n else Counter'.Failed
+counter_of counted n = when is_yes counted then Some n else None
 
 -- 01, The decision: "Lent in: .. and the hardware's answers": each number as the answer of its name
 abbrev pub hardware_of : HardwareSaid → Hardware

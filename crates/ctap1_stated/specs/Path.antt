@@ -3,11 +3,11 @@
 use Rattle.ctap1_stated.specs.Words.{ℕ, Bool, true, false, not, List, ltb, eqb, length, Order, Allowed, Counter, Hardware}
 use Rattle.ctap1_stated.specs.Words.{when◌then◌else◌, StatusWord, Outcome, R, Word, Gives, plain_word, is_present, Remainder, Inputs, Enrolment}
 use Rattle.ctap1_stated.specs.declared.Allowed.TheVariants as Allowed'
-use Rattle.ctap1_stated.specs.declared.Counter.TheVariants as Counter'
+use Rattle.std.specs.Prelude.{Some, None}
 use Rattle.octets.specs.Bytes.{bytes4}
 use Rattle.apdu_stated.specs.Answers.{Says}
 use Rattle.apdu_stated.specs.Reading.{read_of}
-use Rattle.response_stated.specs.Words.{Sent}
+use Rattle.response_stated.specs.declared.Sent.{Sent}
 use Rattle.response_stated.specs.Parts.{limit_of, next_part_of}
 use Rattle.command_stated.specs.Command.{Command, Register, Authenticate, Version, GetResponse, command_of, challenge_of, application_of}
 use Rattle.u2f_up_stated.specs.History.{Role, Checking, Settling, TooShort}
@@ -73,8 +73,8 @@ register_ending a said =
 
 -- 6. "counter answer failed gives 6a80; else the offered counter is reported as taken, and an order"
 unfoldable pub counted_ending : List ℕ → Says → Bool → Counter → PathEnd
-counted_ending frame said present Counter'.Failed = WrongData
-counted_ending frame said present (Counter'.Offered n) = Orders (signing_order frame said present n) true
+counted_ending frame said present None = WrongData
+counted_ending frame said present (Some n) = Orders (signing_order frame said present n) true
 
 -- 6. "handle not good gives 6a80; P1 07 gives 6985; buffer under 77 gives R2; for P1 03 touch check"
 unfoldable pub login_path : List ℕ → Hardware → (room : ℕ) → ℕ → Says → DecisionPath

@@ -16,10 +16,10 @@ abbrev pub moved_at : Presence → ℕ → Presence
 moved_at p t = record { w = p.w; prompt = p.prompt; touch = p.touch; last = t; asker = p.asker }
 
 abbrev pub spent_at : Presence → ℕ → Presence
-spent_at p t = record { w = p.w; prompt = p.prompt; touch = Closed; last = t; asker = p.asker }
+spent_at p t = record { w = p.w; prompt = p.prompt; touch = None; last = t; asker = p.asker }
 
 abbrev pub prompted_at : Presence → (side t : ℕ) → Presence
-prompted_at p s t = record { w = p.w; prompt = Opened t; touch = p.touch; last = t; asker = s }
+prompted_at p s t = record { w = p.w; prompt = Some t; touch = p.touch; last = t; asker = s }
 
 -- "Register, 130 + h: 00, application, challenge, handle, public key (04, x, y)", with the certificate's length. (`register_order_of` and
 -- `authenticate_order_of` lay the fields out so: signing_stated's Orders.antt.)
@@ -111,11 +111,11 @@ pub data Answers (p : Presence) (t : ℕ) (a : Inputs) : DecisionResult → Type
       → Answers p t a (unordered (R 2) p)
   sign_6985 : (said : Says) → Signing p t a 0x03 said → (HasTouch p t → ⊥) → Answers p t a (unordered (SW 0x6985) (prompted_at p a.side t))
   sign_other : (said : Says) → Signing p t a 0x03 said → OthersTouch p t a → Answers p t a (unordered (SW 0x6985) (moved_at p t))
-  no_counter_03 : (said : Says) → Signing p t a 0x03 said → OwnTouch p t a → a.hardware.counter ≡ Counter'.Failed → Answers p t a (unordered (SW 0x6a80) (spent_at p t))
-  signs_03 : (said : Says) (n : ℕ) → Signing p t a 0x03 said → OwnTouch p t a → a.hardware.counter ≡ Counter'.Offered n
+  no_counter_03 : (said : Says) → Signing p t a 0x03 said → OwnTouch p t a → a.hardware.counter ≡ None → Answers p t a (unordered (SW 0x6a80) (spent_at p t))
+  signs_03 : (said : Says) (n : ℕ) → Signing p t a 0x03 said → OwnTouch p t a → a.hardware.counter ≡ Some n
       → Answers p t a (result (Gives Ordered) (spent_at p t) (order_of_authenticate a said 0x01 n) true)
-  no_counter_08 : (said : Says) → Signing p t a 0x08 said → a.hardware.counter ≡ Counter'.Failed → Answers p t a (unordered (SW 0x6a80) (moved_at p t))
-  signs_08 : (said : Says) (n : ℕ) → Signing p t a 0x08 said → a.hardware.counter ≡ Counter'.Offered n
+  no_counter_08 : (said : Says) → Signing p t a 0x08 said → a.hardware.counter ≡ None → Answers p t a (unordered (SW 0x6a80) (moved_at p t))
+  signs_08 : (said : Says) (n : ℕ) → Signing p t a 0x08 said → a.hardware.counter ≡ Some n
       → Answers p t a (result (Gives Ordered) (moved_at p t) (order_of_authenticate a said 0x00 n) true)
   -- 02, E2: "C0 after the CLA check gives 6a86 .., then 6700 .." (the frame's status, as above), "then 6985 when nothing remains; then .. R2
   -- when the lent body is too short for its remainder or the buffer for part and status"; else the next part, and what remains after it.

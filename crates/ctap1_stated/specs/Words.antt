@@ -13,13 +13,17 @@ pub use Rattle.ctap1_stated.specs.declared.Allowed.{Allowed}
 pub use Rattle.ctap1_stated.specs.declared.Attestation.{Attestation}
 use Rattle.ctap1_stated.specs.declared.Attestation.TheVariants as Attestation'
 use Rattle.ctap1_stated.specs.declared.NewKey.{NewKey}
-pub use Rattle.ctap1_stated.specs.declared.Counter.{Counter}
 pub use Rattle.ctap1_stated.specs.declared.Hardware.{Hardware}
 pub use Rattle.ctap1_stated.specs.declared.HardwareSaid.{HardwareSaid}
 pub use Rattle.ctap1_stated.specs.declared.DecisionAnswer.{DecisionAnswer}
 use Rattle.ctap1_stated.specs.declared.DecisionAnswer.TheVariants as DecisionAnswer'
 pub use Rattle.ctap1_stated.specs.declared.Decision.{Decision}
 pub use Rattle.ctap1_stated.specs.Inputs.{Inputs, DecisionGives, Body, Ordered, Part, DecisionResult, Decider}
+use Rattle.std.specs.Prelude.{Option}
+
+-- the counter that an Authenticate would carry; `None` where its reading failed
+abbrev pub Counter : Type 0
+Counter = Option ℕ
 
 -- what of this goes into the order of a Register
 pub record Enrolment : Type 0 where

@@ -11,7 +11,7 @@ use Rattle.ctap1_stated.specs.Calls.{PanelCall, TouchAt, CheckAt, AskAt, DecideA
 use Rattle.ctap1_stated.specs.Terms.{Decider, on_side}
 use Rattle.ctap1_stated.specs.declared.Allowed.TheVariants as Allowed'
 use Rattle.ctap1_stated.specs.declared.Attestation.TheVariants as Attestation'
-use Rattle.ctap1_stated.specs.declared.Counter.TheVariants as Counter'
+use Rattle.std.specs.Prelude.{Some, None}
 use Rattle.octets.specs.Bytes.{byte, pair_at, laid, bytes4}
 use Rattle.apdu_stated.specs.Answers.{Says}
 use Rattle.apdu_stated.specs.Reading.{read_of}
@@ -155,8 +155,8 @@ present08 = authenticate_as (authenticate_ends 77 (λ a said. counted_ending a.f
 
 -- "application, presence byte .., counter .., challenge": the challenge first
 abbrev turned_ending : List ℕ → Says → Counter → PathEnd
-turned_ending frame said Counter'.Failed = WrongData
-turned_ending frame said (Counter'.Offered n) = Orders (authenticate_order_of (record { application = challenge_of frame said; presence = 0x00; counter = bytes4 n; challenge = application_of frame said })) true
+turned_ending frame said None = WrongData
+turned_ending frame said (Some n) = Orders (authenticate_order_of (record { application = challenge_of frame said; presence = 0x00; counter = bytes4 n; challenge = application_of frame said })) true
 
 -- fails `DecidesExactly`
 abbrev pub challenge_first : Decider
@@ -573,7 +573,7 @@ unknown_is_counted n =
       stored = h.stored;
       attestation = h.attestation;
       good = h.good;
-      counter = when eqb n.counted 0 then Counter'.Failed else Counter'.Offered n.counter;
+      counter = when eqb n.counted 0 then None else Some n.counter;
     }
 
 -- ---- contents looked at: the handle's first byte; and the certificate's

@@ -36,21 +36,14 @@ pub enum Attestation {
     Failed,
 }
 
-// the counter that an Authenticate would carry,
-#[derive(Clone, Copy)]
-pub enum Counter {
-    Offered(u32),
-    Failed,
-}
-
-// and all five answers.
+// and all five answers; the counter that an Authenticate would carry is `None` where its reading failed.
 #[derive(Clone, Copy)]
 pub struct Hardware {
     pub allowed: Allowed,
     pub stored: bool,
     pub attestation: Attestation,
     pub good: bool,
-    pub counter: Counter,
+    pub counter: Option<u32>,
 }
 
 // A frame, the side that it came from, and the moment.

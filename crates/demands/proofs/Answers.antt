@@ -28,7 +28,7 @@ use Rattle.u2f_up_stated.proofs.Only as UpOnly
 use Rattle.u2f_up_stated.proofs.Theorems as UpProved
 use Rattle.panel_stated.specs.Claims as Exports
 use Rattle.panel_stated.specs.declared.Wrote.{Wrote}
-use Rattle.panel_stated.specs.declared.Kinded.{Kinded}
+use Rattle.panel_stated.specs.Words.{Kinded}
 use Rattle.panel_stated.specs.declared.OrderNumbers.{OrderNumbers}
 use Rattle.panel_stated.specs.declared.DecisionSaid.{DecisionSaid}
 use Rattle.u2f_up_stated.specs.Numbers.{presence_in}

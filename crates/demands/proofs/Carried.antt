@@ -22,7 +22,7 @@ use Rattle.signing_stated.proofs.Theorems as Signing
 use Rattle.u2f_up_stated.specs.Numbers.{presence_in}
 use Rattle.ctap1_stated.specs.Words.{Inputs, inputs_from, enrolment_of}
 use Rattle.ctap1_stated.specs.Numbers.{hardware_of}
-use Rattle.ctap1_stated.specs.declared.Counter.TheVariants as Counter'
+use Rattle.std.specs.Prelude.{Some, None}
 use Rattle.ctap1_stated.proofs.Laws.{enrolment_in, login_in, MadeOf, of_enrolment, of_login, made_of}
 use Rattle.session_stated.specs.Held.{hardware_in, remainder_in}
 use Rattle.session_stated.specs.Promises.{inputs_in}
@@ -41,7 +41,7 @@ field frame cut place start end at long within is =
     ap₂ (λ (n k : ℕ). take k (drop n frame)) at count ∙ part_within frame start end (omega (arith, long)) within ∙ sym is
 
 -- a counter that is offered is the number that was lent
-offered : (yes : Bool) (n m : ℕ) → (when yes then Counter'.Offered n else Counter'.Failed) ≡ Counter'.Offered m → n ≡ m
+offered : (yes : Bool) (n m : ℕ) → (when yes then Some n else None) ≡ Some m → n ≡ m
 offered true n m e = cc
 offered false n m e = let z : ◌≡◌ {A = ℕ} 0 1 = cc in absurd (omega arith)
 

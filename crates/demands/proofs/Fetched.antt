@@ -18,7 +18,8 @@ use Rattle.apdu_stated.specs.Answers.{Says}
 use Rattle.apdu_stated.specs.Reading.{read_of}
 use Rattle.command_stated.specs.Command.{Command, Register, Authenticate, Version, GetResponse, command_of}
 use Rattle.response_stated.specs.declared.Remainder.{Remainder}
-use Rattle.response_stated.specs.Words.{rest, Sent}
+use Rattle.response_stated.specs.Words.{rest}
+use Rattle.response_stated.specs.declared.Sent.{Sent}
 use Rattle.response_stated.specs.Responses.{response_body_of}
 use Rattle.response_stated.specs.Parts.{limit_of, part_length, rest_after, next_part_of, response_room_of}
 use Rattle.response_stated.specs.Terms.{sending_of}

@@ -12,7 +12,8 @@ use Rattle.apdu_stated.specs.Answers.{Says}
 use Rattle.apdu_stated.specs.Reading.{read_of}
 use Rattle.command_stated.specs.Command.{Register, Authenticate, command_of}
 use Rattle.command_stated.proofs.Laws.{RegisterExactly, AuthenticateExactly}
-use Rattle.response_stated.specs.Words.{Sent, rest}
+use Rattle.response_stated.specs.Words.{rest}
+use Rattle.response_stated.specs.declared.Sent.{Sent}
 use Rattle.response_stated.specs.Parts.{part_length}
 use Rattle.response_stated.specs.Terms.{Goes, Sends, sending_of}
 use Rattle.response_stated.specs.Responses.{response_body_of}

@@ -11,7 +11,7 @@ use lib.ListN.{length}
 use Rattle.outcome.specs.Notation.{when◌then◌else◌}
 use Rattle.outcome.specs.Outcome.{StatusWord, Outcome, R, Word, Gives, plain_word}
 use Rattle.command_stated.specs.Command.{Command, Register, Authenticate, Version, GetResponse, command_of}
-use Rattle.response_stated.specs.Words.{Sent}
+use Rattle.response_stated.specs.declared.Sent.{Sent}
 use Rattle.u2f_up_stated.specs.History.{Checking, Settling, TooShort}
 use Rattle.ctap1_stated.specs.Words.{Inputs}
 use Rattle.ctap1_stated.specs.Path.{DecisionPath, NoRoom, Ends, SixBytes, Fetches, Signs, Touch, PathEnd, path_of, allowed_path, command_path, version_path, fetch_path, register_path, login_path, sent_path, role_of_path, register_ending, counted_ending, frame_limit}

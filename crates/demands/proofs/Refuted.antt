@@ -30,8 +30,8 @@ use Rattle.panel_stated.specs.declared.Wrote.{Wrote}
 use Rattle.panel_stated.specs.declared.CommandSaid.{CommandSaid}
 use Rattle.panel_stated.specs.declared.ResponseSaid.{ResponseSaid}
 use Rattle.u2f_up_stated.specs.declared.Presence.{Presence}
-use Rattle.u2f_up_stated.specs.declared.Window.{Window}
-use Rattle.u2f_up_stated.specs.declared.Window.TheVariants.{Closed, Opened}
+use Rattle.u2f_up_stated.specs.Words.{Window}
+use Rattle.std.specs.Prelude.{None, Some}
 use Rattle.panel_stated.specs.Exports.{ToDecide, ToFinish, decides_of}
 use Rattle.panel_stated.proofs.Lists.{record_back}
 use Rattle.panel_stated.proofs.Refuted as Exports
@@ -457,7 +457,7 @@ block_signed_in_front d =
 pub touch_opens_nothing : Demands Wrong.touch_asks → ⊥
 unfolding touch_of ask_of settle_of granted_of
 touch_opens_nothing d =
-    let e : ◌≡◌ {A = Window} Closed (Opened 0) = ap (λ (p : Presence). p.touch) (d.answers.presences.touched touch_of Up.TouchesExactly (1000 ∷ 1 ∷ 0 ∷ 0 ∷ 0 ∷ []) 0).1 in
+    let e : ◌≡◌ {A = Window} None (Some 0) = ap (λ (p : Presence). p.touch) (d.answers.presences.touched touch_of Up.TouchesExactly (1000 ∷ 1 ∷ 0 ∷ 0 ∷ 0 ∷ []) 0).1 in
     let z : ◌≡◌ {A = ℕ} 0 1 = cc in omega arith
 
 -- ---- 02, E10: the claim with another number. A certificate of n - 393 bytes is said to fit; the witness is shown at handle length 254

@@ -11,7 +11,7 @@ use Rattle.octets.specs.Bytes.{AreBytes}
 use Rattle.apdu_stated.specs.Answers.{Says}
 use Rattle.apdu_stated.specs.Reading.{read_of}
 use Rattle.response_stated.specs.declared.Remainder.{Remainder}
-use Rattle.response_stated.specs.Words.{Sent}
+use Rattle.response_stated.specs.declared.Sent.{Sent}
 use Rattle.response_stated.specs.Parts.{limit_of, part_length, next_part_of}
 use Rattle.response_stated.specs.Responses.{write_response_of}
 use Rattle.response_stated.proofs.Laws.{PartWay, whole, cut, last, part_way, part_monotone, NextWay, short_body, short_buffer, given, next_way, write_room, write_short, limit_of_frames}

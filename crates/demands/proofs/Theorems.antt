@@ -7,7 +7,7 @@ use native.Mathlib.Omega.{arith}
 use Rattle.octets.specs.Bytes.{byte}
 use Rattle.outcome.specs.Outcome.{Outcome, Gives}
 use Rattle.u2f_up_stated.specs.declared.Presence.{Presence}
-use Rattle.u2f_up_stated.specs.declared.Window.TheVariants.{Opened}
+use Rattle.std.specs.Prelude.{Some}
 use Rattle.u2f_up_stated.specs.Moments.{new_of}
 use Rattle.u2f_up_stated.specs.History.{Call}
 use Rattle.u2f_up_stated.specs.Terms.{BadWindow}
@@ -41,7 +41,7 @@ use Rattle.demands.proofs.RoomRows.{data_sheet}
 use Rattle.demands.proofs.Runs.{as_panel, all_as, all_append, all_length, there, record_in, came_same, call_same, history_same}
 
 -- a window's number, opened
-opened_no : (n m : ℕ) → window_of n ≡ Opened m → n ≡ m + 1
+opened_no : (n m : ℕ) → window_of n ≡ Some m → n ≡ m + 1
 opened_no zero m e = let z : ◌≡◌ {A = ℕ} 0 1 = cc in absurd (omega arith)
 opened_no (suc n) m e = let z : n ≡ m = cc in omega arith
 

@@ -13,7 +13,7 @@ use Rattle.ctap1_stated.specs.Path.{frame_limit}
 use Rattle.session_stated.specs.Held.{remainder_in, session_in}
 use Rattle.session_stated.specs.Promises.{lending}
 use Rattle.u2f_up_stated.specs.declared.Presence.{Presence}
-use Rattle.u2f_up_stated.specs.declared.Window.TheVariants.{Opened}
+use Rattle.std.specs.Prelude.{Some}
 use Rattle.u2f_up_stated.specs.Numbers.{presence_in}
 use Rattle.u2f_up_stated.specs.Moments.{ask_of}
 use Rattle.signing_stated.specs.Finishing.{length_of, reply_of}
@@ -198,7 +198,7 @@ touch_late =
     (λ n t.
     let r = touches_of n t in
     let p = presence_in r.presence in
-    with r (record { w = p.w; prompt = p.prompt; touch = Opened (t + 1); last = p.last; asker = p.asker }))
+    with r (record { w = p.w; prompt = p.prompt; touch = Some (t + 1); last = p.last; asker = p.asker }))
     checks_of asks_of decides_of right_finish
 
 -- a check leaves the asker that it was lent
@@ -260,7 +260,7 @@ untouched =
     panel_with makes_of touches_of checks_of asks_of
     (λ i.
     let p = presence_in i.presence in
-    decides_of (changed (presence_numbers (record { w = p.w; prompt = p.prompt; touch = Opened i.moment; last = p.last; asker = i.side })) (remainder_in i.session) i))
+    decides_of (changed (presence_numbers (record { w = p.w; prompt = p.prompt; touch = Some i.moment; last = p.last; asker = i.side })) (remainder_in i.session) i))
     right_finish
 
 -- ---- 02, E11: an order of this kind, with other bytes to sign, and zeros behind them

@@ -12,12 +12,9 @@ use apdu_table::RowSays;
 use ctap1_stated::{Call, DecisionAnswer, NewKey};
 use outcome::ApduStatusCode;
 use panel_stated::{
-    Asked, CommandSaid, DecisionSaid, FrameSaid, Kinded, OrderNumbers, ResponseSaid, RoomSaid,
-    Wrote,
+    Asked, CommandSaid, DecisionSaid, FrameSaid, OrderNumbers, ResponseSaid, RoomSaid, Wrote,
 };
-use response::NextPart;
 use signing::Head;
-use u2f_up::Ready;
 
 // Reads any bytes as a frame; its data comes back as a place in the caller's frame. By cases, and each is a return of its own:
 // so each is written to the caller at once.
@@ -155,8 +152,8 @@ pub extern "C" fn brinecandle_new(presence: &mut [u64; 5], w: u64) -> u16
 {
     let made = u2f_up::new(w);
     match made {
-        Ready::Refused(why) => outcome::refusal_number(why) as u16,
-        Ready::Record(_) => {
+        Err(why) => outcome::refusal_number(why) as u16,
+        Ok(_) => {
             panel_presence::fresh(w, presence);
             0x9000
         }
@@ -171,8 +168,8 @@ pub extern "C" fn brinecandle_grant_up(presence: &mut [u64; 5], t: u64) -> Asked
     let held = u2f_up::record_lent(presence);
     let ready = u2f_up::settle(held, held.asker, t);
     match ready {
-        Ready::Refused(why) => panel_presence::refused_plain(why),
-        Ready::Record(_) => panel_presence::found_plain(u2f_up::touch_granted(presence, t)),
+        Err(why) => panel_presence::refused_plain(why),
+        Ok(_) => panel_presence::found_plain(u2f_up::touch_granted(presence, t)),
     }
 }
 
@@ -183,8 +180,8 @@ pub extern "C" fn brinecandle_consume_up(presence: &mut [u64; 5], side: u64, t: 
 {
     let ready = u2f_up::settle(u2f_up::record_lent(presence), side, t);
     match ready {
-        Ready::Refused(why) => panel_presence::refused_plain(why),
-        Ready::Record(_) => panel_presence::found_plain(u2f_up::touch_checked(presence, side, t)),
+        Err(why) => panel_presence::refused_plain(why),
+        Ok(_) => panel_presence::found_plain(u2f_up::touch_checked(presence, side, t)),
     }
 }
 
@@ -283,28 +280,25 @@ pub extern "C" fn brinecandle_finish(
       reply = reply.old;
     }) result reply.new }
 {
-    let numbered = panel_orders::kind_numbered(order.kind);
-    match numbered {
-        Kinded::As(kind) => {
-            let made = Head {
-                kind,
-                to_sign: order.to_sign,
-                certificate_length: order.certificate_length,
-            };
-            panel_orders::finished_plain(signing::finish(
-                made,
-                block,
-                certificate,
-                is_signed == 1,
-                signature,
-                reply,
-            ))
-        }
-        Kinded::Nothing => Wrote {
+    let Some(kind) = panel_orders::kind_numbered(order.kind) else {
+        return Wrote {
             answer: 7,
             length: 0,
-        },
-    }
+        };
+    };
+    let made = Head {
+        kind,
+        to_sign: order.to_sign,
+        certificate_length: order.certificate_length,
+    };
+    panel_orders::finished_plain(signing::finish(
+        made,
+        block,
+        certificate,
+        is_signed == 1,
+        signature,
+        reply,
+    ))
 }
 
 // Writes a response, body and status, at the front of out.
@@ -335,10 +329,10 @@ pub extern "C" fn brinecandle_next_part(
     let limit = session[2];
     let next = response::next_part(body, session::remainder_lent(session), limit, part);
     match next {
-        NextPart::Refused(why) => panel_responses::refused_part(why),
-        NextPart::Part(length, remainder) => {
-            session::left(remainder, limit, session);
-            panel_responses::sent_part(length)
+        Err(why) => panel_responses::refused_part(why),
+        Ok(sent) => {
+            session::left(sent.remainder, limit, session);
+            panel_responses::sent_part(sent.length)
         }
     }
 }

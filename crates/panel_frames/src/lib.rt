@@ -11,21 +11,21 @@ ghost use Rattle.panel_stated.specs.Promises.{ShapeNumbered, FramePlain, FrameSt
 use apdu::{Apdu, ApduHeader, Case};
 use command::{Ctap1Flags, U2fCommand};
 use outcome::{ApduStatusCode, FaultNumbers, Refusal};
-use panel_stated::{CommandSaid, FrameSaid, Shaped, Wrote};
+use panel_stated::{CommandSaid, FrameSaid, Wrote};
 
 #[tactic(auto, unfolding(panel_stated::specs::Numbers::shape_of))]
-pub fn shape_numbered(number: u32) -> Shaped
+pub fn shape_numbered(number: u32) -> Option<Case>
     ensures { ShapeNumbered number result }
 {
     match number {
-        1 => Shaped::As(Case::Instruction),
-        2 => Shaped::As(Case::Le1),
-        3 => Shaped::As(Case::Lc1Data),
-        4 => Shaped::As(Case::Lc1DataLe1),
-        5 => Shaped::As(Case::Lc3Data),
-        7 => Shaped::As(Case::Lc3DataLe2),
-        8 => Shaped::As(Case::Le3),
-        _ => Shaped::Nothing,
+        1 => Some(Case::Instruction),
+        2 => Some(Case::Le1),
+        3 => Some(Case::Lc1Data),
+        4 => Some(Case::Lc1DataLe1),
+        5 => Some(Case::Lc3Data),
+        7 => Some(Case::Lc3DataLe2),
+        8 => Some(Case::Le3),
+        _ => None,
     }
 }
 
@@ -91,11 +91,7 @@ fn wrote_said(written: Result<usize, Refusal>) -> Wrote
 pub fn strict_plain(number: u32, count: usize) -> bool
     ensures { StrictPlain number count result }
 {
-    let shaped = shape_numbered(number);
-    match shaped {
-        Shaped::As(case) => apdu::strict_has(case, count),
-        Shaped::Nothing => false,
-    }
+    shape_numbered(number).is_some_and(|case| apdu::strict_has(case, count))
 }
 
 pub fn write_plain(header: ApduHeader, shape: u32, content: &[u8], le: u32, out: &mut [u8]) -> Wrote
@@ -103,8 +99,8 @@ pub fn write_plain(header: ApduHeader, shape: u32, content: &[u8], le: u32, out:
 {
     let shaped = shape_numbered(shape);
     match shaped {
-        Shaped::As(case) => wrote_said(apdu::write(header, case, content, le, out)),
-        Shaped::Nothing => Wrote {
+        Some(case) => wrote_said(apdu::write(header, case, content, le, out)),
+        None => Wrote {
             answer: 5,
             length: 0,
         },

@@ -5,10 +5,10 @@ ghost use Rattle.std.specs.Prelude.{◌≡◌};
 ghost use Rattle.panel_stated.specs.Numbers.{no_order};
 ghost use Rattle.panel_stated.specs.Promises.{KindNumbered, RefusedPlain, StatusPlain, BodyPlain, PartPlain, OrderPlain, FinishedPlain};
 
-use outcome::{ApduStatusCode, FaultNumbers, Refusal};
-use panel_stated::{DecisionSaid, Kinded, OrderNumbers, Wrote};
+use outcome::{FaultNumbers, NotDone, Refusal};
+use panel_stated::{DecisionSaid, OrderNumbers, Wrote};
 use response_stated::Remainder;
-use signing_stated::{Finished, Head, Kind};
+use signing_stated::{Head, Kind};
 
 // The answer that is no refusal, no status word and not 0: what stands in the block is to be signed.
 const ORDER: u16 = 0x0100;
@@ -16,13 +16,14 @@ const ORDER: u16 = 0x0100;
 // GET RESPONSE's part is a response already: its status stands inside.
 const PART: u16 = 0x0200;
 
-pub fn kind_numbered(number: u32) -> Kinded
+#[tactic(auto, unfolding(panel_stated::specs::Numbers::kind_of))]
+pub fn kind_numbered(number: u32) -> Option<Kind>
     ensures { KindNumbered number result }
 {
     match number {
-        1 => Kinded::As(Kind::Register),
-        2 => Kinded::As(Kind::Authenticate),
-        _ => Kinded::Nothing,
+        1 => Some(Kind::Register),
+        2 => Some(Kind::Authenticate),
+        _ => None,
     }
 }
 
@@ -100,19 +101,19 @@ pub fn order_numbers(order: Head, taken: bool) -> DecisionSaid
     numbers(ORDER, outcome::no_fault(), 0, said, taken)
 }
 
-pub fn finished_plain(finished: Finished) -> Wrote
+pub fn finished_plain(finished: Result<usize, NotDone>) -> Wrote
     ensures { FinishedPlain finished result }
 {
     match finished {
-        Finished::Refused(why) => Wrote {
+        Err(NotDone::Refused(why)) => Wrote {
             answer: outcome::refusal_number(why) as u16,
             length: 0,
         },
-        Finished::Status(status) => Wrote {
+        Err(NotDone::Status(status)) => Wrote {
             answer: outcome::status_number(status),
             length: 0,
         },
-        Finished::Body(length) => Wrote {
+        Ok(length) => Wrote {
             answer: 0x9000,
             length,
         },

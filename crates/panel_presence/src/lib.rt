@@ -5,7 +5,6 @@ ghost use Rattle.panel_stated.specs.Promises.{RefusedAsked, FoundAsked, AskedPla
 
 use outcome::Refusal;
 use panel_stated::Asked;
-use u2f_up_stated::Answer;
 
 // What a call says that is refused, and one that is not.
 pub fn refused_plain(why: Refusal) -> Asked
@@ -26,13 +25,12 @@ pub fn found_plain(yes: bool) -> Asked
     }
 }
 
-pub fn asked_plain(answer: Answer) -> Asked
+pub fn asked_plain(answer: Result<bool, Refusal>) -> Asked
     ensures { AskedPlain answer result }
 {
     match answer {
-        Answer::Refused(why) => refused_plain(why),
-        Answer::Yes => found_plain(true),
-        Answer::No => found_plain(false),
+        Err(why) => refused_plain(why),
+        Ok(yes) => found_plain(yes),
     }
 }
 

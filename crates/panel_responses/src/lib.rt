@@ -5,44 +5,38 @@ ghost use Rattle.panel_stated.specs.Promises.{ResponsePlain, WroteResponsePlain,
 
 use outcome::Refusal;
 use panel_stated::{ResponseSaid, RoomSaid, Wrote};
-use response_stated::{ReadResponse, ResponseRoom, WroteResponse};
+use response_stated::Response;
 
 // What was asked for is there.
 const DONE: u16 = 0x9000;
 
-pub fn response_plain(read: ReadResponse) -> ResponseSaid
+pub fn response_plain(read: Result<Response, Refusal>) -> ResponseSaid
     ensures { ResponsePlain read result }
 {
     match read {
-        ReadResponse::Refused(why) => ResponseSaid {
+        Err(why) => ResponseSaid {
             answer: outcome::refusal_number(why) as u16,
             status: 0,
             length: 0,
         },
-        ReadResponse::Response(length, status) => ResponseSaid {
+        Ok(read) => ResponseSaid {
             answer: DONE,
-            status,
-            length,
+            status: read.status,
+            length: read.length,
         },
     }
 }
 
-pub fn wrote_response_plain(written: WroteResponse) -> Wrote
+pub fn wrote_response_plain(written: Result<usize, Refusal>) -> Wrote
     ensures { WroteResponsePlain written result }
 {
     match written {
-        WroteResponse::Refused(why) => Wrote {
-            answer: outcome::refusal_number(why) as u16,
-            length: 0,
-        },
-        WroteResponse::Response(length) => Wrote {
-            answer: DONE,
-            length,
-        },
+        Err(why) => refused_part(why),
+        Ok(length) => sent_part(length),
     }
 }
 
-// A part that is refused, and one that is sent.
+// A part that is refused, and one that is sent: a response that is written is said by the same two.
 pub fn refused_part(why: Refusal) -> Wrote
     ensures { RefusedPart why result }
 {
@@ -61,15 +55,16 @@ pub fn sent_part(length: usize) -> Wrote
     }
 }
 
-pub fn room_plain(room: ResponseRoom) -> RoomSaid
+// The answer of `wrote_response_plain` in another struct: in the C interface room and length are two types.
+pub fn room_plain(room: Result<usize, Refusal>) -> RoomSaid
     ensures { RoomPlain room result }
 {
     match room {
-        ResponseRoom::Refused(why) => RoomSaid {
+        Err(why) => RoomSaid {
             answer: outcome::refusal_number(why) as u16,
             length: 0,
         },
-        ResponseRoom::Bytes(length) => RoomSaid {
+        Ok(length) => RoomSaid {
             answer: DONE,
             length,
         },

@@ -31,21 +31,20 @@ use Rattle.command_stated.specs.declared.U2fCommand.TheVariants as U2fCommand'
 use Rattle.panel_stated.specs.Words.{FrameSaid, CommandSaid, Wrote, Shaped, Asked, OrderNumbers, DecisionSaid, ResponseSaid, RoomSaid, Kinded, Session, presence_in, remainder_in, session_in, session_after}
 use Rattle.panel_stated.specs.Numbers.{answer_no, shape_of, is_yes, kind_of, no_order}
 use Rattle.panel_stated.specs.Exports.{frame_numbers, length_numbers, ToWrite, strict_as, write_as, write_numbered, buffer_as, bare_command, command_numbers, made_over, asked_numbers, head_after, decided_numbers, response_numbers, sent_numbers, sent_over, room_numbers, ToFinish, order_from, finish_numbered}
-use Rattle.panel_stated.specs.declared.Shaped.TheVariants as Shaped'
+use Rattle.std.specs.Prelude.{Some, None}
 use mathlib.Core.Bool.{true, false, not, Bool}
 use Rattle.u2f_up_stated.specs.Moments.{Told, is_r6, fresh, moved_to, new_of, settle_of, checked_of, granted_of, on_settled, gave, touch_of, check_of, ask_of}
 use Rattle.u2f_up_stated.specs.Numbers.{checked_in, granted_in}
 use Rattle.u2f_up_stated.specs.Answers.{ready_of, outcome_of}
-use Rattle.u2f_up_stated.specs.declared.Answer.{Answer}
-use Rattle.u2f_up_stated.specs.declared.Answer.TheVariants as Answer'
-use Rattle.u2f_up_stated.specs.declared.Ready.{Ready}
-use Rattle.u2f_up_stated.specs.declared.Ready.TheVariants as Ready'
+use Rattle.u2f_up_stated.specs.Words.{Answer}
+use Rattle.std.specs.Prelude.{Ok, Err}
+use Rattle.u2f_up_stated.specs.Words.{Ready}
 use Rattle.u2f_up_stated.specs.declared.Presence.{Presence}
 use Rattle.u2f_up_stated.proofs.Laws.{settles_moved, checked_below, granted_below, five_set}
 use Rattle.signing_stated.specs.Orders.{kind_no}
 use Rattle.signing_stated.specs.Finishing.{Finishing, finished_of, length_of, reply_of}
-use Rattle.signing_stated.specs.declared.Finished.{Finished}
-use Rattle.signing_stated.specs.declared.Finished.TheVariants as Finished'
+use Rattle.signing_stated.specs.Words.{Finished}
+use Rattle.outcome.specs.declared.NotDone.TheVariants as NotDone'
 use Rattle.signing_stated.specs.declared.Kind.{Kind}
 use Rattle.signing_stated.specs.declared.Kind.TheVariants as Kind'
 use Rattle.signing_stated.specs.declared.Head.{Head}
@@ -58,18 +57,15 @@ use Rattle.ctap1_stated.specs.declared.DecisionAnswer.TheVariants as DecisionAns
 use Rattle.ctap1_stated.proofs.Laws.{leaves}
 use Rattle.apdu_stated.specs.Reading.{read_of}
 use Rattle.apdu_stated.proofs.Laws.{strict_out, strict_out_kept, strict_same, strict_same_buffer}
-use Rattle.response_stated.specs.Words.{Sent, rest, response_read, response_written, part_sent, room_said}
+use Rattle.response_stated.specs.Words.{rest, response_read, response_written, part_sent, room_said}
+use Rattle.response_stated.specs.declared.Sent.{Sent}
+use Rattle.response_stated.specs.declared.Response.{Response}
 use Rattle.response_stated.specs.Terms.{sending_of}
 use Rattle.response_stated.specs.declared.Remainder.{Remainder}
-use Rattle.response_stated.specs.declared.ReadResponse.{ReadResponse}
-use Rattle.response_stated.specs.declared.ReadResponse.TheVariants as ReadResponse'
-use Rattle.response_stated.specs.declared.WroteResponse.{WroteResponse}
-use Rattle.response_stated.specs.declared.WroteResponse.TheVariants as WroteResponse'
-use Rattle.response_stated.specs.declared.NextPart.{NextPart}
-use Rattle.response_stated.specs.declared.NextPart.TheVariants as NextPart'
-use Rattle.response_stated.specs.declared.ResponseRoom.{ResponseRoom}
-use Rattle.response_stated.specs.declared.ResponseRoom.TheVariants as ResponseRoom'
-use Rattle.panel_stated.specs.declared.Kinded.TheVariants as Kinded'
+use Rattle.response_stated.specs.Words.{ReadResponse}
+use Rattle.response_stated.specs.Words.{WroteResponse}
+use Rattle.response_stated.specs.Words.{NextPart}
+use Rattle.response_stated.specs.Words.{ResponseRoom}
 
 -- ---- a definition over an outcome, at the outcome that the call's contract names
 pub through : {A B : Type 0} (f : A → B) (x y : A) (r : B) → x ≡ y → r ≡ f x → r ≡ f y
@@ -131,7 +127,7 @@ module _ (written : Written) where
   wrote_frame n z = rw z
 
 -- a shape's number is that shape
-pub shaped : (s : Case) (number : ℕ) → number ≡ shape_no s → Shaped'.As s ≡ shape_of number
+pub shaped : (s : Case) (number : ℕ) → number ≡ shape_no s → Some s ≡ shape_of number
 unfolding shape_of
 shaped Instruction number e = rw e
 shaped Le1 number e = rw e
@@ -141,7 +137,7 @@ shaped Lc3Data number e = rw e
 shaped Lc3DataLe2 number e = rw e
 shaped Le3 number e = rw e
 
-pub no_shape : (number : ℕ) → (number ≡ 1 → ⊥) → (number ≡ 2 → ⊥) → (number ≡ 3 → ⊥) → (number ≡ 4 → ⊥) → (number ≡ 5 → ⊥) → (number ≡ 7 → ⊥) → (number ≡ 8 → ⊥) → Shaped'.Nothing ≡ shape_of number
+pub no_shape : (number : ℕ) → (number ≡ 1 → ⊥) → (number ≡ 2 → ⊥) → (number ≡ 3 → ⊥) → (number ≡ 4 → ⊥) → (number ≡ 5 → ⊥) → (number ≡ 7 → ⊥) → (number ≡ 8 → ⊥) → None ≡ shape_of number
 unfolding shape_of
 no_shape number a b c d e g h =
     rw (ne_eqb number 1 a, ne_eqb number 2 b, ne_eqb number 3 c, ne_eqb number 4 d, ne_eqb number 5 e, ne_eqb number 7 g, ne_eqb number 8 h)
@@ -150,7 +146,7 @@ abbrev to_write : ApduHeader → ℕ → List ℕ → ℕ → List ℕ → ToWri
 to_write header shape content le out = record { header = header; shape = shape; content = content; le = le; out = out }
 
 module _ (entry : Entry) (header : ApduHeader) (shape : ℕ) (content : List ℕ) (le : ℕ) (old : List ℕ) (shaped : Shaped) (is_shaped : shaped ≡ shape_of shape) where
-  module _ (s : Case) (z : shaped ≡ Shaped'.As s) where
+  module _ (s : Case) (z : shaped ≡ Some s) where
     pub write_as_lem : (written : Written) (r : Wrote) → written_of written ≡ write_by entry (parts_of header s content le) (length old) → r ≡ length_numbers (written_of written)
         → r ≡ length_numbers (write_numbered entry (to_write header shape content le old))
     write_as_lem written r is_written is = is ∙ ap length_numbers is_written ∙ rw (← is_shaped, z)
@@ -158,7 +154,7 @@ module _ (entry : Entry) (header : ApduHeader) (shape : ℕ) (content : List ℕ
     pub buffer_as_lem : (new : List ℕ) → new ≡ buffer_by entry (parts_of header s content le) old → new ≡ buffer_as entry (shape_of shape) (to_write header shape content le old)
     buffer_as_lem new is = is ∙ rw (← is_shaped, z)
 
-  module _ (z : shaped ≡ Shaped'.Nothing) where
+  module _ (z : shaped ≡ None) where
     pub write_as_none : ◌≡◌ {A = Wrote} (record { answer = 5; length = 0 }) (length_numbers (write_numbered entry (to_write header shape content le old)))
     write_as_none = rw (← is_shaped, z)
 
@@ -167,20 +163,20 @@ module _ (entry : Entry) (header : ApduHeader) (shape : ℕ) (content : List ℕ
 
 -- the strict writer: a number whose row the strict table has not decides, else the writer
 module _ (number count : ℕ) (shaped : Shaped) (is_shaped : shaped ≡ shape_of number) where
-  pub strict_as_lem : (s : Case) (b : Bool) → shaped ≡ Shaped'.As s → b ≡ in_row Strict s count → b ≡ strict_as (shape_of number) count
+  pub strict_as_lem : (s : Case) (b : Bool) → shaped ≡ Some s → b ≡ in_row Strict s count → b ≡ strict_as (shape_of number) count
   strict_as_lem s b z e = e ∙ rw (← is_shaped, z)
 
-  pub strict_as_none : shaped ≡ Shaped'.Nothing → false ≡ strict_as (shape_of number) count
+  pub strict_as_none : shaped ≡ None → false ≡ strict_as (shape_of number) count
   strict_as_none z = rw (← is_shaped, z)
 
 module _ (w : ToWrite) where
   strict_refused : (t : Shaped) → strict_as t (length w.content) ≡ false → (R 5 ≡ write_as Strict t w) × (w.out ≡ buffer_as Strict t w)
-  strict_refused (Shaped'.As s) e = let parts = parts_of w.header s w.content w.le in (strict_out parts e (length w.out), strict_out_kept parts e w.out)
-  strict_refused Shaped'.Nothing e = (refl, refl)
+  strict_refused (Some s) e = let parts = parts_of w.header s w.content w.le in (strict_out parts e (length w.out), strict_out_kept parts e w.out)
+  strict_refused None e = (refl, refl)
 
   strict_alike : (t : Shaped) → strict_as t (length w.content) ≡ true → (write_as Ordinary t w ≡ write_as Strict t w) × (buffer_as Ordinary t w ≡ buffer_as Strict t w)
-  strict_alike (Shaped'.As s) e = let parts = parts_of w.header s w.content w.le in (strict_same parts e (length w.out), strict_same_buffer parts e w.out)
-  strict_alike Shaped'.Nothing e = (refl, refl)
+  strict_alike (Some s) e = let parts = parts_of w.header s w.content w.le in (strict_same parts e (length w.out), strict_same_buffer parts e w.out)
+  strict_alike None e = (refl, refl)
 
 module _ (header : ApduHeader) (shape : ℕ) (content : List ℕ) (le : ℕ) (old : List ℕ) (b : Bool) (is_b : b ≡ strict_as (shape_of shape) (length content)) where
   module _ (z : not b ≡ true) where
@@ -202,14 +198,11 @@ pub refused_asked : (why : Refusal) (n : ℕ) → n ≡ refusal_no why → ◌�
 refused_asked why n is = rw is
 
 module _ (answer : Answer) (r : Asked) where
-  pub asked_refused : (why : Refusal) → answer ≡ Answer'.Refused why → r ≡ asked_numbers (R (refusal_no why)) → r ≡ asked_numbers (outcome_of answer)
+  pub asked_refused : (why : Refusal) → answer ≡ Err why → r ≡ asked_numbers (R (refusal_no why)) → r ≡ asked_numbers (outcome_of answer)
   asked_refused why z is = is ∙ rw z
 
-  pub asked_yes : answer ≡ Answer'.Yes → r ≡ asked_numbers (Gives true) → r ≡ asked_numbers (outcome_of answer)
-  asked_yes z is = is ∙ rw z
-
-  pub asked_no : answer ≡ Answer'.No → r ≡ asked_numbers (Gives false) → r ≡ asked_numbers (outcome_of answer)
-  asked_no z is = is ∙ rw z
+  pub asked_found : (found : Bool) → answer ≡ Ok found → r ≡ asked_numbers (Gives found) → r ≡ asked_numbers (outcome_of answer)
+  asked_found found z is = is ∙ rw z
 
 -- a record that is made
 pub fresh_is : (s : List ℕ) (w : ℕ) → 4 < length s → presence_in (set (set (set (set (set s 0 w) 1 0) 2 0) 3 0) 4 0) ≡ fresh w
@@ -223,19 +216,19 @@ module _ (w : ℕ) (made : Ready) (is_made : ready_of made ≡ new_of w) where
   made_at : (d : Ready) → made ≡ d → ready_of d ≡ new_of w
   made_at d z = ap ready_of (sym z) ∙ is_made
 
-  pub new_refused : (why : Refusal) (n : ℕ) → made ≡ Ready'.Refused why → n ≡ refusal_no why → n ≡ answer_no (new_of w)
-  new_refused why n z is = is ∙ ap answer_no (made_at (Ready'.Refused why) z)
+  pub new_refused : (why : Refusal) (n : ℕ) → made ≡ Err why → n ≡ refusal_no why → n ≡ answer_no (new_of w)
+  new_refused why n z is = is ∙ ap answer_no (made_at (Err why) z)
 
-  pub new_given : (p : Presence) → made ≡ Ready'.Record p → 0x9000 ≡ answer_no (new_of w)
-  new_given p z = ap answer_no (made_at (Ready'.Record p) z)
+  pub new_given : (p : Presence) → made ≡ Ok p → 0x9000 ≡ answer_no (new_of w)
+  new_given p z = ap answer_no (made_at (Ok p) z)
 
   module _ (kept : Presence) where
-    pub new_kept : (why : Refusal) → made ≡ Ready'.Refused why → kept ≡ made_over (new_of w) kept
-    new_kept why z = ap (λ (o : Outcome Presence). made_over o kept) (made_at (Ready'.Refused why) z)
+    pub new_kept : (why : Refusal) → made ≡ Err why → kept ≡ made_over (new_of w) kept
+    new_kept why z = ap (λ (o : Outcome Presence). made_over o kept) (made_at (Err why) z)
 
-    pub new_made : (p q : Presence) → made ≡ Ready'.Record p → q ≡ fresh w → q ≡ made_over (new_of w) kept
+    pub new_made : (p q : Presence) → made ≡ Ok p → q ≡ fresh w → q ≡ made_over (new_of w) kept
     unfolding new_of
-    new_made p q z is = is ∙ by (is_r6 w) (made_at (Ready'.Record p) z)
+    new_made p q z is = is ∙ by (is_r6 w) (made_at (Ok p) z)
       where
         by : (b : Bool) → Gives p ≡ (when b then R 6 else Gives (fresh w)) → fresh w ≡ made_over (when b then R 6 else Gives (fresh w)) kept
         by true e = absurd (r_gives _ _ (sym e))
@@ -249,34 +242,34 @@ module _ (n : List ℕ) (held : Presence) (is_held_lem : held ≡ presence_in n)
   settles_at : (d : Ready) → ready ≡ d → ready_of d ≡ settle_of (presence_in n) side t
   settles_at d z = ap ready_of (sym z) ∙ settles
 
-  told_refused : (why : Refusal) → ready ≡ Ready'.Refused why → (go : Presence → Told) → record { outcome = R (refusal_no why); presence = presence_in n } ≡ on_settled (presence_in n) (settle_of (presence_in n) side t) go
-  told_refused why z go = ap (λ (o : Outcome Presence). on_settled (presence_in n) o go) (settles_at (Ready'.Refused why) z)
+  told_refused : (why : Refusal) → ready ≡ Err why → (go : Presence → Told) → record { outcome = R (refusal_no why); presence = presence_in n } ≡ on_settled (presence_in n) (settle_of (presence_in n) side t) go
+  told_refused why z go = ap (λ (o : Outcome Presence). on_settled (presence_in n) o go) (settles_at (Err why) z)
 
-  told_moved : (q : Presence) → ready ≡ Ready'.Record q → (go : Presence → Told) → go (moved_to (presence_in n) t) ≡ on_settled (presence_in n) (settle_of (presence_in n) side t) go
+  told_moved : (q : Presence) → ready ≡ Ok q → (go : Presence → Told) → go (moved_to (presence_in n) t) ≡ on_settled (presence_in n) (settle_of (presence_in n) side t) go
   told_moved q z go =
-      ap go (sym (settles_moved (presence_in n) side t q (settles_at (Ready'.Record q) z)).0) ∙ ap (λ (o : Outcome Presence). on_settled (presence_in n) o go) (settles_at (Ready'.Record q) z)
+      ap go (sym (settles_moved (presence_in n) side t q (settles_at (Ok q) z)).0) ∙ ap (λ (o : Outcome Presence). on_settled (presence_in n) o go) (settles_at (Ok q) z)
 
-  early : (q : Presence) → ready ≡ Ready'.Record q → t < 2 ^ 48
-  early q z = (settles_moved (presence_in n) side t q (settles_at (Ready'.Record q) z)).1
+  early : (q : Presence) → ready ≡ Ok q → t < 2 ^ 48
+  early q z = (settles_moved (presence_in n) side t q (settles_at (Ok q) z)).1
 
-  checks_refused : (why : Refusal) → ready ≡ Ready'.Refused why → record { outcome = R (refusal_no why); presence = presence_in n } ≡ check_of (presence_in n) side t
+  checks_refused : (why : Refusal) → ready ≡ Err why → record { outcome = R (refusal_no why); presence = presence_in n } ≡ check_of (presence_in n) side t
   unfolding check_of
   checks_refused why z = told_refused why z (λ q. gave (checked_of q side t))
 
-  pub check_refused : (why : Refusal) (r : Asked) → ready ≡ Ready'.Refused why → r ≡ asked_numbers (R (refusal_no why)) → r ≡ asked_numbers (check_of (presence_in n) side t).outcome
+  pub check_refused : (why : Refusal) (r : Asked) → ready ≡ Err why → r ≡ asked_numbers (R (refusal_no why)) → r ≡ asked_numbers (check_of (presence_in n) side t).outcome
   check_refused why r z is = is ∙ ap (λ (x : Told). asked_numbers x.outcome) (checks_refused why z)
 
-  pub check_kept : (why : Refusal) → ready ≡ Ready'.Refused why → presence_in n ≡ (check_of (presence_in n) side t).presence
+  pub check_kept : (why : Refusal) → ready ≡ Err why → presence_in n ≡ (check_of (presence_in n) side t).presence
   check_kept why z = ap (λ (x : Told). x.presence) (checks_refused why z)
 
-  checks_found : (q : Presence) → ready ≡ Ready'.Record q → gave (checked_in (moved_to (presence_in n) t) side t) ≡ check_of (presence_in n) side t
+  checks_found : (q : Presence) → ready ≡ Ok q → gave (checked_in (moved_to (presence_in n) t) side t) ≡ check_of (presence_in n) side t
   unfolding check_of
   checks_found q z = ap gave (checked_below (moved_to (presence_in n) t) side t (early q z)) ∙ told_moved q z (λ p. gave (checked_of p side t))
 
-  pub check_found : (q : Presence) (found : Bool) (r : Asked) → ready ≡ Ready'.Record q → found ≡ (checked_in (moved_to (presence_in n) t) side t).yes → r ≡ asked_numbers (Gives found) → r ≡ asked_numbers (check_of (presence_in n) side t).outcome
+  pub check_found : (q : Presence) (found : Bool) (r : Asked) → ready ≡ Ok q → found ≡ (checked_in (moved_to (presence_in n) t) side t).yes → r ≡ asked_numbers (Gives found) → r ≡ asked_numbers (check_of (presence_in n) side t).outcome
   check_found q found r z y is = is ∙ ap (λ (b : Bool). asked_numbers (Gives b)) y ∙ ap (λ (x : Told). asked_numbers x.outcome) (checks_found q z)
 
-  pub check_moved : (q after : Presence) → ready ≡ Ready'.Record q → after ≡ (checked_in (moved_to (presence_in n) t) side t).presence → after ≡ (check_of (presence_in n) side t).presence
+  pub check_moved : (q after : Presence) → ready ≡ Ok q → after ≡ (checked_in (moved_to (presence_in n) t) side t).presence → after ≡ (check_of (presence_in n) side t).presence
   check_moved q after z is = is ∙ ap (λ (x : Told). x.presence) (checks_found q z)
 
 -- a touch settles as the record's own side
@@ -284,26 +277,26 @@ module _ (n : List ℕ) (held : Presence) (is_held_lem : held ≡ presence_in n)
   own_side : ready_of ready ≡ settle_of (presence_in n) (presence_in n).asker t
   own_side = is_ready ∙ ap (λ (p : Presence). settle_of p p.asker t) is_held_lem
 
-  touches_refused : (why : Refusal) → ready ≡ Ready'.Refused why → record { outcome = R (refusal_no why); presence = presence_in n } ≡ touch_of (presence_in n) t
+  touches_refused : (why : Refusal) → ready ≡ Err why → record { outcome = R (refusal_no why); presence = presence_in n } ≡ touch_of (presence_in n) t
   unfolding touch_of
   touches_refused why z = told_refused n (presence_in n) refl (presence_in n).asker t ready own_side why z (λ q. gave (granted_of q t))
 
-  pub touch_refused : (why : Refusal) (r : Asked) → ready ≡ Ready'.Refused why → r ≡ asked_numbers (R (refusal_no why)) → r ≡ asked_numbers (touch_of (presence_in n) t).outcome
+  pub touch_refused : (why : Refusal) (r : Asked) → ready ≡ Err why → r ≡ asked_numbers (R (refusal_no why)) → r ≡ asked_numbers (touch_of (presence_in n) t).outcome
   touch_refused why r z is = is ∙ ap (λ (x : Told). asked_numbers x.outcome) (touches_refused why z)
 
-  pub touch_kept : (why : Refusal) → ready ≡ Ready'.Refused why → presence_in n ≡ (touch_of (presence_in n) t).presence
+  pub touch_kept : (why : Refusal) → ready ≡ Err why → presence_in n ≡ (touch_of (presence_in n) t).presence
   touch_kept why z = ap (λ (x : Told). x.presence) (touches_refused why z)
 
-  touches_found : (q : Presence) → ready ≡ Ready'.Record q → gave (granted_in (moved_to (presence_in n) t) t) ≡ touch_of (presence_in n) t
+  touches_found : (q : Presence) → ready ≡ Ok q → gave (granted_in (moved_to (presence_in n) t) t) ≡ touch_of (presence_in n) t
   unfolding touch_of
   touches_found q z =
       ap gave (granted_below (moved_to (presence_in n) t) t (early n (presence_in n) refl (presence_in n).asker t ready own_side q z))
       ∙ told_moved n (presence_in n) refl (presence_in n).asker t ready own_side q z (λ p. gave (granted_of p t))
 
-  pub touch_found : (q : Presence) (found : Bool) (r : Asked) → ready ≡ Ready'.Record q → found ≡ (granted_in (moved_to (presence_in n) t) t).yes → r ≡ asked_numbers (Gives found) → r ≡ asked_numbers (touch_of (presence_in n) t).outcome
+  pub touch_found : (q : Presence) (found : Bool) (r : Asked) → ready ≡ Ok q → found ≡ (granted_in (moved_to (presence_in n) t) t).yes → r ≡ asked_numbers (Gives found) → r ≡ asked_numbers (touch_of (presence_in n) t).outcome
   touch_found q found r z y is = is ∙ ap (λ (b : Bool). asked_numbers (Gives b)) y ∙ ap (λ (x : Told). asked_numbers x.outcome) (touches_found q z)
 
-  pub touch_moved : (q after : Presence) → ready ≡ Ready'.Record q → after ≡ (granted_in (moved_to (presence_in n) t) t).presence → after ≡ (touch_of (presence_in n) t).presence
+  pub touch_moved : (q after : Presence) → ready ≡ Ok q → after ≡ (granted_in (moved_to (presence_in n) t) t).presence → after ≡ (touch_of (presence_in n) t).presence
   touch_moved q after z is = is ∙ ap (λ (x : Told). x.presence) (touches_found q z)
 
 pub ask_at : (n : List ℕ) (held : Presence) (t : ℕ) (a : Answer) (r : Asked) → held ≡ presence_in n → r ≡ asked_numbers (outcome_of a) → outcome_of a ≡ (ask_of held t).outcome → r ≡ asked_numbers (ask_of (presence_in n) t).outcome
@@ -311,12 +304,12 @@ ask_at n held t a r is_held_lem is e = is ∙ ap asked_numbers e ∙ ap (λ (p :
 
 -- ---- numbers that stand for cases
 -- a kind's number is that kind
-pub kinded : (k : Kind) (number : ℕ) → number ≡ kind_no k → Kinded'.As k ≡ kind_of number
+pub kinded : (k : Kind) (number : ℕ) → number ≡ kind_no k → Some k ≡ kind_of number
 unfolding kind_of
 kinded Kind'.Register number e = rw e
 kinded Kind'.Authenticate number e = rw e
 
-pub no_kind : (number : ℕ) → (number ≡ 1 → ⊥) → (number ≡ 2 → ⊥) → Kinded'.Nothing ≡ kind_of number
+pub no_kind : (number : ℕ) → (number ≡ 1 → ⊥) → (number ≡ 2 → ⊥) → None ≡ kind_of number
 unfolding kind_of
 no_kind number a b = rw (ne_eqb number 1 a, ne_eqb number 2 b)
 
@@ -409,27 +402,27 @@ module _ (answer : DecisionAnswer) (top : Head) (used : Bool) (q : Presence) (bl
 
 -- ---- responses and parts
 module _ (read : ReadResponse) where
-  pub response_refused : (why : Refusal) (n : ℕ) → read ≡ ReadResponse'.Refused why → n ≡ refusal_no why → ◌≡◌ {A = ResponseSaid} (record { answer = n; status = 0; length = 0 }) (response_numbers (response_read read))
+  pub response_refused : (why : Refusal) (n : ℕ) → read ≡ Err why → n ≡ refusal_no why → ◌≡◌ {A = ResponseSaid} (record { answer = n; status = 0; length = 0 }) (response_numbers (response_read read))
   response_refused why n z is = rw (is, z)
 
-  pub response_read_lem : (long status : ℕ) → read ≡ ReadResponse'.Response long status → ◌≡◌ {A = ResponseSaid} (record { answer = 0x9000; status = status; length = long }) (response_numbers (response_read read))
-  response_read_lem long status z = rw z
+  pub response_read_lem : (r : Response) → read ≡ Ok r → ◌≡◌ {A = ResponseSaid} (record { answer = 0x9000; status = r.status; length = r.length }) (response_numbers (response_read read))
+  response_read_lem r z = rw z
 
 module _ (written : WroteResponse) where
-  pub response_unwritten : (why : Refusal) (n : ℕ) → written ≡ WroteResponse'.Refused why → n ≡ refusal_no why → ◌≡◌ {A = Wrote} (record { answer = n; length = 0 }) (length_numbers (response_written written))
+  pub response_unwritten : (why : Refusal) (n : ℕ) → written ≡ Err why → n ≡ refusal_no why → ◌≡◌ {A = Wrote} (record { answer = n; length = 0 }) (length_numbers (response_written written))
   response_unwritten why n z is = rw (is, z)
 
-  pub response_wrote : (long : ℕ) → written ≡ WroteResponse'.Response long → ◌≡◌ {A = Wrote} (record { answer = 0x9000; length = long }) (length_numbers (response_written written))
+  pub response_wrote : (long : ℕ) → written ≡ Ok long → ◌≡◌ {A = Wrote} (record { answer = 0x9000; length = long }) (length_numbers (response_written written))
   response_wrote long z = rw z
 
 pub refused_part : (why : Refusal) (n : ℕ) → n ≡ refusal_no why → ◌≡◌ {A = Wrote} (record { answer = n; length = 0 }) (record { answer = refusal_no why; length = 0 })
 refused_part why n is = rw is
 
 module _ (room : ResponseRoom) where
-  pub room_refused : (why : Refusal) (n : ℕ) → room ≡ ResponseRoom'.Refused why → n ≡ refusal_no why → ◌≡◌ {A = RoomSaid} (record { answer = n; length = 0 }) (room_numbers (room_said room))
+  pub room_refused : (why : Refusal) (n : ℕ) → room ≡ Err why → n ≡ refusal_no why → ◌≡◌ {A = RoomSaid} (record { answer = n; length = 0 }) (room_numbers (room_said room))
   room_refused why n z is = rw (is, z)
 
-  pub room_bytes : (n : ℕ) → room ≡ ResponseRoom'.Bytes n → ◌≡◌ {A = RoomSaid} (record { answer = 0x9000; length = n }) (room_numbers (room_said room))
+  pub room_bytes : (n : ℕ) → room ≡ Ok n → ◌≡◌ {A = RoomSaid} (record { answer = 0x9000; length = n }) (room_numbers (room_said room))
   room_bytes n z = rw z
 
 -- the next part of what the session says remains
@@ -440,30 +433,30 @@ module _ (session body old : List ℕ) (k : Remainder) (limit : ℕ) (is_k : k �
   sends_at : (d : NextPart) → next ≡ d → part_sent d ≡ (sending_of body (remainder_in session) (get_or session 2 0) old).0
   sends_at d z = ap part_sent (sym z) ∙ sends
 
-  pub next_refused : (why : Refusal) (r : Wrote) → next ≡ NextPart'.Refused why → r ≡ record { answer = refusal_no why; length = 0 } → r ≡ sent_numbers (sending_of body (remainder_in session) (get_or session 2 0) old).0
-  next_refused why r z e = e ∙ ap sent_numbers (sends_at (NextPart'.Refused why) z)
+  pub next_refused : (why : Refusal) (r : Wrote) → next ≡ Err why → r ≡ record { answer = refusal_no why; length = 0 } → r ≡ sent_numbers (sending_of body (remainder_in session) (get_or session 2 0) old).0
+  next_refused why r z e = e ∙ ap sent_numbers (sends_at (Err why) z)
 
-  pub next_kept : (why : Refusal) → next ≡ NextPart'.Refused why → session_in session ≡ sent_over (sending_of body (remainder_in session) (get_or session 2 0) old).0 (session_in session)
-  next_kept why z = ap (λ (o : Outcome Sent). sent_over o (session_in session)) (sends_at (NextPart'.Refused why) z)
+  pub next_kept : (why : Refusal) → next ≡ Err why → session_in session ≡ sent_over (sending_of body (remainder_in session) (get_or session 2 0) old).0 (session_in session)
+  next_kept why z = ap (λ (o : Outcome Sent). sent_over o (session_in session)) (sends_at (Err why) z)
 
-  pub next_sent : (n : ℕ) (left : Remainder) (r : Wrote) → next ≡ NextPart'.Part n left → r ≡ record { answer = 0x9000; length = n } → r ≡ sent_numbers (sending_of body (remainder_in session) (get_or session 2 0) old).0
-  next_sent n left r z e = e ∙ ap sent_numbers (sends_at (NextPart'.Part n left) z)
+  pub next_sent : (sent : Sent) (r : Wrote) → next ≡ Ok sent → r ≡ record { answer = 0x9000; length = sent.length } → r ≡ sent_numbers (sending_of body (remainder_in session) (get_or session 2 0) old).0
+  next_sent sent r z e = e ∙ ap sent_numbers (sends_at (Ok sent) z)
 
-  pub next_left : (n : ℕ) (left : Remainder) (s : Session) → next ≡ NextPart'.Part n left → s ≡ record { remainder = left; limit = limit } → s ≡ sent_over (sending_of body (remainder_in session) (get_or session 2 0) old).0 (session_in session)
-  next_left n left s z e = e ∙ ap (λ (m : ℕ). record { remainder = left; limit = m }) is_limit ∙ ap (λ (o : Outcome Sent). sent_over o (session_in session)) (sends_at (NextPart'.Part n left) z)
+  pub next_left : (sent : Sent) (s : Session) → next ≡ Ok sent → s ≡ record { remainder = sent.remainder; limit = limit } → s ≡ sent_over (sending_of body (remainder_in session) (get_or session 2 0) old).0 (session_in session)
+  next_left sent s z e = e ∙ ap (λ (m : ℕ). record { remainder = sent.remainder; limit = m }) is_limit ∙ ap (λ (o : Outcome Sent). sent_over o (session_in session)) (sends_at (Ok sent) z)
 
   pub next_laid : (new : List ℕ) → new ≡ (sending_of body k limit old).1 → new ≡ (sending_of body (remainder_in session) (get_or session 2 0) old).1
   next_laid new e = e ∙ ap₂ (λ (r : Remainder) (n : ℕ). (sending_of body r n old).1) is_k is_limit
 
 -- ---- finishing
 module _ (finished : Finished) where
-  pub finished_refused : (why : Refusal) (n : ℕ) → finished ≡ Finished'.Refused why → n ≡ refusal_no why → ◌≡◌ {A = Wrote} (record { answer = n; length = 0 }) (length_numbers (finished_of finished))
+  pub finished_refused : (why : Refusal) (n : ℕ) → finished ≡ Err (NotDone'.Refused why) → n ≡ refusal_no why → ◌≡◌ {A = Wrote} (record { answer = n; length = 0 }) (length_numbers (finished_of finished))
   finished_refused why n z is = rw (is, z)
 
-  pub finished_status : (s : ApduStatusCode) (n : ℕ) → finished ≡ Finished'.Status s → n ≡ status_no s → ◌≡◌ {A = Wrote} (record { answer = n; length = 0 }) (length_numbers (finished_of finished))
+  pub finished_status : (s : ApduStatusCode) (n : ℕ) → finished ≡ Err (NotDone'.Status s) → n ≡ status_no s → ◌≡◌ {A = Wrote} (record { answer = n; length = 0 }) (length_numbers (finished_of finished))
   finished_status s n z is = rw (is, z)
 
-  pub finished_body : (n : ℕ) → finished ≡ Finished'.Body n → ◌≡◌ {A = Wrote} (record { answer = 0x9000; length = n }) (length_numbers (finished_of finished))
+  pub finished_body : (n : ℕ) → finished ≡ Ok n → ◌≡◌ {A = Wrote} (record { answer = 0x9000; length = n }) (length_numbers (finished_of finished))
   finished_body n z = rw z
 
 -- the order as numbers, and what signing's finishing is then lent
@@ -476,14 +469,14 @@ finishing kind n block certificate signed signature reply =
     record { order = order_from kind n block; certificate = certificate; signed = signed; signature = signature; reply = reply }
 
 module _ (n : OrderNumbers) (block certificate : List ℕ) (signed : ℕ) (signature reply : List ℕ) (kinded : Kinded) (is_kinded : kinded ≡ kind_of n.kind) where
-  module _ (kind : Kind) (finished : Finished) (new : List ℕ) (z : kinded ≡ Kinded'.As kind) (does : Finishes (finishing kind n block certificate (is_yes signed) signature reply) finished new) where
+  module _ (kind : Kind) (finished : Finished) (new : List ℕ) (z : kinded ≡ Some kind) (does : Finishes (finishing kind n block certificate (is_yes signed) signature reply) finished new) where
     pub finish_as : (r : Wrote) → r ≡ length_numbers (finished_of finished) → r ≡ length_numbers (length_of (finish_numbered (to_finish n block certificate signed signature reply)))
     finish_as r is = is ∙ ap length_numbers does.says ∙ rw (← is_kinded, z)
 
     pub reply_as : new ≡ reply_of (finish_numbered (to_finish n block certificate signed signature reply)) reply
     reply_as = does.leaves ∙ rw (← is_kinded, z)
 
-  module _ (z : kinded ≡ Kinded'.Nothing) where
+  module _ (z : kinded ≡ None) where
     pub finish_none : ◌≡◌ {A = Wrote} (record { answer = 7; length = 0 }) (length_numbers (length_of (finish_numbered (to_finish n block certificate signed signature reply))))
     finish_none = rw (← is_kinded, z)
 

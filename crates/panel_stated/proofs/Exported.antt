@@ -16,7 +16,7 @@ use Rattle.apdu_stated.specs.Writing.{Parts, parts_of, writing_by}
 use Rattle.apdu_stated.specs.Claims as Frames
 use Rattle.apdu_stated.proofs.Laws.{TableOf, CarryOf, same_reading, write_exactly, same_writing}
 use Rattle.response_stated.specs.declared.Remainder.{Remainder}
-use Rattle.response_stated.specs.Words.{Sent}
+use Rattle.response_stated.specs.declared.Sent.{Sent}
 use Rattle.response_stated.specs.Terms.{Sender, sending, writing_of, sending_of}
 use Rattle.response_stated.specs.Claims as Responses
 use Rattle.response_stated.specs.Parts.{limit_of, response_room_of}
@@ -30,8 +30,8 @@ use Rattle.ctap1_stated.specs.Session.{is_get_response, remainder_after}
 use Rattle.panel_stated.specs.Promises.{BrinecandleNextPart}
 use Rattle.panel_stated.proofs.Lists.{record_back}
 use Rattle.panel_stated.specs.Numbers.{decided_no, presence_numbers, session_numbers, shape_of}
-use Rattle.panel_stated.specs.declared.Shaped.{Shaped}
-use Rattle.panel_stated.specs.declared.Shaped.TheVariants as Shaped'
+use Rattle.panel_stated.specs.Words.{Shaped}
+use Rattle.std.specs.Prelude.{None}
 use Rattle.panel_stated.specs.Exports.{ToWrite, frame_numbers, reads_of, write_as, buffer_as, writes_of, ToDecide, AfterDeciding, AfterPart, length_numbers, sent_numbers, sent_over, room_numbers, rooms_of, responds_of, decided_by, session_by, decides_of}
 use Rattle.panel_stated.specs.Terms.{NoShape, IsNumbered}
 use Rattle.panel_stated.specs.Claims
@@ -176,7 +176,7 @@ reader_exported entry =
       status = λ reader x frame bytes w e. ap frame_numbers (sym (same_reading entry reader x frame bytes) ∙ e);
     }
 
-pub writer_exported : (entry : Entry) → ((w : ToWrite) → NoShape w.shape → shape_of w.shape ≡ Shaped'.Nothing) → Claims.WriterExported (Frames.WriteExactly (CarryOf entry) (TableOf entry)) (writes_of entry)
+pub writer_exported : (entry : Entry) → ((w : ToWrite) → NoShape w.shape → shape_of w.shape ≡ None) → Claims.WriterExported (Frames.WriteExactly (CarryOf entry) (TableOf entry)) (writes_of entry)
 writer_exported entry none =
     record {
       given = λ writer x w s n e g. let same = by_shape writer x w s e in

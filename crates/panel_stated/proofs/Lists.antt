@@ -5,13 +5,13 @@ use mathlib.Core.List.{List, [], ◌∷◌}
 use native.Mathlib.Omega.{arith}
 use lib.ListN.{length, get_or}
 use Rattle.u2f_up_stated.specs.Numbers.{window_of}
-use Rattle.panel_stated.specs.Words.{Window, Closed, Opened, Presence, Session, presence_in, session_in}
+use Rattle.panel_stated.specs.Words.{Window, None, Some, Presence, Session, presence_in, session_in}
 use Rattle.panel_stated.specs.Numbers.{window_no, presence_numbers, session_numbers}
 use Rattle.panel_stated.specs.Terms.{SameNumbers}
 
 window_back : (w : Window) → window_of (window_no w) ≡ w
-window_back Closed = refl
-window_back (Opened m) = refl
+window_back None = refl
+window_back (Some m) = refl
 
 number_back_lem : (n : ℕ) → window_no (window_of n) ≡ n
 number_back_lem zero = refl

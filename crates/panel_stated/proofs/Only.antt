@@ -25,7 +25,8 @@ use Rattle.ctap1_stated.specs.Words.{DecisionGives, Body, Ordered, Part, Decisio
 use Rattle.ctap1_stated.specs.Path.{frame_limit}
 use Rattle.ctap1_stated.specs.Terms.{HasInsC0}
 use Rattle.ctap1_stated.proofs.Laws.{sound, limits_exactly, Asked, is_refused, is_word, is_part, asked}
-use Rattle.response_stated.specs.Words.{Sent, rest}
+use Rattle.response_stated.specs.Words.{rest}
+use Rattle.response_stated.specs.declared.Sent.{Sent}
 use Rattle.response_stated.specs.Terms.{sending, sending_of, writing_of}
 use Rattle.response_stated.specs.Parts.{limit_of, part_length, next_part_of, response_room_of}
 use Rattle.response_stated.proofs.Laws.{next_exactly, room_exactly, writes_exactly, write_short, write_room, NextWay, short_body, short_buffer, given, next_way}

@@ -23,7 +23,7 @@ use Rattle.signing_stated.specs.Orders.{is_of_layout, certificate_length}
 use Rattle.signing_stated.specs.Finishing.{Finishing, finish_of, room_needed, register_room, authenticate_room}
 use Rattle.ctap1_stated.specs.declared.Allowed.{Allowed}
 use Rattle.ctap1_stated.specs.declared.Allowed.TheVariants as Allowed'
-use Rattle.response_stated.specs.Words.{Sent}
+use Rattle.response_stated.specs.declared.Sent.{Sent}
 use Rattle.response_stated.specs.declared.Remainder.{Remainder}
 use Rattle.response_stated.specs.Responses.{write_response_of, read_response_of}
 use Rattle.response_stated.specs.Parts.{limit_of, part_length, next_part_of, response_room_of}

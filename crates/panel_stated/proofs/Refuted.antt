@@ -15,7 +15,8 @@ use Rattle.octets.proofs.Laws.{small, bytes_of}
 use Rattle.apdu_stated.specs.Reading.{read_by, lengths_of, say_of, short_of, extended_of, after_data, data_of}
 use Rattle.panel_stated.specs.Terms.{nought, retired, above}
 use Rattle.u2f_up_stated.specs.Moments.{new_of, touch_of, check_of, settle_of, granted_of, checked_of, fresh}
-use Rattle.u2f_up_stated.specs.declared.Window.TheVariants.{Closed, Opened}
+use Rattle.std.specs.Prelude.{None, Some}
+use Rattle.u2f_up_stated.specs.Words.{Window}
 use Rattle.u2f_up_stated.specs.declared.Presence.{Presence}
 use Rattle.ctap1_stated.specs.Words.{Ordered, Part, DecisionResult}
 use Rattle.ctap1_stated.specs.Path.{fetch_path, frame_limit, register_path, register_ending, enrolment_order, version_path, command_path, allowed_path, path_of}
@@ -23,7 +24,8 @@ use Rattle.ctap1_stated.specs.Decision.{decision_of}
 use Rattle.ctap1_stated.specs.Numbers.{allowed_of, attestation_of}
 use Rattle.ctap1_stated.proofs.Laws.{sound, limits_exactly}
 use Rattle.command_stated.specs.Command.{command_of, on_reading, by_instruction, register_of, version_of, get_response_of, application_of, challenge_of}
-use Rattle.response_stated.specs.Words.{rest, Sent}
+use Rattle.response_stated.specs.Words.{rest}
+use Rattle.response_stated.specs.declared.Sent.{Sent}
 use Rattle.response_stated.specs.Terms.{sending_of, writing_of}
 use Rattle.response_stated.specs.Parts.{part_length, next_part_of, limit_of, left_status, response_room_of}
 use Rattle.response_stated.specs.Responses.{write_response_of}
@@ -38,7 +40,6 @@ use Rattle.panel_stated.specs.Numbers.{answer_no, decided_no, shape_of, kind_of}
 use Rattle.panel_stated.specs.Exports.{ToWrite, ToDecide, write_numbered, finish_numbered, touches_of, checks_of, asks_of, decides_of, command_numbers}
 use Rattle.panel_stated.specs.Claims
 use Rattle.panel_stated.specs.Wrong
-use Rattle.panel_stated.specs.declared.Kinded.TheVariants as Kinded'
 
 -- ---- answers
 pub status_as9000 : Claims.AnswerTells Wrong.status_as9000 → ⊥
@@ -81,11 +82,11 @@ shape6_accepted p = let e = p.none 6 (retired refl) in let z : ◌≡◌ {A = �
 
 pub kinds_alike : Claims.KindNumbers Wrong.kinds_alike → ⊥
 kinds_alike p =
-    let e : Kinded'.As Kind'.Register ≡ Kinded'.As Kind'.Authenticate = p.authenticate in let z : ◌≡◌ {A = ℕ} 0 1 = cc in omega arith
+    let e : Some Kind'.Register ≡ Some Kind'.Authenticate = p.authenticate in let z : ◌≡◌ {A = ℕ} 0 1 = cc in omega arith
 
 pub unknown_is_authenticate : Claims.KindNumbers Wrong.unknown_is_authenticate → ⊥
 unknown_is_authenticate p =
-    let e : Kinded'.As Kind'.Authenticate ≡ Kinded'.Nothing = p.none 3 (inr (omega arith)) in let z : ◌≡◌ {A = ℕ} 0 1 = cc in omega arith
+    let e : Some Kind'.Authenticate ≡ None = p.none 3 (inr (omega arith)) in let z : ◌≡◌ {A = ℕ} 0 1 = cc in omega arith
 
 -- an Authenticate order of zeros
 abbrev login : Order
@@ -232,7 +233,7 @@ unfolding decision_of path_of allowed_path command_path version_path register_pa
 record_forgotten p =
     let i = lending (0x00 ∷ 0x01 ∷ 0x00 ∷ 0x00 ∷ 0x40 ∷ replicate 64 0x00) 1 (replicate 139 0) (rest 0 0) [] in
     let x = p.row i in
-    let e : Opened 0 ≡ Closed = ap (λ (q : Presence). q.touch) (x.3 ∙ ap (λ (r : DecisionResult). r.presence) (sym (sound _ _ _ x.0 x.1))) in
+    let e : ◌≡◌ {A = Window} (Some 0) None = ap (λ (q : Presence). q.touch) (x.3 ∙ ap (λ (r : DecisionResult). r.presence) (sym (sound _ _ _ x.0 x.1))) in
     let z : ◌≡◌ {A = ℕ} 0 1 = cc in
     omega arith
 

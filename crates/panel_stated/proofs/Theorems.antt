@@ -32,10 +32,9 @@ use Rattle.panel_stated.specs.Exports.{ToWrite, ToDecide, ToFinish, write_as, fi
 use Rattle.panel_stated.specs.Promises.{BrinecandleNew, BrinecandleDecide}
 use Rattle.panel_stated.specs.Claims
 use Rattle.panel_stated.specs.Terms.{SameNumbers, NoShape, nought, retired, above, IsNumbered, AfterMaking, AfterStep, AfterWriting, AfterDeciding, AfterPart, HasData, register, authenticate}
-use Rattle.panel_stated.specs.declared.Shaped.{Shaped}
-use Rattle.panel_stated.specs.declared.Shaped.TheVariants as Shaped'
-use Rattle.panel_stated.specs.declared.Kinded.{Kinded}
-use Rattle.panel_stated.specs.declared.Kinded.TheVariants as Kinded'
+use Rattle.panel_stated.specs.Words.{Shaped}
+use Rattle.std.specs.Prelude.{Some, None}
+use Rattle.panel_stated.specs.Words.{Kinded}
 use Rattle.panel_stated.proofs.Cases
 use Rattle.panel_stated.proofs.Lists.{record_back, same_record, same_session, three_apart}
 use Rattle.panel_stated.proofs.Outcomes
@@ -62,12 +61,12 @@ EveryOutcomeNumbered =
     }
   where
     write : (entry : Entry) (s : Shaped) (w : ToWrite) → IsNumbered (write_as entry s w)
-    write entry (Shaped'.As s) w = Outcomes.write_said entry (parts_of w.header s w.content w.le) (length w.out)
-    write entry Shaped'.Nothing w = (omega arith, omega arith)
+    write entry (Some s) w = Outcomes.write_said entry (parts_of w.header s w.content w.le) (length w.out)
+    write entry None w = (omega arith, omega arith)
 
     finish : (k : Kinded) (i : ToFinish) → IsNumbered (finish_as k i)
-    finish (Kinded'.As k) i = Outcomes.finish_said _
-    finish Kinded'.Nothing i = (omega arith, omega arith)
+    finish (Some k) i = Outcomes.finish_said _
+    finish None i = (omega arith, omega arith)
 
 same_number : {A : Type 0} (v w : StatusWord) → ◌≡◌ {A = Outcome A} (Word v) (Word w) → v.number ≡ w.number
 same_number v w e = ap (λ (s : StatusWord). s.number) (word_same v w e)
@@ -153,12 +152,12 @@ NoAnswerIs0 = record { answered = answered; decision = decision }
     decision (Gives (Part n r)) h e = omega (arith, e)
 
 -- ---- numbers that stand for cases
-no_shape_at : (n : ℕ) → NoShape n → Shaped'.Nothing ≡ shape_of n
+no_shape_at : (n : ℕ) → NoShape n → None ≡ shape_of n
 no_shape_at n (nought z) = Cases.no_shape n (λ y. omega arith) (λ y. omega arith) (λ y. omega arith) (λ y. omega arith) (λ y. omega arith) (λ y. omega arith) (λ y. omega arith)
 no_shape_at n (retired z) = Cases.no_shape n (λ y. omega arith) (λ y. omega arith) (λ y. omega arith) (λ y. omega arith) (λ y. omega arith) (λ y. omega arith) (λ y. omega arith)
 no_shape_at n (above h) = Cases.no_shape n (λ y. omega arith) (λ y. omega arith) (λ y. omega arith) (λ y. omega arith) (λ y. omega arith) (λ y. omega arith) (λ y. omega arith)
 
-no_kind_at : (n : ℕ) → (n ≡ 0) ⊎ (3 ≤ n) → Kinded'.Nothing ≡ kind_of n
+no_kind_at : (n : ℕ) → (n ≡ 0) ⊎ (3 ≤ n) → None ≡ kind_of n
 no_kind_at n (inl z) = Cases.no_kind n (λ y. omega arith) (λ y. omega arith)
 no_kind_at n (inr h) = Cases.no_kind n (λ y. omega arith) (λ y. omega arith)
 

@@ -1,7 +1,7 @@
 -- What is promised of the numbers that cross to C, of any function: proofs/Theorems.antt has that the definitions meet it,
 -- proofs/Only.antt that no others meet those that it names, proofs/Refuted.antt that the wrong programs of specs/Wrong.antt do not.
 use Rattle.std.specs.Prelude.{◌↔◌, ◌⊎◌, ◌∷◌, drop, ◌≡◌, ◌≤◌, ◌<◌, ◌+◌}
-use Rattle.panel_stated.specs.Words.{ℕ, Bool, List, AtMostOne, StatusWord, Outcome, R, Word, Gives, HasStatus, last_refusal, Closed, Presence, Order, Head}
+use Rattle.panel_stated.specs.Words.{ℕ, Bool, List, AtMostOne, StatusWord, Outcome, R, Word, Gives, HasStatus, last_refusal, None, Presence, Order, Head}
 use Rattle.panel_stated.specs.Words.{Instruction, Le1, Lc1Data, Lc1DataLe1, Lc3Data, Lc3DataLe2, Le3}
 use Rattle.panel_stated.specs.Words.{OrderNumbers, Shaped, Kinded, presence_in, remainder_in, session_in, hardware_in, frame_room_of}
 use Rattle.panel_stated.specs.Words.{FrameSaid, CommandSaid, Wrote, Asked, DecisionSaid, ResponseSaid, RoomSaid}
@@ -26,14 +26,13 @@ use Rattle.outcome.specs.declared.ApduStatusCode.{ApduStatusCode}
 use Rattle.outcome.specs.declared.Refusal.{Refusal}
 use Rattle.apdu_stated.specs.declared.Apdu.{Apdu}
 use Rattle.command_stated.specs.Command.{CommandReading}
-use Rattle.u2f_up_stated.specs.declared.Answer.{Answer}
-use Rattle.signing_stated.specs.declared.Finished.{Finished}
-use Rattle.response_stated.specs.declared.ReadResponse.{ReadResponse}
-use Rattle.response_stated.specs.declared.WroteResponse.{WroteResponse}
-use Rattle.response_stated.specs.declared.ResponseRoom.{ResponseRoom}
+use Rattle.u2f_up_stated.specs.Words.{Answer}
+use Rattle.signing_stated.specs.Words.{Finished}
+use Rattle.response_stated.specs.Words.{ReadResponse}
+use Rattle.response_stated.specs.Words.{WroteResponse}
+use Rattle.response_stated.specs.Words.{ResponseRoom}
 use Rattle.signing_stated.specs.declared.Kind.TheVariants as Kind'
-use Rattle.panel_stated.specs.declared.Shaped.TheVariants as Shaped'
-use Rattle.panel_stated.specs.declared.Kinded.TheVariants as Kinded'
+use Rattle.std.specs.Prelude.{Some}
 
 -- ---- one answer number says which answer it is
 
@@ -86,7 +85,7 @@ pub record NoAnswerIs0 (answer : Outcome Bool → ℕ) (decided : Outcome Decisi
 -- record with R6 (`clears_at_r6`) fails it, and one that looks at 16 bits of W (`made_from16_bits`).
 pub record MakeExported (make : (presence : List ℕ) (w : ℕ) → AfterMaking) : Type 0 where
   pub made : (n : List ℕ) (w : ℕ) → 1 ≤ w → w ≤ 60000
-      → ((make n w).said ≡ 0x9000) × (presence_in (make n w).presence ≡ record { w = w; prompt = Closed; touch = Closed; last = 0; asker = 0 })
+      → ((make n w).said ≡ 0x9000) × (presence_in (make n w).presence ≡ record { w = w; prompt = None; touch = None; last = 0; asker = 0 })
   pub refused : (n : List ℕ) (w : ℕ) → (w ≡ 0) ⊎ (60000 < w) → ((make n w).said ≡ 6) × SameNumbers 5 (make n w).presence n
 
 -- "An R refusal changes no buffer and no record", said of the numbers: after a refusal the record that was lent is as it was, number by number, and after a
@@ -112,21 +111,21 @@ pub record SideCrosses (touch : (presence : List ℕ) (t : ℕ) → AfterStep) (
 -- 01, 'Eight frame shapes', the column "no"; ours: a shape number outside 1..8 is R5; 02, E13: number 6 is no shape's, the
 -- others keep theirs. A table that takes 0 for Instruction (`shape0_accepted`) fails it, and one that takes the retired 6 for shape 7 (`shape6_accepted`).
 pub record ShapeNumbers (shape : ℕ → Shaped) : Type 0 where
-  pub instruction : shape 1 ≡ Shaped'.As Instruction
-  pub le1 : shape 2 ≡ Shaped'.As Le1
-  pub lc1_data : shape 3 ≡ Shaped'.As Lc1Data
-  pub lc1_data_le1 : shape 4 ≡ Shaped'.As Lc1DataLe1
-  pub lc3_data : shape 5 ≡ Shaped'.As Lc3Data
-  pub lc3_data_le2 : shape 7 ≡ Shaped'.As Lc3DataLe2
-  pub le3 : shape 8 ≡ Shaped'.As Le3
-  pub none : (n : ℕ) → NoShape n → shape n ≡ Shaped'.Nothing
+  pub instruction : shape 1 ≡ Some Instruction
+  pub le1 : shape 2 ≡ Some Le1
+  pub lc1_data : shape 3 ≡ Some Lc1Data
+  pub lc1_data_le1 : shape 4 ≡ Some Lc1DataLe1
+  pub lc3_data : shape 5 ≡ Some Lc3Data
+  pub lc3_data_le2 : shape 7 ≡ Some Lc3DataLe2
+  pub le3 : shape 8 ≡ Some Le3
+  pub none : (n : ℕ) → NoShape n → shape n ≡ None
 
 -- Ours: over plain numbers any other kind is R7. A table that takes 2 for a Register (`kinds_alike`) fails it, and
 -- one that takes 3 and above for an Authenticate (`unknown_is_authenticate`).
 pub record KindNumbers (kind : ℕ → Kinded) : Type 0 where
-  pub register : kind 1 ≡ Kinded'.As Kind'.Register
-  pub authenticate : kind 2 ≡ Kinded'.As Kind'.Authenticate
-  pub none : (n : ℕ) → (n ≡ 0) ⊎ (3 ≤ n) → kind n ≡ Kinded'.Nothing
+  pub register : kind 1 ≡ Some Kind'.Register
+  pub authenticate : kind 2 ≡ Some Kind'.Authenticate
+  pub none : (n : ℕ) → (n ≡ 0) ⊎ (3 ≤ n) → kind n ≡ None
 
 -- Ours: a shape number outside 1..8 is R5, a kind other than 1 and 2 R7; 02, E13: for shape 6 "the writer R5". A writer that takes number 6 for
 -- shape 7 (`six_answered`) fails it, and a finisher that refuses an order of no kind for its room (`no_kind_is_r2`).

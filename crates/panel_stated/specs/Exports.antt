@@ -8,8 +8,7 @@ use Rattle.panel_stated.specs.Words.{kind_no, finish_of, DecisionGives, Body, Or
 pub use Rattle.panel_stated.specs.Words.{ToDecide}
 use Rattle.panel_stated.specs.Numbers.{answer_no, decided_no, fault_no, place_no, presence_numbers, session_numbers, is_yes, shape_of, kind_of, no_order}
 use Rattle.response_stated.specs.Terms.{writing_of, sending_of}
-use Rattle.panel_stated.specs.declared.Shaped.TheVariants as Shaped'
-use Rattle.panel_stated.specs.declared.Kinded.TheVariants as Kinded'
+use Rattle.std.specs.Prelude.{Some, None}
 
 -- ---- frames
 -- what a frame says, and where its data stands: "data comes back as a part of the caller's frame"
@@ -58,17 +57,17 @@ pub record ToWrite : Type 0 where
 
 -- 01: "It refuses (R5) exactly when data length or Le is not one that the shape can carry": where there is no shape, nothing is
 abbrev pub write_as : Entry → Shaped → ToWrite → Outcome ℕ
-write_as entry (Shaped'.As s) w = write_by entry (parts_of w.header s w.content w.le) (length w.out)
-write_as entry Shaped'.Nothing w = R 5
+write_as entry (Some s) w = write_by entry (parts_of w.header s w.content w.le) (length w.out)
+write_as entry None w = R 5
 
 abbrev pub buffer_as : Entry → Shaped → ToWrite → List ℕ
-buffer_as entry (Shaped'.As s) w = buffer_by entry (parts_of w.header s w.content w.le) w.out
-buffer_as entry Shaped'.Nothing w = w.out
+buffer_as entry (Some s) w = buffer_by entry (parts_of w.header s w.content w.le) w.out
+buffer_as entry None w = w.out
 
 -- whether the strict table has a row for so many bytes of data in a shape: 02, E4, "refuses .. Lc 0 in shape 7"
 abbrev pub strict_as : Shaped → ℕ → Bool
-strict_as (Shaped'.As s) count = in_row Strict s count
-strict_as Shaped'.Nothing count = false
+strict_as (Some s) count = in_row Strict s count
+strict_as None count = false
 
 -- by either table: "and is otherwise the writer"
 abbrev pub write_numbered : Entry → ToWrite → Outcome ℕ
@@ -282,8 +281,8 @@ order_from kind n block =
 
 -- ours: over plain numbers any other kind is R7
 abbrev pub finish_as : Kinded → ToFinish → Outcome (List ℕ)
-finish_as Kinded'.Nothing i = R 7
-finish_as (Kinded'.As kind) i =
+finish_as None i = R 7
+finish_as (Some kind) i =
     finish_of
     (record {
       order = order_from kind i.order i.block;

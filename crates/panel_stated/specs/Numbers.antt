@@ -3,12 +3,10 @@
 use Rattle.std.specs.Prelude.{◌∷◌}
 use Rattle.panel_stated.specs.Words.{ℕ, suc, List, [], eqb, when◌then◌else◌, Outcome, R, Word, Gives, Session}
 use Rattle.panel_stated.specs.Words.{Instruction, Le1, Lc1Data, Lc1DataLe1, Lc3Data, Lc3DataLe2, Le3}
-use Rattle.panel_stated.specs.Words.{Window, Closed, Opened, Presence}
+use Rattle.panel_stated.specs.Words.{Window, None, Some, Presence}
 pub use Rattle.ctap1_stated.specs.Numbers.{allowed_of, attestation_of, is_yes, counter_of, hardware_of}
 use Rattle.panel_stated.specs.Words.{OrderNumbers, Shaped, Kinded, DecisionGives, Body, Ordered, Part}
 use Rattle.signing_stated.specs.declared.Kind.TheVariants.{Register, Authenticate}
-use Rattle.panel_stated.specs.declared.Shaped.TheVariants as Shaped'
-use Rattle.panel_stated.specs.declared.Kinded.TheVariants as Kinded'
 
 -- ours: DECISIONS, one answer number: a refusal is its number, a status word is itself, and what was asked for comes with 9000
 abbrev pub answer_no : {A : Type 0} → Outcome A → ℕ
@@ -38,8 +36,8 @@ place_no (Gives a) = 0
 
 -- the numbers of a record, and of a session, in their order; what they stand for: `presence_in` (u2f_up_stated's Numbers.antt), `session_in` (session_stated's Held.antt)
 abbrev pub window_no : Window → ℕ
-window_no Closed = 0
-window_no (Opened m) = suc m
+window_no None = 0
+window_no (Some m) = suc m
 
 abbrev pub presence_numbers : Presence → List ℕ
 presence_numbers p = p.w ∷ window_no p.prompt ∷ window_no p.touch ∷ p.last ∷ p.asker ∷ []
@@ -51,21 +49,21 @@ session_numbers s = s.remainder.place ∷ s.remainder.count ∷ s.limit ∷ []
 -- R5", and the others keep their numbers
 unfoldable pub shape_of : ℕ → Shaped
 shape_of n =
-    when eqb n 1 then Shaped'.As Instruction
-    else when eqb n 2 then Shaped'.As Le1
-    else when eqb n 3 then Shaped'.As Lc1Data
-    else when eqb n 4 then Shaped'.As Lc1DataLe1
-    else when eqb n 5 then Shaped'.As Lc3Data
-    else when eqb n 7 then Shaped'.As Lc3DataLe2
-    else when eqb n 8 then Shaped'.As Le3
-    else Shaped'.Nothing
+    when eqb n 1 then Some Instruction
+    else when eqb n 2 then Some Le1
+    else when eqb n 3 then Some Lc1Data
+    else when eqb n 4 then Some Lc1DataLe1
+    else when eqb n 5 then Some Lc3Data
+    else when eqb n 7 then Some Lc3DataLe2
+    else when eqb n 8 then Some Le3
+    else None
 
 -- an order's kind, by the INS of its command
 unfoldable pub kind_of : ℕ → Kinded
 kind_of n =
-    when eqb n 1 then Kinded'.As Register
-    else when eqb n 2 then Kinded'.As Authenticate
-    else Kinded'.Nothing
+    when eqb n 1 then Some Register
+    else when eqb n 2 then Some Authenticate
+    else None
 
 -- where there is no order
 abbrev pub no_order : OrderNumbers

@@ -12,15 +12,15 @@ use Rattle.command_stated.specs.Command.{command_said}
 use Rattle.command_stated.specs.Command.{CommandReading}
 use Rattle.u2f_up_stated.specs.Moments.{fresh}
 use Rattle.u2f_up_stated.specs.Answers.{outcome_of}
-use Rattle.u2f_up_stated.specs.declared.Answer.{Answer}
+use Rattle.u2f_up_stated.specs.Words.{Answer}
 use Rattle.outcome.specs.Outcome.{word_of, refusal_no}
 use Rattle.outcome.specs.declared.ApduStatusCode.{ApduStatusCode}
 use Rattle.outcome.specs.declared.Refusal.{Refusal}
 use Rattle.signing_stated.specs.Finishing.{finished_of}
-use Rattle.signing_stated.specs.declared.Finished.{Finished}
-use Rattle.response_stated.specs.declared.ReadResponse.{ReadResponse}
-use Rattle.response_stated.specs.declared.WroteResponse.{WroteResponse}
-use Rattle.response_stated.specs.declared.ResponseRoom.{ResponseRoom}
+use Rattle.signing_stated.specs.Words.{Finished}
+use Rattle.response_stated.specs.Words.{ReadResponse}
+use Rattle.response_stated.specs.Words.{WroteResponse}
+use Rattle.response_stated.specs.Words.{ResponseRoom}
 use Rattle.response_stated.specs.Words.{room_said}
 
 -- ---- panel_frames

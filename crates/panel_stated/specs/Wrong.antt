@@ -11,8 +11,7 @@ use Rattle.u2f_up_stated.specs.Moments.{moved_to}
 use Rattle.ctap1_stated.specs.Decision.{block_after}
 use Rattle.ctap1_stated.specs.Session.{part_left}
 use Rattle.signing_stated.specs.declared.Kind.TheVariants as Kind'
-use Rattle.panel_stated.specs.declared.Shaped.TheVariants as Shaped'
-use Rattle.panel_stated.specs.declared.Kinded.TheVariants as Kinded'
+use Rattle.std.specs.Prelude.{Some}
 use Rattle.std.specs.Prelude.{◌%◌, leb, length, replicate, ◌+◌, ◌-◌}
 
 -- ---- answers
@@ -98,11 +97,11 @@ side_cut_in_decide i = decides_of (lent_with i (i.side % 256) i.x i.y i.reply i.
 -- ---- numbers that stand for cases
 -- a shape number outside 1..8 is R5. Here 0 is taken for Instruction
 abbrev pub shape0_accepted : ℕ → Shaped
-shape0_accepted n = when eqb n 0 then Shaped'.As Instruction else shape_of n
+shape0_accepted n = when eqb n 0 then Some Instruction else shape_of n
 
 -- 02, E13, for shape 6 "the writer R5": 6 taken for shape 7
 abbrev pub shape6_accepted : ℕ → Shaped
-shape6_accepted n = when eqb n 6 then Shaped'.As Lc3DataLe2 else shape_of n
+shape6_accepted n = when eqb n 6 then Some Lc3DataLe2 else shape_of n
 
 abbrev six_as7 : ToWrite → ToWrite
 six_as7 w = record { header = w.header; shape = when eqb w.shape 6 then 7 else w.shape; content = w.content; le = w.le; out = w.out }
@@ -112,11 +111,11 @@ six_answered entry w = write_numbered entry (six_as7 w)
 
 -- an Authenticate order finished as a Register
 abbrev pub kinds_alike : ℕ → Kinded
-kinds_alike n = when eqb n 2 then Kinded'.As Kind'.Register else kind_of n
+kinds_alike n = when eqb n 2 then Some Kind'.Register else kind_of n
 
 -- over plain numbers any other kind is R7. Here 3 and above are taken for an Authenticate
 abbrev pub unknown_is_authenticate : ℕ → Kinded
-unknown_is_authenticate n = when leb 3 n then Kinded'.As Kind'.Authenticate else kind_of n
+unknown_is_authenticate n = when leb 3 n then Some Kind'.Authenticate else kind_of n
 
 -- an order's certificate length goes out as the number of bytes to sign
 abbrev pub certificate_length_as_to_sign : Outcome DecisionGives → Order → OrderNumbers

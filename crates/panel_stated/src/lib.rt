@@ -9,9 +9,6 @@
 // are stored at once.
 #![tactic(auto)]
 
-use apdu_stated::Case;
-use signing_stated::Kind;
-
 // The presence record's five numbers, by name. A window is 0 where it is closed, and otherwise the moment at which it was opened and one more. The asking side
 // is 0 or 1; it has 64 bits, and so has a side that a call names, so that no other number is cut down to one of the two.
 #[derive(Clone, Copy)]
@@ -114,18 +111,4 @@ pub struct ResponseSaid {
 pub struct RoomSaid {
     pub answer: u16,
     pub length: usize,
-}
-
-// A number that is a shape's, or none.
-#[derive(Clone, Copy)]
-pub enum Shaped {
-    As(Case),
-    Nothing,
-}
-
-// A number that is one of the two kinds', or none.
-#[derive(Clone, Copy)]
-pub enum Kinded {
-    As(Kind),
-    Nothing,
 }

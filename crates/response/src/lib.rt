@@ -8,7 +8,7 @@ ghost use Rattle.response_stated.specs.Promises.{Limit, Nothing, WriteResponse, 
 
 use apdu_stated::{Apdu, Case};
 use outcome::Refusal;
-pub use response_stated::{NextPart, ReadResponse, Remainder, ResponseRoom, WroteResponse};
+pub use response_stated::{Remainder, Response, Sent};
 
 // Done, and done with so many bytes waiting: 61 XX.
 const DONE: u16 = 0x9000;
@@ -60,30 +60,33 @@ pub fn nothing() -> Remainder
 }
 
 // Writes body and status at the front of out.
-pub fn write_response(body: &[u8], status: u16, out: &mut [u8]) -> WroteResponse
+pub fn write_response(body: &[u8], status: u16, out: &mut [u8]) -> Result<usize, Refusal>
     ensures { WriteResponse body.now status out.old result out.new }
 {
     let n = body.len();
     if out.len() < 2 {
-        return WroteResponse::Refused(Refusal::R2);
+        return Err(Refusal::R2);
     }
     if out.len() - 2 < n {
-        return WroteResponse::Refused(Refusal::R2);
+        return Err(Refusal::R2);
     }
     octets::put_long(out, body);
     octets::put_pair(&mut out[n..], status);
-    WroteResponse::Response(n + 2)
+    Ok(n + 2)
 }
 
 // Reads any bytes as a response.
-pub fn read_response(response: &[u8]) -> ReadResponse
+pub fn read_response(response: &[u8]) -> Result<Response, Refusal>
     ensures { ReadsResponse response.now result }
 {
     let n = response.len();
     if n < 2 {
-        return ReadResponse::Refused(Refusal::R2);
+        return Err(Refusal::R2);
     }
-    ReadResponse::Response(n - 2, octets::pair(response[n - 2], response[n - 1]))
+    Ok(Response {
+        length: n - 2,
+        status: octets::pair(response[n - 2], response[n - 1]),
+    })
 }
 
 // A response's body, as a part of it; empty where there is no response.
@@ -124,39 +127,41 @@ fn left_status(left: usize) -> u16
 }
 
 // Writes the next part of what remains of a body, with its status, at the front of out. A first part is the next one of (0, n).
-pub fn next_part(body: &[u8], remainder: Remainder, limit: u64, out: &mut [u8]) -> NextPart
+pub fn next_part(
+    body: &[u8],
+    remainder: Remainder,
+    limit: u64,
+    out: &mut [u8],
+) -> Result<Sent, Refusal>
     ensures { PartNext body.now remainder limit out.old result out.new }
 {
     let place = remainder.place;
     let count = remainder.count;
     if body.len() < count {
-        return NextPart::Refused(Refusal::R2);
+        return Err(Refusal::R2);
     }
     if body.len() - count < place {
-        return NextPart::Refused(Refusal::R2);
+        return Err(Refusal::R2);
     }
     let n = part_length(limit, count);
     let left = count - n;
-    let written = write_response(octets::part(body, place, place + n), left_status(left), out);
-    match written {
-        WroteResponse::Refused(why) => NextPart::Refused(why),
-        WroteResponse::Response(length) => NextPart::Part(
-            length,
-            Remainder {
-                place: place + n,
-                count: left,
-            },
-        ),
-    }
+    let length = write_response(octets::part(body, place, place + n), left_status(left), out)?;
+    Ok(Sent {
+        length,
+        remainder: Remainder {
+            place: place + n,
+            count: left,
+        },
+    })
 }
 
 // How many bytes the first part of a body can take with its status, under a limit, where no body is longer than `longest`.
-pub fn room(limit: u64, longest: usize) -> ResponseRoom
+pub fn room(limit: u64, longest: usize) -> Result<usize, Refusal>
     ensures { RoomFor limit longest result }
 {
-    let n = part_length(limit, longest);
-    if LONGEST_PART < n {
-        return ResponseRoom::Refused(Refusal::R2);
+    let part = part_length(limit, longest);
+    if LONGEST_PART < part {
+        return Err(Refusal::R2);
     }
-    ResponseRoom::Bytes(n + 2)
+    Ok(part + 2)
 }

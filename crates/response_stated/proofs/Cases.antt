@@ -19,7 +19,7 @@ use Rattle.apdu_stated.specs.declared.Case.TheVariants.{Instruction, Le1, Lc1Dat
 use Rattle.response_stated.specs.Words.{Apdu, Says, says_of, Remainder, WroteResponse, rest, Sent, response_written}
 use Rattle.response_stated.specs.Responses.{response_of, write_response_of, response_laid, read_response_of, response_body_of}
 use Rattle.response_stated.specs.Parts.{limit_of, part_length, left_status, rest_after, next_part_of, part_bytes, part_response, part_laid, response_room_of}
-use Rattle.response_stated.specs.declared.WroteResponse.TheVariants as Wrote
+use Rattle.std.specs.Prelude.{Ok, Err}
 
 refusal_same : (a b : ℕ) → ◌≡◌ {A = Outcome ℕ} (R a) (R b) → a ≡ b
 refusal_same a b e = cc
@@ -213,40 +213,40 @@ module _ (body old : List ℕ) (r : Remainder) (limit n : ℕ) (enough : r.count
 
     module _ (w : WroteResponse) (says : response_written w ≡ write_response_of part (length old)) where
       -- the writer was refused exactly where the buffer is too short
-      refused_short : (why : Refusal) → w ≡ Wrote.Refused why → (length old < length part + 2) × (refusal_no why ≡ 2)
+      refused_short : (why : Refusal) → w ≡ Err why → (length old < length part + 2) × (refusal_no why ≡ 2)
       refused_short why e = go (dec_lt (length old) (length part + 2))
         where
           go : Dec (length old < length part + 2) → (length old < length part + 2) × (refusal_no why ≡ 2)
           go (yes h) = (h, refusal_same _ _ (ap response_written (sym e) ∙ says ∙ sym (write_short part (length old) h)))
           go (no h) = absurd (r_gives (refusal_no why) _ (ap response_written (sym e) ∙ says ∙ sym (write_room part (length old) (omega arith) (omega arith))))
 
-      written_long : (m : ℕ) → w ≡ Wrote.Response m → (length part + 2 ≤ length old) × (m ≡ length part + 2)
+      written_long : (m : ℕ) → w ≡ Ok m → (length part + 2 ≤ length old) × (m ≡ length part + 2)
       written_long m e = go (dec_lt (length old) (length part + 2))
         where
           go : Dec (length old < length part + 2) → (length part + 2 ≤ length old) × (m ≡ length part + 2)
           go (yes h) = absurd (r_gives 2 m (write_short part (length old) h ∙ sym says ∙ ap response_written e))
           go (no h) = (omega arith, gives_same _ _ (ap response_written (sym e) ∙ says ∙ sym (write_room part (length old) (omega arith) (omega arith))))
 
-      pub next_refused : (why : Refusal) → w ≡ Wrote.Refused why → R (refusal_no why) ≡ next_part_of (length body) r limit (length old)
+      pub next_refused : (why : Refusal) → w ≡ Err why → R (refusal_no why) ≡ next_part_of (length body) r limit (length old)
       next_refused why e =
           let short = refused_short why e in
           ap (λ (k : ℕ). R k) short.1 ∙ next_no_room (length body) r limit (length old) (omega arith) (omega (arith, part_long))
 
-      pub next_kept : (why : Refusal) (status : ℕ) (new : List ℕ) → w ≡ Wrote.Refused why
+      pub next_kept : (why : Refusal) (status : ℕ) (new : List ℕ) → w ≡ Err why
           → new ≡ response_laid (write_response_of part (length old)) (response_of part status) old
           → new ≡ part_laid (next_part_of (length body) r limit (length old)) (part_response body r limit) old
       next_kept why status new e is =
           is ∙ ap (λ (o : Outcome ℕ). response_laid o (response_of part status) old) (sym says ∙ ap response_written e)
           ∙ ap (λ (o : Outcome Sent). part_laid o (part_response body r limit) old) (next_refused why e)
 
-      pub next_part : (m : ℕ) → w ≡ Wrote.Response m
+      pub next_part : (m : ℕ) → w ≡ Ok m
           → Gives (record { length = m; remainder = rest (r.place + n) (r.count - n) }) ≡ next_part_of (length body) r limit (length old)
       next_part m e =
           let long = written_long m e in
           ap₂ (λ (l k : ℕ). Gives (record { length = l; remainder = rest (r.place + k) (r.count - k) })) (long.1 ∙ ap (λ (k : ℕ). k + 2) part_long) is_n
           ∙ next_given (length body) r limit (length old) (omega arith) (omega (arith, part_long))
 
-      pub next_laid : (m status : ℕ) (new : List ℕ) → w ≡ Wrote.Response m → status ≡ left_status (r.count - n)
+      pub next_laid : (m status : ℕ) (new : List ℕ) → w ≡ Ok m → status ≡ left_status (r.count - n)
           → new ≡ response_laid (write_response_of part (length old)) (response_of part status) old
           → new ≡ part_laid (next_part_of (length body) r limit (length old)) (part_response body r limit) old
       next_laid m status new e is_status is =

@@ -15,10 +15,7 @@ use Rattle.response_stated.specs.Words.{Remainder, rest, Response}
 use Rattle.response_stated.specs.Responses.{response_body_of}
 use Rattle.response_stated.specs.Parts.{part_length, left_status}
 use Rattle.response_stated.specs.Terms.{Writer, Sender, reading, sending, spelled, Goes}
-use Rattle.response_stated.specs.declared.ReadResponse.TheVariants as ReadResponse'
-use Rattle.response_stated.specs.declared.WroteResponse.TheVariants as WroteResponse'
-use Rattle.response_stated.specs.declared.NextPart.TheVariants as NextPart'
-use Rattle.response_stated.specs.declared.ResponseRoom.TheVariants as ResponseRoom'
+use Rattle.std.specs.Prelude.{Ok, Err}
 use Rattle.response_stated.specs.Claims
 use Rattle.response_stated.proofs.Theorems.{goes, tells}
 use Rattle.response_stated.proofs.OnBytes.{pair_is, split}
@@ -127,17 +124,17 @@ RoomExactly f g p q limit longest = go (dec_lt (part_length limit longest + 2) 0
 
 -- ---- views
 pub ReadSaidExactly : Determines Claims.ReadSaidExactly
-ReadSaidExactly f g p q (ReadResponse'.Refused why) = (p.refused _ why).1 refl ∙ sym ((q.refused _ why).1 refl)
-ReadSaidExactly f g p q (ReadResponse'.Response n status) = (p.response _ n status).1 refl ∙ sym ((q.response _ n status).1 refl)
+ReadSaidExactly f g p q (Err why) = (p.refused _ why).1 refl ∙ sym ((q.refused _ why).1 refl)
+ReadSaidExactly f g p q (Ok read) = (p.response _ read.length read.status).1 refl ∙ sym ((q.response _ read.length read.status).1 refl)
 
 pub WrittenSaidExactly : Determines Claims.WrittenSaidExactly
-WrittenSaidExactly f g p q (WroteResponse'.Refused why) = (p.refused _ why).1 refl ∙ sym ((q.refused _ why).1 refl)
-WrittenSaidExactly f g p q (WroteResponse'.Response n) = (p.response _ n).1 refl ∙ sym ((q.response _ n).1 refl)
+WrittenSaidExactly f g p q (Err why) = (p.refused _ why).1 refl ∙ sym ((q.refused _ why).1 refl)
+WrittenSaidExactly f g p q (Ok n) = (p.response _ n).1 refl ∙ sym ((q.response _ n).1 refl)
 
 pub PartSaidExactly : Determines Claims.PartSaidExactly
-PartSaidExactly f g p q (NextPart'.Refused why) = (p.refused _ why).1 refl ∙ sym ((q.refused _ why).1 refl)
-PartSaidExactly f g p q (NextPart'.Part n left) = (p.part _ n left).1 refl ∙ sym ((q.part _ n left).1 refl)
+PartSaidExactly f g p q (Err why) = (p.refused _ why).1 refl ∙ sym ((q.refused _ why).1 refl)
+PartSaidExactly f g p q (Ok sent) = (p.part _ sent.length sent.remainder).1 refl ∙ sym ((q.part _ sent.length sent.remainder).1 refl)
 
 pub RoomSaidExactly : Determines Claims.RoomSaidExactly
-RoomSaidExactly f g p q (ResponseRoom'.Refused why) = (p.refused _ why).1 refl ∙ sym ((q.refused _ why).1 refl)
-RoomSaidExactly f g p q (ResponseRoom'.Bytes n) = (p.bytes _ n).1 refl ∙ sym ((q.bytes _ n).1 refl)
+RoomSaidExactly f g p q (Err why) = (p.refused _ why).1 refl ∙ sym ((q.refused _ why).1 refl)
+RoomSaidExactly f g p q (Ok n) = (p.bytes _ n).1 refl ∙ sym ((q.bytes _ n).1 refl)

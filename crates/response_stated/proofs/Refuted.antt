@@ -16,10 +16,7 @@ use Rattle.response_stated.specs.Responses.{write_response_of, read_response_of,
 use Rattle.response_stated.specs.Parts.{limit_of, part_length, left_status, next_part_of}
 use Rattle.response_stated.specs.Terms.{sending, sending_of, writing_of, whole, cut, last, nothing_left, some_left, more_left}
 use Rattle.response_stated.specs.Fetching.{Fetch, also, none, up}
-use Rattle.response_stated.specs.declared.ReadResponse.TheVariants as ReadResponse'
-use Rattle.response_stated.specs.declared.WroteResponse.TheVariants as WroteResponse'
-use Rattle.response_stated.specs.declared.NextPart.TheVariants as NextPart'
-use Rattle.response_stated.specs.declared.ResponseRoom.TheVariants as ResponseRoom'
+use Rattle.std.specs.Prelude.{Ok, Err}
 use Rattle.response_stated.specs.Claims
 use Rattle.response_stated.specs.Wrong
 
@@ -274,13 +271,13 @@ one_at_a_time p =
 
 -- ---- views
 pub length_for_status : Claims.ReadSaidExactly Wrong.length_for_status → ⊥
-length_for_status p = omega (arith, ap (λ (r : Response). r.length) (gives_same _ _ ((p.response (ReadResponse'.Response 1 2) 1 2).1 refl)))
+length_for_status p = omega (arith, ap (λ (r : Response). r.length) (gives_same _ _ ((p.response (Ok (record { length = 1; status = 2 })) 1 2).1 refl)))
 
 pub without_status_bytes : Claims.WrittenSaidExactly Wrong.without_status_bytes → ⊥
-without_status_bytes p = omega (arith, gives_same _ _ ((p.response (WroteResponse'.Response 2) 2).1 refl))
+without_status_bytes p = omega (arith, gives_same _ _ ((p.response (Ok 2) 2).1 refl))
 
 pub length_for_left : Claims.PartSaidExactly Wrong.length_for_left → ⊥
-length_for_left p = omega (arith, ap (λ (s : Sent). s.remainder.count) (gives_same _ _ ((p.part (NextPart'.Part 3 (rest 1 2)) 3 (rest 1 2)).1 refl)))
+length_for_left p = omega (arith, ap (λ (s : Sent). s.remainder.count) (gives_same _ _ ((p.part (Ok (record { length = 3; remainder = rest 1 2 })) 3 (rest 1 2)).1 refl)))
 
 pub refusal_for_room : Claims.RoomSaidExactly Wrong.refusal_for_room → ⊥
-refusal_for_room p = r_gives 2 _ (sym ((p.refused (ResponseRoom'.Refused R2) R2).1 refl))
+refusal_for_room p = r_gives 2 _ (sym ((p.refused (Err R2) R2).1 refl))

@@ -5,10 +5,7 @@
 -- `Sends`: Terms.antt. Of a sequence of calls: Fetching.antt.
 use Rattle.std.specs.Prelude.{◌↔◌, ◌⊎◌, replicate, ◌+◌, ◌<◌, ◌≤◌, ◌≡◌, ◌∷◌, ◌++◌}
 use Rattle.response_stated.specs.Words.{ℕ, List, [], length, take, drop, AtMostOne, Outcome, R, Gives, Refusal, refusal_no, AreBytes, Apdu, Says, says_of, Remainder, rest, ReadResponse, WroteResponse, NextPart, ResponseRoom, Response, Sent, response_read, response_written, part_sent, room_said}
-use Rattle.response_stated.specs.declared.ReadResponse.TheVariants as ReadResponse'
-use Rattle.response_stated.specs.declared.WroteResponse.TheVariants as WroteResponse'
-use Rattle.response_stated.specs.declared.NextPart.TheVariants as NextPart'
-use Rattle.response_stated.specs.declared.ResponseRoom.TheVariants as ResponseRoom'
+use Rattle.std.specs.Prelude.{Ok, Err}
 use Rattle.response_stated.specs.Promises.{Limit, Nothing, WriteResponse, ReadsResponse, ResponseBody, PartNext, RoomFor}
 use Rattle.response_stated.specs.Terms.{Writer, Sender, reading, sending, spelled, IsResponse, Goes, Tells, Sends}
 use Rattle.response_stated.specs.Fetching.{Fetch, called, remaining, joined, after, calls_until_done, Each, HasRoom, Takes, RoundsUp}
@@ -169,20 +166,20 @@ pub record NumberOfParts (next : Sender) : Type 0 where
 -- status (`length_for_status`), one that counts no status bytes (`without_status_bytes`), one that says the part's length for what is left (`length_for_left`),
 -- and one that gives a refusal's number for a room (`refusal_for_room`).
 pub record ReadSaidExactly (said : ReadResponse → Outcome Response) : Type 0 where
-  pub refused : (a : ReadResponse) (why : Refusal) → (said a ≡ R (refusal_no why)) ↔ (a ≡ ReadResponse'.Refused why)
-  pub response : (a : ReadResponse) (n status : ℕ) → (said a ≡ Gives (reading n status)) ↔ (a ≡ ReadResponse'.Response n status)
+  pub refused : (a : ReadResponse) (why : Refusal) → (said a ≡ R (refusal_no why)) ↔ (a ≡ Err why)
+  pub response : (a : ReadResponse) (n status : ℕ) → (said a ≡ Gives (reading n status)) ↔ (a ≡ Ok (reading n status))
 
 pub record WrittenSaidExactly (said : WroteResponse → Outcome ℕ) : Type 0 where
-  pub refused : (a : WroteResponse) (why : Refusal) → (said a ≡ R (refusal_no why)) ↔ (a ≡ WroteResponse'.Refused why)
-  pub response : (a : WroteResponse) (n : ℕ) → (said a ≡ Gives n) ↔ (a ≡ WroteResponse'.Response n)
+  pub refused : (a : WroteResponse) (why : Refusal) → (said a ≡ R (refusal_no why)) ↔ (a ≡ Err why)
+  pub response : (a : WroteResponse) (n : ℕ) → (said a ≡ Gives n) ↔ (a ≡ Ok n)
 
 pub record PartSaidExactly (said : NextPart → Outcome Sent) : Type 0 where
-  pub refused : (a : NextPart) (why : Refusal) → (said a ≡ R (refusal_no why)) ↔ (a ≡ NextPart'.Refused why)
-  pub part : (a : NextPart) (n : ℕ) (left : Remainder) → (said a ≡ Gives (sending n left)) ↔ (a ≡ NextPart'.Part n left)
+  pub refused : (a : NextPart) (why : Refusal) → (said a ≡ R (refusal_no why)) ↔ (a ≡ Err why)
+  pub part : (a : NextPart) (n : ℕ) (left : Remainder) → (said a ≡ Gives (sending n left)) ↔ (a ≡ Ok (sending n left))
 
 pub record RoomSaidExactly (said : ResponseRoom → Outcome ℕ) : Type 0 where
-  pub refused : (a : ResponseRoom) (why : Refusal) → (said a ≡ R (refusal_no why)) ↔ (a ≡ ResponseRoom'.Refused why)
-  pub bytes : (a : ResponseRoom) (n : ℕ) → (said a ≡ Gives n) ↔ (a ≡ ResponseRoom'.Bytes n)
+  pub refused : (a : ResponseRoom) (why : Refusal) → (said a ≡ R (refusal_no why)) ↔ (a ≡ Err why)
+  pub bytes : (a : ResponseRoom) (n : ℕ) → (said a ≡ Gives n) ↔ (a ≡ Ok n)
 
 -- Whatever meets a function's contract meets the claim on it, the functions that no call from C comes to as well; `limit` takes a frame's answer and no
 -- numbers, and gives what whatever meets the claim gives of the numbers. A contract of `response_body` that keeps SW1 fails it, with code to match.

@@ -7,24 +7,22 @@ pub use Rattle.octets.specs.Bytes.{byte, bytes2, pair_at, laid, part_of, AreByte
 pub use Rattle.apdu_stated.specs.declared.Apdu.{Apdu}
 pub use Rattle.apdu_stated.specs.Answers.{Says, says_of}
 pub use Rattle.response_stated.specs.declared.Remainder.{Remainder}
-pub use Rattle.response_stated.specs.declared.ReadResponse.{ReadResponse}
-use Rattle.response_stated.specs.declared.ReadResponse.TheVariants as ReadResponse'
-pub use Rattle.response_stated.specs.declared.WroteResponse.{WroteResponse}
-use Rattle.response_stated.specs.declared.WroteResponse.TheVariants as WroteResponse'
-pub use Rattle.response_stated.specs.declared.NextPart.{NextPart}
-use Rattle.response_stated.specs.declared.NextPart.TheVariants as NextPart'
-pub use Rattle.response_stated.specs.declared.ResponseRoom.{ResponseRoom}
-use Rattle.response_stated.specs.declared.ResponseRoom.TheVariants as ResponseRoom'
+pub use Rattle.response_stated.specs.declared.Response.{Response}
+pub use Rattle.response_stated.specs.declared.Sent.{Sent}
+pub use Rattle.std.specs.Prelude.{Result, Ok, Err}
 
--- a response that was read: how many bytes of body stand at its front, and the status after them
-pub record Response : Type 0 where
-  pub length : ℕ
-  pub status : ℕ
+-- what reading a response, writing one, sending a part of one and asking for its room answer: the value, or R2
+abbrev pub ReadResponse : Type 0
+ReadResponse = Result Response Refusal
 
--- a part that was sent: the length of its response, and what remains after it
-pub record Sent : Type 0 where
-  pub length : ℕ
-  pub remainder : Remainder
+abbrev pub WroteResponse : Type 0
+WroteResponse = Result ℕ Refusal
+
+abbrev pub NextPart : Type 0
+NextPart = Result Sent Refusal
+
+abbrev pub ResponseRoom : Type 0
+ResponseRoom = Result ℕ Refusal
 
 -- a remainder of a lent body, as a place and a count (ours)
 abbrev pub rest : (place count : ℕ) → Remainder
@@ -32,17 +30,17 @@ rest place count = record { place = place; count = count }
 
 -- each answer in the documents' numbers
 abbrev pub response_read : ReadResponse → Outcome Response
-response_read (ReadResponse'.Refused why) = R (refusal_no why)
-response_read (ReadResponse'.Response n status) = Gives (record { length = n; status = status })
+response_read (Err why) = R (refusal_no why)
+response_read (Ok read) = Gives read
 
 abbrev pub response_written : WroteResponse → Outcome ℕ
-response_written (WroteResponse'.Refused why) = R (refusal_no why)
-response_written (WroteResponse'.Response n) = Gives n
+response_written (Err why) = R (refusal_no why)
+response_written (Ok n) = Gives n
 
 abbrev pub part_sent : NextPart → Outcome Sent
-part_sent (NextPart'.Refused why) = R (refusal_no why)
-part_sent (NextPart'.Part n after) = Gives (record { length = n; remainder = after })
+part_sent (Err why) = R (refusal_no why)
+part_sent (Ok sent) = Gives sent
 
 abbrev pub room_said : ResponseRoom → Outcome ℕ
-room_said (ResponseRoom'.Refused why) = R (refusal_no why)
-room_said (ResponseRoom'.Bytes n) = Gives n
+room_said (Err why) = R (refusal_no why)
+room_said (Ok n) = Gives n

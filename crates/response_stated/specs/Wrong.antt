@@ -1,10 +1,7 @@
 -- Wrong programs, one fault each. proofs/Refuted.antt shows the claim that is false of each.
 use Rattle.std.specs.Prelude.{◌&&◌, replicate, ◌+◌, ◌-◌, ◌*◌, ◌/◌, ◌%◌, ◌∷◌, ◌++◌}
 use Rattle.response_stated.specs.Words.{ℕ, List, [], ltb, leb, eqb, when◌then◌else◌, length, take, drop, Outcome, R, Gives, byte, bytes2, pair_at, laid, refusal_no, Says, Remainder, rest, ReadResponse, WroteResponse, NextPart, ResponseRoom, Response, Sent}
-use Rattle.response_stated.specs.declared.ReadResponse.TheVariants as ReadResponse'
-use Rattle.response_stated.specs.declared.WroteResponse.TheVariants as WroteResponse'
-use Rattle.response_stated.specs.declared.NextPart.TheVariants as NextPart'
-use Rattle.response_stated.specs.declared.ResponseRoom.TheVariants as ResponseRoom'
+use Rattle.std.specs.Prelude.{Ok, Err}
 use Rattle.response_stated.specs.Responses.{response_of}
 use Rattle.response_stated.specs.Parts.{limit_of, part_length, left_status, rest_after, part_bytes, part_response}
 use Rattle.response_stated.specs.Terms.{Writer, Sender, reading, sending, sending_of}
@@ -184,17 +181,17 @@ wraps_the_room limit longest = Gives ((part_length limit longest + 2) % 0x100000
 
 -- ---- views: the length of the body for the status; a response counted without its status; the part's length for what is left; a refusal's number for a room
 abbrev pub length_for_status : ReadResponse → Outcome Response
-length_for_status (ReadResponse'.Refused why) = R (refusal_no why)
-length_for_status (ReadResponse'.Response n status) = Gives (reading status n)
+length_for_status (Err why) = R (refusal_no why)
+length_for_status (Ok read) = Gives (reading read.status read.length)
 
 abbrev pub without_status_bytes : WroteResponse → Outcome ℕ
-without_status_bytes (WroteResponse'.Refused why) = R (refusal_no why)
-without_status_bytes (WroteResponse'.Response n) = Gives (n - 2)
+without_status_bytes (Err why) = R (refusal_no why)
+without_status_bytes (Ok n) = Gives (n - 2)
 
 abbrev pub length_for_left : NextPart → Outcome Sent
-length_for_left (NextPart'.Refused why) = R (refusal_no why)
-length_for_left (NextPart'.Part n left) = Gives (sending n (rest left.place n))
+length_for_left (Err why) = R (refusal_no why)
+length_for_left (Ok sent) = Gives (sending sent.length (rest sent.remainder.place sent.length))
 
 abbrev pub refusal_for_room : ResponseRoom → Outcome ℕ
-refusal_for_room (ResponseRoom'.Refused why) = Gives (refusal_no why)
-refusal_for_room (ResponseRoom'.Bytes n) = Gives n
+refusal_for_room (Err why) = Gives (refusal_no why)
+refusal_for_room (Ok n) = Gives n

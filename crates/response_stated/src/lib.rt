@@ -1,20 +1,11 @@
 // Responses of ISO 7816-4 and their parts: what is answered, and what of a body is still to be fetched. No function: response has them.
 #![tactic(auto)]
 
-use outcome::Refusal;
-
-// A response read: its body's length, counted from its front, and its status; or R2.
+// A response that was read: how many bytes of body stand at its front, and the status after them.
 #[derive(Clone, Copy)]
-pub enum ReadResponse {
-    Refused(Refusal),
-    Response(usize, u16),
-}
-
-// A response written at the front of a buffer: its length; or R2.
-#[derive(Clone, Copy)]
-pub enum WroteResponse {
-    Refused(Refusal),
-    Response(usize),
+pub struct Response {
+    pub length: usize,
+    pub status: u16,
 }
 
 // What of a body was not yet sent: from which place on, and how many bytes. A count of 0 is nothing.
@@ -25,16 +16,9 @@ pub struct Remainder {
     pub count: usize,
 }
 
-// The next part of a body: the length of its response, and what remains after it; or R2.
+// A part that was sent: the length of its response, and what remains after it.
 #[derive(Clone, Copy)]
-pub enum NextPart {
-    Refused(Refusal),
-    Part(usize, Remainder),
-}
-
-// How many bytes a response can take; or R2.
-#[derive(Clone, Copy)]
-pub enum ResponseRoom {
-    Refused(Refusal),
-    Bytes(usize),
+pub struct Sent {
+    pub length: usize,
+    pub remainder: Remainder,
 }

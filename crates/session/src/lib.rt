@@ -18,10 +18,9 @@ ghost use Rattle.session_stated.specs.Promises.{to_decide, Commanded, RemainderL
 use apdu::Apdu;
 use command::U2fCommand;
 use ctap1::{Call, Decision, DecisionAnswer, HardwareSaid, NewKey};
-use outcome::ApduStatusCode;
-use response::{NextPart, Remainder, ResponseRoom};
+use outcome::{ApduStatusCode, Refusal};
+use response::Remainder;
 pub use session_stated::SessionDecision;
-use u2f_up::Ready;
 
 // Whether CTAP1 is allowed, by its number; above yes it could not be found out.
 const NO: u32 = 0;
@@ -95,11 +94,11 @@ fn fetched(
     }
     let next = response::next_part(reply, remainder, limit, part);
     match next {
-        NextPart::Refused(why) => ctap1::refused(why),
-        NextPart::Part(length, left) => {
+        Err(why) => ctap1::refused(why),
+        Ok(sent) => {
             u2f_up::moved(presence, t);
             Decision {
-                answer: DecisionAnswer::Part(length, left),
+                answer: DecisionAnswer::Part(sent.length, sent.remainder),
                 order: signing::blank(),
                 taken: false,
             }
@@ -204,8 +203,8 @@ pub fn decide(
 {
     let ready = u2f_up::settle(u2f_up::record_lent(presence), call.side, call.t);
     match ready {
-        Ready::Refused(why) => beside_frame(ctap1::refused(why), call.frame),
-        Ready::Record(_) => {
+        Err(why) => beside_frame(ctap1::refused(why), call.frame),
+        Ok(_) => {
             let allowed = hardware[0];
             if YES < allowed {
                 u2f_up::moved(presence, call.t);
@@ -271,11 +270,11 @@ pub fn left(remainder: Remainder, limit: u64, session: &mut [u64; 3])
 
 // How many bytes a response to this frame can take, where no body to it is longer than `longest`: in no shape a status word alone.
 #[tactic(auto, unfolding(session_stated::specs::Held::frame_room_of))]
-pub fn response_room(frame: &[u8], longest: usize) -> ResponseRoom
+pub fn response_room(frame: &[u8], longest: usize) -> Result<usize, Refusal>
     ensures { RoomForResponse frame.now longest result }
 {
     match apdu::read(frame) {
         Ok(says) => response::room(response::limit(says), longest),
-        Err(_) => ResponseRoom::Bytes(2),
+        Err(_) => Ok(2),
     }
 }

@@ -17,12 +17,13 @@ use Rattle.outcome.proofs.Laws.{r_gives}
 use Rattle.apdu_stated.specs.Answers.{Says, says_of, reading_of, Reading}
 use Rattle.apdu_stated.specs.Reading.{read_of}
 use Rattle.apdu_stated.specs.declared.Apdu.{Apdu}
-use Rattle.response_stated.specs.Words.{Sent, rest, part_sent, room_said}
+use Rattle.response_stated.specs.Words.{rest, part_sent, room_said}
+use Rattle.response_stated.specs.declared.Sent.{Sent}
 use Rattle.response_stated.specs.Parts.{limit_of, part_length, rest_after, next_part_of, part_response, part_laid, response_room_of}
 use Rattle.response_stated.specs.declared.Remainder.{Remainder}
-use Rattle.response_stated.specs.declared.NextPart.{NextPart}
-use Rattle.response_stated.specs.declared.NextPart.TheVariants as NextPart'
-use Rattle.response_stated.specs.declared.ResponseRoom.{ResponseRoom}
+use Rattle.response_stated.specs.Words.{NextPart}
+use Rattle.std.specs.Prelude.{Ok, Err}
+use Rattle.response_stated.specs.Words.{ResponseRoom}
 use Rattle.signing_stated.specs.declared.Head.{Head}
 use Rattle.signing_stated.specs.Words.{head_of}
 use Rattle.signing_stated.specs.Orders.{blank_order}
@@ -70,17 +71,17 @@ module _ (kept settled : Presence) (k : Remainder) (limit : ℕ) (body old : Lis
     unfolding fetch_path
     sent_is n z = ap (λ (x : NextPart). along (sent_path (part_sent x)) kept settled 0 0) (sym z) ∙ rw (ne_eqb k.count 0 more, ← is_next)
 
-    pub next_refused : (why : Refusal) (said : Outcome DecisionGives) (top : Head) (used : Bool) → next ≡ NextPart'.Refused why → alone said top used ≡ blank_alone (R (refusal_no why))
+    pub next_refused : (why : Refusal) (said : Outcome DecisionGives) (top : Head) (used : Bool) → next ≡ Err why → alone said top used ≡ blank_alone (R (refusal_no why))
         → Fetched (handed said top used kept)
     next_refused why said top used z e =
         let two : refusal_no why ≡ 2 = never_other (length body) k limit (length old) (refusal_no why) (ap part_sent (sym z) ∙ is_next) in
-        with_record said top used _ kept kept e refl ∙ ap (λ (n : ℕ). handed_of (refusal_result n kept)) two ∙ ap handed_of (sent_is (NextPart'.Refused why) z)
+        with_record said top used _ kept kept e refl ∙ ap (λ (n : ℕ). handed_of (refusal_result n kept)) two ∙ ap handed_of (sent_is (Err why) z)
 
-    pub next_part : (long : ℕ) (left : Remainder) (head : Head) (q : Presence) → next ≡ NextPart'.Part long left → head ≡ head_of blank_order → q ≡ settled
-        → Fetched (handed (Gives (Part long left)) head false q)
-    next_part long left head q z is f =
-        with_record (Gives (Part long left)) head false (Gives (Part long left)) q settled (with_head (Gives (Part long left)) head (head_of blank_order) false is) f
-        ∙ ap handed_of (sent_is (NextPart'.Part long left) z)
+    pub next_part : (sent : Sent) (head : Head) (q : Presence) → next ≡ Ok sent → head ≡ head_of blank_order → q ≡ settled
+        → Fetched (handed (Gives (Part sent.length sent.remainder)) head false q)
+    next_part sent head q z is f =
+        let part : Outcome DecisionGives = Gives (Part sent.length sent.remainder) in
+        with_record part head false part q settled (with_head part head (head_of blank_order) false is) f ∙ ap handed_of (sent_is (Ok sent) z)
 
     pub next_laid : (new : List ℕ) → new ≡ part_laid (next_part_of (length body) k limit (length old)) (part_response body k limit) old → Laid new
     unfolding fetch_path

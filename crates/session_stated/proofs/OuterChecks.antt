@@ -29,10 +29,10 @@ use Rattle.signing_stated.specs.declared.Head.{Head}
 use Rattle.u2f_up_stated.specs.Answers.{ready_of}
 use Rattle.u2f_up_stated.specs.declared.Presence.{Presence}
 use Rattle.u2f_up_stated.specs.declared.Finding.{Finding}
-use Rattle.u2f_up_stated.specs.declared.Ready.{Ready}
-use Rattle.u2f_up_stated.specs.declared.Ready.TheVariants as Ready'
+use Rattle.u2f_up_stated.specs.Words.{Ready}
+use Rattle.std.specs.Prelude.{Ok, Err}
 use Rattle.signing_stated.specs.Finishing.{register_room, authenticate_room}
-use Rattle.response_stated.specs.Words.{Sent}
+use Rattle.response_stated.specs.declared.Sent.{Sent}
 use Rattle.response_stated.specs.Parts.{limit_of, next_part_of, part_response}
 use Rattle.ctap1_stated.specs.Words.{DecisionGives, Ordered, Inputs, DecisionResult, DecisionHanded, DecisionLeft, handed_of, enrolment_of, unfetched}
 use Rattle.ctap1_stated.specs.declared.HardwareSaid.{HardwareSaid}
@@ -292,17 +292,17 @@ module _ (i : Inputs) (kept : Presence) (t : ℕ) (s : Ready) (is_s : ready_of s
   unfolding decision_of
   settles d e = ap (λ (x : Ready). on_moment kept i.side t (path_of i) (ready_of x)) (sym e) ∙ ap (on_moment kept i.side t (path_of i)) is_s
 
-  pub not_settled : (why : Refusal) (said : Outcome DecisionGives) (top : Head) (used : Bool) (old : List ℕ) → s ≡ Ready'.Refused why → alone said top used ≡ blank_alone (R (refusal_no why))
+  pub not_settled : (why : Refusal) (said : Outcome DecisionGives) (top : Head) (used : Bool) (old : List ℕ) → s ≡ Err why → alone said top used ≡ blank_alone (R (refusal_no why))
       → leaves said top used kept old ≡ left_of (decision_of kept t i) old
-  not_settled why said top used old e a = stays said top used _ kept kept old a refl ∙ ap (λ (x : DecisionResult). left_of x old) (settles (Ready'.Refused why) e)
+  not_settled why said top used old e a = stays said top used _ kept kept old a refl ∙ ap (λ (x : DecisionResult). left_of x old) (settles (Err why) e)
 
-  pub not_settled_kept : (why : Refusal) (old : List ℕ) → s ≡ Ready'.Refused why → old ≡ reply_left (decision_of kept t i) old
-  not_settled_kept why old e = ap (λ (x : DecisionResult). reply_left x old) (settles (Ready'.Refused why) e)
+  pub not_settled_kept : (why : Refusal) (old : List ℕ) → s ≡ Err why → old ≡ reply_left (decision_of kept t i) old
+  not_settled_kept why old e = ap (λ (x : DecisionResult). reply_left x old) (settles (Err why) e)
 
-  pub not_settled_part : (why : Refusal) (body old : List ℕ) → s ≡ Ready'.Refused why → old ≡ part_left i (decision_of kept t i) body old
-  not_settled_part why body old e = ap (λ (x : DecisionResult). part_left i x body old) (settles (Ready'.Refused why) e)
+  pub not_settled_part : (why : Refusal) (body old : List ℕ) → s ≡ Err why → old ≡ part_left i (decision_of kept t i) body old
+  not_settled_part why body old e = ap (λ (x : DecisionResult). part_left i x body old) (settles (Err why) e)
 
-  module _ (p : Presence) (e : s ≡ Ready'.Record p) (k : ℕ) (is_k : i.hardware.allowed ≡ allowed_of k) where
+  module _ (p : Presence) (e : s ≡ Ok p) (k : ℕ) (is_k : i.hardware.allowed ≡ allowed_of k) where
     settled_is : (p ≡ moved_to kept t) × (t < 2 ^ 48)
     settled_is = settles_moved kept i.side t p (ap ready_of (sym e) ∙ is_s)
 
@@ -315,7 +315,7 @@ module _ (i : Inputs) (kept : Presence) (t : ℕ) (s : Ready) (is_s : ready_of s
     here_by a is =
         ap (λ (f : Presence → Finding). along_by f (allowed_path a i) kept (moved_to kept t)) check_is
         ∙ ap (λ (q : Presence). along (allowed_path a i) kept q i.side t) (sym settled_is.0)
-        ∙ ap (λ (b : Allowed). along (allowed_path b i) kept p i.side t) (sym is) ∙ settles (Ready'.Record p) e
+        ∙ ap (λ (b : Allowed). along (allowed_path b i) kept p i.side t) (sym is) ∙ settles (Ok p) e
 
     module _ (old : List ℕ) where
       lands_by : (a : Allowed) → i.hardware.allowed ≡ a → left_of (along_by (λ q. checked_in q i.side t) (allowed_path a i) kept (moved_to kept t)) old ≡ left_of (decision_of kept t i) old

@@ -15,7 +15,8 @@ use Rattle.command_stated.specs.Command.{Authenticate, command_of, on_reading, b
 use Rattle.signing_stated.specs.Orders.{certificate_length, block, authenticate_order_of, is_authenticate_layout}
 use Rattle.signing_stated.specs.Finishing.{Finishing, finish_of, end_of}
 use Rattle.response_stated.specs.declared.Remainder.{Remainder}
-use Rattle.response_stated.specs.Words.{rest, Sent}
+use Rattle.response_stated.specs.Words.{rest}
+use Rattle.response_stated.specs.declared.Sent.{Sent}
 use Rattle.response_stated.specs.Parts.{limit_of, part_length, left_status, next_part_of, response_room_of}
 use Rattle.response_stated.specs.Terms.{sending_of, sending, Goes, Tells, some_left, more_left}
 use Rattle.response_stated.specs.Fetching.{up}
@@ -29,7 +30,7 @@ use Rattle.ctap1_stated.specs.Decision.{decision_of}
 use Rattle.ctap1_stated.specs.Session.{remainder_left, part_left}
 use Rattle.ctap1_stated.specs.declared.Allowed.TheVariants as Allowed'
 use Rattle.ctap1_stated.specs.declared.Attestation.TheVariants as Attestation'
-use Rattle.ctap1_stated.specs.declared.Counter.TheVariants as Counter'
+use Rattle.std.specs.Prelude.{Some, None}
 use Rattle.session_stated.specs.Held.{Session}
 use Rattle.session_stated.specs.Terms.{given, absent, whole, extended, no_shape, authenticate, FrameRoom, RoomWasAsked, FirstPart}
 use Rattle.session_stated.specs.Sessions.{Visit, none, also}
@@ -51,7 +52,7 @@ lent r =
     record {
       side = 0;
       frame = one_byte;
-      hardware = record { allowed = Allowed'.Yes; stored = true; attestation = Attestation'.Present; good = true; counter = Counter'.Failed };
+      hardware = record { allowed = Allowed'.Yes; stored = true; attestation = Attestation'.Present; good = true; counter = None };
       new_handle = [];
       certificate = [];
       x = [];
@@ -228,7 +229,7 @@ login =
     record {
       side = 0;
       frame = 0x00 ∷ 0x02 ∷ 0x08 ∷ 0x00 ∷ 0x00 ∷ 0x00 ∷ 0x41 ∷ replicate 65 0 ++ (0x00 ∷ 0x01 ∷ []);
-      hardware = record { allowed = Allowed'.Yes; stored = true; attestation = Attestation'.Present; good = true; counter = Counter'.Offered 1 };
+      hardware = record { allowed = Allowed'.Yes; stored = true; attestation = Attestation'.Present; good = true; counter = Some 1 };
       new_handle = [];
       certificate = [];
       x = replicate 32 0;

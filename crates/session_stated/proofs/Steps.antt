@@ -9,7 +9,8 @@ use Rattle.outcome.specs.Notation.{when◌then◌else◌}
 use Rattle.outcome.specs.Outcome.{Outcome, SW}
 use Rattle.apdu_stated.specs.Reading.{read_of}
 use Rattle.response_stated.specs.declared.Remainder.{Remainder}
-use Rattle.response_stated.specs.Words.{rest, Sent}
+use Rattle.response_stated.specs.Words.{rest}
+use Rattle.response_stated.specs.declared.Sent.{Sent}
 use Rattle.response_stated.specs.Responses.{response_body_of}
 use Rattle.response_stated.specs.Parts.{part_length, rest_after, part_response, part_laid}
 use Rattle.response_stated.specs.Terms.{sending_of}

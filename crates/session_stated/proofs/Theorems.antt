@@ -15,7 +15,9 @@ use Rattle.apdu_stated.specs.Answers.{Says}
 use Rattle.apdu_stated.specs.Reading.{read_by, read_of, say_of, lengths_of, short_of, extended_of, after_data}
 use Rattle.command_stated.specs.Command.{command_of, on_reading, by_instruction, get_response_of}
 use Rattle.response_stated.specs.declared.Remainder.{Remainder}
-use Rattle.response_stated.specs.Words.{rest, Response, Sent}
+use Rattle.response_stated.specs.Words.{rest}
+use Rattle.response_stated.specs.declared.Response.{Response}
+use Rattle.response_stated.specs.declared.Sent.{Sent}
 use Rattle.response_stated.specs.Responses.{read_response_of, response_body_of}
 use Rattle.response_stated.specs.Parts.{limit_of, part_length, left_status, rest_after, next_part_of, part_bytes, part_response, part_laid}
 use Rattle.response_stated.specs.Terms.{sending_of, sending, spelled, IsResponse, Tells, nothing_left, some_left, more_left}
@@ -33,7 +35,7 @@ use Rattle.ctap1_stated.specs.Decision.{decision_of, reply_left, block_after, bl
 use Rattle.ctap1_stated.specs.Session.{is_get_response, remainder_left, part_after, part_left}
 use Rattle.ctap1_stated.specs.declared.Allowed.TheVariants as Allowed'
 use Rattle.ctap1_stated.specs.declared.Attestation.TheVariants as Attestation'
-use Rattle.ctap1_stated.specs.declared.Counter.TheVariants as Counter'
+use Rattle.std.specs.Prelude.{None}
 use Rattle.ctap1_stated.proofs.Laws.{takes, is_a_part, limits_exactly, limits_only, replies_exactly, parts_exactly, decides_exactly, decides_only, left_apart}
 use Rattle.signing_stated.specs.Finishing.{end_of}
 use Rattle.session_stated.specs.Held.{Session, remainder_in, session_in, hardware_in, session_after, frame_room_of}
@@ -134,7 +136,7 @@ longest =
     record {
       side = 0;
       frame = 0x00 ∷ 0xC0 ∷ 0x00 ∷ 0x00 ∷ [];
-      hardware = record { allowed = Allowed'.Yes; stored = true; attestation = Attestation'.Present; good = true; counter = Counter'.Failed };
+      hardware = record { allowed = Allowed'.Yes; stored = true; attestation = Attestation'.Present; good = true; counter = None };
       new_handle = [];
       certificate = [];
       x = [];

@@ -9,7 +9,8 @@ use Rattle.octets.specs.Bytes.{AreBytes}
 use Rattle.apdu_stated.specs.Answers.{Says}
 use Rattle.apdu_stated.specs.Reading.{read_of}
 use Rattle.response_stated.specs.declared.Remainder.{Remainder}
-use Rattle.response_stated.specs.Words.{rest, Sent, room_said}
+use Rattle.response_stated.specs.Words.{rest, room_said}
+use Rattle.response_stated.specs.declared.Sent.{Sent}
 use Rattle.response_stated.specs.Responses.{response_body_of}
 use Rattle.response_stated.specs.Terms.{Sender, sending, IsResponse, Tells}
 use Rattle.response_stated.specs.Fetching.{got, left, remaining, RoundsUp}
@@ -18,7 +19,7 @@ use Rattle.ctap1_stated.specs.declared.HardwareSaid.{HardwareSaid}
 use Rattle.ctap1_stated.specs.Words.{Inputs, DecisionGives, Body, Ordered, Part, DecisionResult, handed_of, handed_from}
 use Rattle.ctap1_stated.specs.Claims.{LimitsExactly, DecidesExactly, RepliesExactly, PartsExactly}
 use Rattle.u2f_up_stated.specs.Numbers.{presence_in}
-use Rattle.response_stated.specs.declared.ResponseRoom.{ResponseRoom}
+use Rattle.response_stated.specs.Words.{ResponseRoom}
 use Rattle.ctap1_stated.specs.Terms.{Decider, HasInsC0}
 use Rattle.signing_stated.specs.Finishing.{Finishing, Ended}
 use Rattle.session_stated.specs.declared.SessionDecision.{SessionDecision}

@@ -5,7 +5,7 @@ use Rattle.apdu_stated.specs.Reading.{read_of}
 use Rattle.command_stated.specs.Command.{command_of}
 use Rattle.u2f_up_stated.specs.Numbers.{presence_in}
 use Rattle.response_stated.specs.declared.Remainder.{Remainder}
-use Rattle.response_stated.specs.declared.ResponseRoom.{ResponseRoom}
+use Rattle.response_stated.specs.Words.{ResponseRoom}
 use Rattle.response_stated.specs.Words.{rest, room_said}
 use Rattle.ctap1_stated.specs.Words.{Inputs, DecisionResult, inputs_from, enrolment_of, left_from}
 use Rattle.ctap1_stated.specs.declared.Call.{Call}

@@ -16,8 +16,8 @@ ghost use Rattle.signing_stated.specs.Orders.{order_with, blank_order, is_of_lay
 ghost use Rattle.signing_stated.specs.Finishing.{room_of, room_needed, body_of, CountsHandle};
 ghost use Rattle.signing_stated.specs.Promises.{KindNumber, Blank, RegisterOrder, AuthenticateOrder, HasRegisterRoom, HasAuthenticateRoom, Finish};
 
-use outcome::{ApduStatusCode, Refusal};
-pub use signing_stated::{Finished, Head, Kind};
+use outcome::{ApduStatusCode, NotDone, Refusal};
+pub use signing_stated::{Head, Kind};
 
 // 05, public key, h and the longest signature: what a Register reply takes beside handle and certificate.
 const REGISTER_FIXED: usize = 139;
@@ -30,10 +30,7 @@ const LONGEST_SIGNATURE: usize = 72;
 pub fn kind_number(kind: Kind) -> u8
     ensures { KindNumber kind result }
 {
-    match kind {
-        Kind::Register => 0x01,
-        Kind::Authenticate => 0x02,
-    }
+    kind as u8
 }
 
 // What stands where there is no order: with any block, finishing it is R7.
@@ -221,23 +218,23 @@ pub fn finish(
     signed: bool,
     signature: &[u8],
     reply: &mut [u8],
-) -> Finished
+) -> Result<usize, NotDone>
     ensures { Finish order block.now certificate.now signed signature.now reply.old result reply.new }
 {
     if !signing_layouts::has_layout(order, block) {
-        return Finished::Refused(Refusal::R7);
+        return Err(NotDone::Refused(Refusal::R7));
     }
     if certificate.len() != order.certificate_length {
-        return Finished::Refused(Refusal::R4);
+        return Err(NotDone::Refused(Refusal::R4));
     }
     if !has_room(order, reply.len()) {
-        return Finished::Refused(Refusal::R2);
+        return Err(NotDone::Refused(Refusal::R2));
     }
     if !signed {
-        return Finished::Status(ApduStatusCode::InternalException);
+        return Err(NotDone::Status(ApduStatusCode::InternalException));
     }
     if LONGEST_SIGNATURE < signature.len() {
-        return Finished::Refused(Refusal::R3);
+        return Err(NotDone::Refused(Refusal::R3));
     }
-    Finished::Body(put_body(order, block, certificate, signature, reply))
+    Ok(put_body(order, block, certificate, signature, reply))
 }

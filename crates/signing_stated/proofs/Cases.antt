@@ -18,7 +18,7 @@ use Rattle.signing_stated.proofs.Shapes.{register_shaped}
 use Rattle.signing_stated.specs.Promises.{Finishes}
 use Rattle.signing_stated.specs.Terms.{bytes_at, RegisterLengths, AuthenticateLengths}
 use Rattle.signing_stated.proofs.Ways.{comes_to_r7, comes_to_r4, comes_to_r2, comes_to_6f00, comes_to_r3, comes_to_body}
-use Rattle.signing_stated.specs.Finishing.{register_room, authenticate_room, room_of, room_needed, CountsHandle, body_of, Finishing, Finished, Refused, Status, Body, finish_of, finished_of, length_of, reply_of}
+use Rattle.signing_stated.specs.Finishing.{register_room, authenticate_room, room_of, room_needed, CountsHandle, body_of, Finishing, Finished, Refused, Status, Ok, Err, finish_of, finished_of, length_of, reply_of}
 use Rattle.octets.proofs.Laws.{length_part, parts_join}
 use Rattle.outcome.specs.Outcome.{Outcome, R, SW, Gives}
 use Rattle.outcome.specs.declared.ApduStatusCode.TheVariants.{InternalException}
@@ -314,28 +314,28 @@ lent o certificate signed signature reply =
     record { order = o; certificate = certificate; signed = signed; signature = signature; reply = reply }
 
 module _ (o : Order) (certificate : List ℕ) (signed : Bool) (signature reply : List ℕ) (ok : Bool) (is_ok : ok ≡ is_of_layout o) where
-  pub answers_r7 : not ok ≡ true → Finishes (lent o certificate signed signature reply) (Refused R7) reply
+  pub answers_r7 : not ok ≡ true → Finishes (lent o certificate signed signature reply) (Err (Refused R7)) reply
   answers_r7 told = finishes (lent o certificate signed signature reply) (R 7) _ _ (comes_to_r7 _ (sym is_ok ∙ not-true ok told)) refl refl
 
   module _ (pass : not ok ≡ false) where
-    pub answers_r4 : (length certificate ≡ certificate_length o → ⊥) → Finishes (lent o certificate signed signature reply) (Refused R4) reply
+    pub answers_r4 : (length certificate ≡ certificate_length o → ⊥) → Finishes (lent o certificate signed signature reply) (Err (Refused R4)) reply
     answers_r4 other =
         finishes (lent o certificate signed signature reply) (R 4) _ _ (comes_to_r4 _ (of_layout o ok is_ok pass) other) refl refl
 
     module _ (its : length certificate ≡ certificate_length o) (has : Bool) (is_has : has ≡ leb (room_needed o) (length reply)) where
-      pub answers_r2 : not has ≡ true → Finishes (lent o certificate signed signature reply) (Refused R2) reply
+      pub answers_r2 : not has ≡ true → Finishes (lent o certificate signed signature reply) (Err (Refused R2)) reply
       answers_r2 told =
           finishes (lent o certificate signed signature reply) (R 2) _ _
           (comes_to_r2 _ (of_layout o ok is_ok pass) its (leb-false (room_needed o) (length reply) (sym is_has ∙ not-true has told))) refl refl
 
       module _ (room : not has ≡ false) where
-        pub answers_6f00 : not signed ≡ true → Finishes (lent o certificate signed signature reply) (Status InternalException) reply
+        pub answers_6f00 : not signed ≡ true → Finishes (lent o certificate signed signature reply) (Err (Status InternalException)) reply
         answers_6f00 told =
             finishes (lent o certificate signed signature reply) (SW 0x6f00) _ _
             (comes_to_6f00 _ (of_layout o ok is_ok pass) its (enough _ _ has is_has room) (not-true signed told)) refl refl
 
         module _ (done : not signed ≡ false) where
-          pub answers_r3 : 72 < length signature → Finishes (lent o certificate signed signature reply) (Refused R3) reply
+          pub answers_r3 : 72 < length signature → Finishes (lent o certificate signed signature reply) (Err (Refused R3)) reply
           answers_r3 long =
               finishes (lent o certificate signed signature reply) (R 3) _ _
               (comes_to_r3 _ (of_layout o ok is_ok pass) its (enough _ _ has is_has room) (not-false signed done) long) refl refl
@@ -343,7 +343,7 @@ module _ (o : Order) (certificate : List ℕ) (signed : Bool) (signature reply :
           pub answers_body : (n : ℕ) (out : List ℕ) → length signature ≤ 72
               → n ≡ length (body_of o.kind o certificate signature)
               → out ≡ laid (body_of o.kind o certificate signature) reply
-              → Finishes (lent o certificate signed signature reply) (Body n) out
+              → Finishes (lent o certificate signed signature reply) (Ok n) out
           answers_body n out short is_n is_out =
               finishes (lent o certificate signed signature reply) (Gives (body_of o.kind o certificate signature)) _ _
               (comes_to_body _ (of_layout o ok is_ok pass) its (enough _ _ has is_has room) (not-false signed done) short) (ap Gives is_n) is_out

@@ -13,7 +13,7 @@ use Rattle.octets.specs.Bytes.{byte, bytes4}
 use Rattle.signing_stated.specs.Claims
 use Rattle.signing_stated.specs.Layouts.{RegisterFields, AuthenticateFields, presence_byte, is_register_fit}
 use Rattle.signing_stated.specs.Orders.{Order, Register, Authenticate, AuthenticateParts, certificate_length, register_order_of, authenticate_order_of, authenticate_order_for, register_fields_of, authenticate_fields_of}
-use Rattle.signing_stated.specs.Finishing.{Finishing, Refused, Status, Body, Ended, finish_of, room_needed}
+use Rattle.signing_stated.specs.Finishing.{Finishing, Refused, Status, Ok, Err, Ended, finish_of, room_needed}
 use Rattle.signing_stated.specs.Terms.{bytes_at, RegisterLengths, PartsLengths, IsWhole, IsBlank, NeedsRoom, register, authenticate, OfLayout}
 use Rattle.signing_stated.proofs.Fit.{register_fit, register_lengths}
 use Rattle.signing_stated.proofs.Shapes.{RegisterShape, AuthenticateShape, from_zeros, needs_room, of_no_layout}
@@ -158,6 +158,6 @@ FinishesExactly f g p q i whole = by_way (finish_of i) (way i)
 
 -- ---- what finishing answers
 pub FinishedExactly : Determines Claims.FinishedExactly
-FinishedExactly f g p q (Refused why) = (p.refused _ why).1 refl ∙ sym ((q.refused _ why).1 refl)
-FinishedExactly f g p q (Status s) = (p.status _ s).1 refl ∙ sym ((q.status _ s).1 refl)
-FinishedExactly f g p q (Body n) = (p.body _ n).1 refl ∙ sym ((q.body _ n).1 refl)
+FinishedExactly f g p q (Err (Refused why)) = (p.refused _ why).1 refl ∙ sym ((q.refused _ why).1 refl)
+FinishedExactly f g p q (Err (Status s)) = (p.status _ s).1 refl ∙ sym ((q.status _ s).1 refl)
+FinishedExactly f g p q (Ok n) = (p.body _ n).1 refl ∙ sym ((q.body _ n).1 refl)

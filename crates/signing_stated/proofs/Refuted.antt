@@ -15,7 +15,7 @@ use Rattle.signing_stated.specs.Wrong
 use Rattle.signing_stated.specs.Fido.{registration_signed, authentication_signed}
 use Rattle.signing_stated.specs.Layouts.{RegisterFields, AuthenticateFields, public_key}
 use Rattle.signing_stated.specs.Orders.{Order, Register, Authenticate, AuthenticateParts, block, blank_order, register_order_of, authenticate_order_of, authenticate_order_for, is_register_layout, is_authenticate_layout, authenticate_fields_of}
-use Rattle.signing_stated.specs.Finishing.{Finishing, Refused, Status, Ended, finish_of, end_of, room_needed}
+use Rattle.signing_stated.specs.Finishing.{Finishing, Finished, Refused, Status, Err, Ended, finish_of, end_of, room_needed}
 use Rattle.signing_stated.specs.Terms.{IsRegisterOrder, IsAuthenticateOrder, HoldsMessage, RegisterLengths, PartsLengths, RegisterShaped, AuthenticateShaped, NeedsRoom, register, authenticate, OfLayout}
 use Rattle.signing_stated.proofs.Shapes.{zeros_from, needs_room}
 use Rattle.signing_stated.proofs.Messages.{key_is, registration_signed_lem, authentication_signed_lem}
@@ -41,13 +41,13 @@ pub kinds_turned : Claims.KindNumbers Wrong.kinds_turned → ⊥
 kinds_turned p = let e : ◌≡◌ {A = ℕ} 2 1 = p.register in omega arith
 
 pub always6f00 : Claims.FinishedExactly Wrong.always6f00 → ⊥
-always6f00 p = omega (arith, ap (λ (x : Outcome ℕ). said x) ((p.status (Status ClaInvalid) ClaInvalid).1 refl))
+always6f00 p = omega (arith, ap (λ (x : Outcome ℕ). said x) ((p.status (Err (Status ClaInvalid)) ClaInvalid).1 refl))
 
 pub r4_unsaid : Claims.FinishedExactly Wrong.r4_said_as_r2 → ⊥
-r4_unsaid p = let e : ◌≡◌ {A = ℕ} 2 4 = ap (λ (x : Outcome ℕ). said x) ((p.refused (Refused R4) R4).1 refl) in omega arith
+r4_unsaid p = let e : ◌≡◌ {A = ℕ} 2 4 = ap (λ (x : Outcome ℕ). said x) ((p.refused (Err (Refused R4)) R4).1 refl) in omega arith
 
 pub r4_said_as_r2 : Claims.FinishedOneToOne Wrong.r4_said_as_r2 → ⊥
-r4_said_as_r2 p = let e : Refused R2 ≡ Refused R4 = p (Refused R2) (Refused R4) refl in let z : ◌≡◌ {A = ℕ} 0 1 = cc in omega arith
+r4_said_as_r2 p = let e : ◌≡◌ {A = Finished} (Err (Refused R2)) (Err (Refused R4)) = p (Err (Refused R2)) (Err (Refused R4)) refl in let z : ◌≡◌ {A = ℕ} 0 1 = cc in omega arith
 
 -- ---- orders: application of 01s, challenge of 02s, no handle, x and y zeros
 abbrev enrolled : RegisterFields

@@ -10,7 +10,7 @@ use Rattle.octets.specs.Bytes.{byte}
 use Rattle.signing_stated.specs.Layouts.{RegisterFields, AuthenticateFields, register_to_sign, authenticate_to_sign, is_register_fit, is_authenticate_fit}
 use Rattle.signing_stated.specs.Fido.{IsMessage, IsKey, presence_bit, registration_signed, registration_response, authentication_signed, authentication_response}
 use Rattle.signing_stated.specs.Orders.{Kind, Register, Authenticate, Head, Order, head_of, order_with, AuthenticateParts, to_sign, certificate_length, register_order_of, authenticate_order_of}
-use Rattle.signing_stated.specs.Finishing.{Finishing, Finished, Refused, Status, Body, finished_of, Ended}
+use Rattle.signing_stated.specs.Finishing.{Finishing, Finished, Refused, Status, Ok, Err, finished_of, Ended}
 use Rattle.signing_stated.specs.Promises.{KindNumber, Blank, RegisterOrder, AuthenticateOrder, HasLayout, HasRegisterRoom, HasAuthenticateRoom, Finish}
 use Rattle.signing_stated.specs.Terms.{bytes_at, RegisterLengths, AuthenticateLengths, PartsLengths, IsWhole, IsBlank, IsRegisterOrder, IsAuthenticateOrder, HoldsJust, signed_bytes, longer, IsEnrolment, IsLogin, HoldsMessage, NeedsRoom, OfLayout, keeping}
 pub use Rattle.signing_stated.specs.Replies.{FinishesExactly}
@@ -34,9 +34,9 @@ FinishedOneToOne view = (a b : Finished) → view a ≡ view b → a ≡ b
 -- What finishing answers, in the documents' numbers: each case has its value, and no other has it. `r4_said_as_r2` fails it, and a view that says 6f00 for every
 -- status word (`always6f00`).
 pub record FinishedExactly (said : Finished → Outcome ℕ) : Type 0 where
-  pub refused : (a : Finished) (why : Refusal) → (said a ≡ R (refusal_no why)) ↔ (a ≡ Refused why)
-  pub status : (a : Finished) (s : ApduStatusCode) → (said a ≡ Word (word_of s)) ↔ (a ≡ Status s)
-  pub body : (a : Finished) (n : ℕ) → (said a ≡ Gives n) ↔ (a ≡ Body n)
+  pub refused : (a : Finished) (why : Refusal) → (said a ≡ R (refusal_no why)) ↔ (a ≡ Err (Refused why))
+  pub status : (a : Finished) (s : ApduStatusCode) → (said a ≡ Word (word_of s)) ↔ (a ≡ Err (Status s))
+  pub body : (a : Finished) (n : ℕ) → (said a ≡ Gives n) ↔ (a ≡ Ok n)
 
 -- Two results that meet a contract are equal. 01: "Show that two results satisfying it are equal". For an order the result is its
 -- head and the lent block together, for `finish` the answer and the reply buffer: a contract silent on the buffer fails it.

@@ -2,11 +2,12 @@
 -- 'Refusal numbers': "A 9000 body fills the front of the buffer; the rest stays".
 use Rattle.std.specs.Prelude.{ℕ, ◌+◌, ◌-◌, ◌≤◌, not, ◌≡◌, List, eqb, ltb, length}
 use Rattle.outcome.specs.Notation.{when◌then◌else◌}
-use Rattle.outcome.specs.Outcome.{Outcome, R, Word, SW, Gives, word_of, refusal_no}
+use Rattle.outcome.specs.Outcome.{Outcome, R, Word, SW, Gives}
+use Rattle.outcome.specs.NotDone.{not_done_of}
 use Rattle.octets.specs.Bytes.{laid}
 use Rattle.signing_stated.specs.Orders.{Kind, Register, Authenticate, Head, Order, head_of, to_sign, certificate_length, is_of_layout, register_fields_of, authenticate_fields_of}
 use Rattle.signing_stated.specs.Layouts.{register_body, authenticate_body}
-pub use Rattle.signing_stated.specs.Words.{Finished, Refused, Status, Body}
+pub use Rattle.signing_stated.specs.Words.{Finished, NotDone, Refused, Status, Ok, Err}
 pub use Rattle.signing_stated.specs.Replies.{Finishing, Ended}
 
 -- 01: "R2 (139 + h + c, or 77)"
@@ -46,9 +47,8 @@ finish_of i =
 
 -- an R refusal, a status word, or 9000 with a body of n bytes
 abbrev pub finished_of : Finished → Outcome ℕ
-finished_of (Refused r) = R (refusal_no r)
-finished_of (Status s) = Word (word_of s)
-finished_of (Body n) = Gives n
+finished_of (Err why) = not_done_of why
+finished_of (Ok n) = Gives n
 
 -- the answer says the body's length
 abbrev pub length_of : Outcome (List ℕ) → Outcome ℕ

@@ -3,9 +3,14 @@ use Rattle.std.specs.Prelude.{ℕ, List}
 pub use Rattle.signing_stated.specs.declared.Kind.{Kind}
 pub use Rattle.signing_stated.specs.declared.Kind.TheVariants.{Register, Authenticate}
 pub use Rattle.signing_stated.specs.declared.Head.{Head}
-pub use Rattle.signing_stated.specs.declared.Finished.{Finished}
-pub use Rattle.signing_stated.specs.declared.Finished.TheVariants.{Refused, Status, Body}
+pub use Rattle.std.specs.Prelude.{Result, Ok, Err}
+pub use Rattle.outcome.specs.declared.NotDone.{NotDone}
+pub use Rattle.outcome.specs.declared.NotDone.TheVariants.{Refused, Status}
 pub use Rattle.signing_stated.specs.Replies.{Order}
+
+-- what finishing comes to: a body of so many bytes at the front of the reply buffer, or why there is none
+abbrev pub Finished : Type 0
+Finished = Result ℕ NotDone
 
 -- an order is its head and its block: the block is lent beside the head
 abbrev pub head_of : Order → Head

@@ -7,7 +7,7 @@ use Rattle.outcome.specs.declared.Refusal.TheVariants.{R1, R2, R3, R4, R5, R6, R
 use Rattle.octets.specs.Bytes.{byte, laid, bytes4}
 use Rattle.signing_stated.specs.Layouts.{RegisterFields, register_to_sign, register_body, presence_byte}
 use Rattle.signing_stated.specs.Orders.{Kind, Register, Authenticate, Order, AuthenticateParts, kind_no, to_sign, certificate_length, block, register_order_of, authenticate_order_of, authenticate_order_for, is_of_layout, register_fields_of}
-use Rattle.signing_stated.specs.Finishing.{Finishing, Finished, Refused, Status, Body, Ended, end_of, finish_of, register_room, room_needed, body_of}
+use Rattle.signing_stated.specs.Finishing.{Finishing, Finished, Refused, Status, Ok, Err, Ended, end_of, finish_of, register_room, room_needed, body_of}
 use Rattle.signing_stated.specs.Terms.{keeping}
 
 -- ---- numbers
@@ -22,22 +22,22 @@ kinds_turned Authenticate = 0x01
 
 -- 01, 'Refusal numbers': R4 said as R2
 abbrev pub r4_said_as_r2 : Finished → Outcome ℕ
-r4_said_as_r2 (Refused R1) = R 1
-r4_said_as_r2 (Refused R2) = R 2
-r4_said_as_r2 (Refused R3) = R 3
-r4_said_as_r2 (Refused R4) = R 2
-r4_said_as_r2 (Refused R5) = R 5
-r4_said_as_r2 (Refused R6) = R 6
-r4_said_as_r2 (Refused R7) = R 7
-r4_said_as_r2 (Refused R8) = R 8
-r4_said_as_r2 (Status s) = Word (word_of s)
-r4_said_as_r2 (Body n) = Gives n
+r4_said_as_r2 (Err (Refused R1)) = R 1
+r4_said_as_r2 (Err (Refused R2)) = R 2
+r4_said_as_r2 (Err (Refused R3)) = R 3
+r4_said_as_r2 (Err (Refused R4)) = R 2
+r4_said_as_r2 (Err (Refused R5)) = R 5
+r4_said_as_r2 (Err (Refused R6)) = R 6
+r4_said_as_r2 (Err (Refused R7)) = R 7
+r4_said_as_r2 (Err (Refused R8)) = R 8
+r4_said_as_r2 (Err (Status s)) = Word (word_of s)
+r4_said_as_r2 (Ok n) = Gives n
 
 -- one number for every status word
 abbrev pub always6f00 : Finished → Outcome ℕ
-always6f00 (Refused why) = R (refusal_no why)
-always6f00 (Status s) = SW 0x6f00
-always6f00 (Body n) = Gives n
+always6f00 (Err (Refused why)) = R (refusal_no why)
+always6f00 (Err (Status s)) = SW 0x6f00
+always6f00 (Ok n) = Gives n
 
 -- ---- orders
 -- DECISIONS, blank order: a certificate length where there is no order

@@ -6,14 +6,14 @@
 #![tactic(auto)]
 
 ghost use Rattle.std.specs.Prelude.{◌≡◌};
-ghost use Rattle.outcome.specs.Outcome.{Gives, refusal_no};
+ghost use Rattle.outcome.specs.Outcome.{refusal_no};
 ghost use Rattle.u2f_up_stated.specs.Moments.{is_live, is_r6, is_r8, is_r1, granted_of, gave, refused};
 ghost use Rattle.u2f_up_stated.specs.Answers.{outcome_of, told_of};
 ghost use Rattle.u2f_up_stated.specs.Numbers.{window_of, number_of};
 ghost use Rattle.u2f_up_stated.specs.Promises.{New, Settle, TouchCheck, RecordLent, Moved, TouchChecked, TouchGranted, GrantUp, ConsumeUp, IsUpNeeded, GrantUpLent, ConsumeUpLent, IsUpNeededLent};
 
 use outcome::Refusal;
-pub use u2f_up_stated::{Answer, Finding, Presence, Ready, Step, Window};
+pub use u2f_up_stated::{Finding, Presence, Step, Window};
 
 const U2F_UP_PROMPT_TIMEOUT_MS: u64 = 10000;
 
@@ -25,8 +25,6 @@ const MOMENTS: u64 = 1 << 48;
 
 // A window's number where it is closed.
 const CLOSED: u64 = 0;
-
-const GREATEST: u64 = 0xffffffffffffffff;
 
 // R6: W is 0 or above 60,000.
 fn is_r6(w: u64) -> bool
@@ -59,16 +57,16 @@ fn is_r1(last: u64, t: u64) -> bool
 }
 
 // A fresh record with the touch window W.
-pub fn new(w: u64) -> Ready
+pub fn new(w: u64) -> Result<Presence, Refusal>
     ensures { New w result }
 {
     if is_r6(w) {
-        return Ready::Refused(Refusal::R6);
+        return Err(Refusal::R6);
     }
-    Ready::Record(Presence {
+    Ok(Presence {
         w,
-        prompt: Window::Closed,
-        touch: Window::Closed,
+        prompt: None,
+        touch: None,
         last: 0,
         asker: 0,
     })
@@ -76,26 +74,21 @@ pub fn new(w: u64) -> Ready
 
 // The moment settled, before all else: R6, R8, R1, or the record with its last moment at `t`. A call that names no side names the
 // record's own.
-pub fn settle(presence: Presence, side: u64, t: u64) -> Ready
+pub fn settle(presence: Presence, side: u64, t: u64) -> Result<Presence, Refusal>
     ensures { Settle presence side t result }
 {
     if is_r6(presence.w) {
-        return Ready::Refused(Refusal::R6);
+        return Err(Refusal::R6);
     }
     if is_r8(side, presence.asker) {
-        return Ready::Refused(Refusal::R8);
+        return Err(Refusal::R8);
     }
     if is_r1(presence.last, t) {
-        return Ready::Refused(Refusal::R1);
+        return Err(Refusal::R1);
     }
-    let prompt = presence.prompt;
-    let touch = presence.touch;
-    Ready::Record(Presence {
-        w: presence.w,
-        prompt,
-        touch,
+    Ok(Presence {
         last: t,
-        asker: presence.asker,
+        ..presence
     })
 }
 
@@ -103,31 +96,20 @@ pub fn settle(presence: Presence, side: u64, t: u64) -> Ready
 fn is_live(window: Window, d: u64, t: u64) -> bool
     ensures { result ≡ is_live window d t }
 {
-    match window {
-        Window::Closed => false,
-        Window::Opened(m) => {
-            if t < m {
-                return true;
-            }
-            t - m < d
-        }
-    }
+    window.is_some_and(|m| t < m || t - m < d)
 }
 
 // Touch on a settled record: accepted while the prompt is live, for the side that asked.
 fn granted(settled: Presence, t: u64) -> Finding
     ensures { result ≡ granted_of settled t }
 {
-    let prompt = settled.prompt;
-    if is_live(prompt, U2F_UP_PROMPT_TIMEOUT_MS, t) {
+    if is_live(settled.prompt, U2F_UP_PROMPT_TIMEOUT_MS, t) {
         return Finding {
             yes: true,
             presence: Presence {
-                w: settled.w,
-                prompt: Window::Closed,
-                touch: Window::Opened(t),
-                last: settled.last,
-                asker: settled.asker,
+                prompt: None,
+                touch: Some(t),
+                ..settled
             },
         };
     }
@@ -151,7 +133,7 @@ pub fn touch_check(presence: Presence, side: u64, t: u64) -> Finding
             yes: false,
             presence: Presence {
                 w: presence.w,
-                prompt: Window::Opened(t),
+                prompt: Some(t),
                 touch,
                 last: presence.last,
                 asker: side,
@@ -175,7 +157,7 @@ pub fn touch_check(presence: Presence, side: u64, t: u64) -> Finding
         presence: Presence {
             w: presence.w,
             prompt,
-            touch: Window::Closed,
+            touch: None,
             last: presence.last,
             asker: presence.asker,
         },
@@ -188,20 +170,14 @@ pub fn touch_check(presence: Presence, side: u64, t: u64) -> Finding
 fn window_of(number: u64) -> Window
     ensures { result ≡ window_of number }
 {
-    if number == CLOSED {
-        return Window::Closed;
-    }
-    Window::Opened(number - 1)
+    number.checked_sub(1)
 }
 
 // A moment's number in a window. No moment that settles comes near the greatest number, which has none after it.
 fn number_of(t: u64) -> u64
     ensures { result ≡ number_of t }
 {
-    if t == GREATEST {
-        return GREATEST;
-    }
-    t + 1
+    t.saturating_add(1)
 }
 
 // The record that the numbers stand for.
@@ -267,19 +243,12 @@ pub fn touch_granted(numbers: &mut [u64; 5], t: u64) -> bool
     true
 }
 
-fn answer_of(yes: bool) -> Answer
-    ensures { outcome_of result ≡ Gives yes }
-{
-    if yes { Answer::Yes } else { Answer::No }
-}
-
 fn tell(found: Finding) -> Step
     ensures { told_of result ≡ gave found }
 {
-    let presence = found.presence;
     Step {
-        answer: answer_of(found.yes),
-        presence,
+        answer: Ok(found.yes),
+        presence: found.presence,
     }
 }
 
@@ -287,7 +256,7 @@ fn refuse(why: Refusal, kept: Presence) -> Step
     ensures { told_of result ≡ refused (refusal_no why) kept }
 {
     Step {
-        answer: Answer::Refused(why),
+        answer: Err(why),
         presence: kept,
     }
 }
@@ -297,8 +266,8 @@ pub fn grant_up(presence: Presence, t: u64) -> Step
     ensures { GrantUp presence t result }
 {
     match settle(presence, presence.asker, t) {
-        Ready::Refused(why) => refuse(why, presence),
-        Ready::Record(settled) => tell(granted(settled, t)),
+        Err(why) => refuse(why, presence),
+        Ok(settled) => tell(granted(settled, t)),
     }
 }
 
@@ -307,25 +276,22 @@ pub fn consume_up(presence: Presence, side: u64, t: u64) -> Step
     ensures { ConsumeUp presence side t result }
 {
     match settle(presence, side, t) {
-        Ready::Refused(why) => refuse(why, presence),
-        Ready::Record(settled) => tell(touch_check(settled, side, t)),
+        Err(why) => refuse(why, presence),
+        Ok(settled) => tell(touch_check(settled, side, t)),
     }
 }
 
 // Whether a prompt is live at `t`. Nothing moves, not even the last moment.
-pub fn is_up_needed(presence: Presence, t: u64) -> Answer
+pub fn is_up_needed(presence: Presence, t: u64) -> Result<bool, Refusal>
     ensures { IsUpNeeded presence t result }
 {
-    let prompt = presence.prompt;
-    match settle(presence, presence.asker, t) {
-        Ready::Refused(why) => Answer::Refused(why),
-        Ready::Record(_) => answer_of(is_live(prompt, U2F_UP_PROMPT_TIMEOUT_MS, t)),
-    }
+    settle(presence, presence.asker, t)?;
+    Ok(is_live(presence.prompt, U2F_UP_PROMPT_TIMEOUT_MS, t))
 }
 
 // What any call by value promises of a record and the step that comes back, it promises of a lent record and the answer. Nothing but that
 // promise is known of the call.
-fn stepped<F: FnOnce(Presence) -> Step>(presence: &mut Presence, call: F) -> Answer
+fn stepped<F: FnOnce(Presence) -> Step>(presence: &mut Presence, call: F) -> Result<bool, Refusal>
     requires { F.pre call presence.old }
     ensures { F.post call presence.old (record { answer = result; presence = presence.new }) }
 {
@@ -335,20 +301,20 @@ fn stepped<F: FnOnce(Presence) -> Step>(presence: &mut Presence, call: F) -> Ans
 }
 
 // The same three on a record lent for writing, as the Rust has them. No branch: the work is done by value.
-pub fn grant_up_lent(presence: &mut Presence, t: u64) -> Answer
+pub fn grant_up_lent(presence: &mut Presence, t: u64) -> Result<bool, Refusal>
     ensures { GrantUpLent presence.old t result presence.new }
 {
     stepped(presence, |lent| grant_up(lent, t))
 }
 
-pub fn consume_up_lent(presence: &mut Presence, side: u64, t: u64) -> Answer
+pub fn consume_up_lent(presence: &mut Presence, side: u64, t: u64) -> Result<bool, Refusal>
     ensures { ConsumeUpLent presence.old side t result presence.new }
 {
     stepped(presence, |lent| consume_up(lent, side, t))
 }
 
 // Asking leaves the lent record as it was.
-pub fn is_up_needed_lent(presence: &mut Presence, t: u64) -> Answer
+pub fn is_up_needed_lent(presence: &mut Presence, t: u64) -> Result<bool, Refusal>
     ensures { IsUpNeededLent presence.old t result presence.new }
 {
     is_up_needed(*presence, t)

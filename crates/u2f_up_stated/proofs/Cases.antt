@@ -1,37 +1,23 @@
 -- What each return of the functions gives, as a law in the form of its need: the premises are the facts as the code has
 -- them. The only file, beside the theorems on runs, that opens the definitions of specs/Moments.antt.
-use Prim.Native.Nat.{ℕ, ◌+◌, ◌-◌, ◌^◌, ◌<◌, ◌≤◌}
-use mathlib.Core.Path.{◌≡◌, refl, sym, ap, ◌∙◌}
+use Prim.Native.Nat.{ℕ, ◌^◌, ◌≤◌}
+use mathlib.Core.Path.{◌≡◌, sym, ap, ◌∙◌}
 use mathlib.Core.Bool.{Bool, true, false, not}
-use native.Mathlib.Omega.{arith}
 use lib.Dec.{ltb}
-use borrow.Author.Tests.{lt-ltb, le-ltb, le-leb, lt-leb, eq-eqb, ne_eqb, ltb-true, ltb-false}
+use borrow.Author.Tests.{le-leb, eq-eqb, ne_eqb}
 use Rattle.outcome.specs.declared.Refusal.{Refusal}
-use Rattle.u2f_up_stated.specs.Words.{Outcome, R, Gives, refusal_no, Presence, Window, Opened, Finding}
+use Rattle.u2f_up_stated.specs.Words.{R, Gives, refusal_no, Presence, Finding}
 use Rattle.u2f_up_stated.specs.Moments.{is_live, is_r6, is_r8, is_r1, fresh, new_of, moved_to, touch_opened, touch_closed, prompt_opened, settle_of, granted_of, checked_of}
 use Rattle.u2f_up_stated.specs.Moments.{Told, gave, refused, on_settled, touch_of, check_of, ask_of}
 use Rattle.u2f_up_stated.specs.Answers.{ready_of}
-use Rattle.u2f_up_stated.specs.declared.Ready.{Ready}
-use Rattle.u2f_up_stated.specs.declared.Ready.TheVariants as Ready'
-
--- R6, R8 and R1, from the comparisons that the code makes
-pub r6_zero : (w : ℕ) → w ≡ 0 → true ≡ is_r6 w
-r6_zero w h = rw (eq-eqb w 0 h)
+use Rattle.u2f_up_stated.specs.Words.{Ready}
+use Rattle.std.specs.Prelude.{Ok, Err}
 
 pub r6_above : (w : ℕ) → (w ≡ 0 → ⊥) → ltb 60000 w ≡ is_r6 w
 r6_above w h = rw (ne_eqb w 0 h)
 
-pub r8_named : (named asker : ℕ) → 1 < named → true ≡ is_r8 named asker
-r8_named named asker h = rw (lt-ltb 1 named h)
-
-pub r8_asker : (named asker : ℕ) → named ≤ 1 → ltb 1 asker ≡ is_r8 named asker
-r8_asker named asker h = rw (le-ltb 1 named h)
-
 pub r1_beyond : (last t : ℕ) → 2 ^ 48 ≤ t → true ≡ is_r1 last t
 r1_beyond last t h = rw (le-leb (2 ^ 48) t h)
-
-pub r1_before : (last t : ℕ) → t < 2 ^ 48 → ltb t last ≡ is_r1 last t
-r1_before last t h = rw (lt-leb (2 ^ 48) t h)
 
 -- making a record
 module _ (w : ℕ) (bad : Bool) where
@@ -63,17 +49,6 @@ module _ (p : Presence) (s t : ℕ) (bad : Bool) where
       unfolding settle_of
       settled e h f k g l = rw (sym e ∙ h, sym f ∙ k, sym g ∙ l)
 
--- windows
-pub live_ahead : (window : Window) (m d t : ℕ) → window ≡ Opened m → t < m → true ≡ is_live window d t
-live_ahead window m d t e h = rw e (sym (lt-ltb t (m + d) (omega arith)))
-
-pub live_since : (window : Window) (m d t : ℕ) → window ≡ Opened m → m ≤ t → ltb (t - m) d ≡ is_live window d t
-live_since window m d t e h = rw e (same (ltb (t - m) d) refl)
-  where
-    same : (b : Bool) → ltb (t - m) d ≡ b → ltb (t - m) d ≡ ltb t (m + d)
-    same true q = q ∙ sym (lt-ltb t (m + d) (omega (arith, ltb-true (t - m) d q)))
-    same false q = q ∙ sym (le-ltb t (m + d) (omega (arith, ltb-false (t - m) d q)))
-
 -- touch and touch check on a settled record
 module _ (p : Presence) (t : ℕ) (live : Bool) where
   pub granted_yes : live ≡ is_live p.prompt 10000 t → live ≡ true → record { yes = true; presence = touch_opened p t } ≡ granted_of p t
@@ -97,43 +72,39 @@ module _ (p : Presence) (t : ℕ) (live : Bool) where
     unfolding checked_of
     checked_own e h o = rw (ap not (sym e) ∙ h, eq-eqb p.asker s o)
 
--- an answer and a record, told
-pub told_as : (found : Finding) (o : Outcome Bool) → o ≡ Gives found.yes → record { outcome = o; presence = found.presence } ≡ gave found
-told_as found o e = rw e
-
 -- the calls: a refusal keeps the record that came in, and what is found on the settled record is what is told
 module _ (p : Presence) (side t : ℕ) (ready : Ready) (settles : ready_of ready ≡ settle_of p side t) (s : Told) where
-  told_refused : (why : Refusal) → ready ≡ Ready'.Refused why → s ≡ refused (refusal_no why) p → (go_on : Presence → Told) → s ≡ on_settled p (settle_of p side t) go_on
+  told_refused : (why : Refusal) → ready ≡ Err why → s ≡ refused (refusal_no why) p → (go_on : Presence → Told) → s ≡ on_settled p (settle_of p side t) go_on
   told_refused why is tells go_on = tells ∙ rw (← settles, is)
 
-  told_found : (q : Presence) → ready ≡ Ready'.Record q → (found : Finding) → s ≡ gave found → (f : Presence → Finding) → found ≡ f q
+  told_found : (q : Presence) → ready ≡ Ok q → (found : Finding) → s ≡ gave found → (f : Presence → Finding) → found ≡ f q
       → s ≡ on_settled p (settle_of p side t) (λ x. gave (f x))
   told_found q is found tells f e = tells ∙ rw (← settles, is, ← e)
 
-  pub check_refused : (why : Refusal) → ready ≡ Ready'.Refused why → s ≡ refused (refusal_no why) p → s ≡ check_of p side t
+  pub check_refused : (why : Refusal) → ready ≡ Err why → s ≡ refused (refusal_no why) p → s ≡ check_of p side t
   unfolding check_of
   check_refused why is tells = told_refused why is tells (λ q. gave (checked_of q side t))
 
-  pub check_found : (q : Presence) → ready ≡ Ready'.Record q → (found : Finding) → s ≡ gave found → found ≡ checked_of q side t → s ≡ check_of p side t
+  pub check_found : (q : Presence) → ready ≡ Ok q → (found : Finding) → s ≡ gave found → found ≡ checked_of q side t → s ≡ check_of p side t
   unfolding check_of
   check_found q is found tells = told_found q is found tells (λ x. checked_of x side t)
 
 -- a touch settles as the record's own side
 module _ (p : Presence) (t : ℕ) (ready : Ready) (settles : ready_of ready ≡ settle_of p p.asker t) (s : Told) where
-  pub touch_refused : (why : Refusal) → ready ≡ Ready'.Refused why → s ≡ refused (refusal_no why) p → s ≡ touch_of p t
+  pub touch_refused : (why : Refusal) → ready ≡ Err why → s ≡ refused (refusal_no why) p → s ≡ touch_of p t
   unfolding touch_of
   touch_refused why is tells = told_refused p p.asker t ready settles s why is tells (λ q. gave (granted_of q t))
 
-  pub touch_found : (q : Presence) → ready ≡ Ready'.Record q → (found : Finding) → s ≡ gave found → found ≡ granted_of q t → s ≡ touch_of p t
+  pub touch_found : (q : Presence) → ready ≡ Ok q → (found : Finding) → s ≡ gave found → found ≡ granted_of q t → s ≡ touch_of p t
   unfolding touch_of
   touch_found q is found tells = told_found p p.asker t ready settles s q is found tells (λ x. granted_of x t)
 
 -- asking gives no record back
 module _ (p : Presence) (t : ℕ) (ready : Ready) (settles : ready_of ready ≡ settle_of p p.asker t) where
-  pub ask_refused : (why : Refusal) → ready ≡ Ready'.Refused why → R (refusal_no why) ≡ (ask_of p t).outcome
+  pub ask_refused : (why : Refusal) → ready ≡ Err why → R (refusal_no why) ≡ (ask_of p t).outcome
   unfolding ask_of
   ask_refused why is = rw (← settles, is)
 
-  pub ask_found : (q : Presence) → ready ≡ Ready'.Record q → (live : Bool) (o : Outcome Bool) → live ≡ is_live p.prompt 10000 t → o ≡ Gives live → o ≡ (ask_of p t).outcome
+  pub ask_found : (q : Presence) → ready ≡ Ok q → (live : Bool) → live ≡ is_live p.prompt 10000 t → Gives live ≡ (ask_of p t).outcome
   unfolding ask_of
-  ask_found q is live o e h = rw (← settles, is, h, e)
+  ask_found q is live e = rw (← settles, is, e)

@@ -10,7 +10,7 @@ use lib.Dec.{eqb}
 use lib.ListN.{length, length-append}
 use Rattle.outcome.specs.Notation.{when◌then◌else◌}
 use Rattle.outcome.specs.Outcome.{Outcome, R, Gives}
-use Rattle.u2f_up_stated.specs.Words.{Presence, Opened}
+use Rattle.u2f_up_stated.specs.Words.{Presence, Some}
 use Rattle.u2f_up_stated.specs.Moments.{Told, is_live, is_r6, is_bad_side, is_r1, moved_to, granted_of, checked_of}
 use Rattle.u2f_up_stated.specs.History.{Role, Touching, Checking, Asking, Settling, TooShort, RefusedBy, TouchAccepted, TouchIgnored, TouchFound, NoTouchFound, PromptStands, NoPromptStands, Event, Mark, touch_mark, side_of, those, is_young, is_found, is_any, held_at, held_for, last_moment, latest_prompt, unspent, asker_of, is_prompt_standing, unrefused, foretold, server_of}
 use Rattle.u2f_up_stated.specs.Runs.{Caller, Keeps, after, comes_to, came_of, history, done_by}
@@ -190,7 +190,7 @@ module _ {D : Type 0} (𝒞 : Caller D) (keeping : Keeps 𝒞) (w : ℕ) (within
   history_length (d ∷ ds) = ap suc (history_length ds)
 
   pub holds : (later earlier : List D) (k : Mark) (t : ℕ) → last_moment (past (later ++ earlier)) ≤ t → held_at w (past (later ++ earlier)) t ≡ k ∷ [] → k.number < length earlier
-      → (after 𝒞 w earlier).touch ≡ Opened k.moment
+      → (after 𝒞 w earlier).touch ≡ Some k.moment
   unfolding history
   holds [] earlier k t late l n =
       ap (λ (q : Presence). q.touch) (exact earlier) ∙ (window_of w (asker_of w (past earlier)) t (unspent w (past earlier)) (held_of (past earlier)) k (held_now w (past earlier) t late (invariant earlier)) l).0

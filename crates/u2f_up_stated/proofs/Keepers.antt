@@ -8,7 +8,7 @@ use mathlib.Core.Option.{some}
 use native.Mathlib.Omega.{arith}
 use lib.ListN.{length}
 use borrow.Author.Tests.{le-ltb}
-use Rattle.u2f_up_stated.specs.Words.{Opened, Presence}
+use Rattle.u2f_up_stated.specs.Words.{Some, Presence}
 use Rattle.u2f_up_stated.specs.Moments.{is_r6}
 use Rattle.u2f_up_stated.specs.History.{Role, Touching, Checking, TouchFound, Event, Mark, side_of, is_of, last_moment, held_at, held_for, server_of, foretold}
 use Rattle.u2f_up_stated.specs.Terms.{RefusedAt, NamesBadSide}
@@ -50,7 +50,7 @@ module _ {D : Type 0} (𝒞 : Caller D) (keeping : Keeps 𝒞) (w : ℕ) (within
       (k.0, k.1, k.2, s.1 ∙ ap Checking (sym own))
 
   holds : (k : Mark) (t : ℕ) → last_moment past ≤ t → held_at w past t ≡ k ∷ []
-      → (later earlier : List D) → ds ≡ later ++ earlier → k.number < length earlier → (after 𝒞 w earlier).touch ≡ Opened k.moment
+      → (later earlier : List D) → ds ≡ later ++ earlier → k.number < length earlier → (after 𝒞 w earlier).touch ≡ Some k.moment
   holds k t late l later earlier e n = Demand.holds 𝒞 keeping w within later earlier k t (rw e at late) (rw e at l) n
 
   met : RunOf 𝒞 w ds

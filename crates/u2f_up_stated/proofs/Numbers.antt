@@ -7,33 +7,31 @@ use Rattle.outcome.proofs.Laws.{refusal_of, refusal_back}
 use Rattle.u2f_up_stated.specs.Words.{Presence}
 use Rattle.u2f_up_stated.specs.Moments.{Told}
 use Rattle.u2f_up_stated.specs.Answers.{Ready, Answer, Step, ready_of, outcome_of, told_of}
-use Rattle.u2f_up_stated.specs.declared.Ready.TheVariants as Ready'
-use Rattle.u2f_up_stated.specs.declared.Answer.TheVariants as Answer'
+use Rattle.std.specs.Prelude.{Ok, Err}
 
 ready_back : Outcome Presence → Ready
-ready_back (R n) = Ready'.Refused (refusal_of n)
-ready_back (Word s) = Ready'.Refused (refusal_of 0)
-ready_back (Gives p) = Ready'.Record p
+ready_back (R n) = Err (refusal_of n)
+ready_back (Word s) = Err (refusal_of 0)
+ready_back (Gives p) = Ok p
 
 ready_back_lem : (a : Ready) → ready_back (ready_of a) ≡ a
 unfolding ready_back
-ready_back_lem (Ready'.Refused r) = ap Ready'.Refused (refusal_back r)
-ready_back_lem (Ready'.Record p) = refl
+ready_back_lem (Err r) = ap Err (refusal_back r)
+ready_back_lem (Ok p) = refl
 
 pub ready_apart : (a b : Ready) → ready_of a ≡ ready_of b → a ≡ b
 ready_apart = one_to_one ready_of ready_back ready_back_lem
 
 answer_back : Outcome Bool → Answer
-answer_back (R n) = Answer'.Refused (refusal_of n)
-answer_back (Word s) = Answer'.Refused (refusal_of 0)
-answer_back (Gives true) = Answer'.Yes
-answer_back (Gives false) = Answer'.No
+answer_back (R n) = Err (refusal_of n)
+answer_back (Word s) = Err (refusal_of 0)
+answer_back (Gives found) = Ok found
 
 answer_back_lem : (a : Answer) → answer_back (outcome_of a) ≡ a
 unfolding answer_back
-answer_back_lem (Answer'.Refused r) = ap Answer'.Refused (refusal_back r)
-answer_back_lem Answer'.Yes = refl
-answer_back_lem Answer'.No = refl
+answer_back_lem (Err r) = ap Err (refusal_back r)
+answer_back_lem (Ok true) = refl
+answer_back_lem (Ok false) = refl
 
 pub answer_apart : (a b : Answer) → outcome_of a ≡ outcome_of b → a ≡ b
 answer_apart = one_to_one outcome_of answer_back answer_back_lem

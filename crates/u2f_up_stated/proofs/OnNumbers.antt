@@ -1,5 +1,5 @@
 -- The record lent as five numbers: what a store at each place does to the record, and the touch check and the touch on it. It mentions no function.
-use Prim.Native.Nat.{ℕ, zero, suc, ◌+◌, ◌-◌, ◌<◌, ◌^◌}
+use Prim.Native.Nat.{ℕ, zero, suc, ◌+◌, ◌<◌, ◌^◌}
 use mathlib.Core.Path.{◌≡◌, refl, ap, sym, ◌∙◌}
 use mathlib.Core.Bool.{Bool, true, false, not}
 use mathlib.Core.List.{List, [], ◌∷◌}
@@ -11,34 +11,30 @@ use lib.ListN.{length, get_or, set}
 use lib.Seq.{get_or-set_same, get_or-set_other, lt-length-set}
 use Rattle.outcome.specs.Outcome.{Outcome, Gives}
 use Rattle.outcome.proofs.Laws.{r_gives, gives_same}
-use Rattle.u2f_up_stated.specs.Words.{Window, Closed, Opened, Presence, Finding}
+use Rattle.u2f_up_stated.specs.Words.{Window, None, Some, Presence, Finding}
 use Rattle.u2f_up_stated.specs.Moments.{is_live, moved_to, settle_of, checked_of, granted_of}
 use Rattle.u2f_up_stated.specs.Terms.{BadMoment, LiveNumber}
 use Rattle.u2f_up_stated.proofs.Ways.{SettleWay, settle_way, r6, r8, r1, moves, window_live, window_over, window_is}
 use Rattle.u2f_up_stated.specs.Numbers.{window_of, presence_in, number_of, checked_in, granted_in}
 
 -- ---- a window's number
-pub closed_is : (n : ℕ) → n ≡ 0 → Closed ≡ window_of n
+pub closed_is : (n : ℕ) → n ≡ 0 → None ≡ window_of n
 closed_is n e = rw e refl
 
-pub opened_is : (n : ℕ) → (n ≡ 0 → ⊥) → Opened (n - 1) ≡ window_of n
-opened_is zero not = absurd (not refl)
-opened_is (suc m) not = let before : suc m - 1 ≡ m = omega arith in ap Opened before
-
-closed_apart : (m : ℕ) → Closed ≡ Opened m → ⊥
+closed_apart : (m : ℕ) → None ≡ Some m → ⊥
 closed_apart m e = let z : ◌≡◌ {A = ℕ} 0 1 = cc in omega arith
 
-opened_same : (m n : ℕ) → Opened m ≡ Opened n → m ≡ n
+opened_same : (m n : ℕ) → Some m ≡ Some n → m ≡ n
 opened_same m n e = cc
 
-pub opened_after : (n m : ℕ) → n ≡ m + 1 → window_of n ≡ Opened m
+pub opened_after : (n m : ℕ) → n ≡ m + 1 → window_of n ≡ Some m
 opened_after n m e = let s : n ≡ suc m = omega (arith, e) in rw s
 
-pub opened_back : (n m : ℕ) → window_of n ≡ Opened m → n ≡ m + 1
+pub opened_back : (n m : ℕ) → window_of n ≡ Some m → n ≡ m + 1
 opened_back zero m e = absurd (closed_apart m e)
 opened_back (suc k) m e = let same : k ≡ m = opened_same k m e in omega (arith, same)
 
-pub closed_back : (n : ℕ) → window_of n ≡ Closed → n ≡ 0
+pub closed_back : (n : ℕ) → window_of n ≡ None → n ≡ 0
 closed_back zero e = refl
 closed_back (suc k) e = absurd (closed_apart k (sym e))
 
@@ -52,19 +48,12 @@ number_over n d t not = window_over (window_of n) d t (λ (m, e, h). not (m, ope
 pub live_number : (n d t : ℕ) → Dec (LiveNumber n d t)
 live_number n d t = by (window_is (window_of n) d t)
   where
-    by : Dec ((m : ℕ) × (window_of n ≡ Opened m) × (t < m + d)) → Dec (LiveNumber n d t)
+    by : Dec ((m : ℕ) × (window_of n ≡ Some m) × (t < m + d)) → Dec (LiveNumber n d t)
     by (yes (m, e, h)) = yes (m, opened_back n m e, h)
     by (no not) = no (λ (m, e, h). not (m, opened_after n m e, h))
 
-pub greatest_is : (t : ℕ) → t ≡ 0xffffffffffffffff → 0xffffffffffffffff ≡ number_of t
-greatest_is t e = rw (eq-eqb t 0xffffffffffffffff e)
-
 pub next_is : (t : ℕ) → (t ≡ 0xffffffffffffffff → ⊥) → t + 1 ≡ number_of t
 next_is t n = rw (ne_eqb t 0xffffffffffffffff n)
-
-pub record_is : (s : List ℕ) (prompt touch : Window) → prompt ≡ window_of (get_or s 1 0) → touch ≡ window_of (get_or s 2 0)
-    → ◌≡◌ {A = Presence} (record { w = get_or s 0 0; prompt = prompt; touch = touch; last = get_or s 3 0; asker = get_or s 4 0 }) (presence_in s)
-record_is s prompt touch p t = rw (p, t)
 
 -- ---- a store at each place
 module _ (s : List ℕ) (n : ℕ) where
@@ -138,7 +127,7 @@ module _ (s : List ℕ) (side t : ℕ) (long : 4 < length s) (live : Bool) (is_l
     unfolding checked_in
     spends e = (
       rw (lives, eq-eqb (get_or s 4 0) side e),
-      at_2 (set s 3 t) 0 two ∙ ap (λ (p : Presence). record { w = p.w; prompt = p.prompt; touch = Closed; last = p.last; asker = p.asker }) (moved_in s t (omega (arith, long)))
+      at_2 (set s 3 t) 0 two ∙ ap (λ (p : Presence). record { w = p.w; prompt = p.prompt; touch = None; last = p.last; asker = p.asker }) (moved_in s t (omega (arith, long)))
           ∙ rw (lives, eq-eqb (get_or s 4 0) side e),
     )
 
@@ -178,7 +167,7 @@ module _ (s : List ℕ) (t : ℕ) (long : 4 < length s) (live : Bool) (is_prompt
         rw lives,
         at_2 (set (set s 3 t) 1 0) n (lt-length-set (set s 3 t) 1 0 (lt-length-set s 3 t (omega (arith, long))))
             ∙ ap (λ (p : Presence). record { w = p.w; prompt = p.prompt; touch = window_of n; last = p.last; asker = p.asker }) (at_1 (set s 3 t) 0 (lt-length-set s 3 t (omega (arith, long))))
-            ∙ ap (λ (p : Presence). record { w = p.w; prompt = Closed; touch = window_of n; last = p.last; asker = p.asker }) (moved_in s t (omega (arith, long))) ∙ rw (is_n, lives),
+            ∙ ap (λ (p : Presence). record { w = p.w; prompt = None; touch = window_of n; last = p.last; asker = p.asker }) (moved_in s t (omega (arith, long))) ∙ rw (is_n, lives),
       )
 
   pub granted_no : not live ≡ true → false ≡ granted.yes
@@ -194,7 +183,7 @@ module _ (s : List ℕ) (t : ℕ) (long : 4 < length s) (live : Bool) (is_prompt
   granted_it n is_n b = (grants n is_n b).1
 
 -- ---- at a moment that has a number after it they are the definitions of Moments.antt
-opens_at : (t : ℕ) → (t ≡ 0xffffffffffffffff → ⊥) → window_of (number_of t) ≡ Opened t
+opens_at : (t : ℕ) → (t ≡ 0xffffffffffffffff → ⊥) → window_of (number_of t) ≡ Some t
 opens_at t n = rw (ne_eqb t 0xffffffffffffffff n) (opened_after (t + 1) t refl)
 
 pub checked_not_greatest : (p : Presence) (side t : ℕ) → (t ≡ 0xffffffffffffffff → ⊥) → checked_in p side t ≡ checked_of p side t
@@ -211,14 +200,10 @@ checked_below p side t h = checked_not_greatest p side t (λ e. omega (arith, e,
 pub granted_below : (p : Presence) (t : ℕ) → t < 2 ^ 48 → granted_in p t ≡ granted_of p t
 granted_below p t h = granted_not_greatest p t (λ e. omega (arith, e, h))
 
--- a window that is read and then looked at
-pub live_is : (number d t : ℕ) (window : Window) (live : Bool) → window ≡ window_of number → live ≡ is_live window d t → live ≡ is_live (window_of number) d t
-live_is number d t window live w e = e ∙ ap (λ (x : Window). is_live x d t) w
-
 -- ---- five numbers are the record that they stand for, and no others are
 number_back : Window → ℕ
-number_back Closed = 0
-number_back (Opened m) = suc m
+number_back None = 0
+number_back (Some m) = suc m
 
 number_back_lem : (n : ℕ) → number_back (window_of n) ≡ n
 unfolding number_back

@@ -9,7 +9,7 @@ use native.Mathlib.Omega.{arith}
 use borrow.Author.Tests.{le-ltb, eq-eqb}
 use Rattle.outcome.specs.Outcome.{StatusWord, Outcome, R, Word, Gives}
 use Rattle.outcome.proofs.Laws.{r_word, r_gives, word_gives}
-use Rattle.u2f_up_stated.specs.Words.{Presence, Closed}
+use Rattle.u2f_up_stated.specs.Words.{Presence, None}
 use Rattle.u2f_up_stated.specs.Moments.{Told, is_live, is_r6, is_r8, is_r1, moved_to, settle_of, granted_of, checked_of, gave, refused}
 use Rattle.u2f_up_stated.specs.History.{Role, Touching, Checking, Asking, Settling, TooShort}
 use Rattle.u2f_up_stated.specs.Runs.{Caller, Keeps, after, done_by}
@@ -20,7 +20,7 @@ use Rattle.u2f_up_stated.proofs.Roles.{settled_as, done_refused, done_touching, 
 
 -- the asker is this side, or nobody has asked yet
 abbrev pub Mine : ℕ → Presence → Type 0
-Mine s p = (p.asker ≡ s) ⊎ ((p.asker ≡ 0) × (p.prompt ≡ Closed) × (p.touch ≡ Closed))
+Mine s p = (p.asker ≡ s) ⊎ ((p.asker ≡ 0) × (p.prompt ≡ None) × (p.touch ≡ None))
 
 -- ---- what the base's calls give, by what its settling gave
 module _ (p : Presence) (t : ℕ) where

@@ -8,8 +8,7 @@ use native.Mathlib.Omega.{arith}
 use native.Mathlib.Decide.{ℕ_discrete}
 use Rattle.u2f_up_stated.specs.Words.{Outcome, R, Presence, Finding}
 use Rattle.u2f_up_stated.specs.Moments.{Told}
-use Rattle.u2f_up_stated.specs.declared.Ready.TheVariants as Ready'
-use Rattle.u2f_up_stated.specs.declared.Answer.TheVariants as Answer'
+use Rattle.std.specs.Prelude.{Ok, Err, true, false}
 use Rattle.u2f_up_stated.specs.History.{Call, Came, Event, foretold}
 use Rattle.u2f_up_stated.specs.Runs.{Caller, after, next, history}
 use Rattle.u2f_up_stated.specs.OneSide.{sideless, NamesOnly, OnlySide}
@@ -182,13 +181,13 @@ Demand3 𝒜 ℬ a b alike w least most (d ∷ ds) =
 
 -- ---- views
 pub AnswerExactly : Determines Claims.AnswerExactly
-AnswerExactly f g F G (Answer'.Refused why) = (F.refused _ why).1 refl ∙ sym ((G.refused _ why).1 refl)
-AnswerExactly f g F G Answer'.Yes = (F.yes _).1 refl ∙ sym ((G.yes _).1 refl)
-AnswerExactly f g F G Answer'.No = (F.no _).1 refl ∙ sym ((G.no _).1 refl)
+AnswerExactly f g F G (Err why) = (F.refused _ why).1 refl ∙ sym ((G.refused _ why).1 refl)
+AnswerExactly f g F G (Ok true) = (F.yes _).1 refl ∙ sym ((G.yes _).1 refl)
+AnswerExactly f g F G (Ok false) = (F.no _).1 refl ∙ sym ((G.no _).1 refl)
 
 pub ReadyExactly : Determines Claims.ReadyExactly
-ReadyExactly f g F G (Ready'.Refused why) = (F.refused _ why).1 refl ∙ sym ((G.refused _ why).1 refl)
-ReadyExactly f g F G (Ready'.Record p) = (F.made _ p).1 refl ∙ sym ((G.made _ p).1 refl)
+ReadyExactly f g F G (Err why) = (F.refused _ why).1 refl ∙ sym ((G.refused _ why).1 refl)
+ReadyExactly f g F G (Ok p) = (F.made _ p).1 refl ∙ sym ((G.made _ p).1 refl)
 
 pub StepExactly : Determines Claims.StepExactly
 StepExactly f g F G s =

@@ -7,15 +7,14 @@ use mathlib.Core.Logic.{inl, inr, ⊎_elim}
 use native.Mathlib.Omega.{arith}
 use Rattle.outcome.proofs.Laws.{r_gives, gives_same}
 use Rattle.outcome.specs.declared.Refusal.TheVariants as Refusal'
-use Rattle.u2f_up_stated.specs.Words.{Outcome, R, Gives, Closed, Opened, Presence, Finding}
+use Rattle.u2f_up_stated.specs.Words.{Outcome, R, Gives, None, Some, Presence, Finding}
 use Rattle.u2f_up_stated.specs.Moments.{Told, fresh, settle_of, granted_of, checked_of, check_of}
 use Rattle.u2f_up_stated.specs.Numbers.{checked_in, granted_in}
 use Rattle.u2f_up_stated.specs.History.{Touching, Checking, TooShort, RefusedBy, TouchAccepted, TouchIgnored, TouchFound, NoTouchFound, Call, last_moment, latest_prompt, latest_touch, is_prompt_standing, accepted, unspent, servers, foretold}
 use Rattle.u2f_up_stated.specs.Runs.{after, history, done_by}
 use Rattle.u2f_up_stated.specs.OneSide.{base, base_by, base_settle_of, base_checked_of}
 use Rattle.u2f_up_stated.specs.Terms.{BadWindow, BadSide, BadMoment, NotRefused, HasTouch, HasPrompt, ServesOnce, LiveNumber}
-use Rattle.u2f_up_stated.specs.declared.Ready.TheVariants as Ready'
-use Rattle.u2f_up_stated.specs.declared.Answer.TheVariants as Answer'
+use Rattle.std.specs.Prelude.{Ok, Err}
 use Rattle.u2f_up_stated.specs.Claims
 use Rattle.u2f_up_stated.specs.Wrong
 
@@ -46,10 +45,10 @@ r_same e = cc
 
 -- neither W nor side nor moment is right; then W is
 abbrev no_window : Presence
-no_window = record { w = 0; prompt = Closed; touch = Closed; last = 1; asker = 2 }
+no_window = record { w = 0; prompt = None; touch = None; last = 1; asker = 2 }
 
 abbrev no_side : Presence
-no_side = record { w = 100; prompt = Closed; touch = Closed; last = 1; asker = 2 }
+no_side = record { w = 100; prompt = None; touch = None; last = 1; asker = 2 }
 
 within : (w : ℕ) → 0 < w → w ≤ 60000 → BadWindow w → ⊥
 within w least most = ⊎_elim (λ z. omega arith) (λ z. omega arith)
@@ -88,7 +87,7 @@ pub refuses_last : Claims.SettlesExactly Wrong.refuses_last → ⊥
 refuses_last d = r_gives 1 _ (d.moves (fresh 100) 0 281474976710655 (in_range, sided 0 0 (omega arith) (omega arith), timely 0 281474976710655 (omega arith) (omega arith)))
 
 abbrev later : Presence
-later = record { w = 100; prompt = Closed; touch = Closed; last = 1; asker = 0 }
+later = record { w = 100; prompt = None; touch = None; last = 1; asker = 0 }
 
 pub goes_back : Claims.SettlesExactly Wrong.goes_back → ⊥
 goes_back d = r_gives 1 _ (sym ((d.r1 later 0 0).1 (in_range, sided 0 0 (omega arith) (omega arith), inr (omega arith))))
@@ -100,19 +99,19 @@ passes p s t w a b c d = (within p.w (omega (arith, w)) (omega (arith, w)), side
 yes_same : {a b : Bool} → ◌≡◌ {A = Outcome Bool} (Gives a) (Gives b) → a ≡ b
 yes_same e = cc
 
-opened_same : {m n : ℕ} → Opened m ≡ Opened n → m ≡ n
+opened_same : {m n : ℕ} → Some m ≡ Some n → m ≡ n
 opened_same e = cc
 
 -- both windows live
 abbrev both_live : Presence
-both_live = record { w = 100; prompt = Opened 5; touch = Opened 3; last = 5; asker = 0 }
+both_live = record { w = 100; prompt = Some 5; touch = Some 3; last = 5; asker = 0 }
 
 pub leaves_older : Claims.TouchesExactly Wrong.leaves_older → ⊥
 unfolding settle_of
 leaves_older d = let z = opened_same (ap (λ (s : Told). s.presence.touch) (d.accepts both_live 7 (passes both_live 0 7 refl (omega arith) (omega arith) (omega arith) (omega arith)) (5, refl, omega arith))) in omega arith
 
 abbrev asked : Presence
-asked = record { w = 100; prompt = Opened 0; touch = Closed; last = 0; asker = 0 }
+asked = record { w = 100; prompt = Some 0; touch = None; last = 0; asker = 0 }
 
 pub window9999 : Claims.TouchesExactly Wrong.window9999 → ⊥
 unfolding settle_of
@@ -129,7 +128,7 @@ pub leaves_the_moment : Claims.TouchesExactly Wrong.leaves_the_moment → ⊥
 unfolding settle_of granted_of
 leaves_the_moment d = let z : ◌≡◌ {A = ℕ} 0 10000 = ap (λ (s : Told). s.presence.last) (d.otherwise asked 10000 (passes asked 0 10000 refl (omega arith) (omega arith) (omega arith) (omega arith)) (over 10000 (omega arith))) in omega arith
 
-closed_open : (m : ℕ) → Closed ≡ Opened m → ⊥
+closed_open : (m : ℕ) → None ≡ Some m → ⊥
 closed_open m x = let z : ◌≡◌ {A = ℕ} 0 1 = cc in omega arith
 
 pub refusal_closes : Claims.TouchesExactly Wrong.refusal_closes → ⊥
@@ -138,7 +137,7 @@ refusal_closes d = closed_open 0 (ap (λ (p : Presence). p.prompt) (d.settles.ke
 
 -- side 1 has asked
 abbrev asked1 : Presence
-asked1 = record { w = 100; prompt = Opened 0; touch = Closed; last = 0; asker = 1 }
+asked1 = record { w = 100; prompt = Some 0; touch = None; last = 0; asker = 1 }
 
 pub touch_to0 : Claims.TouchesExactly Wrong.touch_to0 → ⊥
 unfolding settle_of
@@ -148,7 +147,7 @@ touch_to0 d =
 
 -- ---- checks
 abbrev held : Presence
-held = record { w = 100; prompt = Closed; touch = Opened 0; last = 0; asker = 0 }
+held = record { w = 100; prompt = None; touch = Some 0; last = 0; asker = 0 }
 
 pub check_keeps : Claims.ChecksExactly Wrong.check_keeps → ⊥
 unfolding settle_of
@@ -170,7 +169,7 @@ keeps_older_prompt d = let z = opened_same (ap (λ (s : Told). s.presence.prompt
 
 -- side 1 checks beside the live touch of side 0
 beside : (check : Presence → (side t : ℕ) → Told) → Claims.ChecksExactly check
-    → check held 1 7 ≡ record { outcome = Gives false; presence = record { w = 100; prompt = Closed; touch = Opened 0; last = 7; asker = 0 } }
+    → check held 1 7 ≡ record { outcome = Gives false; presence = record { w = 100; prompt = None; touch = Some 0; last = 7; asker = 0 } }
 beside check d = d.other held 1 7 (passes held 1 7 refl (omega arith) (omega arith) (omega arith) (omega arith)) (0, refl, omega arith) (λ e. omega arith)
 
 pub check_serves_other : Claims.ChecksExactly Wrong.check_serves_other → ⊥
@@ -349,7 +348,7 @@ r8_last d = omega (arith, number_same ((d 100 (omega arith) (omega arith) (check
 -- what stands for the base: a live touch that is not side 0's, a record with side 2
 pub base_asks_whose : Claims.BaseExactly base_settle_of Wrong.base_asks_whose → ⊥
 unfolding checked_of
-base_asks_whose d = false≢true (ap (λ (f : Finding). f.yes) (d.finds (record { w = 100; prompt = Closed; touch = Opened 0; last = 0; asker = 1 }) 7 (0, refl, omega arith)))
+base_asks_whose d = false≢true (ap (λ (f : Finding). f.yes) (d.finds (record { w = 100; prompt = None; touch = Some 0; last = 0; asker = 1 }) 7 (0, refl, omega arith)))
 
 pub base_looks_at_side : Claims.BaseExactly Wrong.base_looks_at_side base_checked_of → ⊥
 unfolding settle_of
@@ -376,18 +375,18 @@ served_twice once = let z : 2 ≤ 1 = once 1 in omega arith
 
 -- views
 pub yes_for_no : Claims.AnswerExactly Wrong.yes_for_no → ⊥
-yes_for_no v = false≢true (yes_same ((v.yes Answer'.Yes).1 refl))
+yes_for_no v = false≢true (yes_same ((v.yes (Ok true)).1 refl))
 
 pub always_r1 : Claims.AnswerExactly Wrong.always_r1 → ⊥
-always_r1 v = let z : ◌≡◌ {A = ℕ} 1 6 = r_same ((v.refused (Answer'.Refused Refusal'.R6) Refusal'.R6).1 refl) in omega arith
+always_r1 v = let z : ◌≡◌ {A = ℕ} 1 6 = r_same ((v.refused (Err Refusal'.R6) Refusal'.R6).1 refl) in omega arith
 
 pub record_at_zero : Claims.ReadyExactly Wrong.record_at_zero → ⊥
-record_at_zero v = let z : ◌≡◌ {A = ℕ} 0 7 = ap (λ (p : Presence). p.last) (gives_same _ _ ((v.made (Ready'.Record (record { w = 100; prompt = Closed; touch = Closed; last = 7; asker = 0 })) _).1 refl)) in omega arith
+record_at_zero v = let z : ◌≡◌ {A = ℕ} 0 7 = ap (λ (p : Presence). p.last) (gives_same _ _ ((v.made (Ok (record { w = 100; prompt = None; touch = None; last = 7; asker = 0 })) _).1 refl)) in omega arith
 
 pub step_yes_for_no : Claims.StepExactly Wrong.step_yes_for_no → ⊥
-step_yes_for_no v = false≢true (yes_same (((v.answer (fresh 100)).yes Answer'.Yes).1 refl))
+step_yes_for_no v = false≢true (yes_same (((v.answer (fresh 100)).yes (Ok true)).1 refl))
 
 pub step_forgets : Claims.StepExactly Wrong.step_forgets → ⊥
 step_forgets v =
-    let z : ◌≡◌ {A = ℕ} 0 7 = ap (λ (p : Presence). p.last) (v.after (record { answer = Answer'.Yes; presence = record { w = 100; prompt = Closed; touch = Closed; last = 7; asker = 0 } })) in
+    let z : ◌≡◌ {A = ℕ} 0 7 = ap (λ (p : Presence). p.last) (v.after (record { answer = Ok true; presence = record { w = 100; prompt = None; touch = None; last = 7; asker = 0 } })) in
     omega arith

@@ -8,7 +8,7 @@ use lib.Dec.{ltb, leb, eqb}
 use borrow.Author.Tests.{ltb-false, eqb-true}
 use Rattle.outcome.specs.Notation.{when◌then◌else◌}
 use Rattle.outcome.specs.Outcome.{Outcome, R, Gives}
-use Rattle.u2f_up_stated.specs.Words.{Presence, Window, Closed, Opened}
+use Rattle.u2f_up_stated.specs.Words.{Presence, Window, None, Some}
 use Rattle.u2f_up_stated.specs.Moments.{Told, is_live, is_r6, is_bad_side, is_r8, is_r1, moved_to, settle_of, granted_of, checked_of, gave, refused}
 use Rattle.u2f_up_stated.specs.History.{Role, Touching, Checking, Asking, Settling, TooShort, Event, Mark, marked, side_of, is_accepted, is_spending, is_prompting_by, is_moving, is_any, held_at, last_moment, latest_prompt, side_asked, asker_of}
 use Rattle.u2f_up_stated.specs.Runs.{done_by, came_of}
@@ -20,17 +20,17 @@ abbrev pub is_prompting_refusal : ℕ → Event → List Event → Bool
 is_prompting_refusal w e past = is_prompting_by e (held_at w past e.call.moment)
 
 unfoldable pub prompt_of : ℕ → List Event → Window
-prompt_of w [] = Closed
+prompt_of w [] = None
 prompt_of w (e ∷ past) =
-    when is_accepted e then Closed
-    else when is_prompting_refusal w e past then Opened e.call.moment
+    when is_accepted e then None
+    else when is_prompting_refusal w e past then Some e.call.moment
     else prompt_of w past
 
 unfoldable pub held_of : List Event → Window
-held_of [] = Closed
+held_of [] = None
 held_of (e ∷ past) =
-    when is_accepted e then Opened e.call.moment
-    else when is_spending e then Closed
+    when is_accepted e then Some e.call.moment
+    else when is_spending e then None
     else held_of past
 
 abbrev pub record_of : ℕ → List Event → Presence
@@ -57,11 +57,11 @@ module _ {e : Event} {m a s p : Bool} (h : List Event) (w : ℕ) (x : Sorted w h
   unfolding last_moment
   last_next = rw x.moves
 
-  pub prompt_next : prompt_of w (e ∷ h) ≡ (when a then Closed else when p then Opened e.call.moment else prompt_of w h)
+  pub prompt_next : prompt_of w (e ∷ h) ≡ (when a then None else when p then Some e.call.moment else prompt_of w h)
   unfolding prompt_of
   prompt_next = rw (x.accepts, x.prompts)
 
-  pub held_next : held_of (e ∷ h) ≡ (when a then Opened e.call.moment else when s then Closed else held_of h)
+  pub held_next : held_of (e ∷ h) ≡ (when a then Some e.call.moment else when s then None else held_of h)
   unfolding held_of
   held_next = rw (x.accepts, x.spends)
 
@@ -79,8 +79,8 @@ module _ {e : Event} {m a s p : Bool} (h : List Event) (w : ℕ) (x : Sorted w h
   abbrev next_record : Presence
   next_record = record {
     w = w;
-    prompt = when a then Closed else when p then Opened e.call.moment else prompt_of w h;
-    touch = when a then Opened e.call.moment else when s then Closed else held_of h;
+    prompt = when a then None else when p then Some e.call.moment else prompt_of w h;
+    touch = when a then Some e.call.moment else when s then None else held_of h;
     last = when m then e.call.moment else last_moment h;
     asker = when p then side_of e.call.role else asker_of w h;
   }

@@ -10,7 +10,7 @@ use lib.Dec.{eqb}
 use lib.ListN.{length}
 use borrow.Author.Tests.{eqb-true, eq-eqb}
 use Rattle.outcome.specs.Notation.{when◌then◌else◌}
-use Rattle.u2f_up_stated.specs.Words.{Window, Closed, Opened}
+use Rattle.u2f_up_stated.specs.Words.{Window, None, Some}
 use Rattle.u2f_up_stated.specs.Moments.{is_live}
 use Rattle.u2f_up_stated.specs.Terms.{ServesOnce}
 use Rattle.u2f_up_stated.specs.History.{Event, Mark, touch_mark, side_of, is_spending, unspent, held_at, asker_of, server_of, servers, is_named}
@@ -19,7 +19,7 @@ use Rattle.u2f_up_stated.proofs.Lists.{count, length_those}
 use Rattle.u2f_up_stated.proofs.Runs.{held_of, Sorted, Effect, still, moved, touched, spent, prompted, held_next}
 use Rattle.u2f_up_stated.proofs.Touches.{Inv, Held, unspent_next, touch_next, held_now, window_young, window_of}
 
-closed_open : (m : ℕ) → Closed ≡ Opened m → ⊥
+closed_open : (m : ℕ) → None ≡ Some m → ⊥
 closed_open m x = let z : ◌≡◌ {A = ℕ} 0 1 = cc in omega arith
 
 pub servers_next : (w : ℕ) (e : Event) (h : List Event) (s : Bool) → is_spending e ≡ s → servers w (e ∷ h) ≡ (when s then server_of w h ∷ servers w h else servers w h)
@@ -33,7 +33,7 @@ module _ (w : ℕ) where
   pub record Owned (h : List Event) : Type 0 where
     pub beyond : (n : ℕ) → length h ≤ n → count (is_named n) (servers w h) ≡ 0
     pub once : (n : ℕ) → count (is_named n) (servers w h) ≤ 1
-    pub own : (m : ℕ) → held_of h ≡ Opened m → Own h m
+    pub own : (m : ℕ) → held_of h ≡ Some m → Own h m
 
   pub owned_at_first : Owned []
   unfolding servers held_of
@@ -71,8 +71,8 @@ module _ (w : ℕ) where
             go false q = (λ b. rw q (omega (arith, o.beyond n (omega arith))), rw q (omega (arith, o.once n)))
 
         by : (y : Window) → held_of h ≡ y → is_live y w e.call.moment ≡ true → Owned (e ∷ h)
-        by Closed q l = absurd (true≢false (sym l))
-        by (Opened m) q l =
+        by None q l = absurd (true≢false (sym l))
+        by (Some m) q l =
             let k = o.own m q in
             let s = servers_next w e h true x.spends ∙ ap (λ (j : Option Mark). j ∷ servers w h) k.2 in
             record {
@@ -94,12 +94,12 @@ module _ (w : ℕ) where
       where
         by : (y : Window) → held_of h ≡ y → is_live y w e.call.moment ≡ true → Held w (asker_of w h) e.call.moment (unspent w h) y
             → (k : Mark) × (server_of w h ≡ some k) × (held_at w h e.call.moment ≡ k ∷ []) × (k.side ≡ side_of e.call.role)
-        by Closed q l held = absurd (true≢false (sym l))
-        by (Opened m) q l held =
+        by None q l held = absurd (true≢false (sym l))
+        by (Some m) q l held =
             let k = o.own m q in
             let same : held.0 ≡ k.0 = front (sym held.2 ∙ k.3) in
             let one : held_at w h e.call.moment ≡ k.0 ∷ [] = window_young w (asker_of w h) e.call.moment (unspent w h) m held ∙ rw l (ap (λ (j : Mark). j ∷ []) same) in
-            let side : k.0.side ≡ asker_of w h = (window_of w (asker_of w h) e.call.moment (unspent w h) (Opened m) k.0 held one).1 in
+            let side : k.0.side ≡ asker_of w h = (window_of w (asker_of w h) e.call.moment (unspent w h) (Some m) k.0 held one).1 in
             (k.0, k.2, one, side ∙ own)
           where
             front : {a b : Mark} {js ks : List Mark} → a ∷ js ≡ b ∷ ks → a ≡ b

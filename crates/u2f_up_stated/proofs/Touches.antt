@@ -10,7 +10,7 @@ use lib.Dec.{ltb, eqb}
 use lib.ListN.{length}
 use borrow.Author.Tests.{eq-eqb}
 use Rattle.outcome.specs.Notation.{when◌then◌else◌}
-use Rattle.u2f_up_stated.specs.Words.{Window, Closed, Opened}
+use Rattle.u2f_up_stated.specs.Words.{Window, None, Some}
 use Rattle.u2f_up_stated.specs.Moments.{is_live, is_bad_side}
 use Rattle.u2f_up_stated.specs.History.{Event, Mark, side_of, touch_mark, those, is_young, is_of, is_found, is_any, held_at, held_for, last_moment, latest_prompt, asker_of, unspent, accepted, latest_touch, served}
 use Rattle.u2f_up_stated.proofs.Lists.{AllOld, stay_old, picks_old, finds_none, young_before}
@@ -39,13 +39,13 @@ module _ {e : Event} {m a s p : Bool} (h : List Event) (w : ℕ) (x : Sorted w h
 
 -- the unspent touches, as the touch window has them at the last moment, a being the asker
 abbrev pub Held : ℕ → ℕ → ℕ → List Mark → Window → Type 0
-Held w a last ks Closed = AllOld w last ks
-Held w a last ks (Opened m) = (k : Mark) × (rest : List Mark) × (ks ≡ k ∷ rest) × (k.moment ≡ m) × AllOld w last rest × (is_young w last k ≡ true → k.side ≡ a)
+Held w a last ks None = AllOld w last ks
+Held w a last ks (Some m) = (k : Mark) × (rest : List Mark) × (ks ≡ k ∷ rest) × (k.moment ≡ m) × AllOld w last rest × (is_young w last k ≡ true → k.side ≡ a)
 
 -- and as the prompt window has them
 abbrev pub Prompting : ℕ → ℕ → List Mark → Window → Type 0
-Prompting w last ks Closed = Unit {0}
-Prompting w last ks (Opened s) = AllOld w last ks
+Prompting w last ks None = Unit {0}
+Prompting w last ks (Some s) = AllOld w last ks
 
 pub record Inv (w : ℕ) (h : List Event) : Type 0 where
   pub held : Held w (asker_of w h) (last_moment h) (unspent w h) (held_of h)
@@ -54,44 +54,44 @@ pub record Inv (w : ℕ) (h : List Event) : Type 0 where
 
 module _ (w t u : ℕ) (later : t ≤ u) (ks : List Mark) where
   held_later : (a : ℕ) (x : Window) → Held w a t ks x → Held w a u ks x
-  held_later a Closed h = stay_old w t u later ks h
-  held_later a (Opened m) h = (h.0, h.1, h.2, h.3, stay_old w t u later h.1 h.4, λ y. h.5 (young_before w t u later h.0 y))
+  held_later a None h = stay_old w t u later ks h
+  held_later a (Some m) h = (h.0, h.1, h.2, h.3, stay_old w t u later h.1 h.4, λ y. h.5 (young_before w t u later h.0 y))
 
   prompting_later : (x : Window) → Prompting w t ks x → Prompting w u ks x
-  prompting_later Closed h = tt
-  prompting_later (Opened s) h = stay_old w t u later ks h
+  prompting_later None h = tt
+  prompting_later (Some s) h = stay_old w t u later ks h
 
 -- a live prompt: nothing unspent is young
 pub prompt_old : (w last t : ℕ) (ks : List Mark) (x : Window) → is_live x 10000 t ≡ true → Prompting w last ks x → AllOld w last ks
-prompt_old w last t ks Closed e h = let z : ◌≡◌ {A = ℕ} 0 1 = cc in absurd (omega arith)
-prompt_old w last t ks (Opened s) e h = h
+prompt_old w last t ks None e h = let z : ◌≡◌ {A = ℕ} 0 1 = cc in absurd (omega arith)
+prompt_old w last t ks (Some s) e h = h
 
 -- what is young of what an open touch window holds: its own touch, while it is live
-pub window_young : (w a t : ℕ) (ks : List Mark) (m : ℕ) (h : Held w a t ks (Opened m)) → those (is_young w t) ks ≡ (when ltb t (m + w) then h.0 ∷ [] else [])
+pub window_young : (w a t : ℕ) (ks : List Mark) (m : ℕ) (h : Held w a t ks (Some m)) → those (is_young w t) ks ≡ (when ltb t (m + w) then h.0 ∷ [] else [])
 window_young w a t ks m h = rw (h.2, h.4, h.3)
 
 -- no live touch: nothing unspent is young
 none_old : (w a t : ℕ) (ks : List Mark) (x : Window) → is_live x w t ≡ false → Held w a t ks x → AllOld w t ks
-none_old w a t ks Closed e h = h
-none_old w a t ks (Opened m) e h = window_young w a t ks m h ∙ rw e
+none_old w a t ks None e h = h
+none_old w a t ks (Some m) e h = window_young w a t ks m h ∙ rw e
 
 -- and whoever asks now, no touch is young to be somebody's
 held_dead : (w a b t : ℕ) (ks : List Mark) (x : Window) → is_live x w t ≡ false → Held w a t ks x → Held w b t ks x
-held_dead w a b t ks Closed e h = h
-held_dead w a b t ks (Opened m) e h = (h.0, h.1, h.2, h.3, h.4, λ y. absurd (true≢false (sym y ∙ rw h.3 e)))
+held_dead w a b t ks None e h = h
+held_dead w a b t ks (Some m) e h = (h.0, h.1, h.2, h.3, h.4, λ y. absurd (true≢false (sym y ∙ rw h.3 e)))
 
 -- the window is live exactly when something unspent is young, and no more than one is
 pub live_any : (w a t : ℕ) (ks : List Mark) (x : Window) → Held w a t ks x → is_live x w t ≡ is_any (those (is_young w t) ks)
-live_any w a t ks Closed h = rw h
-live_any w a t ks (Opened m) h = rw (window_young w a t ks m h) (go (ltb t (m + w)))
+live_any w a t ks None h = rw h
+live_any w a t ks (Some m) h = rw (window_young w a t ks m h) (go (ltb t (m + w)))
   where
     go : (b : Bool) → b ≡ is_any (when b then h.0 ∷ [] else [])
     go true = refl
     go false = refl
 
 pub at_most_one : (w a t : ℕ) (ks : List Mark) (x : Window) → Held w a t ks x → length (those (is_young w t) ks) ≤ 1
-at_most_one w a t ks Closed h = rw h (omega arith)
-at_most_one w a t ks (Opened m) h = rw (window_young w a t ks m h) (go (ltb t (m + w)))
+at_most_one w a t ks None h = rw h (omega arith)
+at_most_one w a t ks (Some m) h = rw (window_young w a t ks m h) (go (ltb t (m + w)))
   where
     go : (b : Bool) → length (when b then h.0 ∷ [] else []) ≤ 1
     go true = omega arith
@@ -99,12 +99,12 @@ at_most_one w a t ks (Opened m) h = rw (window_young w a t ks m h) (go (ltb t (m
 
 -- what a side finds: that touch, if it asked
 pub window_found : (w a s t : ℕ) (ks : List Mark) (x : Window) → Held w a t ks x → those (is_found w s t) ks ≡ (when eqb a s then those (is_young w t) ks else [])
-window_found w a s t ks Closed h = go (eqb a s)
+window_found w a s t ks None h = go (eqb a s)
   where
     go : (b : Bool) → those (is_found w s t) ks ≡ (when b then those (is_young w t) ks else [])
     go true = finds_none w s t ks h ∙ sym h
     go false = finds_none w s t ks h
-window_found w a s t ks (Opened m) h = rw h.2 (go (is_young w t h.0) refl)
+window_found w a s t ks (Some m) h = rw h.2 (go (is_young w t h.0) refl)
   where
     none : those (is_found w s t) h.1 ≡ []
     none = finds_none w s t h.1 h.4
@@ -123,18 +123,18 @@ window_found w a s t ks (Opened m) h = rw h.2 (go (is_young w t h.0) refl)
         old false = refl
 
 -- and it was opened at the moment of that one, which is the asker's
-pub window_of : (w a t : ℕ) (ks : List Mark) (x : Window) (k : Mark) → Held w a t ks x → those (is_young w t) ks ≡ k ∷ [] → (x ≡ Opened k.moment) × (k.side ≡ a)
-window_of w a t ks Closed k h e = let z : ◌≡◌ {A = ℕ} 0 1 = cc in absurd (omega arith)
-window_of w a t ks (Opened m) k h e = go (ltb t (m + w)) refl (sym (window_young w a t ks m h) ∙ e)
+pub window_of : (w a t : ℕ) (ks : List Mark) (x : Window) (k : Mark) → Held w a t ks x → those (is_young w t) ks ≡ k ∷ [] → (x ≡ Some k.moment) × (k.side ≡ a)
+window_of w a t ks None k h e = let z : ◌≡◌ {A = ℕ} 0 1 = cc in absurd (omega arith)
+window_of w a t ks (Some m) k h e = go (ltb t (m + w)) refl (sym (window_young w a t ks m h) ∙ e)
   where
-    go : (b : Bool) → ltb t (m + w) ≡ b → (when b then h.0 ∷ [] else []) ≡ k ∷ [] → (Opened m ≡ Opened k.moment) × (k.side ≡ a)
+    go : (b : Bool) → ltb t (m + w) ≡ b → (when b then h.0 ∷ [] else []) ≡ k ∷ [] → (Some m ≡ Some k.moment) × (k.side ≡ a)
     go true g f = let same : h.0 ≡ k = cc in (cc h.3, rw same at (h.5 (rw h.3 g)))
     go false g f = let z : ◌≡◌ {A = ℕ} 0 1 = cc in absurd (omega arith)
 
 -- a call that spends leaves nothing young
 pub left_old : (w a t : ℕ) (ks : List Mark) (x : Window) → is_live x w t ≡ true → Held w a t ks x → AllOld w t (those (λ k. not (is_found w a t k)) ks)
-left_old w a t ks Closed e h = let z : ◌≡◌ {A = ℕ} 0 1 = cc in absurd (omega arith)
-left_old w a t ks (Opened m) e h =
+left_old w a t ks None e h = let z : ◌≡◌ {A = ℕ} 0 1 = cc in absurd (omega arith)
+left_old w a t ks (Some m) e h =
     let young : is_young w t h.0 ≡ true = rw h.3 e in
     let own : is_found w a t h.0 ≡ true = rw (young, eq-eqb h.0.side a (h.5 young)) in
     rw (h.2, own) (picks_old w t (λ k. not (is_found w a t k)) h.1 h.4)
@@ -170,8 +170,8 @@ module _ (w : ℕ) (h : List Event) (e : Event) where
         gone = rw own at (left_old w A T (unspent w h) (held_of h) is_live_lem now)
 
         any_window : (y : Window) → Prompting w T (left h w x) y
-        any_window Closed = tt
-        any_window (Opened s) = gone
+        any_window None = tt
+        any_window (Some s) = gone
 
     prompts : Sorted w h e true false false true → is_live (held_of h) w T ≡ false → is_bad_side (side_of e.call.role) ≡ false → Inv w (e ∷ h)
     prompts x not_live known = record {

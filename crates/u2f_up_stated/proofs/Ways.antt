@@ -8,7 +8,7 @@ use native.Mathlib.Decide.{ℕ_discrete, dec_lt, dec_le}
 use lib.Dec.{leb, ltb, eqb}
 use borrow.Author.Tests.{lt-ltb, le-ltb, le-leb, lt-leb, eq-eqb, ne_eqb}
 use Rattle.outcome.proofs.Laws.{r_gives, r_word, word_gives}
-use Rattle.u2f_up_stated.specs.Words.{StatusWord, Outcome, R, Word, Gives, Window, Closed, Opened, Presence}
+use Rattle.u2f_up_stated.specs.Words.{StatusWord, Outcome, R, Word, Gives, Window, None, Some, Presence}
 use Rattle.u2f_up_stated.specs.Moments.{Told, is_live, is_r6, is_r8, is_r1, moved_to, touch_closed, prompt_opened, settle_of, checked_of, on_settled}
 use Rattle.u2f_up_stated.specs.Terms.{BadWindow, BadSide, BadMoment, NotRefused, HasPrompt, HasTouch, SettlesFirst}
 
@@ -146,7 +146,7 @@ module _ (named : Presence → ℕ) (go_on : Presence → ℕ → Presence → T
 -- ---- windows
 module _ (x : Window) (d t : ℕ) where
   abbrev LiveAt : Type 0
-  LiveAt = (m : ℕ) × (x ≡ Opened m) × (t < m + d)
+  LiveAt = (m : ℕ) × (x ≡ Some m) × (t < m + d)
 
   pub window_live : LiveAt → is_live x d t ≡ true
   window_live (m, e, h) = rw (e, lt-ltb t (m + d) h)
@@ -155,21 +155,21 @@ module _ (x : Window) (d t : ℕ) where
   window_over n = by x refl
     where
       by : (y : Window) → x ≡ y → is_live y d t ≡ false
-      by Closed e = refl
-      by (Opened m) e = let late : t < m + d → ⊥ = λ h. n (m, e, h) in le-ltb t (m + d) (omega (arith, late))
+      by None e = refl
+      by (Some m) e = let late : t < m + d → ⊥ = λ h. n (m, e, h) in le-ltb t (m + d) (omega (arith, late))
 
   pub window_is : Dec LiveAt
   window_is = by x refl
     where
-      closed_open : (m : ℕ) → Closed ≡ Opened m → ⊥
+      closed_open : (m : ℕ) → None ≡ Some m → ⊥
       closed_open m z = let w : ◌≡◌ {A = ℕ} 0 1 = cc in omega arith
 
-      same : (m k : ℕ) → Opened m ≡ Opened k → k ≡ m
+      same : (m k : ℕ) → Some m ≡ Some k → k ≡ m
       same m k z = cc
 
       by : (y : Window) → x ≡ y → Dec LiveAt
-      by Closed e = no (λ h. closed_open h.0 (sym e ∙ h.1))
-      by (Opened m) e = at (dec_lt t (m + d))
+      by None e = no (λ h. closed_open h.0 (sym e ∙ h.1))
+      by (Some m) e = at (dec_lt t (m + d))
         where
           at : Dec (t < m + d) → Dec LiveAt
           at (yes h) = yes (m, e, h)

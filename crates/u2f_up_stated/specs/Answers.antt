@@ -1,23 +1,19 @@
 -- The answers of src/lib.rt in document 01's numbers.
-use Rattle.u2f_up_stated.specs.Words.{Bool, true, false, Outcome, R, Gives, refusal_no, Presence}
+use Rattle.u2f_up_stated.specs.Words.{Bool, Ok, Err, Outcome, R, Gives, refusal_no, Presence}
 use Rattle.u2f_up_stated.specs.Moments.{Told}
-pub use Rattle.u2f_up_stated.specs.declared.Ready.{Ready}
-use Rattle.u2f_up_stated.specs.declared.Ready.TheVariants as Ready'
-pub use Rattle.u2f_up_stated.specs.declared.Answer.{Answer}
-use Rattle.u2f_up_stated.specs.declared.Answer.TheVariants as Answer'
+pub use Rattle.u2f_up_stated.specs.Words.{Ready, Answer}
 pub use Rattle.u2f_up_stated.specs.declared.Step.{Step}
 
 -- 01, Forms to follow: "Where an answer is an enum, a definition gives this paper's number and values for each of its cases."
 -- A record made or settled.
 abbrev pub ready_of : Ready → Outcome Presence
-ready_of (Ready'.Refused why) = R (refusal_no why)
-ready_of (Ready'.Record p) = Gives p
+ready_of (Err why) = R (refusal_no why)
+ready_of (Ok p) = Gives p
 
 -- A touch was accepted or not, a check found a touch or not, a prompt is live or not.
 abbrev pub outcome_of : Answer → Outcome Bool
-outcome_of (Answer'.Refused why) = R (refusal_no why)
-outcome_of Answer'.Yes = Gives true
-outcome_of Answer'.No = Gives false
+outcome_of (Err why) = R (refusal_no why)
+outcome_of (Ok found) = Gives found
 
 -- An answer with the record after it.
 abbrev pub told_of : Step → Told

@@ -1,12 +1,11 @@
 -- What is promised of presence beyond the functions' own promises: open this file first. Proved in proofs/Theorems.antt under the
 -- same names; proofs/Only.antt shows that no other function meets them, proofs/Refuted.antt that wrong ones do not.
 use Rattle.std.specs.Prelude.{List, [], ◌∷◌, length, ◌↔◌, ◌+◌, ◌<◌, ◌≤◌, ◌≡◌}
-use Rattle.u2f_up_stated.specs.Words.{ℕ, Bool, true, false, R, Gives, AtMostOne, Closed, Opened, Outcome, Refusal, refusal_no, Presence, Finding}
+use Rattle.u2f_up_stated.specs.Words.{ℕ, Bool, true, false, R, Gives, AtMostOne, None, Some, Outcome, Refusal, refusal_no, Presence, Finding}
 use Rattle.u2f_up_stated.specs.Moments.{Told, checked_of, granted_of}
 use Rattle.u2f_up_stated.specs.Numbers.{presence_in, number_of}
 use Rattle.u2f_up_stated.specs.Answers.{Ready, Answer, Step, ready_of, outcome_of, told_of, lent_step}
-use Rattle.u2f_up_stated.specs.declared.Ready.TheVariants as Ready'
-use Rattle.u2f_up_stated.specs.declared.Answer.TheVariants as Answer'
+use Rattle.std.specs.Prelude.{Ok, Err}
 use Rattle.u2f_up_stated.specs.Promises.{New, Settle, TouchCheck, GrantUp, ConsumeUp, IsUpNeeded, GrantUpLent, ConsumeUpLent, IsUpNeededLent, RecordLent, Moved, TouchChecked, TouchGranted}
 use Rattle.u2f_up_stated.specs.Runs.{Caller, after, next}
 use Rattle.u2f_up_stated.specs.OneSide.{sideless, NamesOnly, OnlySide}
@@ -20,7 +19,7 @@ use Rattle.u2f_up_stated.specs.FreshRuns.{RunOf}
 -- `takes60001`) or refuses 60,000 (`refuses60000`) fails it there, one whose record has side 1 (`fresh_side1`) at every W.
 pub record MakesExactly (new : ℕ → Outcome Presence) : Type 0 where
   pub r6 : (w : ℕ) → (new w ≡ R 6) ↔ BadWindow w
-  pub makes : (w : ℕ) → (BadWindow w → ⊥) → new w ≡ Gives (record { w = w; prompt = Closed; touch = Closed; last = 0; asker = 0 })
+  pub makes : (w : ℕ) → (BadWindow w → ⊥) → new w ≡ Gives (record { w = w; prompt = None; touch = None; last = 0; asker = 0 })
 
 -- Settling the moment, for a call that names a side. 01, Moments and touches: "R6, then R1, before all else"; 02, E7: "R8 for a side other
 -- than 0 or 1, named or in the record, after R6 and before R1"; Refusal numbers: "each touch, direct check and decision sets the last
@@ -41,7 +40,7 @@ pub record SettlesExactly (settle : Presence → (side t : ℕ) → Outcome Pres
 pub record TouchesExactly (touch : Presence → ℕ → Told) : Type 0 where
   pub settles : SettlesFirst (λ p. p.asker) touch
   pub accepts : (p : Presence) (t : ℕ) → NotRefused p p.asker t → HasPrompt p t
-      → touch p t ≡ record { outcome = Gives true; presence = record { w = p.w; prompt = Closed; touch = Opened t; last = t; asker = p.asker } }
+      → touch p t ≡ record { outcome = Gives true; presence = record { w = p.w; prompt = None; touch = Some t; last = t; asker = p.asker } }
   pub otherwise : (p : Presence) (t : ℕ) → NotRefused p p.asker t → (HasPrompt p t → ⊥)
       → touch p t ≡ record { outcome = Gives false; presence = record { w = p.w; prompt = p.prompt; touch = p.touch; last = t; asker = p.asker } }
 
@@ -55,20 +54,20 @@ pub record TouchesExactly (touch : Presence → ℕ → Told) : Type 0 where
 pub record ChecksExactly (check : Presence → (side t : ℕ) → Told) : Type 0 where
   pub settles : (s : ℕ) → SettlesFirst (λ p. s) (λ p t. check p s t)
   pub finds : (p : Presence) (s t : ℕ) → NotRefused p s t → HasTouch p t → p.asker ≡ s
-      → check p s t ≡ record { outcome = Gives true; presence = record { w = p.w; prompt = p.prompt; touch = Closed; last = t; asker = p.asker } }
+      → check p s t ≡ record { outcome = Gives true; presence = record { w = p.w; prompt = p.prompt; touch = None; last = t; asker = p.asker } }
   pub other : (p : Presence) (s t : ℕ) → NotRefused p s t → HasTouch p t → (p.asker ≡ s → ⊥)
       → check p s t ≡ record { outcome = Gives false; presence = record { w = p.w; prompt = p.prompt; touch = p.touch; last = t; asker = p.asker } }
   pub prompts : (p : Presence) (s t : ℕ) → NotRefused p s t → (HasTouch p t → ⊥)
-      → check p s t ≡ record { outcome = Gives false; presence = record { w = p.w; prompt = Opened t; touch = p.touch; last = t; asker = s } }
+      → check p s t ≡ record { outcome = Gives false; presence = record { w = p.w; prompt = Some t; touch = p.touch; last = t; asker = s } }
 
 -- The same check by itself, on any record, for callers that have settled the moment: no refusal, and the last moment stays.
 -- A check that moves the last moment by itself (`moves_again`) fails it.
 pub record FindsExactly (checked : Presence → (side t : ℕ) → Finding) : Type 0 where
   pub finds : (p : Presence) (s t : ℕ) → HasTouch p t → p.asker ≡ s
-      → checked p s t ≡ record { yes = true; presence = record { w = p.w; prompt = p.prompt; touch = Closed; last = p.last; asker = p.asker } }
+      → checked p s t ≡ record { yes = true; presence = record { w = p.w; prompt = p.prompt; touch = None; last = p.last; asker = p.asker } }
   pub other : (p : Presence) (s t : ℕ) → HasTouch p t → (p.asker ≡ s → ⊥) → checked p s t ≡ record { yes = false; presence = p }
   pub prompts : (p : Presence) (s t : ℕ) → (HasTouch p t → ⊥)
-      → checked p s t ≡ record { yes = false; presence = record { w = p.w; prompt = Opened t; touch = p.touch; last = p.last; asker = s } }
+      → checked p s t ≡ record { yes = false; presence = record { w = p.w; prompt = Some t; touch = p.touch; last = p.last; asker = s } }
 
 -- Ask. 01, Moments and touches: "Asking whether a prompt is live changes nothing, not even the last moment." It names no side. An ask
 -- that moves the last moment (`ask_moves`) fails it at any later moment.
@@ -84,10 +83,10 @@ pub record AsksExactly (ask : Presence → ℕ → Told) : Type 0 where
 -- prompt and touch in each other's place (`exchanged`) where one is open.
 pub record StandsExactly (stands : List ℕ → Presence) : Type 0 where
   pub w : (w prompt touch last asker : ℕ) → (stands (w ∷ prompt ∷ touch ∷ last ∷ asker ∷ [])).w ≡ w
-  pub prompt_closed : (w prompt touch last asker : ℕ) → ((stands (w ∷ prompt ∷ touch ∷ last ∷ asker ∷ [])).prompt ≡ Closed) ↔ (prompt ≡ 0)
-  pub prompt_opened : (w prompt touch last asker m : ℕ) → ((stands (w ∷ prompt ∷ touch ∷ last ∷ asker ∷ [])).prompt ≡ Opened m) ↔ (prompt ≡ m + 1)
-  pub touch_closed : (w prompt touch last asker : ℕ) → ((stands (w ∷ prompt ∷ touch ∷ last ∷ asker ∷ [])).touch ≡ Closed) ↔ (touch ≡ 0)
-  pub touch_opened : (w prompt touch last asker m : ℕ) → ((stands (w ∷ prompt ∷ touch ∷ last ∷ asker ∷ [])).touch ≡ Opened m) ↔ (touch ≡ m + 1)
+  pub prompt_closed : (w prompt touch last asker : ℕ) → ((stands (w ∷ prompt ∷ touch ∷ last ∷ asker ∷ [])).prompt ≡ None) ↔ (prompt ≡ 0)
+  pub prompt_opened : (w prompt touch last asker m : ℕ) → ((stands (w ∷ prompt ∷ touch ∷ last ∷ asker ∷ [])).prompt ≡ Some m) ↔ (prompt ≡ m + 1)
+  pub touch_closed : (w prompt touch last asker : ℕ) → ((stands (w ∷ prompt ∷ touch ∷ last ∷ asker ∷ [])).touch ≡ None) ↔ (touch ≡ 0)
+  pub touch_opened : (w prompt touch last asker m : ℕ) → ((stands (w ∷ prompt ∷ touch ∷ last ∷ asker ∷ [])).touch ≡ Some m) ↔ (touch ≡ m + 1)
   pub last : (w prompt touch last asker : ℕ) → (stands (w ∷ prompt ∷ touch ∷ last ∷ asker ∷ [])).last ≡ last
   pub asker : (w prompt touch last asker : ℕ) → (stands (w ∷ prompt ∷ touch ∷ last ∷ asker ∷ [])).asker ≡ asker
 
@@ -130,11 +129,11 @@ pub record AsOnRecords (checked : Presence → (side t : ℕ) → Finding) (gran
   pub check : (p : Presence) (s t : ℕ) → (t ≡ 0xffffffffffffffff → ⊥) → checked p s t ≡ checked_of p s t
   pub check_live : (p : Presence) (s t : ℕ) → HasTouch p t → checked p s t ≡ checked_of p s t
   pub check_greatest : (p : Presence) (s : ℕ) → (HasTouch p 0xffffffffffffffff → ⊥)
-      → checked p s 0xffffffffffffffff ≡ record { yes = false; presence = record { w = p.w; prompt = Opened 0xfffffffffffffffe; touch = p.touch; last = p.last; asker = s } }
+      → checked p s 0xffffffffffffffff ≡ record { yes = false; presence = record { w = p.w; prompt = Some 0xfffffffffffffffe; touch = p.touch; last = p.last; asker = s } }
   pub touch : (p : Presence) (t : ℕ) → (t ≡ 0xffffffffffffffff → ⊥) → granted p t ≡ granted_of p t
   pub touch_not_live : (p : Presence) (t : ℕ) → (HasPrompt p t → ⊥) → granted p t ≡ granted_of p t
   pub touch_greatest : (p : Presence) → HasPrompt p 0xffffffffffffffff
-      → granted p 0xffffffffffffffff ≡ record { yes = true; presence = record { w = p.w; prompt = Closed; touch = Opened 0xfffffffffffffffe; last = p.last; asker = p.asker } }
+      → granted p 0xffffffffffffffff ≡ record { yes = true; presence = record { w = p.w; prompt = None; touch = Some 0xfffffffffffffffe; last = p.last; asker = p.asker } }
 
 -- ---- demand 3
 
@@ -155,9 +154,9 @@ pub record BaseExactly (settle : Presence → ℕ → Outcome Presence) (checked
   pub moves : (p : Presence) (t : ℕ) → (BadWindow p.w → ⊥) → (BadMoment p.last t → ⊥)
       → settle p t ≡ Gives (record { w = p.w; prompt = p.prompt; touch = p.touch; last = t; asker = p.asker })
   pub finds : (p : Presence) (t : ℕ) → HasTouch p t
-      → checked p t ≡ record { yes = true; presence = record { w = p.w; prompt = p.prompt; touch = Closed; last = p.last; asker = p.asker } }
+      → checked p t ≡ record { yes = true; presence = record { w = p.w; prompt = p.prompt; touch = None; last = p.last; asker = p.asker } }
   pub prompts : (p : Presence) (t : ℕ) → (HasTouch p t → ⊥)
-      → checked p t ≡ record { yes = false; presence = record { w = p.w; prompt = Opened t; touch = p.touch; last = p.last; asker = p.asker } }
+      → checked p t ≡ record { yes = false; presence = record { w = p.w; prompt = Some t; touch = p.touch; last = p.last; asker = p.asker } }
 
 -- Ours: from a fresh record, with one side throughout (0 or 1), answers and windows are those of the base. 𝒞 is a way of calling
 -- with sides, ℬ the base's. A way of calling whose prompting refusal keeps the earlier asker (`asker_kept`) fails it with side 1
@@ -170,22 +169,22 @@ OneSideIsBase {D} 𝒞 ℬ =
 -- On a lent record it need not be so: asker 0, live touch, side 1 gets 6985, where the base found the touch. A check that serves
 -- the other side (`check_serves_other`) fails it.
 pub record LentRecordDiffers (check : Presence → (side t : ℕ) → Told) (base_check : Presence → ℕ → Told) : Type 0 where
-  pub sided : (check (record { w = 100; prompt = Closed; touch = Opened 0; last = 0; asker = 0 }) 1 7).outcome ≡ Gives false
-  pub base : (base_check (record { w = 100; prompt = Closed; touch = Opened 0; last = 0; asker = 0 }) 7).outcome ≡ Gives true
+  pub sided : (check (record { w = 100; prompt = None; touch = Some 0; last = 0; asker = 0 }) 1 7).outcome ≡ Gives false
+  pub base : (base_check (record { w = 100; prompt = None; touch = Some 0; last = 0; asker = 0 }) 7).outcome ≡ Gives true
 
 -- ---- what the answers say
 
 -- 01, Forms to follow: "a definition gives this paper's number and values for each of its cases". Each case has its value, and no other has it. A view with
 -- Yes and No in each other's place (`yes_for_no`) fails it, and one that says R1 for every refusal (`always_r1`).
 pub record AnswerExactly (said : Answer → Outcome Bool) : Type 0 where
-  pub refused : (a : Answer) (why : Refusal) → (said a ≡ R (refusal_no why)) ↔ (a ≡ Answer'.Refused why)
-  pub yes : (a : Answer) → (said a ≡ Gives true) ↔ (a ≡ Answer'.Yes)
-  pub no : (a : Answer) → (said a ≡ Gives false) ↔ (a ≡ Answer'.No)
+  pub refused : (a : Answer) (why : Refusal) → (said a ≡ R (refusal_no why)) ↔ (a ≡ Err why)
+  pub yes : (a : Answer) → (said a ≡ Gives true) ↔ (a ≡ Ok true)
+  pub no : (a : Answer) → (said a ≡ Gives false) ↔ (a ≡ Ok false)
 
 -- A record, as it is, or why there is none. A view that hands out its last moment as 0 (`record_at_zero`) fails it.
 pub record ReadyExactly (said : Ready → Outcome Presence) : Type 0 where
-  pub refused : (r : Ready) (why : Refusal) → (said r ≡ R (refusal_no why)) ↔ (r ≡ Ready'.Refused why)
-  pub made : (r : Ready) (p : Presence) → (said r ≡ Gives p) ↔ (r ≡ Ready'.Record p)
+  pub refused : (r : Ready) (why : Refusal) → (said r ≡ R (refusal_no why)) ↔ (r ≡ Err why)
+  pub made : (r : Ready) (p : Presence) → (said r ≡ Gives p) ↔ (r ≡ Ok p)
 
 -- An answer, and the record after it as it is. `step_yes_for_no` fails it, and a view with a fresh record in place of the one after the call (`step_forgets`).
 pub record StepExactly (said : Step → Told) : Type 0 where

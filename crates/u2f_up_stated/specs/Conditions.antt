@@ -1,4 +1,4 @@
--- A presence record p has a touch window length W (`p.w`), two windows, prompt and touch, each `Closed` or `Opened m`, a last moment
+-- A presence record p has a touch window length W (`p.w`), two windows, prompt and touch, each `None` or `Some m`, a last moment
 -- (`p.last`) and the number of the side that asked last (`p.asker`): 0 is USB, 1 wireless. What it says at a moment t to a call that
 -- names a side: document 01, 'Moments and touches' and 'Refusal numbers', document 02, E7.
 mod Words
@@ -22,4 +22,4 @@ NotRefused p s t = (BadWindow p.w → ⊥) × (BadSide s p.asker → ⊥) × (Ba
 
 -- a live touch: "A window opened at m with length d is live at t when t < m + d", and the touch window's length is W
 abbrev pub HasTouch : Presence → ℕ → Type 0
-HasTouch p t = (m : ℕ) × (p.touch ≡ Opened m) × (t < m + p.w)
+HasTouch p t = (m : ℕ) × (p.touch ≡ Some m) × (t < m + p.w)

@@ -3,12 +3,12 @@
 -- last moment, asker is the number of the asking side. In `f p s t`, s is the side that the call names.
 use Rattle.std.specs.Prelude.{◌+◌, ◌^◌, ◌||◌}
 use Rattle.u2f_up_stated.specs.Words.{ℕ, Bool, true, false, not, ltb, leb, eqb, when◌then◌else◌}
-use Rattle.u2f_up_stated.specs.Words.{Outcome, R, Word, Gives, Window, Closed, Opened, Presence, Finding}
+use Rattle.u2f_up_stated.specs.Words.{Outcome, R, Word, Gives, Window, None, Some, Presence, Finding}
 
 -- 01, Moments and touches: "A window opened at m with length d is live at t when t < m + d, as whole numbers"
 abbrev pub is_live : Window → ℕ → ℕ → Bool
-is_live Closed d t = false
-is_live (Opened m) d t = ltb t (m + d)
+is_live None d t = false
+is_live (Some m) d t = ltb t (m + d)
 
 -- 01, Moments and touches: "The prompt window is 10,000."
 abbrev pub is_prompting : Presence → ℕ → Bool
@@ -31,7 +31,7 @@ is_r8 named asker = is_bad_side named || is_bad_side asker
 
 -- 01, Moments and touches: "both windows closed and last moment 0"; 02, E7: the asking side is "0 when fresh"
 abbrev pub fresh : ℕ → Presence
-fresh w = record { w = w; prompt = Closed; touch = Closed; last = 0; asker = 0 }
+fresh w = record { w = w; prompt = None; touch = None; last = 0; asker = 0 }
 
 -- 01, Moments and touches: "A fresh record is made with a touch window W of 1..60,000 ..; a refused making hands back no record."
 unfoldable pub new_of : ℕ → Outcome Presence
@@ -46,16 +46,16 @@ moved_to p t = record { w = p.w; prompt = p.prompt; touch = p.touch; last = t; a
 
 -- 01, Moments and touches: "then the prompt closes and a touch window opens"; 02, E7: "An accepted touch belongs to the asker", who stays
 abbrev pub touch_opened : Presence → ℕ → Presence
-touch_opened p t = record { w = p.w; prompt = Closed; touch = Opened t; last = p.last; asker = p.asker }
+touch_opened p t = record { w = p.w; prompt = None; touch = Some t; last = p.last; asker = p.asker }
 
 -- 01, Moments and touches: "with a live touch, it is spent"
 abbrev pub touch_closed : Presence → Presence
-touch_closed p = record { w = p.w; prompt = p.prompt; touch = Closed; last = p.last; asker = p.asker }
+touch_closed p = record { w = p.w; prompt = p.prompt; touch = None; last = p.last; asker = p.asker }
 
 -- 01, Moments and touches: "without, a prompt window opens at t, replacing an older one"; 02, E7: "A prompting refusal makes its side
 -- the asker, in place of any earlier."
 abbrev pub prompt_opened : Presence → (side t : ℕ) → Presence
-prompt_opened p s t = record { w = p.w; prompt = Opened t; touch = p.touch; last = p.last; asker = s }
+prompt_opened p s t = record { w = p.w; prompt = Some t; touch = p.touch; last = p.last; asker = s }
 
 -- 01, Moments and touches: "Touch, check and ask give R6, then R1, before all else."; 02, E7: R8 "after R6 and before R1"
 unfoldable pub settle_of : Presence → (side t : ℕ) → Outcome Presence

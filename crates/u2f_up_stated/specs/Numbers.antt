@@ -1,12 +1,12 @@
 -- Ours: the presence record lent as five numbers, in this order: W, prompt, touch, last moment, asker; and the touch check and the touch on it.
 use Rattle.std.specs.Prelude.{get_or, List, ◌+◌}
-use Rattle.u2f_up_stated.specs.Words.{ℕ, zero, suc, eqb, true, false, not, when◌then◌else◌, Window, Closed, Opened, Presence, Finding}
+use Rattle.u2f_up_stated.specs.Words.{ℕ, zero, suc, eqb, true, false, not, when◌then◌else◌, Window, None, Some, Presence, Finding}
 use Rattle.u2f_up_stated.specs.Moments.{is_live, is_prompting}
 
 -- DECISIONS, a window as one number: 0 is closed, any other number a window that was opened at the moment before it
 abbrev pub window_of : ℕ → Window
-window_of zero = Closed
-window_of (suc m) = Opened m
+window_of zero = None
+window_of (suc m) = Some m
 
 abbrev pub presence_in : List ℕ → Presence
 presence_in s = record { w = get_or s 0 0; prompt = window_of (get_or s 1 0); touch = window_of (get_or s 2 0); last = get_or s 3 0; asker = get_or s 4 0 }
@@ -21,9 +21,9 @@ unfoldable pub checked_in : Presence → (side t : ℕ) → Finding
 checked_in p s t =
     when not (is_live p.touch p.w t) then record { yes = false; presence = record { w = p.w; prompt = window_of (number_of t); touch = p.touch; last = p.last; asker = s } }
     else when not (eqb p.asker s) then record { yes = false; presence = p }
-    else record { yes = true; presence = record { w = p.w; prompt = p.prompt; touch = Closed; last = p.last; asker = p.asker } }
+    else record { yes = true; presence = record { w = p.w; prompt = p.prompt; touch = None; last = p.last; asker = p.asker } }
 
 unfoldable pub granted_in : Presence → ℕ → Finding
 granted_in p t =
-    when is_prompting p t then record { yes = true; presence = record { w = p.w; prompt = Closed; touch = window_of (number_of t); last = p.last; asker = p.asker } }
+    when is_prompting p t then record { yes = true; presence = record { w = p.w; prompt = None; touch = window_of (number_of t); last = p.last; asker = p.asker } }
     else record { yes = false; presence = p }

@@ -1,7 +1,7 @@
 -- Document 01's presence as it was before document 02, E7: without sides. E7: "demand 2 compares runs with one side only". In these
 -- definitions the asking side is not looked at and never moves: a record has 0 there throughout.
 use Rattle.std.specs.Prelude.{List, [], ◌∷◌, ◌≡◌}
-use Rattle.u2f_up_stated.specs.Words.{ℕ, true, false, when◌then◌else◌, Outcome, R, Gives, Opened, Presence, Finding}
+use Rattle.u2f_up_stated.specs.Words.{ℕ, true, false, when◌then◌else◌, Outcome, R, Gives, Some, Presence, Finding}
 use Rattle.u2f_up_stated.specs.Moments.{Told, is_live, is_prompting, is_r6, is_r1, moved_to, touch_closed, granted_of, gave, refused, on_settled}
 use Rattle.u2f_up_stated.specs.History.{Role, Touching, Checking, Asking, Settling, TooShort, Call}
 use Rattle.u2f_up_stated.specs.Runs.{Caller}
@@ -17,7 +17,7 @@ base_settle_of p t =
 unfoldable pub base_checked_of : Presence → ℕ → Finding
 base_checked_of p t =
     when is_live p.touch p.w t then record { yes = true; presence = touch_closed p }
-    else record { yes = false; presence = record { w = p.w; prompt = Opened t; touch = p.touch; last = p.last; asker = p.asker } }
+    else record { yes = false; presence = record { w = p.w; prompt = Some t; touch = p.touch; last = p.last; asker = p.asker } }
 
 -- What a call of each role did to the record, whichever side it names.
 unfoldable pub base_by : Role → Presence → ℕ → Told

@@ -1,13 +1,13 @@
 -- Words that only the claims use: those of Conditions.antt and of History.antt's end, a live prompt, and what comes before all else.
 use Rattle.std.specs.Prelude.{◌↔◌, ◌+◌, ◌<◌, ◌≡◌}
-use Rattle.u2f_up_stated.specs.Words.{ℕ, R, Opened, Presence}
+use Rattle.u2f_up_stated.specs.Words.{ℕ, R, Some, Presence}
 use Rattle.u2f_up_stated.specs.Moments.{Told}
 pub use Rattle.u2f_up_stated.specs.Conditions.{BadWindow, BadSide, BadMoment, NotRefused, HasTouch}
 pub use Rattle.u2f_up_stated.specs.History.{RefusedAt, NamesBadSide, ServesOnce}
 
 -- a live prompt, as `HasTouch` is a live touch: 01, Moments and touches: "The prompt window is 10,000."
 abbrev pub HasPrompt : Presence → ℕ → Type 0
-HasPrompt p t = (m : ℕ) × (p.prompt ≡ Opened m) × (t < m + 10000)
+HasPrompt p t = (m : ℕ) × (p.prompt ≡ Some m) × (t < m + 10000)
 
 -- the same of a window that is lent as a number: it was opened at some m, whose number it is, and is live at t with length d
 abbrev pub LiveNumber : (number d t : ℕ) → Type 0

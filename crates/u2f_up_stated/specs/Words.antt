@@ -3,7 +3,18 @@ pub use Rattle.std.specs.Prelude.{ℕ, zero, suc, ◌+◌, ◌^◌, ◌<◌, ◌
 pub use Rattle.outcome.specs.Notation.{when◌then◌else◌, AtMostOne}
 pub use Rattle.outcome.specs.declared.Refusal.{Refusal}
 pub use Rattle.outcome.specs.Outcome.{StatusWord, Outcome, R, Word, Gives, refusal_no}
-pub use Rattle.u2f_up_stated.specs.declared.Window.{Window}
-pub use Rattle.u2f_up_stated.specs.declared.Window.TheVariants.{Closed, Opened}
+pub use Rattle.std.specs.Prelude.{Option, None, Some, Result, Ok, Err}
 pub use Rattle.u2f_up_stated.specs.declared.Presence.{Presence}
 pub use Rattle.u2f_up_stated.specs.declared.Finding.{Finding}
+
+-- A window: the moment that it was opened at, or `None` where it is closed.
+abbrev pub Window : Type 0
+Window = Option ℕ
+
+-- A record to go on with, or why there is none.
+abbrev pub Ready : Type 0
+Ready = Result Presence Refusal
+
+-- What touch, check and ask answer.
+abbrev pub Answer : Type 0
+Answer = Result Bool Refusal

@@ -1,11 +1,10 @@
 -- Wrong programs, each with one fault. proofs/Refuted.antt shows of each that a claim is false of it.
 use Rattle.std.specs.Prelude.{◌%◌, List, [], ◌∷◌, get_or, ◌+◌, ◌^◌, ◌&&◌, ◌||◌}
-use Rattle.u2f_up_stated.specs.Words.{ℕ, zero, suc, Bool, true, false, not, eqb, ltb, leb, when◌then◌else◌, Outcome, R, Gives, refusal_no, Window, Closed, Opened, Presence, Finding}
+use Rattle.u2f_up_stated.specs.Words.{ℕ, zero, suc, Bool, true, false, not, eqb, ltb, leb, when◌then◌else◌, Outcome, R, Gives, refusal_no, Window, None, Some, Presence, Finding}
 use Rattle.u2f_up_stated.specs.Moments.{fresh, Told, is_live, is_prompting, is_r6, is_bad_side, is_r8, is_r1, moved_to, settle_of, gave, refused, touch_opened, touch_closed, prompt_opened, on_settled, granted_of, checked_of}
 use Rattle.u2f_up_stated.specs.Numbers.{window_of, presence_in, number_of, checked_in}
 use Rattle.u2f_up_stated.specs.Answers.{Ready, Answer, Step, outcome_of}
-use Rattle.u2f_up_stated.specs.declared.Ready.TheVariants as Ready'
-use Rattle.u2f_up_stated.specs.declared.Answer.TheVariants as Answer'
+use Rattle.std.specs.Prelude.{Ok, Err}
 use Rattle.u2f_up_stated.specs.History.{Role, Touching, Checking, Asking, Settling, TooShort, Call, Event, TouchAccepted, TouchFound, NoTouchFound}
 use Rattle.u2f_up_stated.specs.Runs.{Caller, done_by}
 use Rattle.u2f_up_stated.specs.OneSide.{base_settle_of, base_checked_of}
@@ -25,7 +24,7 @@ refuses60000 w = when eqb w 0 then R 6 else when ltb 59999 w then R 6 else Gives
 
 -- "0 when fresh": side 1
 abbrev pub fresh_side1 : ℕ → Outcome Presence
-fresh_side1 w = when is_r6 w then R 6 else Gives (record { w = w; prompt = Closed; touch = Closed; last = 0; asker = 1 })
+fresh_side1 w = when is_r6 w then R 6 else Gives (record { w = w; prompt = None; touch = None; last = 0; asker = 1 })
 
 -- ---- settlings, by the tests that they make in turn: R6's, R8's of the named side and the record's, R1's of the last moment
 abbrev settling : (ℕ → Bool) → (ℕ → ℕ → Bool) → (ℕ → ℕ → Bool) → Presence → (side t : ℕ) → Outcome Presence
@@ -91,7 +90,7 @@ touching grants p t = on_settled p (settle_of p p.asker t) (λ q. gave (grants q
 -- "then the prompt closes and a touch window opens": a touch window that is live already stays as it is
 abbrev keeps_older : Presence → ℕ → Finding
 keeps_older p t =
-    when is_prompting p t then record { yes = true; presence = record { w = p.w; prompt = Closed; touch = when is_live p.touch p.w t then p.touch else Opened t; last = p.last; asker = p.asker } }
+    when is_prompting p t then record { yes = true; presence = record { w = p.w; prompt = None; touch = when is_live p.touch p.w t then p.touch else Some t; last = p.last; asker = p.asker } }
     else record { yes = false; presence = p }
 
 abbrev pub leaves_older : Presence → ℕ → Told
@@ -111,7 +110,7 @@ window10001 = touching (granted_within 10001)
 
 -- "An accepted touch belongs to the asker": to side 0, whoever asked
 abbrev pub touch_to0 : Presence → ℕ → Told
-touch_to0 = touching (λ p t. when is_prompting p t then record { yes = true; presence = record { w = p.w; prompt = Closed; touch = Opened t; last = p.last; asker = 0 } } else record { yes = false; presence = p })
+touch_to0 = touching (λ p t. when is_prompting p t then record { yes = true; presence = record { w = p.w; prompt = None; touch = Some t; last = p.last; asker = 0 } } else record { yes = false; presence = p })
 
 -- "Otherwise nothing but the last moment moves": a touch leaves even that
 abbrev pub leaves_the_moment : Presence → ℕ → Told
@@ -119,7 +118,7 @@ leaves_the_moment p t = on_settled p (settle_of p p.asker t) (λ q. gave (grante
 
 -- "An R refusal changes no buffer and no record": a refused touch closes the windows
 abbrev closed_by : Presence → Outcome Presence → (Presence → Told) → Told
-closed_by p (R n) go_on = refused n (record { w = p.w; prompt = Closed; touch = Closed; last = p.last; asker = p.asker })
+closed_by p (R n) go_on = refused n (record { w = p.w; prompt = None; touch = None; last = p.last; asker = p.asker })
 closed_by p (Outcome.Word s) go_on = record { outcome = Outcome.Word s; presence = p }
 closed_by p (Gives q) go_on = go_on q
 
@@ -186,8 +185,8 @@ check_keeps_asker = checking keeps_the_asker
 
 -- "is live at t when t < m + d": at the end too
 abbrev is_live_still : Window → ℕ → ℕ → Bool
-is_live_still Closed d t = false
-is_live_still (Opened m) d t = leb t (m + d)
+is_live_still None d t = false
+is_live_still (Some m) d t = leb t (m + d)
 
 abbrev pub live_at_the_end : Presence → (side t : ℕ) → Told
 live_at_the_end = checking (by_test is_live_still spends leaves prompts)
@@ -206,8 +205,8 @@ ask_moves p t = on_settled p (settle_of p p.asker t) (λ q. record { outcome = G
 
 -- ---- the record lent as five numbers. A window's number is the moment that it was opened at
 abbrev window_at : ℕ → Window
-window_at zero = Closed
-window_at (suc m) = Opened (suc m)
+window_at zero = None
+window_at (suc m) = Some (suc m)
 
 abbrev pub moment_itself : List ℕ → Presence
 moment_itself n = record { w = get_or n 0 0; prompt = window_at (get_or n 1 0); touch = window_at (get_or n 2 0); last = get_or n 3 0; asker = get_or n 4 0 }
@@ -265,7 +264,7 @@ abbrev pub leaves_prompt : List ℕ → ℕ → Finding
 leaves_prompt = accepted_by (λ p t. record { w = p.w; prompt = p.prompt; touch = window_of (number_of t); last = p.last; asker = p.asker })
 
 abbrev pub touch_at_prompt : List ℕ → ℕ → Finding
-touch_at_prompt = accepted_by (λ p t. record { w = p.w; prompt = Closed; touch = p.prompt; last = p.last; asker = p.asker })
+touch_at_prompt = accepted_by (λ p t. record { w = p.w; prompt = None; touch = p.prompt; last = p.last; asker = p.asker })
 
 -- the record's own check at every moment, the greatest of 64 bits too
 abbrev pub never_before : Presence → (side t : ℕ) → Finding
@@ -290,26 +289,26 @@ keeps_spent = calling granted_of stays_spent
 -- honours no touch: an accepted one opens nothing. Fails `foretells` and `finds`, at the first check after an accepted touch, and
 -- `one_held`: after the next prompt another is accepted, and the history holds two.
 abbrev pub opens_nothing : Caller Call
-opens_nothing = calling (λ p t. when is_prompting p t then record { yes = true; presence = record { w = p.w; prompt = Closed; touch = Closed; last = p.last; asker = p.asker } } else record { yes = false; presence = p }) checked_of
+opens_nothing = calling (λ p t. when is_prompting p t then record { yes = true; presence = record { w = p.w; prompt = None; touch = None; last = p.last; asker = p.asker } } else record { yes = false; presence = p }) checked_of
 
 -- one prompt lets in touch after touch. Fails `accepts`, at the second touch after it.
 abbrev pub keeps_prompt : Caller Call
-keeps_prompt = calling (λ p t. when is_prompting p t then record { yes = true; presence = record { w = p.w; prompt = p.prompt; touch = Opened t; last = p.last; asker = p.asker } } else record { yes = false; presence = p }) checked_of
+keeps_prompt = calling (λ p t. when is_prompting p t then record { yes = true; presence = record { w = p.w; prompt = p.prompt; touch = Some t; last = p.last; asker = p.asker } } else record { yes = false; presence = p }) checked_of
 
 -- an accepted touch opens its window at the prompt's moment. Fails `holds`, where the moments differ.
 abbrev pub opens_at_prompt : Caller Call
-opens_at_prompt = calling (λ p t. when is_prompting p t then record { yes = true; presence = record { w = p.w; prompt = Closed; touch = p.prompt; last = p.last; asker = p.asker } } else record { yes = false; presence = p }) checked_of
+opens_at_prompt = calling (λ p t. when is_prompting p t then record { yes = true; presence = record { w = p.w; prompt = None; touch = p.prompt; last = p.last; asker = p.asker } } else record { yes = false; presence = p }) checked_of
 
 -- honours the first touch only. A window opened at 2^48, which no touch opens, says that one was spent: from then on every touch
 -- is accepted as ever, and every check is an ordinary 6985. Fails `foretells`, at the second accepted touch's check.
 abbrev is_used_up : Window → Bool
-is_used_up Closed = false
-is_used_up (Opened m) = leb (2 ^ 48) m
+is_used_up None = false
+is_used_up (Some m) = leb (2 ^ 48) m
 
 abbrev pub first_only : Caller Call
 first_only = calling
-    (λ p t. when is_prompting p t then record { yes = true; presence = record { w = p.w; prompt = Closed; touch = when is_used_up p.touch then p.touch else Opened t; last = p.last; asker = p.asker } } else record { yes = false; presence = p })
-    (λ p s t. when is_used_up p.touch then prompts p s t else by (λ p s t. record { yes = true; presence = record { w = p.w; prompt = p.prompt; touch = Opened (2 ^ 48); last = p.last; asker = p.asker } }) leaves prompts p s t)
+    (λ p t. when is_prompting p t then record { yes = true; presence = record { w = p.w; prompt = None; touch = when is_used_up p.touch then p.touch else Some t; last = p.last; asker = p.asker } } else record { yes = false; presence = p })
+    (λ p s t. when is_used_up p.touch then prompts p s t else by (λ p s t. record { yes = true; presence = record { w = p.w; prompt = p.prompt; touch = Some (2 ^ 48); last = p.last; asker = p.asker } }) leaves prompts p s t)
 
 -- 02, E7, over a run: the other side is served; its 6985 opens a prompt, or gives it the touch; the asker is not replaced. The first fails
 -- `finds` and `serves`, at that side's check, and `side_totals` of the side that was served
@@ -384,18 +383,16 @@ served_twice =
 
 -- ---- views: Yes and No in each other's place; one number for every refusal; a record without its last moment; a fresh record after every call
 abbrev pub yes_for_no : Answer → Outcome Bool
-yes_for_no (Answer'.Refused why) = R (refusal_no why)
-yes_for_no Answer'.Yes = Gives false
-yes_for_no Answer'.No = Gives true
+yes_for_no (Err why) = R (refusal_no why)
+yes_for_no (Ok found) = Gives (not found)
 
 abbrev pub always_r1 : Answer → Outcome Bool
-always_r1 (Answer'.Refused why) = R 1
-always_r1 Answer'.Yes = Gives true
-always_r1 Answer'.No = Gives false
+always_r1 (Err why) = R 1
+always_r1 (Ok found) = Gives found
 
 abbrev pub record_at_zero : Ready → Outcome Presence
-record_at_zero (Ready'.Refused why) = R (refusal_no why)
-record_at_zero (Ready'.Record p) = Gives (moved_to p 0)
+record_at_zero (Err why) = R (refusal_no why)
+record_at_zero (Ok p) = Gives (moved_to p 0)
 
 abbrev pub step_yes_for_no : Step → Told
 step_yes_for_no s = record { outcome = yes_for_no s.answer; presence = s.presence }

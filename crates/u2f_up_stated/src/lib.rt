@@ -4,12 +4,9 @@
 
 use outcome::Refusal;
 
-// A window opened at a moment is live for a stretch that its reader knows; once that has passed it stays as it is.
-#[derive(Clone, Copy)]
-pub enum Window {
-    Closed,
-    Opened(u64),
-}
+// The moment that a window was opened at, or `None` where it is closed. An opened one is live for a stretch that its reader knows;
+// once that has passed it stays as it is.
+pub type Window = Option<u64>;
 
 // The presence record: W, the prompt window (the Rust's `needs_up`), the touch window (`has_up`), the last moment, and the side
 // that asked last, 0 or 1: a prompt is for it, and a touch is its own.
@@ -22,25 +19,10 @@ pub struct Presence {
     pub asker: u64,
 }
 
-// A record to go on with, or why there is none.
-#[derive(Clone, Copy)]
-pub enum Ready {
-    Refused(Refusal),
-    Record(Presence),
-}
-
-// What touch, check and ask answer.
-#[derive(Clone, Copy)]
-pub enum Answer {
-    Refused(Refusal),
-    Yes,
-    No,
-}
-
-// An answer and the record after the call; a refusal hands back the record that came in.
+// What touch, check and ask answer, and the record after the call; a refusal hands back the record that came in.
 #[derive(Clone, Copy)]
 pub struct Step {
-    pub answer: Answer,
+    pub answer: Result<bool, Refusal>,
     pub presence: Presence,
 }
 

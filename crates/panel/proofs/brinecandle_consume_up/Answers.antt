@@ -3,8 +3,8 @@ use borrow.Author.Rules.{rules}
 use Rattle.panel_stated.proofs.Cases
 use Rattle.panel.proofs.brinecandle_consume_up.Goals as goal
 
-pub returns-in-Refused : goal.returns-in-Refused
-returns-in-Refused c = (search (rules, Cases.check_refused), search (rules, Cases.check_kept))
+pub returns-in-Err : goal.returns-in-Err
+returns-in-Err c = (search (rules, Cases.check_refused), search (rules, Cases.check_kept))
 
-pub returns-in-Record : goal.returns-in-Record
-returns-in-Record c = (search (rules, Cases.check_found), search (rules, Cases.check_moved))
+pub returns-in-Ok : goal.returns-in-Ok
+returns-in-Ok c = (search (rules, Cases.check_found), search (rules, Cases.check_moved))

@@ -1,10 +1,7 @@
--- `brinecandle_new` meets its contract: R6, or a fresh record.
+-- `brinecandle_new` meets its contract: the fresh record; of R6 the check finds it.
 use borrow.Author.Rules.{rules}
 use Rattle.panel_stated.proofs.Cases
 use Rattle.panel.proofs.brinecandle_new.Goals as goal
 
-pub returns-in-Refused : goal.returns-in-Refused
-returns-in-Refused c = (search (rules, Cases.new_refused), search (rules, Cases.new_kept))
-
-pub returns-in-Record : goal.returns-in-Record
-returns-in-Record c = (search (rules, Cases.new_given), search (rules, Cases.new_made))
+pub returns-in-Ok : goal.returns-in-Ok
+returns-in-Ok c = (search (rules, Cases.new_given), search (rules, Cases.new_made))

@@ -3,8 +3,8 @@ use borrow.Author.Rules.{rules}
 use Rattle.response_stated.proofs.Cases
 use Rattle.response.proofs.room.Goals as goal
 
-pub returns-then-n-gt-LONGEST_PART : goal.returns-then-n-gt-LONGEST_PART
-returns-then-n-gt-LONGEST_PART c = search (rules, Cases.room_unsaid)
+pub returns-then-part-gt-LONGEST_PART : goal.returns-then-part-gt-LONGEST_PART
+returns-then-part-gt-LONGEST_PART c = search (rules, Cases.room_unsaid)
 
 pub returns : goal.returns
 returns c = search (rules, Cases.room_said)

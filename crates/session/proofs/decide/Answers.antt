@@ -8,7 +8,7 @@ pub returns-then-allowed-gt-YES : goal.returns-then-allowed-gt-YES
 returns-then-allowed-gt-YES c =
     let a = c.args in
     let is_s = OuterChecks.settles_in c.record_lent.result (presence_in a.presence.now) a.call.side a.call.t c.settle-ready.result c.record_lent.ensures c.settle-ready.ensures in
-    let told = c.in-Record.is in (
+    let told = c.in-Ok.is in (
       rw c.beside_frame-then-allowed-gt-YES.ensures.0 (
         search (rules, OuterChecks.allowed_failed, is_s, told, c.if-allowed-gt-YES.true),
         search (rules, OuterChecks.failed_kept, is_s, told, c.if-allowed-gt-YES.true),
@@ -22,7 +22,7 @@ pub returns-then-allowed-eq-NO : goal.returns-then-allowed-eq-NO
 returns-then-allowed-eq-NO c =
     let a = c.args in
     let is_s = OuterChecks.settles_in c.record_lent.result (presence_in a.presence.now) a.call.side a.call.t c.settle-ready.result c.record_lent.ensures c.settle-ready.ensures in
-    let told = c.in-Record.is in (
+    let told = c.in-Ok.is in (
       rw c.beside_frame-then-allowed-eq-NO.ensures.0 (
         search (rules, OuterChecks.allowed_no, is_s, told, c.if-allowed-eq-NO.true),
         search (rules, OuterChecks.no_kept, is_s, told, c.if-allowed-eq-NO.true),
@@ -32,11 +32,11 @@ returns-then-allowed-eq-NO c =
       search rules,
     )
 
-pub returns-in-Refused : goal.returns-in-Refused
-returns-in-Refused c =
+pub returns-in-Err : goal.returns-in-Err
+returns-in-Err c =
     let a = c.args in
     let is_s = OuterChecks.settles_in c.record_lent.result (presence_in a.presence.now) a.call.side a.call.t c.settle-ready.result c.record_lent.ensures c.settle-ready.ensures in
-    let told = c.in-Refused.is in (
+    let told = c.in-Err.is in (
       rw c.beside_frame.ensures.0 (
         search (rules, OuterChecks.not_settled, is_s, told),
         search (rules, OuterChecks.not_settled_kept, is_s, told),
@@ -53,7 +53,7 @@ pub returns-else-allowed-eq-NO : goal.returns-else-allowed-eq-NO
 returns-else-allowed-eq-NO c =
     let a = c.args in
     let is_s = OuterChecks.settles_in c.record_lent.result (presence_in a.presence.now) a.call.side a.call.t c.settle-ready.result c.record_lent.ensures c.settle-ready.ensures in
-    let told = c.in-Record.is in (
+    let told = c.in-Ok.is in (
       (
         search (rules, OuterChecks.allowed_yes, is_s, told, c.if-allowed-eq-NO.false, c.if-allowed-gt-YES.false, c.commanded-decision.ensures),
         search (rules, OuterChecks.yes_left, is_s, told, c.if-allowed-eq-NO.false, c.if-allowed-gt-YES.false, c.commanded-decision.ensures),

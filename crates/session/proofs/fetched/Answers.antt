@@ -9,14 +9,14 @@ returns-then-remainder-eq0-clause-presence_after c = search (rules, Cases.nothin
 pub returns-then-remainder-eq0-clause-part_after : goal.returns-then-remainder-eq0-clause-part_after
 returns-then-remainder-eq0-clause-part_after c = search (rules, Cases.nothing_kept)
 
-pub returns-in-Refused-clause-presence_after : goal.returns-in-Refused-clause-presence_after
-returns-in-Refused-clause-presence_after c = search (rules, Cases.next_refused)
+pub returns-in-Err-clause-presence_after : goal.returns-in-Err-clause-presence_after
+returns-in-Err-clause-presence_after c = search (rules, Cases.next_refused)
 
-pub returns-in-Refused-clause-part_after : goal.returns-in-Refused-clause-part_after
-returns-in-Refused-clause-part_after c = search (rules, Cases.next_laid)
+pub returns-in-Err-clause-part_after : goal.returns-in-Err-clause-part_after
+returns-in-Err-clause-part_after c = search (rules, Cases.next_laid)
 
-pub returns-in-Part-clause-presence_after : goal.returns-in-Part-clause-presence_after
-returns-in-Part-clause-presence_after c = search (rules, Cases.next_part)
+pub returns-in-Ok-clause-presence_after : goal.returns-in-Ok-clause-presence_after
+returns-in-Ok-clause-presence_after c = search (rules, Cases.next_part)
 
-pub returns-in-Part-clause-part_after : goal.returns-in-Part-clause-part_after
-returns-in-Part-clause-part_after c = search (rules, Cases.next_laid)
+pub returns-in-Ok-clause-part_after : goal.returns-in-Ok-clause-part_after
+returns-in-Ok-clause-part_after c = search (rules, Cases.next_laid)

@@ -3,8 +3,8 @@ use borrow.Author.Rules.{rules}
 use Rattle.u2f_up_stated.proofs.Cases
 use Rattle.u2f_up.proofs.grant_up.Goals as goal
 
-pub returns-in-Refused : goal.returns-in-Refused
-returns-in-Refused c = search (rules, Cases.touch_refused)
+pub returns-in-Err : goal.returns-in-Err
+returns-in-Err c = search (rules, Cases.touch_refused)
 
-pub returns-in-Record : goal.returns-in-Record
-returns-in-Record c = search (rules, Cases.touch_found)
+pub returns-in-Ok : goal.returns-in-Ok
+returns-in-Ok c = search (rules, Cases.touch_found)

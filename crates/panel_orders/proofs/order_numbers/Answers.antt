@@ -1,7 +1,0 @@
--- `order_numbers` meets its contract.
-use borrow.Author.Rules.{rules}
-use Rattle.panel_stated.proofs.Cases
-use Rattle.panel_orders.proofs.order_numbers.Goals as goal
-
-pub returns : goal.returns
-returns c = search (rules, Cases.order_put, Cases.head_put)
