@@ -2,43 +2,35 @@
 // either, and what is wrong with the length and where.
 use apdu::{Apdu, Reading};
 use command::U2fCommand;
+use program_spell::{Hex, Status};
+use std::io;
 
-fn print_fields(out: &impl Print, good: bool, frame: &[u8], says: Apdu) -> bool {
-    let fine = program_spell::bytes(out, good, b"\nchallenge ", command::challenge(frame, says));
-    program_spell::bytes(
-        out,
-        fine,
-        b"\napplication ",
-        command::application(frame, says),
-    )
+fn print_fields(out: &impl Print, frame: &[u8], says: Apdu) -> io::Result<()> {
+    let challenge = Hex(command::challenge(frame, says));
+    let application = Hex(command::application(frame, says));
+    print!(out; "\nchallenge {challenge}\napplication {application}")
 }
 
-fn print_command(out: &impl Print, good: bool, frame: &[u8], command: U2fCommand) -> bool {
+fn print_command(out: &impl Print, frame: &[u8], command: U2fCommand) -> io::Result<()> {
     match command {
-        U2fCommand::Register(says) => print_fields(out, good, frame, says),
+        U2fCommand::Register(says) => print_fields(out, frame, says),
         U2fCommand::Authenticate(_, says) => {
-            let fine = print_fields(out, good, frame, says);
-            program_spell::bytes(out, fine, b"\nhandle ", command::key_handle(frame, says))
+            print_fields(out, frame, says)?;
+            print!(out; "\nhandle {}", Hex(command::key_handle(frame, says)))
         }
-        U2fCommand::Version => good,
-        U2fCommand::GetResponse => good,
-        U2fCommand::Status(status) => program_spell::status(
-            out,
-            good,
-            b"\nno command: SW ",
-            status,
-        ),
+        U2fCommand::Version => Ok(()),
+        U2fCommand::GetResponse => Ok(()),
+        U2fCommand::Status(status) => print!(out; "\nno command: SW {}", Status(status)),
     }
 }
 
-pub fn print(out: &impl Print, frame: &[u8]) -> bool {
-    let reading = apdu::read(frame);
-    let said = match reading {
+pub fn print(out: &impl Print, frame: &[u8]) -> io::Result<()> {
+    match apdu::read(frame) {
         Reading::Frame(says) => {
-            let fine = program_spell::bytes(out, true, b"data ", apdu::data(frame, says));
-            print_command(out, fine, frame, command::read_command(frame))
+            print!(out; "data {}", Hex(apdu::data(frame, says)))?;
+            print_command(out, frame, command::read_command(frame))?;
         }
-        Reading::Status(status) => program_spell::status(out, true, b"SW ", status),
-    };
-    program_spell::words(out, said, b"\n")
+        Reading::Status(status) => print!(out; "SW {}", Status(status))?,
+    }
+    println!(out)
 }
