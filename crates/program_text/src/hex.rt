@@ -1,4 +1,6 @@
 // A frame in hex: two digits a byte, of either case, and blanks before and between the bytes as one likes. A remark (#) may follow.
+ghost use Rattle.std.specs.Prelude.{◌≡◌, ◌<◌, ◌++◌, IfSome, length};
+
 use crate::find;
 
 fn is_blank(b: u8) -> bool {
@@ -6,7 +8,10 @@ fn is_blank(b: u8) -> bool {
 }
 
 // The frame's text in a line, and what stands behind it: a remark, the blanks before that, and a line end of two bytes. None where there is no frame.
-pub fn split_frame(line: &[u8]) -> Option<(&[u8], &[u8])> {
+pub fn split_frame(line: &[u8]) -> Option<(&[u8], &[u8])>
+    ensures whole { IfSome result (λ parts. parts.0.now ++ parts.1.now ≡ line.now) }
+    ensures some { IfSome result (λ parts. 0 < length parts.0.now) }
+{
     let before = &line[..find(line, 0, b'#')];
     let last = before.iter().rposition(|&b| !is_blank(b) && b != b'\r')?;
     Some(line.split_at(last + 1))

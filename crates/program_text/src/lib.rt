@@ -3,7 +3,7 @@
 
 mod hex;
 
-ghost use Rattle.std.specs.Prelude.{◌≤◌, length};
+ghost use Rattle.std.specs.Prelude.{◌≤◌, length, IfSome};
 
 pub use hex::{frame_bytes, split_frame};
 use std::env::FillError;
@@ -23,7 +23,9 @@ pub fn find(text: &[u8], at: usize, byte: u8) -> usize
 }
 
 // A decimal number of at most `most`; none where the word is no such number.
-pub fn number(word: &[u8], most: u64) -> Option<u64> {
+pub fn number(word: &[u8], most: u64) -> Option<u64>
+    ensures { IfSome result (λ n. n ≤ most) }
+{
     // `parse` would take a sign, too
     if !word.iter().all(|b| b.is_ascii_digit()) {
         return None;
