@@ -6,6 +6,8 @@
 mod parts;
 mod rows;
 
+ghost use Rattle.std.specs.Prelude.{◌≤◌, length};
+
 use apdu::{Apdu, Case, Reading};
 use program_spell::StatusWord;
 use std::io;
@@ -20,6 +22,7 @@ enum Way {
     Parts,
 }
 
+// A shape by its name: `Case` has no Display.
 fn name(shape: Case) -> &'static str {
     match shape {
         Case::Instruction => "Instruction",
@@ -68,22 +71,30 @@ fn print_asked(out: &impl Print, way: Way, frame: &[u8]) -> io::Result<()> {
     }
 }
 
+// Reads until the buffer is full, the input ends or a read fails, and says how many bytes came.
+fn read_full<R: Read + Drop>(input: R, buffer: &mut [u8]) -> usize
+    ensures { result ≤ length buffer.new }
+{
+    let all = buffer.len();
+    let mut left = &mut buffer[..];
+    let _ = io::copy(&mut input.take(all as u64), &mut left);
+    all.saturating_sub(left.len())
+}
+
 fn main(rt: HostRuntime) {
     let Some(way) = asked(&rt) else {
         let _ = rt.eprintln("one argument is known: table or parts");
         return;
     };
-    // The longest frame, and a byte that tells a longer one.
-    let mut buffer = [0u8; 65537];
-    let mut input = rt.stdin().take(65537);
-    match io::copy(&mut input, &mut &mut buffer[..]) {
+    let mut buffer = [0u8; 65536];
+    let n = read_full(rt.stdin(), &mut buffer);
+    // The input's end, a failed read and a frame that is too long look alike so far: one read more tells them apart.
+    let mut more = [0u8; 1];
+    match rt.stdin().read(&mut more) {
         Err(_) => {
             let _ = rt.eprintln("cannot read standard input");
         }
-        Ok(65537) => program_spell::close(&rt, println!(rt; "too long")),
-        Ok(n) => program_spell::close(
-            &rt,
-            print_asked(&rt, way, octets::part(&buffer, 0, n as usize)),
-        ),
+        Ok(0) => program_spell::close(&rt, print_asked(&rt, way, &buffer[..n])),
+        Ok(_) => program_spell::close(&rt, println!(rt; "too long")),
     }
 }
