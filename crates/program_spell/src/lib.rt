@@ -2,10 +2,10 @@
 // and a program says so at its end.
 #![tactic(auto)]
 
-use outcome::ApduStatusCode;
+use outcome::{ApduStatusCode, LengthFault};
 use std::{fmt, io};
 
-// What standard error has where standard output did not take all.
+// What a program says at its end where standard output did not take all.
 pub const UNWRITTEN: &str = "cannot write standard output";
 
 // A status word, four digits in hex.
@@ -26,14 +26,15 @@ pub struct Status(pub ApduStatusCode);
 impl fmt::Display for Status {
     fn fmt<W: fmt::Write>(&self, f: &mut fmt::Formatter<W>) -> fmt::Result {
         write!(f, "{}", StatusWord(self.0))?;
-        let fault = outcome::fault(self.0);
-        let place = fault.place;
-        match fault.kind {
-            1 => write!(f, " missing {place}"),
-            2 => write!(f, " surplus {place}"),
-            3 => write!(f, " lc {place}"),
-            _ => Ok(()),
-        }
+        let ApduStatusCode::WrongLength(fault, place) = self.0 else {
+            return Ok(());
+        };
+        let kind = match fault {
+            LengthFault::Missing => "missing",
+            LengthFault::Surplus => "surplus",
+            LengthFault::LcAgainstIns => "lc",
+        };
+        write!(f, " {kind} {place}")
     }
 }
 
@@ -53,7 +54,7 @@ impl fmt::Display for Hex<'_> {
     }
 }
 
-// Standard error has it where standard output did not take all.
+// On standard error, where standard output did not take all.
 pub fn close(rt: &impl Eprint, printed: io::Result<()>) {
     if printed.is_err() {
         let _ = rt.eprintln(UNWRITTEN);

@@ -26,6 +26,7 @@ fn byte(high: u8, low: u8) -> Option<u8> {
 
 // The text's bytes, at the front of the space; none where it is no bytes in hex, or more than the space can hold.
 pub fn frame_bytes<'a>(text: &[u8], space: &'a mut [u8]) -> Option<&'a [u8]> {
+    // no place of either loop: how many bytes are handed out
     let mut n = 0;
     for word in text.split(|&b| is_blank(b)) {
         for digits in word.chunks(2) {

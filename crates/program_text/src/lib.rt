@@ -11,7 +11,8 @@ use std::fs::File;
 use std::io;
 use std::rt::{Env, Files};
 
-// The first place from `at` on that holds the byte, or else the text's end; `at` itself where that is past the end.
+// The first place from `at` on that holds the byte, or else the text's end; `at` itself where that is past the end. No Option: `forward` speaks of
+// every answer, and a text is cut at it.
 pub fn find(text: &[u8], at: usize, byte: u8) -> usize
     ensures forward { at ≤ result }
     ensures within { at ≤ length text.now → result ≤ length text.now }
