@@ -86,6 +86,7 @@ fn main(rt: HostRuntime) {
         let _ = rt.eprintln("one argument is known: table or parts");
         return;
     };
+    // Fixed memory: no Vec that could run out.
     let mut buffer = [0u8; 65536];
     let n = read_full(rt.stdin(), &mut buffer);
     // The input's end, a failed read and a frame that is too long look alike so far: one read more tells them apart.

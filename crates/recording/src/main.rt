@@ -26,7 +26,7 @@ impl From<io::Error> for Stopped {
     }
 }
 
-// The longest frame that has a shape is 65,544 bytes, which in hex, with a space behind each, are 196,632.
+// The longest frame that has a shape is 65,544 bytes, which in hex, with a space behind each, are 196,632. Fixed memory: no Vec that could run out.
 fn text_space() -> [u8; 262144] {
     [0; 262144]
 }

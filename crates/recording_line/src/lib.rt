@@ -18,7 +18,7 @@ pub struct Sums {
     pub line: u64,
 }
 
-// For as many bytes as a line can say.
+// For as many bytes as a line can say. Fixed memory: no Vec that could run out.
 fn space() -> [u8; 131072] {
     [0; 131072]
 }
