@@ -2,48 +2,35 @@
 // either, and what is wrong with the length and where.
 use apdu::Apdu;
 use command::U2fCommand;
-use outcome::ApduStatusCode;
+use program_spell::{Hex, Status};
+use std::io;
 
-fn print_fields(out: &impl Print, good: bool, frame: &[u8], says: Apdu) -> bool {
-    let fine = program_spell::bytes(out, good, b"\nchallenge ", command::challenge(frame, says));
-    program_spell::bytes(
-        out,
-        fine,
-        b"\napplication ",
-        command::application(frame, says),
-    )
+fn print_fields(out: &impl Print, frame: &[u8], says: Apdu) -> io::Result<()> {
+    let challenge = Hex(command::challenge(frame, says));
+    let application = Hex(command::application(frame, says));
+    print!(out; "\nchallenge {challenge}\napplication {application}")
 }
 
-fn print_command(
-    out: &impl Print,
-    good: bool,
-    frame: &[u8],
-    command: Result<U2fCommand, ApduStatusCode>,
-) -> bool {
-    match command {
-        Ok(U2fCommand::Register(says)) => print_fields(out, good, frame, says),
+fn print_command(out: &impl Print, frame: &[u8]) -> io::Result<()> {
+    match command::read_command(frame) {
+        Ok(U2fCommand::Register(says)) => print_fields(out, frame, says),
         Ok(U2fCommand::Authenticate(_, says)) => {
-            let fine = print_fields(out, good, frame, says);
-            program_spell::bytes(out, fine, b"\nhandle ", command::key_handle(frame, says))
+            print_fields(out, frame, says)?;
+            print!(out; "\nhandle {}", Hex(command::key_handle(frame, says)))
         }
-        Ok(U2fCommand::Version) => good,
-        Ok(U2fCommand::GetResponse) => good,
-        Err(status) => program_spell::status(
-            out,
-            good,
-            b"\nno command: SW ",
-            status,
-        ),
+        Ok(U2fCommand::Version) => Ok(()),
+        Ok(U2fCommand::GetResponse) => Ok(()),
+        Err(status) => print!(out; "\nno command: SW {}", Status(status)),
     }
 }
 
-pub fn print(out: &impl Print, frame: &[u8]) -> bool {
-    let said = match apdu::read(frame) {
+pub fn print(out: &impl Print, frame: &[u8]) -> io::Result<()> {
+    match apdu::read(frame) {
         Ok(says) => {
-            let fine = program_spell::bytes(out, true, b"data ", apdu::data(frame, says));
-            print_command(out, fine, frame, command::read_command(frame))
+            print!(out; "data {}", Hex(apdu::data(frame, says)))?;
+            print_command(out, frame)?;
         }
-        Err(status) => program_spell::status(out, true, b"SW ", status),
-    };
-    program_spell::words(out, said, b"\n")
+        Err(status) => print!(out; "SW {}", Status(status))?,
+    }
+    println!(out)
 }

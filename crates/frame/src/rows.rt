@@ -2,40 +2,41 @@
 // the frame says by it; or the status word, and what is wrong with the length and where.
 use apdu_table::{NoRow, Row, RowSays};
 use outcome::ApduStatusCode;
-use program_spell::{number, words};
+use program_spell::Status;
+use std::io;
 
-fn print_tried(out: &impl Print, good: bool, tried: Result<Row, NoRow>) -> bool {
-    let Ok(row) = tried else {
-        return words(out, good, b": no row");
-    };
-    let named = number(out, good, b": row ", row.number as u64);
-    let lc = number(out, named, b", Lc field ", row.lc_field as u64);
-    let least = number(out, lc, b", least Lc ", row.lc_least as u64);
-    number(out, least, b", Le field ", row.le_field as u64)
+fn print_tried(out: &impl Print, tried: Result<Row, NoRow>) -> io::Result<()> {
+    match tried {
+        Ok(row) => print!(out;
+            ": row {}, Lc field {}, least Lc {}, Le field {}",
+            row.number, row.lc_field, row.lc_least, row.le_field
+        ),
+        Err(_) => print!(out; ": no row"),
+    }
 }
 
-fn print_reading(
+fn print_reading(out: &impl Print, reading: Result<RowSays, ApduStatusCode>) -> io::Result<()> {
+    match reading {
+        Ok(says) => println!(out; ": Lc {}, Le {}", says.lc, says.le),
+        Err(status) => println!(out; ": SW {}", Status(status)),
+    }
+}
+
+// A table's name, and a frame by it.
+fn print_table(
     out: &impl Print,
-    good: bool,
+    name: &str,
+    tried: Result<Row, NoRow>,
     reading: Result<RowSays, ApduStatusCode>,
-) -> bool {
-    let said = match reading {
-        Ok(says) => {
-            let lc = number(out, good, b": Lc ", says.lc as u64);
-            number(out, lc, b", Le ", says.le as u64)
-        }
-        Err(status) => program_spell::status(out, good, b": SW ", status),
-    };
-    words(out, said, b"\n")
+) -> io::Result<()> {
+    out.print(name)?;
+    print_tried(out, tried)?;
+    print_reading(out, reading)
 }
 
-pub fn print_both(out: &impl Print, frame: &[u8]) -> bool {
-    let ordinary = apdu_table::ordinary();
-    let mut good = words(out, true, b"ordinary");
-    good = print_tried(out, good, apdu_table::try_rows(&ordinary, frame));
-    good = print_reading(out, good, apdu_table::read(frame));
-    let strict = apdu_table::strict();
-    good = words(out, good, b"strict");
-    good = print_tried(out, good, apdu_table::try_rows(&strict, frame));
-    print_reading(out, good, apdu_table::read_strict(frame))
+pub fn print_both(out: &impl Print, frame: &[u8]) -> io::Result<()> {
+    let tried = apdu_table::try_rows(&apdu_table::ordinary(), frame);
+    print_table(out, "ordinary", tried, apdu_table::read(frame))?;
+    let tried = apdu_table::try_rows(&apdu_table::strict(), frame);
+    print_table(out, "strict", tried, apdu_table::read_strict(frame))
 }

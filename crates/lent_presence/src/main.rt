@@ -2,125 +2,121 @@
 // after it: W, prompt, touch, last moment and asker, a closed window as `-`. The file stdout is written from the documents.
 #![tactic(auto)]
 
+mod call;
 mod lent;
 
-use program_spell::{number, words};
-use u2f_up::{Answer, Presence, Step, Window};
+use call::Call;
+use std::io;
+use outcome::Refusal;
+use u2f_up::{Presence, Window};
 
-fn print_window(out: &impl Print, window: Window) {
+fn print_window(out: &impl Print, window: Window) -> io::Result<()> {
     match window {
-        Window::Closed => words(out, true, b" -"),
-        Window::Opened(m) => number(out, true, b" ", m),
-    };
+        None => print!(out; " -"),
+        Some(m) => print!(out; " {m}"),
+    }
 }
 
-fn print_answer(out: &impl Print, answer: Answer) {
+fn print_answer(out: &impl Print, answer: Result<bool, Refusal>) -> io::Result<()> {
     match answer {
-        Answer::Yes => words(out, true, b": yes;"),
-        Answer::No => words(out, true, b": no;"),
-        Answer::Refused(why) => {
-            number(out, true, b": R", outcome::refusal_number(why) as u64);
-            words(out, true, b";")
-        }
-    };
+        Ok(true) => print!(out; ": yes;"),
+        Ok(false) => print!(out; ": no;"),
+        Err(why) => print!(out; ": R{};", outcome::refusal_number(why)),
+    }
 }
 
-fn told(out: &impl Print, step: Step) -> Presence {
-    let answer = step.answer;
-    print_answer(out, answer);
-    let presence = step.presence;
-    number(out, true, b" ", presence.w);
-    let prompt = presence.prompt;
-    print_window(out, prompt);
-    let touch = presence.touch;
-    print_window(out, touch);
-    number(out, true, b" ", presence.last);
-    number(out, true, b" ", presence.asker as u64);
-    words(out, true, b"\n");
-    presence
+fn print_record(out: &impl Print, presence: Presence) -> io::Result<()> {
+    print!(out; " {}", presence.w)?;
+    print_window(out, presence.prompt)?;
+    print_window(out, presence.touch)?;
+    println!(out; " {} {}", presence.last, presence.asker)
 }
 
-fn touch(out: &impl Print, presence: Presence, t: u64) -> Presence {
-    number(out, true, b"touch ", t);
-    told(out, lent::touch(presence, t))
-}
-
-fn check(out: &impl Print, presence: Presence, side: u64, t: u64) -> Presence {
-    number(out, true, b"check ", side as u64);
-    number(out, true, b" ", t);
-    told(out, lent::check(presence, side, t))
-}
-
-fn ask(out: &impl Print, presence: Presence, t: u64) -> Presence {
-    number(out, true, b"ask ", t);
-    told(out, lent::ask(presence, t))
+// The calls one after the other, each on the record that the one before it left.
+fn history(out: &impl Print, start: Presence, calls: &[Call]) -> io::Result<()> {
+    let mut record = start;
+    for &call in calls {
+        let step = call.run(record);
+        out.print(call)?;
+        print_answer(out, step.answer)?;
+        print_record(out, step.presence)?;
+        record = step.presence;
+    }
+    Ok(())
 }
 
 // Both windows closed, and the last moment 0, with any W and asker.
 fn closed(w: u64, asker: u64) -> Presence {
     Presence {
         w,
-        prompt: Window::Closed,
-        touch: Window::Closed,
+        prompt: None,
+        touch: None,
         last: 0,
         asker,
     }
 }
 
 // Document 01, 'Frames and moments to try', with checks in place of the enrolments.
-fn moments(out: &impl Print) {
-    let mut record = closed(5000, 0);
-    record = touch(out, record, 100);
-    record = check(out, record, 0, 100);
-    record = ask(out, record, 10099);
-    record = ask(out, record, 10100);
-    record = touch(out, record, 10099);
-    record = ask(out, record, 10099);
-    record = check(out, record, 0, 15098);
-    record = check(out, record, 0, 15098);
-    record = touch(out, record, 25098);
-    touch(out, record, 281474976710655);
-}
+const MOMENTS: [Call; 10] = [
+    Call::Touch(100),
+    Call::Check(0, 100),
+    Call::Ask(10099),
+    Call::Ask(10100),
+    Call::Touch(10099),
+    Call::Ask(10099),
+    Call::Check(0, 15098),
+    Call::Check(0, 15098),
+    Call::Touch(25098),
+    Call::Touch(281474976710655),
+];
 
 // Document 02, E7: a touch is the asker's, and serves no other side.
-fn sides(out: &impl Print) {
-    let mut record = closed(5000, 0);
-    record = check(out, record, 1, 100);
-    record = touch(out, record, 200);
-    record = check(out, record, 0, 300);
-    record = ask(out, record, 300);
-    record = check(out, record, 1, 5199);
-    record = check(out, record, 1, 5200);
-    record = check(out, record, 0, 5300);
-    record = touch(out, record, 5400);
-    record = check(out, record, 1, 10399);
-    check(out, record, 1, 10400);
-}
+const SIDES: [Call; 10] = [
+    Call::Check(1, 100),
+    Call::Touch(200),
+    Call::Check(0, 300),
+    Call::Ask(300),
+    Call::Check(1, 5199),
+    Call::Check(1, 5200),
+    Call::Check(0, 5300),
+    Call::Touch(5400),
+    Call::Check(1, 10399),
+    Call::Check(1, 10400),
+];
 
 // What is refused, in its order: R6, R8, R1. Nothing moves.
-fn refused(out: &impl Print) {
-    let mut record = closed(0, 2);
-    record = touch(out, record, 281474976710656);
-    record = check(out, record, 2, 281474976710656);
-    record = ask(out, record, 281474976710656);
-    record = closed(60001, 0);
-    record = touch(out, record, 1);
-    record = closed(60000, 2);
-    record = touch(out, record, 281474976710656);
-    record = check(out, record, 0, 281474976710656);
-    record = ask(out, record, 281474976710656);
-    record = closed(60000, 1);
-    record = check(out, record, 2, 281474976710656);
-    record = touch(out, record, 281474976710656);
-    record = ask(out, record, 281474976710656);
-    record = check(out, record, 0, 7);
-    record = check(out, record, 0, 6);
-    record = touch(out, record, 6);
-    ask(out, record, 6);
+fn refused(out: &impl Print) -> io::Result<()> {
+    let no_window = [
+        Call::Touch(281474976710656),
+        Call::Check(2, 281474976710656),
+        Call::Ask(281474976710656),
+    ];
+    history(out, closed(0, 2), &no_window)?;
+    history(out, closed(60001, 0), &[Call::Touch(1)])?;
+    let no_asker = [
+        Call::Touch(281474976710656),
+        Call::Check(0, 281474976710656),
+        Call::Ask(281474976710656),
+    ];
+    history(out, closed(60000, 2), &no_asker)?;
+    let late_and_back = [
+        Call::Check(2, 281474976710656),
+        Call::Touch(281474976710656),
+        Call::Ask(281474976710656),
+        Call::Check(0, 7),
+        Call::Check(0, 6),
+        Call::Touch(6),
+        Call::Ask(6),
+    ];
+    history(out, closed(60000, 1), &late_and_back)
+}
+
+fn print_all(out: &impl Print) -> io::Result<()> {
+    history(out, closed(5000, 0), &MOMENTS)?;
+    history(out, closed(5000, 0), &SIDES)?;
+    refused(out)
 }
 
 fn main(rt: HostRuntime) {
-    moments(&rt);
-    sides(&rt);
-    refused(&rt);
+    let _ = print_all(&rt);
 }

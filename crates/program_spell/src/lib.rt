@@ -1,81 +1,62 @@
-// Words, numbers and bytes on standard output. Whether all before was written goes in and comes out: behind a write that failed nothing more
-// goes out, and a program says so at its end.
+// Status words and bytes as programs print them, between the words and numbers of a format. Behind a write that failed nothing more goes out,
+// and a program says so at its end.
 #![tactic(auto)]
 
-use outcome::ApduStatusCode;
+use outcome::{ApduStatusCode, LengthFault};
+use std::{fmt, io};
 
-pub fn words(out: &impl Print, good: bool, words: &[u8]) -> bool {
-    if !good {
-        return false;
-    }
-    out.write_all(words).is_ok()
-}
+// What a program says at its end where standard output did not take all.
+pub const UNWRITTEN: &str = "cannot write standard output";
 
-// A number in decimal, behind the words before it.
-pub fn number(out: &impl Print, good: bool, before: &[u8], n: u64) -> bool {
-    if !words(out, good, before) {
-        return false;
-    }
-    out.print(n).is_ok()
-}
+// A status word, four digits in hex.
+#[derive(Clone, Copy)]
+pub struct StatusWord(pub ApduStatusCode);
 
-// A status word, four digits in hex, behind the words before it.
-pub fn status_word(out: &impl Print, good: bool, before: &[u8], status: ApduStatusCode) -> bool {
-    if !words(out, good, before) {
-        return false;
+impl fmt::Display for StatusWord {
+    fn fmt<W: fmt::Write>(&self, f: &mut fmt::Formatter<W>) -> fmt::Result {
+        let number = outcome::status_number(self.0);
+        write!(f, "{number:04x}")
     }
-    let number = outcome::status_number(status);
-    print!(out; "{number:04x}").is_ok()
 }
 
 // The same, and of a 6700 what is wrong with the length, and where.
-pub fn status(out: &impl Print, good: bool, before: &[u8], status: ApduStatusCode) -> bool {
-    let fine = status_word(out, good, before, status);
-    let fault = outcome::fault(status);
-    let kind = fault.kind;
-    let place = fault.place as u64;
-    match kind {
-        1 => number(out, fine, b" missing ", place),
-        2 => number(out, fine, b" surplus ", place),
-        3 => number(out, fine, b" lc ", place),
-        _ => fine,
+#[derive(Clone, Copy)]
+pub struct Status(pub ApduStatusCode);
+
+impl fmt::Display for Status {
+    fn fmt<W: fmt::Write>(&self, f: &mut fmt::Formatter<W>) -> fmt::Result {
+        write!(f, "{}", StatusWord(self.0))?;
+        let ApduStatusCode::WrongLength(fault, place) = self.0 else {
+            return Ok(());
+        };
+        let kind = match fault {
+            LengthFault::Missing => "missing",
+            LengthFault::Surplus => "surplus",
+            LengthFault::LcAgainstIns => "lc",
+        };
+        write!(f, " {kind} {place}")
     }
 }
 
-// The last digit of a number in hex.
-fn digit(n: u8) -> u8 {
-    let last = n % 16;
-    if last < 10 {
-        return b'0' + last;
-    }
-    b'a' - 10 + last
-}
+// Bytes in hex; `-` where there are none.
+#[derive(Clone, Copy)]
+pub struct Hex<'a>(pub &'a [u8]);
 
-// Bytes in hex, behind the words before them; `-` where there are none.
-pub fn bytes(out: &impl Print, good: bool, before: &[u8], bytes: &[u8]) -> bool {
-    let mut fine = words(out, good, before);
-    if bytes.len() == 0 {
-        return words(out, fine, b"-");
-    }
-    // 2,048 bytes at a time
-    let mut digits = [0u8; 4096];
-    let mut i = 0;
-    while i < bytes.len() {
-        let k = i % 2048;
-        digits[2 * k] = digit(bytes[i] / 16);
-        digits[2 * k + 1] = digit(bytes[i]);
-        if k == 2047 {
-            fine = words(out, fine, &digits);
+impl fmt::Display for Hex<'_> {
+    fn fmt<W: fmt::Write>(&self, f: &mut fmt::Formatter<W>) -> fmt::Result {
+        if self.0.is_empty() {
+            return f.write_str("-");
         }
-        i += 1;
+        for byte in self.0 {
+            write!(f, "{byte:02x}")?;
+        }
+        Ok(())
     }
-    let left = bytes.len() % 2048;
-    words(out, fine, octets::part(&digits, 0, 2 * left))
 }
 
-// Standard error has it where standard output did not take all.
-pub fn close(rt: &impl Eprint, good: bool) {
-    if !good {
-        let _ = rt.eprintln("cannot write standard output");
+// On standard error, where standard output did not take all.
+pub fn close(rt: &impl Eprint, printed: io::Result<()>) {
+    if printed.is_err() {
+        let _ = rt.eprintln(UNWRITTEN);
     }
 }

@@ -1,40 +1,37 @@
 // A number as the pages write it: a comma before every three digits.
+use datasheet::Figures;
+use std::fmt;
 
-fn digit(n: u8) -> u8 {
-    b'0' + n % 10
-}
+#[derive(Clone, Copy)]
+pub struct Grouped(pub u64);
 
-// Whether a comma stands at this place, counted from the last digit on.
-fn is_comma(i: usize) -> bool {
-    i % 4 == 3
-}
-
-// What stands at a place, where this number is left to be written, and what is left then.
-fn mark(comma: bool, left: u64) -> u8 {
-    if comma {
-        return b',';
+impl fmt::Display for Grouped {
+    fn fmt<W: fmt::Write>(&self, f: &mut fmt::Formatter<W>) -> fmt::Result {
+        // twenty digits at most, the last three first
+        let mut groups = [0u64; 7];
+        let mut left = self.0;
+        for group in groups.iter_mut() {
+            *group = left % 1000;
+            left /= 1000;
+        }
+        let mut said = groups.iter().rev().skip_while(|group| **group == 0);
+        write!(f, "{}", said.next().unwrap_or(&0))?;
+        for group in said {
+            write!(f, ",{group:03}")?;
+        }
+        Ok(())
     }
-    digit((left % 10) as u8)
 }
 
-fn rest(comma: bool, left: u64) -> u64 {
-    if comma {
-        return left;
-    }
-    left / 10
-}
-
-// Twenty digits and six commas at most, written from the last one on.
-pub fn number(out: &impl Print, good: bool, before: &[u8], n: u64) -> bool {
-    let mut text = [0u8; 32];
-    let mut left = n;
-    let mut i = 0;
-    while i < 32 && (i == 0 || 0 < left) {
-        let comma = is_comma(i);
-        text[31 - i] = mark(comma, left);
-        left = rest(comma, left);
-        i += 1;
-    }
-    let fine = program_spell::words(out, good, before);
-    program_spell::words(out, fine, octets::part(&text, 32 - i, 32))
+// The figures of a buffer, in the order of its page.
+pub fn in_order(figures: Figures) -> [Grouped; 7] {
+    [
+        Grouped(figures.room),
+        Grouped(figures.certificate),
+        Grouped(figures.handle),
+        Grouped(figures.body),
+        Grouped(figures.short),
+        Grouped(figures.extended),
+        Grouped(figures.command),
+    ]
 }

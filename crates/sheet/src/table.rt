@@ -1,42 +1,36 @@
 // The data sheet's table: a row for each of six buffers, the shortest and the longest that have one among them.
-use crate::grouped::number;
+use crate::grouped::in_order;
 use datasheet::{Figures, Sheet};
-use program_spell::words;
+use std::io;
 
-fn print_figures(out: &impl Print, good: bool, figures: Figures) -> bool {
-    let room = number(out, good, b"| ", figures.room);
-    let certificate = number(out, room, b" | ", figures.certificate);
-    let handle = number(out, certificate, b" | ", figures.handle);
-    let body = number(out, handle, b" | ", figures.body);
-    let short = number(out, body, b" | ", figures.short);
-    let extended = number(out, short, b" | ", figures.extended);
-    let command = number(out, extended, b" | ", figures.command);
-    words(out, command, b" |\n")
+const BUFFERS: [u64; 6] = [394, 512, 1024, 2048, 65535, 0xffff_ffff_ffff_fffd];
+
+fn print_figures(out: &impl Print, figures: Figures) -> io::Result<()> {
+    let [room, certificate, handle, body, short, extended, command] = in_order(figures);
+    println!(out;
+        "| {room} | {certificate} | {handle} | {body} | {short} | {extended} | {command} |"
+    )
 }
 
-fn print_row(out: &impl Print, good: bool, room: u64) -> bool {
+fn print_row(out: &impl Print, room: u64) -> io::Result<()> {
     match datasheet::row(room) {
-        Sheet::Row(figures) => print_figures(out, good, figures),
-        Sheet::TooShort => words(out, good, b"| too short |\n"),
-        Sheet::TooLong => words(out, good, b"| too long |\n"),
+        Sheet::Row(figures) => print_figures(out, figures),
+        Sheet::TooShort => println!(out; "| too short |"),
+        Sheet::TooLong => println!(out; "| too long |"),
     }
 }
 
-fn print_heading(out: &impl Print) -> bool {
-    let good = words(
-        out,
-        true,
-        b"| reply buffer | certificate up to | handle up to | longest body | part and status, short frames | part and status, any frame | longest command |\n",
-    );
-    words(out, good, b"|---:|---:|---:|---:|---:|---:|---:|\n")
+fn print_heading(out: &impl Print) -> io::Result<()> {
+    println!(out;
+        "| reply buffer | certificate up to | handle up to | longest body | part and status, short frames | part and status, any frame | longest command |"
+    )?;
+    println!(out; "|---:|---:|---:|---:|---:|---:|---:|")
 }
 
-pub fn print(out: &impl Print) -> bool {
-    let mut good = print_heading(out);
-    good = print_row(out, good, 394);
-    good = print_row(out, good, 512);
-    good = print_row(out, good, 1024);
-    good = print_row(out, good, 2048);
-    good = print_row(out, good, 65535);
-    print_row(out, good, 0xffff_ffff_ffff_fffd)
+pub fn print(out: &impl Print) -> io::Result<()> {
+    print_heading(out)?;
+    for room in BUFFERS {
+        print_row(out, room)?;
+    }
+    Ok(())
 }
