@@ -69,7 +69,7 @@ fn copy(frame: &[u8], out: &mut [u8]) -> Converted
     if out.len() < n {
         return Converted::Refused(Refusal::R2);
     }
-    octets::put_long(out, frame);
+    octets::put(out, frame);
     Converted::Frame(n)
 }
 
