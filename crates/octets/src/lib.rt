@@ -17,14 +17,16 @@ pub fn wide(b: u8) -> usize
     b as usize
 }
 
-// Two bytes as a number, the high one first.
+// Two bytes as a number, the high one first. By hand: with `u16::from_be_bytes` a reading of shape 8 takes 58 instructions for 57, as many as
+// the Rust over the bare heap, and one of shape 7 73 for 71.
 pub fn pair(hi: u8, lo: u8) -> u16
     ensures { Pair hi lo result }
 {
     (hi as u16) * 256 + (lo as u16)
 }
 
-// Writes src over the front of dst. Where it fits it is copied at its own length, which is a constant at most calls: then it is a move or two.
+// Writes src over the front of dst. Where it fits it is copied at its own length, which many callers know: then it is a move or two, and
+// at the lesser of both lengths it would be a call.
 #[tactic(auto, using(crate::proofs::Laid::put_fits, crate::proofs::Laid::put_cut))]
 pub fn put(dst: &mut [u8], src: &[u8])
     ensures { Put src.now dst.old dst.new }
@@ -62,7 +64,7 @@ pub fn put_word(dst: &mut [u8], n: u32)
     put(dst, &n.to_be_bytes());
 }
 
-// The bytes or-ed together: 0 where each is. There is no way out before the end, so that the compiler can take many bytes at a time.
+// The bytes or-ed together: 0 where each is. There is no way out before the end, as `all` has one, so the compiler takes many at a time.
 fn joined(s: &[u8]) -> u8
     ensures { result ≡ fold bit_or 0 s.now }
 {
