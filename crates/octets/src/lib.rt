@@ -17,8 +17,8 @@ pub fn wide(b: u8) -> usize
     b as usize
 }
 
-// Two bytes as a number, the high one first. By hand: with `u16::from_be_bytes` a reading of shape 8 takes 58 instructions for 57, as many as
-// the Rust over the bare heap, and one of shape 7 73 for 71.
+// Two bytes as a number, the high one first. By hand: by `u16::from_be_bytes` a reading of shape 8 takes 58 instructions for 57, as many
+// as the Rust over the bare heap, and one of shape 7 takes 73 for 71.
 pub fn pair(hi: u8, lo: u8) -> u16
     ensures { Pair hi lo result }
 {
