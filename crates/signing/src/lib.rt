@@ -64,7 +64,7 @@ fn public_key(x: &[u8; 32], y: &[u8; 32]) -> [u8; 65]
 }
 
 // The order of a Register. Parts of other lengths give the blank order: nothing half-made leaves this crate. Both orders are calls:
-// compiled into the decision, they cost its status words 11 to 77 instructions each.
+// compiled into the decision, they cost its status words 14 to 81 instructions each.
 #[inline(never)]
 pub fn register_order<'f>(
     application: &'f [u8],
