@@ -11,6 +11,7 @@ ghost use Rattle.apdu_stated.specs.Table.{le_most, le_read};
 ghost use Rattle.apdu_le.specs.Promises.{Fits, Read, Put};
 
 // The most that a field of so many bytes can say: no other line knows these numbers.
+#[tactic(auto, using(apdu_stated::proofs::Cases::by_none, apdu_stated::proofs::Cases::by_one, apdu_stated::proofs::Cases::by_more))]
 fn most(width: usize) -> u32
     ensures { result ≡ le_most width }
 {
@@ -21,6 +22,7 @@ fn most(width: usize) -> u32
 }
 
 // Reading: what a number says that stands in a field of so many bytes.
+#[tactic(auto, using(apdu_stated::proofs::Cases::le_zero, apdu_stated::proofs::Cases::le_given))]
 fn said(width: usize, written: u16) -> u32
     ensures { result ≡ le_read width written }
 {
@@ -31,6 +33,7 @@ fn said(width: usize, written: u16) -> u32
 }
 
 // Writing: the number for an Le, the most as 0.
+#[tactic(auto, using(crate::proofs::Ways::most_some, crate::proofs::Ways::rest_small, crate::proofs::Ways::rest_of))]
 fn written(width: usize, le: u32) -> u16
     requires { 0 < width }
     ensures { result ≡ le % le_most width }
@@ -39,6 +42,7 @@ fn written(width: usize, le: u32) -> u16
 }
 
 // Whether a field of so many bytes can say this Le. Where there is no field, Le is 0.
+#[tactic(auto, using(crate::proofs::Ways::fits_zero, crate::proofs::Ways::fits_some))]
 pub fn fits(width: usize, le: u32) -> bool
     ensures { Fits width le result }
 {
@@ -50,6 +54,7 @@ pub fn fits(width: usize, le: u32) -> bool
 
 // What a field of these bytes says. They are taken by place, not from the end: so the compiler sees that shape 8's two are
 // those of an extended Lc.
+#[tactic(auto, using(crate::proofs::Ways::read_none, crate::proofs::Ways::read_one, crate::proofs::Ways::read_two, crate::proofs::Ways::read_more))]
 pub fn read(field: &[u8]) -> u32
     ensures { Read field.now result }
 {
@@ -67,6 +72,7 @@ pub fn read(field: &[u8]) -> u32
 }
 
 // Writes a field of so many bytes at the front of out.
+#[tactic(auto, using(crate::proofs::Ways::put_none, crate::proofs::Ways::byte_small, crate::proofs::Ways::put_one, crate::proofs::Ways::put_two, crate::proofs::Ways::put_more))]
 pub fn put(out: &mut [u8], width: usize, le: u32)
     ensures { Put width le out.old out.new }
 {
@@ -82,5 +88,6 @@ pub fn put(out: &mut [u8], width: usize, le: u32)
         octets::put_pair(out, n);
         return;
     }
-    octets::put(out, &[0, (n / 256) as u8, (n % 256) as u8]);
+    let [hi, lo] = n.to_be_bytes();
+    octets::put(out, &[0, hi, lo]);
 }

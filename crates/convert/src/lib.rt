@@ -63,7 +63,7 @@ fn copy(frame: &[u8], out: &mut [u8]) -> Result<usize, NotDone>
     if out.len() < n {
         return Err(NotDone::Refused(Refusal::R2));
     }
-    octets::put_long(out, frame);
+    octets::put(out, frame);
     Ok(n)
 }
 

@@ -9,6 +9,7 @@ use Rattle.octets.specs.Bytes.{laid, bytes2, bytes4, all_zero, part_of}
 use Rattle.apdu_le.specs.Claims as LeFields
 use Rattle.apdu_le.specs.Field.{said_of, put_of, can_say}
 use Rattle.signing_fields.specs.Claims as Fields
+use Rattle.signing_fields.specs.Terms.{contents, joined}
 use Rattle.apdu_stated.specs.Table.{le_bytes}
 use Rattle.apdu_stated.specs.Claims as Frames
 use Rattle.apdu_stated.specs.Reading.{read_of, strict_of, data_of}
@@ -156,6 +157,8 @@ pub record AsTheDocumentsSay : Type 0 where
   pub two_bytes : Bytes.TwoBytesExactly bytes2
   pub four_bytes : Bytes.FourBytesExactly bytes4
   pub laid_bytes : Bytes.LaidExactly laid
+  pub fields_in_a_slice : Fields.WritesAll (λ fields old. laid (joined (contents fields)) old)
+  pub slices_of_two_to_five : Fields.Instances
   pub two_fields : Fields.WritesTwo (λ a b old. laid (a ++ b) old)
   pub three_fields : Fields.WritesThree (λ a b c old. laid (a ++ (b ++ c)) old)
   pub four_fields : Fields.WritesFour (λ a b c d old. laid (a ++ (b ++ (c ++ d))) old)

@@ -3,6 +3,7 @@ pub mod Tails
 pub mod Between
 pub mod Parts
 pub mod Tests
+pub mod Zeros
 pub mod Theorems
 pub mod Only
 pub mod Refuted

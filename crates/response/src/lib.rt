@@ -70,7 +70,7 @@ pub fn write_response(body: &[u8], status: u16, out: &mut [u8]) -> Result<usize,
     if out.len() - 2 < n {
         return Err(Refusal::R2);
     }
-    octets::put_long(out, body);
+    octets::put(out, body);
     octets::put_pair(&mut out[n..], status);
     Ok(n + 2)
 }

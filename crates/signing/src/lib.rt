@@ -9,7 +9,7 @@
 // the caller's: it is lent in, and its head goes back and forth by value.
 #![tactic(auto)]
 
-ghost use Rattle.std.specs.Prelude.{◌+◌, ◌-◌, ◌≤◌, ◌≡◌, true, leb, length};
+ghost use Rattle.std.specs.Prelude.{◌+◌, ◌-◌, ◌≤◌, ◌≡◌, true, leb, length, [], ◌∷◌, ◌++◌, replicate};
 ghost use Rattle.octets.specs.Bytes.{byte, laid};
 ghost use Rattle.signing_stated.specs.Layouts.{presence_byte, register_body, authenticate_body};
 ghost use Rattle.signing_stated.specs.Orders.{order_with, blank_order, is_of_layout, register_fields_of, authenticate_fields_of};
@@ -51,12 +51,22 @@ fn unfit(block: &mut [u8; 385]) -> Head
     blank()
 }
 
-// The order of a Register, its block written once it is whole. Parts of other lengths give the blank order: nothing half-made
-// leaves this crate.
-pub fn register_order(
-    application: &[u8],
-    challenge: &[u8],
-    handle: &[u8],
+// An uncompressed point.
+fn public_key(x: &[u8; 32], y: &[u8; 32]) -> [u8; 65]
+    ensures { result ≡ laid (0x04 ∷ (x.now ++ y.now)) (replicate 65 0) }
+{
+    let mut key = [0u8; 65];
+    signing_fields::put_all(&mut key, &[&[0x04], x, y]);
+    key
+}
+
+// The order of a Register. Parts of other lengths give the blank order: nothing half-made leaves this crate. Both orders are calls:
+// compiled into the decision, they cost its status words 14 to 81 instructions each.
+#[inline(never)]
+pub fn register_order<'f>(
+    application: &'f [u8],
+    challenge: &'f [u8],
+    handle: &'f [u8],
     x: &[u8; 32],
     y: &[u8; 32],
     certificate_length: usize,
@@ -79,11 +89,9 @@ pub fn register_order(
     if 255 < handle.len() {
         return unfit(block);
     }
-    let mut key = [0u8; 65];
-    signing_fields::put_three(&mut key, &[0x04], x, y);
-    let mut bytes = [0u8; 385];
-    signing_fields::put_five(&mut bytes, &[0x00], application, challenge, handle, &key);
-    *block = bytes;
+    let key = public_key(x, y);
+    *block = [0u8; 385];
+    signing_fields::put_all(block, &[&[0x00], application, challenge, handle, &key]);
     Head {
         kind: Kind::Register,
         to_sign: 130 + handle.len(),
@@ -98,6 +106,7 @@ fn presence_byte(present: bool) -> u8
 }
 
 // The order of an Authenticate, with the same rule for parts of other lengths.
+#[inline(never)]
 pub fn authenticate_order(
     application: &[u8],
     challenge: &[u8],
@@ -116,9 +125,8 @@ pub fn authenticate_order(
     let presence = presence_byte(present);
     let mut count = [0u8; 4];
     octets::put_word(&mut count, counter);
-    let mut bytes = [0u8; 385];
-    signing_fields::put_four(&mut bytes, application, &[presence], &count, challenge);
-    *block = bytes;
+    *block = [0u8; 385];
+    signing_fields::put_all(block, &[application, &[presence], &count, challenge]);
     Head {
         kind: Kind::Authenticate,
         to_sign: 69,
@@ -158,11 +166,20 @@ fn has_room(order: Head, room: usize) -> bool
     }
 }
 
-fn put_register_body(
+// What stands before the handle in the reply to a Register.
+fn register_head(key: &[u8], handle_length: u8) -> [u8; 67]
+    ensures { result ≡ laid (0x05 ∷ (key.now ++ handle_length ∷ [])) (replicate 67 0) }
+{
+    let mut head = [0u8; 67];
+    signing_fields::put_all(&mut head, &[&[0x05], key, &[handle_length]]);
+    head
+}
+
+fn put_register_body<'f>(
     to_sign: usize,
-    block: &[u8; 385],
-    certificate: &[u8],
-    signature: &[u8],
+    block: &'f [u8; 385],
+    certificate: &'f [u8],
+    signature: &'f [u8],
     reply: &mut [u8],
 ) -> usize
     requires le_to_sign { (130 ≤ to_sign) × (to_sign ≤ 385) × (byte block.now (to_sign - 65) ≡ 0x04) }
@@ -173,9 +190,8 @@ fn put_register_body(
     let h = to_sign - 130;
     let key = to_sign - 65;
     let bytes: &[u8] = block;
-    let mut head = [0u8; 67];
-    signing_fields::put_three(&mut head, &[0x05], &bytes[key..to_sign], &[h as u8]);
-    signing_fields::put_long_four(reply, &head, &bytes[65..key], certificate, signature);
+    let head = register_head(&bytes[key..to_sign], h as u8);
+    signing_fields::put_all(reply, &[&head, &bytes[65..key], certificate, signature]);
     67 + h + certificate.len() + signature.len()
 }
 
@@ -185,7 +201,7 @@ fn put_authenticate_body(block: &[u8; 385], signature: &[u8], reply: &mut [u8]) 
     ensures reply_after { reply.new ≡ laid (authenticate_body (authenticate_fields_of block.now) signature.now) reply.old }
 {
     let bytes: &[u8] = block;
-    signing_fields::put_three(reply, &[bytes[32]], &bytes[33..37], signature);
+    signing_fields::put_all(reply, &[&[bytes[32]], &bytes[33..37], signature]);
     5 + signature.len()
 }
 

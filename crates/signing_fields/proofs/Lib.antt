@@ -1,3 +1,4 @@
+pub mod Ways
 pub mod Standing
 pub mod Theorems
 pub mod Only

@@ -2,8 +2,13 @@
 use mathlib.Core.Path.{◌≡◌}
 use mathlib.Core.List.{List, [], ◌∷◌}
 use Prim.Native.Nat.{ℕ}
+use Rattle.outcome.specs.Notation.{Determines2}
+use Rattle.signing_fields.specs.Terms.{contents}
 use Rattle.signing_fields.specs.Claims
 use Rattle.signing_fields.proofs.Standing.{same_standing}
+
+pub WritesAll : Determines2 Claims.WritesAll
+WritesAll f g p q fields old = same_standing (contents fields) old _ _ (p fields old) (q fields old)
 
 pub WritesTwo : (f g : (a b old : List ℕ) → List ℕ) → Claims.WritesTwo f → Claims.WritesTwo g → (a b old : List ℕ) → f a b old ≡ g a b old
 WritesTwo f g p q a b old = same_standing (a ∷ b ∷ []) old _ _ (p a b old) (q a b old)

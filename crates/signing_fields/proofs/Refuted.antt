@@ -1,10 +1,22 @@
 -- Each wrong writer fails its claim at one byte a field.
 use mathlib.Core.Path.{◌≡◌}
-use mathlib.Core.List.{[], ◌∷◌}
+use mathlib.Core.List.{List, [], ◌∷◌}
+use Rattle.std.specs.Borrow.{Bor}
 use Prim.Native.Nat.{ℕ}
 use native.Mathlib.Omega.{arith}
 use Rattle.signing_fields.specs.Claims
 use Rattle.signing_fields.specs.Wrong
+
+one : ℕ → Bor (List ℕ)
+one b = record { ref_ptr = (0, 0); now = b ∷ [] }
+
+pub turns_all : Claims.WritesAll Wrong.turns_all → ⊥
+unfolding one
+turns_all claim = let e : ◌≡◌ {A = ℕ} 1 2 = (claim (one 1 ∷ one 2 ∷ []) (0 ∷ 0 ∷ [])).each.1.0 0 (omega arith) (omega arith) in omega arith
+
+pub leaves_all : Claims.WritesAll Wrong.leaves_all → ⊥
+unfolding one
+leaves_all claim = let e : ◌≡◌ {A = ℕ} 0 2 = (claim (one 1 ∷ one 2 ∷ []) (0 ∷ 0 ∷ [])).each.1.0 0 (omega arith) (omega arith) in omega arith
 
 pub turns_two : Claims.WritesTwo Wrong.turns_two → ⊥
 turns_two claim = let e : ◌≡◌ {A = ℕ} 1 2 = (claim (1 ∷ []) (2 ∷ []) (0 ∷ 0 ∷ [])).each.1.0 0 (omega arith) (omega arith) in omega arith

@@ -1,8 +1,14 @@
--- What is promised of each public function of src/lib.rt: `old` is what the buffer held, `after` what it holds.
+-- What is promised of the public function of src/lib.rt: `old` is what the buffer held, `after` what it holds.
 -- 01, 'The decision': "Each field is written into the rest of the buffer after the field before".
 use Rattle.std.specs.Prelude.{◌≡◌, List, ◌++◌, ℕ}
+use Rattle.std.specs.Borrow.{Bor}
 use Rattle.octets.specs.Bytes.{laid}
+use Rattle.signing_fields.specs.Terms.{contents, joined}
 
+abbrev pub PutAll : (fields : List (Bor (List ℕ))) (old after : List ℕ) → Type 0
+PutAll fields old after = after ≡ laid (joined (contents fields)) old
+
+-- The same of two fields, up to five, each by itself (Claims.antt, `Instances`).
 abbrev pub PutTwo : (a b old after : List ℕ) → Type 0
 PutTwo a b old after = after ≡ laid (a ++ b) old
 

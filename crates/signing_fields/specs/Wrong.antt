@@ -1,6 +1,16 @@
 -- Wrong field writers, each with one fault: the last two fields in the other order, or the last one left out.
-use Rattle.std.specs.Prelude.{List, ◌++◌, ℕ}
+use Rattle.std.specs.Prelude.{List, [], ◌∷◌, ◌++◌, ℕ, reverse}
+use Rattle.std.specs.Borrow.{Bor}
 use Rattle.octets.specs.Bytes.{laid}
+use Rattle.signing_fields.specs.Terms.{contents, joined}
+
+-- of any number of fields: all of them turned round, and the first alone
+abbrev pub turns_all : (fields : List (Bor (List ℕ))) (old : List ℕ) → List ℕ
+turns_all fields old = laid (joined (reverse (contents fields))) old
+
+abbrev pub leaves_all : (fields : List (Bor (List ℕ))) (old : List ℕ) → List ℕ
+leaves_all [] old = old
+leaves_all (f ∷ fields) old = laid f.now old
 
 abbrev pub turns_two : (a b old : List ℕ) → List ℕ
 turns_two a b old = laid (b ++ a) old

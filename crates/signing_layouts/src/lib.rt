@@ -7,6 +7,7 @@ ghost use Rattle.signing_stated.specs.Promises.{HasLayout};
 
 use signing_stated::{Head, Kind};
 
+#[tactic(auto, using(signing_stated::proofs::Cases::too_few, signing_stated::proofs::Cases::too_many, signing_stated::proofs::Cases::other_first, signing_stated::proofs::Cases::other_marker, signing_stated::proofs::Cases::register_tail))]
 fn is_register(to_sign: usize, block: &[u8; 385]) -> bool
     ensures { result ≡ is_register_layout to_sign block.now }
 {
@@ -23,7 +24,7 @@ fn is_register(to_sign: usize, block: &[u8; 385]) -> bool
     if bytes[to_sign - 65] != 0x04 {
         return false;
     }
-    octets::all_zero_long(&bytes[to_sign..])
+    octets::all_zero(&bytes[to_sign..])
 }
 
 fn is_authenticate(to_sign: usize, certificate_length: usize, block: &[u8; 385]) -> bool
@@ -43,6 +44,7 @@ fn is_authenticate(to_sign: usize, certificate_length: usize, block: &[u8; 385])
 }
 
 // An order is whatever the caller hands in, so its layout is looked at before a byte of it is used.
+#[tactic(auto, using(signing_stated::proofs::Cases::register_judged, signing_stated::proofs::Cases::authenticate_judged))]
 pub fn has_layout(order: Head, block: &[u8; 385]) -> bool
     ensures { HasLayout order block.now result }
 {

@@ -9,4 +9,4 @@ returns-clause-value c = search (rules, register_body_length)
 
 pub returns-clause-reply_after : goal.returns-clause-reply_after
 returns-clause-reply_after c =
-    register_written c.args.to_sign c.args.block.now (search rules) (search rules) (search rules) c.args.certificate.now c.args.signature.now c.args.reply.now c.put_long_four.new.out c.put_three.new.out (replicate 67 0) (search rules) refl c.put_three.ensures c.put_long_four.ensures
+    register_written c.args.to_sign c.args.block.now (search rules) (search rules) (search rules) c.args.certificate.now c.args.signature.now c.args.reply.now c.put_all.new.out c.register_head-head.result (replicate 67 0) (search rules) refl c.register_head-head.ensures c.put_all.ensures
