@@ -3,6 +3,8 @@ use Prim.Native.Nat.{ℕ, ◌+◌, ◌-◌, ◌<◌, ◌≤◌}
 use mathlib.Core.Path.{◌≡◌, refl, ap, ap₂, sym, ◌∙◌}
 use mathlib.Core.List.{List, [], ◌∷◌, ◌++◌}
 use native.Mathlib.Omega.{arith}
+use native.Mathlib.Decide.{dec_lt}
+use mathlib.Core.Logic.{◌⊎◌, inl, inr}
 use borrow.Author.Tests.{lt-ltb, le-ltb}
 use lib.ListN.{length, take, drop, length-take, length-drop}
 use lib.Seq.{drop-drop, take-add, get_or-take, get_or-drop}
@@ -20,6 +22,14 @@ module _ (s : List ℕ) (start end : ℕ) where
   pub part_within : start ≤ end → end ≤ length s → take (end - start) (drop start s) ≡ part_of s start end
   unfolding part_of
   part_within h g = rw (le-ltb end start h, le-ltb (length s) end g)
+
+  pub part_nowhere : (end < start) ⊎ (length s < end) → [] ≡ part_of s start end
+  part_nowhere (inl h) = part_backwards h
+  part_nowhere (inr g) = by (dec_lt end start)
+    where
+      by : Dec (end < start) → [] ≡ part_of s start end
+      by (yes h) = part_backwards h
+      by (no n) = part_past (omega (arith, n)) g
 
   pub part_length : start ≤ end → end ≤ length s → length (part_of s start end) ≡ end - start
   part_length h g = rw (← part_within h g, length-take, length-drop) (omega arith)

@@ -87,15 +87,12 @@ pub fn all_zero(s: &[u8]) -> bool
 }
 
 // The bytes from start up to and without end, as a part of s; none where there are no such bytes.
-#[tactic(auto, using(crate::proofs::Between::part_backwards, crate::proofs::Between::part_past, crate::proofs::Between::part_within))]
+#[tactic(auto, using(crate::proofs::Between::part_nowhere, crate::proofs::Between::part_within))]
 pub fn part(s: &[u8], start: usize, end: usize) -> &[u8]
     ensures { Part s.now start end result.now }
 {
-    if end < start {
-        return &s[..0];
+    match s.get(start..end) {
+        Some(found) => found,
+        None => &s[..0],
     }
-    if s.len() < end {
-        return &s[..0];
-    }
-    &s[start..end]
 }
