@@ -101,16 +101,14 @@ pub fn response_body(response: &[u8]) -> &[u8]
 }
 
 // How many bytes of `count` go out under a limit.
+#[tactic(auto, unfolding(response_stated::specs::Parts::part_length))]
 fn part_length(limit: u64, count: usize) -> usize
     ensures { (result ≡ part_length limit count) × (result ≤ count) }
 {
     if limit == WHOLE {
         return count;
     }
-    if (limit as usize) < count {
-        return limit as usize;
-    }
-    count
+    count.min(limit as usize)
 }
 
 // The status that tells how much is left after a part.
