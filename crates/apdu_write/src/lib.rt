@@ -34,11 +34,12 @@ fn put_lc(out: &mut [u8], long: usize, count: usize)
     if long == 0 {
         return;
     }
+    let [high, low] = (count as u16).to_be_bytes();
     if long == 1 {
-        octets::put_byte(out, (count % 256) as u8);
+        octets::put_byte(out, low);
         return;
     }
-    octets::put(out, &[0, (count / 256 % 256) as u8, (count % 256) as u8]);
+    octets::put(out, &[0, high, low]);
 }
 
 fn put_payload(out: &mut [u8], shape: Case, content: &[u8], le: u32)
