@@ -22,19 +22,20 @@ const APDU_HEADER_LEN: usize = 4;
 
 // The row that four numbers say.
 fn row_of(columns: &[u8; 4]) -> Row
-    ensures { (result ≡ row_from columns.now) × (result.lc_field < 256) × (result.le_field < 256) }
+    ensures { result ≡ row_from columns.now }
 {
+    let [number, lc_field, lc_least, le_field] = *columns;
     Row {
-        number: columns[0],
-        lc_field: octets::wide(columns[1]),
-        lc_least: octets::wide(columns[2]),
-        le_field: octets::wide(columns[3]),
+        number,
+        lc_field,
+        lc_least,
+        le_field,
     }
 }
 
 // A field of three bytes begins with 00, as far as the frame goes.
 #[tactic(auto, unfolding(apdu_table_stated::specs::Trying::begins))]
-fn begins(long: usize, place: usize, frame: &[u8]) -> bool
+fn begins(long: u8, place: usize, frame: &[u8]) -> bool
     ensures { result ≡ begins long place frame.now }
 {
     if long != 3 {
@@ -48,11 +49,10 @@ fn begins(long: usize, place: usize, frame: &[u8]) -> bool
 
 // What an Lc field of so many bytes says, behind the header.
 #[tactic(auto, unfolding(apdu_table_stated::specs::Trying::lc_in))]
-fn lc_in(long: usize, frame: &[u8]) -> u16
-    requires { long < 256 }
+fn lc_in(long: u8, frame: &[u8]) -> u16
     ensures { result ≡ lc_in long frame.now }
 {
-    if frame.len() < APDU_HEADER_LEN + long {
+    if frame.len() < APDU_HEADER_LEN + (long as usize) {
         return 0;
     }
     if long == 1 {
@@ -81,18 +81,17 @@ fn opens(row: Row, frame: &[u8]) -> bool
 // How many bytes of the frame the row's fields claim; 0 where the row does not stand at its front.
 #[tactic(auto, unfolding(apdu_table_stated::specs::Trying::stands))]
 fn claimed(row: Row, frame: &[u8]) -> usize
-    requires { (row.lc_field < 256) × (row.le_field < 256) }
     ensures { result ≡ claimed row frame.now }
 {
     if !opens(row, frame) {
         return 0;
     }
     let lc = lc_in(row.lc_field, frame) as usize;
-    if lc < row.lc_least {
+    if lc < row.lc_least as usize {
         return 0;
     }
-    let at = APDU_HEADER_LEN + row.lc_field + lc;
-    let end = at + row.le_field;
+    let at = APDU_HEADER_LEN + (row.lc_field as usize) + lc;
+    let end = at + (row.le_field as usize);
     if frame.len() < end {
         return 0;
     }
@@ -104,7 +103,6 @@ fn claimed(row: Row, frame: &[u8]) -> usize
 
 // Whether the frame ends before the row's Lc field or its data does, or did so in a row before.
 fn ends_early(early: bool, row: Row, frame: &[u8]) -> bool
-    requires { row.lc_field < 256 }
     ensures { result ≡ (early || ends_early row frame.now) }
 {
     if early {
@@ -113,7 +111,7 @@ fn ends_early(early: bool, row: Row, frame: &[u8]) -> bool
     if !opens(row, frame) {
         return false;
     }
-    frame.len() < APDU_HEADER_LEN + row.lc_field + (lc_in(row.lc_field, frame) as usize)
+    frame.len() < APDU_HEADER_LEN + (row.lc_field as usize) + (lc_in(row.lc_field, frame) as usize)
 }
 
 // Tries the rows of any table in turn: the first that fits; where none does, whether bytes are missing, else how many can be claimed.
@@ -133,9 +131,7 @@ pub fn try_rows(table: &[[u8; 4]], frame: &[u8]) -> Result<Row, NoRow>
             return Ok(row);
         }
         early = ends_early(early, row, frame);
-        if most < n {
-            most = n;
-        }
+        most = most.max(n);
     }
     if early {
         return Err(NoRow::Early);
@@ -148,10 +144,10 @@ fn says(row: Row, frame: &[u8]) -> RowSays
     requires { (row.lc_field ≤ 3) × (row.le_field ≤ 3) × (row_end row frame.now ≡ length frame.now) }
     ensures { row_says_of result ≡ says_by row frame.now }
 {
-    let start = APDU_HEADER_LEN + row.lc_field;
+    let start = APDU_HEADER_LEN + (row.lc_field as usize);
     let lc = lc_in(row.lc_field, frame);
     let at = start + (lc as usize);
-    let end = at + row.le_field;
+    let end = at + (row.le_field as usize);
     let header = ApduHeader {
         cla: frame[0],
         ins: frame[1],
@@ -175,10 +171,7 @@ pub fn read_rows(table: &[[u8; 4]], frame: &[u8]) -> Result<RowSays, ApduStatusC
     match try_rows(table, frame) {
         Ok(row) => Ok(says(row, frame)),
         Err(NoRow::UnderFour) => Err(ApduStatusCode::WrongData),
-        Err(NoRow::Early) => Err(ApduStatusCode::WrongLength(
-            LengthFault::Missing,
-            frame.len(),
-        )),
+        Err(NoRow::Early) => Err(ApduStatusCode::WrongLength(LengthFault::Missing, frame.len())),
         Err(NoRow::Beyond(place)) => Err(ApduStatusCode::WrongLength(LengthFault::Surplus, place)),
     }
 }

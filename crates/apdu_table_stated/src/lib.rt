@@ -7,9 +7,9 @@ use apdu_stated::ApduHeader;
 #[derive(Clone, Copy)]
 pub struct Row {
     pub number: u8,
-    pub lc_field: usize,
-    pub lc_least: usize,
-    pub le_field: usize,
+    pub lc_field: u8,
+    pub lc_least: u8,
+    pub le_field: u8,
 }
 
 // Why no row of a table fits a frame: it is under four bytes; it ends before a row's Lc field or data does; or it goes on behind the
