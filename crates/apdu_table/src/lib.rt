@@ -101,13 +101,10 @@ fn claimed(row: Row, frame: &[u8]) -> usize
     0
 }
 
-// Whether the frame ends before the row's Lc field or its data does, or did so in a row before.
-fn ends_early(early: bool, row: Row, frame: &[u8]) -> bool
-    ensures { result ≡ (early || ends_early row frame.now) }
+// Whether the frame ends before the row's Lc field or its data does.
+fn ends_early(row: Row, frame: &[u8]) -> bool
+    ensures { result ≡ ends_early row frame.now }
 {
-    if early {
-        return true;
-    }
     if !opens(row, frame) {
         return false;
     }
@@ -130,7 +127,7 @@ pub fn try_rows(table: &[[u8; 4]], frame: &[u8]) -> Result<Row, NoRow>
         if n == frame.len() {
             return Ok(row);
         }
-        early = ends_early(early, row, frame);
+        early = early || ends_early(row, frame);
         most = most.max(n);
     }
     if early {
