@@ -14,11 +14,5 @@ use Rattle.panel_stated.specs.Exports.{frame_numbers, said_numbers, reads_of}
 use Rattle.panel_stated.specs.declared.FrameSaid.{FrameSaid}
 
 module _ (reading : TableReading) where
-  pub by_row : (says : RowSays) → reading ≡ Ok says → said_numbers (row_says_of says) ≡ frame_numbers (table_reading_of reading)
-  by_row says z = ap (λ (t : TableReading). frame_numbers (table_reading_of t)) (sym z)
-
-  pub by_status : (r : FrameSaid) (s : ApduStatusCode) → reading ≡ Err s → r ≡ frame_numbers (Word (word_of s)) → r ≡ frame_numbers (table_reading_of reading)
-  by_status r s z is = is ∙ ap (λ (t : TableReading). frame_numbers (table_reading_of t)) (sym z)
-
   pub by_table : (entry : Entry) (frame : List ℕ) (r : FrameSaid) → table_reading_of reading ≡ read_by_rows (table_of entry) frame → r ≡ frame_numbers (table_reading_of reading) → r ≡ reads_of entry frame
   by_table entry frame r is e = e ∙ ap frame_numbers (is ∙ same_reading entry frame)

@@ -105,31 +105,6 @@ pub frame_said : (s : ApduStatusCode) (n : ℕ) (fault : FaultNumbers) → n ≡
     (frame_numbers (Word (word_of s)))
 frame_said s n fault is is_fault = rw (is, is_fault)
 
--- ---- command reading
-module _ (read : CommandReading) (r : CommandSaid) where
-  pub command_register : (says : Apdu) → read ≡ Ok (U2fCommand'.Register says) → r ≡ command_numbers (Gives (Register (says_of says))) → r ≡ command_numbers (command_said read)
-  command_register says z is = is ∙ rw z
-
-  pub command_authenticate : (flags : Ctap1Flags) (says : Apdu) → read ≡ Ok (U2fCommand'.Authenticate flags says) → r ≡ command_numbers (Gives (Authenticate (flags_no flags) (says_of says))) → r ≡ command_numbers (command_said read)
-  command_authenticate flags says z is = is ∙ rw z
-
-  pub command_version : (fault : FaultNumbers) → read ≡ Ok U2fCommand'.Version → fault ≡ no_fault → r ≡ bare_command (record { number = 0x9000; kind = fault.kind; place = fault.place }) 0x03 → r ≡ command_numbers (command_said read)
-  command_version fault z is_fault is = is ∙ rw (is_fault, z)
-
-  pub command_get_response : (fault : FaultNumbers) → read ≡ Ok U2fCommand'.GetResponse → fault ≡ no_fault → r ≡ bare_command (record { number = 0x9000; kind = fault.kind; place = fault.place }) 0xC0 → r ≡ command_numbers (command_said read)
-  command_get_response fault z is_fault is = is ∙ rw (is_fault, z)
-
-  pub command_status : (s : ApduStatusCode) (n : ℕ) (fault : FaultNumbers) → read ≡ Err s → n ≡ status_no s → fault ≡ fault_of s → r ≡ bare_command (record { number = n; kind = fault.kind; place = fault.place }) 0 → r ≡ command_numbers (command_said read)
-  command_status s n fault z is_n is_fault is = is ∙ rw (is_n, is_fault, z)
-
--- ---- writing
-module _ (written : Written) where
-  pub wrote_refusal : (why : Refusal) (n : ℕ) → written ≡ Err why → n ≡ refusal_no why → ◌≡◌ {A = Wrote} (record { answer = n; length = 0 }) (length_numbers (written_of written))
-  wrote_refusal why n z is = rw (is, z)
-
-  pub wrote_frame : (n : ℕ) → written ≡ Ok n → ◌≡◌ {A = Wrote} (record { answer = 0x9000; length = n }) (length_numbers (written_of written))
-  wrote_frame n z = rw z
-
 -- a shape's number is that shape
 pub shaped : (s : Case) (number : ℕ) → number ≡ shape_no s → Shaped'.As s ≡ shape_of number
 unfolding shape_of

@@ -115,15 +115,3 @@ dropped_is s limit long = three s 0 0 limit long
 pub stated_is : (s : List ℕ) (fetches : Bool) (limit : ℕ) → 2 < length s → not fetches ≡ true
     → session_in (set (set (set s 0 0) 1 0) 2 limit) ≡ record { remainder = when fetches then remainder_in s else rest 0 0; limit = limit }
 stated_is s fetches limit long is = three s 0 0 limit long ∙ rw (not-true fetches is)
-
--- ---- room for a response
-module _ (frame : List ℕ) (reading : Reading) (is_r : reading_of reading ≡ read_of frame) (longest : ℕ) where
-  room_here : (r : Reading) → reading ≡ r → room_on (reading_of r) longest ≡ frame_room_of frame longest
-  unfolding frame_room_of
-  room_here r e = ap (λ (x : Reading). room_on (reading_of x) longest) (sym e) ∙ ap (λ (o : Outcome Says). room_on o longest) is_r
-
-  pub room_of_frame : (a : Apdu) (limit : ℕ) (r : ResponseRoom) → reading ≡ Ok a → limit ≡ limit_of (says_of a) → room_said r ≡ response_room_of limit longest → room_said r ≡ frame_room_of frame longest
-  room_of_frame a limit r e is q = q ∙ ap (λ (n : ℕ). response_room_of n longest) is ∙ room_here (Ok a) e
-
-  pub room_of_status : (s : ApduStatusCode) → reading ≡ Err s → Gives 2 ≡ frame_room_of frame longest
-  room_of_status s e = room_here (Err s) e
