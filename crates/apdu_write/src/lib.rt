@@ -61,7 +61,13 @@ fn put_frame(out: &mut [u8], header: ApduHeader, shape: Case, content: &[u8], le
 
 // Writes a frame at the front of out and says its length: R5 where the shape cannot carry the data or Le, then R2 where
 // out is shorter than the frame. A refusal leaves out as it was.
-pub fn write(header: ApduHeader, shape: Case, content: &[u8], le: u32, out: &mut [u8]) -> Result<usize, Refusal>
+pub fn write(
+    header: ApduHeader,
+    shape: Case,
+    content: &[u8],
+    le: u32,
+    out: &mut [u8],
+) -> Result<usize, Refusal>
     ensures { Write (record { header = header; shape = shape; content = content.now; le = le }) out.old result out.new }
 {
     if !apdu_shapes::fits(shape, content.len(), le) {

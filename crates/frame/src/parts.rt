@@ -28,12 +28,7 @@ fn print_command(
         }
         Ok(U2fCommand::Version) => good,
         Ok(U2fCommand::GetResponse) => good,
-        Err(status) => program_spell::status(
-            out,
-            good,
-            b"\nno command: SW ",
-            status,
-        ),
+        Err(status) => program_spell::status(out, good, b"\nno command: SW ", status),
     }
 }
 

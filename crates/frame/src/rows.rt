@@ -14,11 +14,7 @@ fn print_tried(out: &impl Print, good: bool, tried: Result<Row, NoRow>) -> bool 
     number(out, least, b", Le field ", row.le_field as u64)
 }
 
-fn print_reading(
-    out: &impl Print,
-    good: bool,
-    reading: Result<RowSays, ApduStatusCode>,
-) -> bool {
+fn print_reading(out: &impl Print, good: bool, reading: Result<RowSays, ApduStatusCode>) -> bool {
     let said = match reading {
         Ok(says) => {
             let lc = number(out, good, b": Lc ", says.lc as u64);

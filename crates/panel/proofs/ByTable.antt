@@ -1,16 +1,12 @@
 -- The second reader for C: what its rows say in numbers, and that this is what the branching reader's call says. It mentions no function.
 use Prim.Native.Nat.{ℕ}
-use mathlib.Core.Path.{◌≡◌, ap, sym, ◌∙◌}
+use mathlib.Core.Path.{◌≡◌, ap, ◌∙◌}
 use mathlib.Core.List.{List}
-use Rattle.std.specs.Prelude.{Ok, Err}
-use Rattle.outcome.specs.Outcome.{Word, word_of}
-use Rattle.outcome.specs.declared.ApduStatusCode.{ApduStatusCode}
 use Rattle.apdu_stated.specs.declared.Entry.{Entry}
 use Rattle.apdu_table_stated.specs.Rows.{table_of}
-use Rattle.apdu_table_stated.specs.Answers.{row_says_of, table_reading_of, read_by_rows, TableReading}
-use Rattle.apdu_table_stated.specs.declared.RowSays.{RowSays}
+use Rattle.apdu_table_stated.specs.Answers.{table_reading_of, read_by_rows, TableReading}
 use Rattle.apdu_table_stated.proofs.Laws.{same_reading}
-use Rattle.panel_stated.specs.Exports.{frame_numbers, said_numbers, reads_of}
+use Rattle.panel_stated.specs.Exports.{frame_numbers, reads_of}
 use Rattle.panel_stated.specs.declared.FrameSaid.{FrameSaid}
 
 module _ (reading : TableReading) where

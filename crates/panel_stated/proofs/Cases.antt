@@ -5,7 +5,6 @@ use mathlib.Core.List.{List}
 use borrow.Author.Tests.{ne_eqb, not-true, not-false}
 use lib.ListN.{length, get_or, set}
 use lib.Seq.{lt-length-set}
-use Rattle.std.specs.Prelude.{Ok, Err}
 use Rattle.outcome.specs.Notation.{when◌then◌else◌}
 use Rattle.outcome.proofs.Laws.{r_gives}
 use Rattle.outcome.specs.Outcome.{Outcome, R, Word, Gives, status_no, fault_of, word_of, refusal_no, no_fault}
@@ -24,13 +23,11 @@ use Rattle.apdu_stated.specs.declared.ApduHeader.{ApduHeader}
 use Rattle.apdu_stated.specs.declared.Case.{Case}
 use Rattle.apdu_stated.specs.declared.Case.TheVariants.{Instruction, Le1, Lc1Data, Lc1DataLe1, Lc3Data, Lc3DataLe2, Le3}
 use Rattle.apdu_stated.specs.declared.Place.{Place}
-use Rattle.command_stated.specs.Command.{Register, Authenticate, flags_no, command_said, handle_place_of}
+use Rattle.command_stated.specs.Command.{Register, Authenticate, flags_no, handle_place_of}
 use Rattle.command_stated.specs.declared.Ctap1Flags.{Ctap1Flags}
-use Rattle.command_stated.specs.Command.{CommandReading}
-use Rattle.command_stated.specs.declared.U2fCommand.TheVariants as U2fCommand'
 use Rattle.panel_stated.specs.Words.{FrameSaid, CommandSaid, Wrote, Shaped, Asked, OrderNumbers, DecisionSaid, ResponseSaid, RoomSaid, Kinded, Session, presence_in, remainder_in, session_in, session_after}
 use Rattle.panel_stated.specs.Numbers.{answer_no, shape_of, is_yes, kind_of, no_order}
-use Rattle.panel_stated.specs.Exports.{frame_numbers, length_numbers, ToWrite, strict_as, write_as, write_numbered, buffer_as, bare_command, command_numbers, made_over, asked_numbers, head_after, decided_numbers, response_numbers, sent_numbers, sent_over, room_numbers, ToFinish, order_from, finish_numbered}
+use Rattle.panel_stated.specs.Exports.{frame_numbers, length_numbers, ToWrite, strict_as, write_as, write_numbered, buffer_as, command_numbers, made_over, asked_numbers, head_after, decided_numbers, response_numbers, sent_numbers, sent_over, room_numbers, ToFinish, order_from, finish_numbered}
 use Rattle.panel_stated.specs.declared.Shaped.TheVariants as Shaped'
 use mathlib.Core.Bool.{true, false, not, Bool}
 use Rattle.u2f_up_stated.specs.Moments.{Told, is_r6, fresh, moved_to, new_of, settle_of, checked_of, granted_of, on_settled, gave, touch_of, check_of, ask_of}
