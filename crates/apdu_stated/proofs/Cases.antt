@@ -1,22 +1,17 @@
 -- The reading's definitions, case by case, as the code meets them: the answer, from the facts that the tests showed.
 -- The only file that opens these definitions; it mentions no function.
-use Prim.Native.Nat.{ℕ, ◌+◌, ◌-◌, ◌*◌, ◌<◌, ◌≤◌}
-use mathlib.Core.Path.{◌≡◌, refl, ap, sym, ◌∙◌}
+use Prim.Native.Nat.{ℕ, ◌+◌, ◌*◌, ◌<◌, ◌≤◌}
+use mathlib.Core.Path.{◌≡◌, refl, sym, ◌∙◌}
 use mathlib.Core.Bool.{Bool, true, false}
 use mathlib.Core.List.{List}
 use native.Mathlib.Omega.{arith}
 use borrow.Author.Tests.{lt-ltb, le-ltb, ltb-false, eq-eqb, ne_eqb}
-use lib.ListN.{length, take, drop}
-use mir.Syntax.{w16}
-use mir.Val.{Fits}
-use Rattle.outcome.specs.Outcome.{Outcome, SW, Gives, missing_at, surplus_at}
-use Rattle.octets.proofs.Laws.{tail_is}
-use Rattle.octets.specs.Bytes.{byte, pair_at, part_of}
+use lib.ListN.{length, drop}
+use Rattle.outcome.specs.Outcome.{SW, Gives, missing_at, surplus_at}
+use Rattle.octets.specs.Bytes.{byte, pair_at}
 use Rattle.apdu_stated.specs.Words.{Case, Instruction, Le1, Lc1Data, Lc1DataLe1, Lc3Data, Lc3DataLe2, Le3, shape_no}
-use Rattle.apdu_stated.specs.Answers.{Apdu, Place, Says, says_of}
 use Rattle.apdu_stated.specs.Table.{lc_field, le_read, le_most, le_least, by_length, least_of, lc_under}
-use Rattle.apdu_stated.specs.Reading.{Entry, Ordinary, Strict, short_of, after_data, extended_of, lengths_of, header_of, say_of, read_by, place_of, data_of}
-use Rattle.apdu_stated.specs.Promises.{lc_found}
+use Rattle.apdu_stated.specs.Reading.{Entry, Ordinary, Strict, short_of, after_data, extended_of, lengths_of, header_of, say_of, read_by}
 use Rattle.apdu_stated.specs.declared.Lengths.{Lengths}
 use Rattle.apdu_stated.specs.declared.Lengths.TheVariants.{Found, Missing, Surplus}
 
@@ -32,9 +27,6 @@ module _ (long none one more : ℕ) where
 
 pub least_none : (long : ℕ) → long ≡ 0 → 0 ≡ le_least long
 least_none long e = rw e
-
-pub least_some : (long : ℕ) → (long ≡ 0 → ⊥) → 1 ≡ le_least long
-least_some long n = rw (ne_eqb long 0 n)
 
 pub le_zero : (long written le : ℕ) → written ≡ 0 → le ≡ le_most long → le ≡ le_read long written
 le_zero long written le z e = rw (z, e)
@@ -141,34 +133,6 @@ module _ (entry : Entry) (p : List ℕ) where
 pub read_under : (entry : Entry) (frame : List ℕ) → length frame < 4 → SW 0x6a80 ≡ read_by entry frame
 unfolding read_by
 read_under entry frame h = rw (lt-ltb (length frame) 4 h)
-
--- an Lc that was found is a number of two bytes
-pub lc_fits : (l : Lengths) (s : Case) (lc le : ℕ) → l ≡ Found s lc le → lc_found l ≤ 65535 → Fits w16 lc
-lc_fits l s lc le e small = let is : lc_found l ≡ lc = ap lc_found e in omega arith
-
-module _ (entry : Entry) (frame : List ℕ) (l : Lengths) (long : 4 ≤ length frame) (is_l : l ≡ lengths_of entry (take (length frame - 4) (drop 4 frame))) where
-  by_lengths : say_of frame l ≡ read_by entry frame
-  unfolding read_by
-  by_lengths = rw (le-ltb (length frame) 4 long, is_l, tail_is frame 4)
-
-  pub read_found : (s : Case) (lc le : ℕ) → l ≡ Found s lc le → Gives (record { header = header_of frame; shape = shape_no s; data_at = 4 + lc_field s; lc = lc; le = le }) ≡ read_by entry frame
-  unfolding say_of
-  read_found s lc le e = ap (say_of frame) (sym e) ∙ by_lengths
-
-  pub read_missing : (o : Outcome Says) → o ≡ missing_at (length frame) → l ≡ Missing → o ≡ read_by entry frame
-  unfolding say_of
-  read_missing o is e = is ∙ ap (say_of frame) (sym e) ∙ by_lengths
-
-  pub read_surplus : (o : Outcome Says) (place : ℕ) → o ≡ surplus_at place → l ≡ Surplus place → o ≡ read_by entry frame
-  unfolding say_of
-  read_surplus o place is e = is ∙ ap (say_of frame) (sym e) ∙ by_lengths
-
-pub place_is : (says : Apdu) (long : ℕ) → long ≡ lc_field says.shape → record { start = 4 + long; end = 4 + long + says.lc } ≡ place_of (says_of says)
-place_is says long e = rw e
-
-pub data_is : (frame : List ℕ) (said : Says) (at : Place) (part : List ℕ) → at ≡ place_of said → part ≡ part_of frame at.start at.end → part ≡ data_of frame said
-unfolding data_of
-data_is frame said at part e f = f ∙ rw e
 
 pub read_by_lem : (entry : Entry) (frame : List ℕ) → 4 ≤ length frame → read_by entry frame ≡ say_of frame (lengths_of entry (drop 4 frame))
 unfolding read_by

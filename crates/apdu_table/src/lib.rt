@@ -112,7 +112,7 @@ fn ends_early(row: Row, frame: &[u8]) -> bool
 }
 
 // Tries the rows of any table in turn: the first that fits; where none does, whether bytes are missing, else how many can be claimed.
-#[tactic(auto, using(apdu_table_stated::proofs::Cases::is_short, apdu_table_stated::proofs::Cases::at_start, apdu_table_stated::proofs::Cases::fits_at, apdu_table_stated::proofs::Cases::ends_early_lem, apdu_table_stated::proofs::Cases::goes_on))]
+#[tactic(auto, unfolding(apdu_table_stated::specs::Trying::tried_of))]
 pub fn try_rows(table: &[[u8; 4]], frame: &[u8]) -> Result<Row, NoRow>
     ensures { TryRows table.now frame.now result }
 {

@@ -78,10 +78,6 @@ module _ (frame : List ℕ) where
   unfolding lc_in
   lc_three h = rw (le-ltb (length frame) 7 h)
 
-  pub lc_short : (long : ℕ) → length frame < 4 + long → 0 ≡ lc_in long frame
-  unfolding lc_in
-  lc_short long h = rw (lt-ltb (length frame) (4 + long) h)
-
   module _ (place : ℕ) where
     pub le_none : 0 ≡ le_in 0 place frame
     unfolding le_in

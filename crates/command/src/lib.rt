@@ -128,7 +128,10 @@ pub fn instructed(frame: &[u8], says: Apdu) -> Result<U2fCommand, ApduStatusCode
 
 // What a frame asks for that was read so.
 #[tactic(auto, unfolding(command_stated::specs::Command::on_reading))]
-pub fn on_reading(frame: &[u8], reading: Result<Apdu, ApduStatusCode>) -> Result<U2fCommand, ApduStatusCode>
+pub fn on_reading(
+    frame: &[u8],
+    reading: Result<Apdu, ApduStatusCode>,
+) -> Result<U2fCommand, ApduStatusCode>
     ensures { OnReading frame.now reading result }
 {
     instructed(frame, reading?)

@@ -1,24 +1,15 @@
 -- The definitions of command reading, case by case, as the code meets them. It mentions no function.
 use Prim.Native.Nat.{ℕ, ◌+◌, ◌<◌, ◌≤◌}
-use mathlib.Core.Path.{◌≡◌, refl, ap, sym, ◌∙◌}
+use mathlib.Core.Path.{◌≡◌, ap, sym, ◌∙◌}
 use mathlib.Core.Bool.{true, not}
 use mathlib.Core.List.{List}
 use borrow.Author.Tests.{lt-ltb, le-ltb, eq-eqb, ne_eqb}
-use lib.ListN.{length, get_or-eq_default}
-use Rattle.std.specs.Prelude.{Ok, Err}
 use Rattle.outcome.specs.Notation.{when◌then◌else◌}
-use Rattle.outcome.specs.Outcome.{StatusWord, Outcome, Word, SW, Gives, against_ins, word_of}
-use Rattle.outcome.specs.declared.ApduStatusCode.{ApduStatusCode}
-use Rattle.octets.specs.Bytes.{byte, part_of}
-use Rattle.apdu_stated.specs.Answers.{Says, says_of, reading_of, Reading}
-use Rattle.apdu_stated.specs.declared.Apdu.{Apdu}
-use Rattle.apdu_stated.specs.declared.Place.{Place}
-use Rattle.apdu_stated.specs.Reading.{read_of, data_of, place_of}
-use Rattle.command_stated.specs.Command.{Command, Register, Authenticate, Version, GetResponse, is_control, register_of, authenticate_of, version_of, get_response_of, by_instruction, on_reading, command_of, challenge_place_of, application_place_of, challenge_of, application_of, handle_place_of, handle_of}
-
--- past the end there is no byte
-pub byte_none : (s : List ℕ) (i : ℕ) → length s ≤ i → 0 ≡ byte s i
-byte_none s i past = sym (get_or-eq_default s 0 past)
+use Rattle.outcome.specs.Outcome.{StatusWord, Outcome, Word, SW, Gives, against_ins}
+use Rattle.octets.specs.Bytes.{byte}
+use Rattle.apdu_stated.specs.Answers.{Says, reading_of, Reading}
+use Rattle.apdu_stated.specs.Reading.{read_of, data_of}
+use Rattle.command_stated.specs.Command.{Command, Register, Authenticate, Version, GetResponse, is_control, register_of, authenticate_of, version_of, get_response_of, by_instruction, on_reading, command_of}
 
 -- ---- Authenticate
 module _ (frame : List ℕ) (said : Says) where
@@ -41,15 +32,6 @@ module _ (frame : List ℕ) (said : Says) where
 
       pub auth_control : (k : ℕ) → is_control k ≡ true → said.header.p1 ≡ k → Gives (Authenticate k said) ≡ authenticate_of frame said
       auth_control k c e = by_control (rw (e, c))
-
-      pub auth_03 : said.header.p1 ≡ 0x03 → Gives (Authenticate 0x03 said) ≡ authenticate_of frame said
-      auth_03 = auth_control 0x03 refl
-
-      pub auth_07 : said.header.p1 ≡ 0x07 → Gives (Authenticate 0x07 said) ≡ authenticate_of frame said
-      auth_07 = auth_control 0x07 refl
-
-      pub auth_08 : said.header.p1 ≡ 0x08 → Gives (Authenticate 0x08 said) ≡ authenticate_of frame said
-      auth_08 = auth_control 0x08 refl
 
       pub auth_wrong : (said.header.p1 ≡ 0x03 → ⊥) → (said.header.p1 ≡ 0x07 → ⊥) → (said.header.p1 ≡ 0x08 → ⊥) → SW 0x6a80 ≡ authenticate_of frame said
       auth_wrong n3 n7 n8 = by_control (rw (ne_eqb said.header.p1 0x03 n3, ne_eqb said.header.p1 0x07 n7, ne_eqb said.header.p1 0x08 n8))
@@ -110,54 +92,11 @@ module _ (frame : List ℕ) (said : Says) where
 
 -- ---- on a reading that is handed in
 module _ (frame : List ℕ) (r : Reading) where
-  pub of_frame : (says : Apdu) (o : Outcome Command) → r ≡ Ok says → o ≡ by_instruction frame (says_of says) → o ≡ on_reading frame (reading_of r)
-  unfolding on_reading
-  of_frame says o e b = b ∙ ap (λ (x : Reading). on_reading frame (reading_of x)) (sym e)
-
-  pub of_status : (s : ApduStatusCode) → r ≡ Err s → Word (word_of s) ≡ on_reading frame (reading_of r)
-  unfolding on_reading
-  of_status s e = ap (λ (x : Reading). on_reading frame (reading_of x)) (sym e)
-
   pub of_reading : (o : Outcome Command) → reading_of r ≡ read_of frame → o ≡ on_reading frame (reading_of r) → o ≡ command_of frame
   unfolding command_of
   of_reading o is e = e ∙ ap (on_reading frame) is
 
 -- ---- on the reading
-module _ (frame : List ℕ) (r : Reading) (is_r : reading_of r ≡ read_of frame) where
-  pub reading_is : (says : Apdu) → r ≡ Ok says → read_of frame ≡ Gives (says_of says)
-  reading_is says e = sym is_r ∙ ap reading_of e
-
-  pub on_frame : (says : Apdu) (o : Outcome Command) → r ≡ Ok says → o ≡ by_instruction frame (says_of says) → o ≡ command_of frame
-  unfolding command_of on_reading
-  on_frame says o e b = b ∙ ap (on_reading frame) (sym (reading_is says e))
-
-  pub on_status : (s : ApduStatusCode) → r ≡ Err s → Word (word_of s) ≡ command_of frame
-  unfolding command_of on_reading
-  on_status s e = ap (on_reading frame) (ap reading_of (sym e) ∙ is_r)
-
--- ---- the parts
-pub challenge_place_is : (said : Says) (at : Place) → at ≡ place_of said → record { start = at.start; end = at.start + 32 } ≡ challenge_place_of said
-challenge_place_is said at e = rw e
-
-pub application_place_is : (said : Says) (at : Place) → at ≡ place_of said → record { start = at.start + 32; end = at.start + 64 } ≡ application_place_of said
-application_place_is said at e = rw e
-
-module _ (frame : List ℕ) (said : Says) (at : Place) (part : List ℕ) (is_part : part ≡ part_of frame at.start at.end) where
-  pub challenge_is : at ≡ challenge_place_of said → part ≡ challenge_of frame said
-  unfolding challenge_of
-  challenge_is e = is_part ∙ rw e
-
-  pub application_is : at ≡ application_place_of said → part ≡ application_of frame said
-  unfolding application_of
-  application_is e = is_part ∙ rw e
-
-pub handle_place_is : (said : Says) (at : Place) → at ≡ place_of said → record { start = at.start + 65; end = at.end } ≡ handle_place_of said
-handle_place_is said at e = rw e
-
-pub handle_is : (frame : List ℕ) (said : Says) (at : Place) (part : List ℕ) → at ≡ handle_place_of said → part ≡ part_of frame at.start at.end → part ≡ handle_of frame said
-unfolding handle_of
-handle_is frame said at part e f = f ∙ rw e
-
 pub by_reading : (frame : List ℕ) (said : Says) → read_of frame ≡ Gives said → command_of frame ≡ by_instruction frame said
 unfolding command_of on_reading
 by_reading frame said e = ap (on_reading frame) e

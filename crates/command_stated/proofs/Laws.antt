@@ -13,7 +13,7 @@ use Rattle.command_stated.proofs.Theorems.{Told, own, because, told}
 pub use Rattle.command_stated.proofs.Theorems.{RegisterExactly, AuthenticateExactly, VersionExactly, GetResponseExactly, CommandPairsExactly, RegisterParts, AuthenticateParts, CutAtPlaces}
 pub use Rattle.command_stated.proofs.Ways.{Why, class, instruction, parameters, lengths, control, Way, register, authenticate, version, fetch, status, Read, read, unread, reading}
 pub use Rattle.command_stated.proofs.Numbers.{flags_same, command_same}
-pub use Rattle.command_stated.proofs.Cases.{on_frame, on_status, of_reading}
+pub use Rattle.command_stated.proofs.Cases.{of_reading}
 
 -- a frame's own status is the command's
 pub frame_status : (frame : List ℕ) (w : StatusWord) → read_of frame ≡ Word w → command_of frame ≡ Word w

@@ -23,7 +23,7 @@ use Rattle.apdu_table_stated.specs.Trying.{begins, lc_in, le_in, opens, stands, 
 use Rattle.apdu_table_stated.specs.Answers.{read_by_rows}
 use Rattle.convert_stated.specs.Converting.{convert_of}
 use Rattle.convert_stated.specs.Terms.{Old, row6, Holds, by_table, by_old, Becomes, as_shape_7, as_shape_8, unchanged, EmptySeven}
-use Rattle.convert_stated.specs.Words.{Ok, Err, Refused, Status, Converted}
+use Rattle.convert_stated.specs.Words.{Err, Status, Converted}
 use Rattle.convert_stated.specs.Answers.{converted_of}
 use Rattle.convert_stated.specs.Claims
 use Rattle.convert_stated.specs.Wrong

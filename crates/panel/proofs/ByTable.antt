@@ -1,24 +1,14 @@
 -- The second reader for C: what its rows say in numbers, and that this is what the branching reader's call says. It mentions no function.
 use Prim.Native.Nat.{ℕ}
-use mathlib.Core.Path.{◌≡◌, ap, sym, ◌∙◌}
+use mathlib.Core.Path.{◌≡◌, ap, ◌∙◌}
 use mathlib.Core.List.{List}
-use Rattle.std.specs.Prelude.{Ok, Err}
-use Rattle.outcome.specs.Outcome.{Word, word_of}
-use Rattle.outcome.specs.declared.ApduStatusCode.{ApduStatusCode}
 use Rattle.apdu_stated.specs.declared.Entry.{Entry}
 use Rattle.apdu_table_stated.specs.Rows.{table_of}
-use Rattle.apdu_table_stated.specs.Answers.{row_says_of, table_reading_of, read_by_rows, TableReading}
-use Rattle.apdu_table_stated.specs.declared.RowSays.{RowSays}
+use Rattle.apdu_table_stated.specs.Answers.{table_reading_of, read_by_rows, TableReading}
 use Rattle.apdu_table_stated.proofs.Laws.{same_reading}
-use Rattle.panel_stated.specs.Exports.{frame_numbers, said_numbers, reads_of}
+use Rattle.panel_stated.specs.Exports.{frame_numbers, reads_of}
 use Rattle.panel_stated.specs.declared.FrameSaid.{FrameSaid}
 
 module _ (reading : TableReading) where
-  pub by_row : (says : RowSays) → reading ≡ Ok says → said_numbers (row_says_of says) ≡ frame_numbers (table_reading_of reading)
-  by_row says z = ap (λ (t : TableReading). frame_numbers (table_reading_of t)) (sym z)
-
-  pub by_status : (r : FrameSaid) (s : ApduStatusCode) → reading ≡ Err s → r ≡ frame_numbers (Word (word_of s)) → r ≡ frame_numbers (table_reading_of reading)
-  by_status r s z is = is ∙ ap (λ (t : TableReading). frame_numbers (table_reading_of t)) (sym z)
-
   pub by_table : (entry : Entry) (frame : List ℕ) (r : FrameSaid) → table_reading_of reading ≡ read_by_rows (table_of entry) frame → r ≡ frame_numbers (table_reading_of reading) → r ≡ reads_of entry frame
   by_table entry frame r is e = e ∙ ap frame_numbers (is ∙ same_reading entry frame)

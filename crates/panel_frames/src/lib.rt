@@ -167,11 +167,7 @@ pub fn command_plain(read: Result<U2fCommand, ApduStatusCode>) -> CommandSaid
         Ok(U2fCommand::Authenticate(flags, says)) => authenticate_numbers(flags, says),
         Ok(U2fCommand::Version) => bare(0x9000, 0x03, outcome::no_fault()),
         Ok(U2fCommand::GetResponse) => bare(0x9000, 0xc0, outcome::no_fault()),
-        Err(status) => bare(
-            outcome::status_number(status),
-            0,
-            outcome::fault(status),
-        ),
+        Err(status) => bare(outcome::status_number(status), 0, outcome::fault(status)),
     }
 }
 

@@ -5,7 +5,6 @@ use mathlib.Core.List.{List}
 use borrow.Author.Tests.{ne_eqb, not-true, not-false}
 use lib.ListN.{length, get_or, set}
 use lib.Seq.{lt-length-set}
-use Rattle.std.specs.Prelude.{Ok, Err}
 use Rattle.outcome.specs.Notation.{when◌then◌else◌}
 use Rattle.outcome.proofs.Laws.{r_gives}
 use Rattle.outcome.specs.Outcome.{Outcome, R, Word, Gives, status_no, fault_of, word_of, refusal_no, no_fault}
@@ -24,10 +23,8 @@ use Rattle.apdu_stated.specs.declared.ApduHeader.{ApduHeader}
 use Rattle.apdu_stated.specs.declared.Case.{Case}
 use Rattle.apdu_stated.specs.declared.Case.TheVariants.{Instruction, Le1, Lc1Data, Lc1DataLe1, Lc3Data, Lc3DataLe2, Le3}
 use Rattle.apdu_stated.specs.declared.Place.{Place}
-use Rattle.command_stated.specs.Command.{Register, Authenticate, flags_no, command_said, handle_place_of}
+use Rattle.command_stated.specs.Command.{Register, Authenticate, flags_no, handle_place_of}
 use Rattle.command_stated.specs.declared.Ctap1Flags.{Ctap1Flags}
-use Rattle.command_stated.specs.Command.{CommandReading}
-use Rattle.command_stated.specs.declared.U2fCommand.TheVariants as U2fCommand'
 use Rattle.panel_stated.specs.Words.{FrameSaid, CommandSaid, Wrote, Shaped, Asked, OrderNumbers, DecisionSaid, ResponseSaid, RoomSaid, Kinded, Session, presence_in, remainder_in, session_in, session_after}
 use Rattle.panel_stated.specs.Numbers.{answer_no, shape_of, is_yes, kind_of, no_order}
 use Rattle.panel_stated.specs.Exports.{frame_numbers, length_numbers, ToWrite, strict_as, write_as, write_numbered, buffer_as, bare_command, command_numbers, made_over, asked_numbers, head_after, decided_numbers, response_numbers, sent_numbers, sent_over, room_numbers, ToFinish, order_from, finish_numbered}
@@ -100,31 +97,6 @@ pub frame_said : (s : ApduStatusCode) (n : ℕ) (fault : FaultNumbers) → n ≡
     (record { answer = n; fault = fault.kind; cla = 0; ins = 0; p1 = 0; p2 = 0; shape = 0; lc = 0; le = 0; start = 0; end = 0; place = fault.place })
     (frame_numbers (Word (word_of s)))
 frame_said s n fault is is_fault = rw (is, is_fault)
-
--- ---- command reading
-module _ (read : CommandReading) (r : CommandSaid) where
-  pub command_register : (says : Apdu) → read ≡ Ok (U2fCommand'.Register says) → r ≡ command_numbers (Gives (Register (says_of says))) → r ≡ command_numbers (command_said read)
-  command_register says z is = is ∙ rw z
-
-  pub command_authenticate : (flags : Ctap1Flags) (says : Apdu) → read ≡ Ok (U2fCommand'.Authenticate flags says) → r ≡ command_numbers (Gives (Authenticate (flags_no flags) (says_of says))) → r ≡ command_numbers (command_said read)
-  command_authenticate flags says z is = is ∙ rw z
-
-  pub command_version : (fault : FaultNumbers) → read ≡ Ok U2fCommand'.Version → fault ≡ no_fault → r ≡ bare_command (record { number = 0x9000; kind = fault.kind; place = fault.place }) 0x03 → r ≡ command_numbers (command_said read)
-  command_version fault z is_fault is = is ∙ rw (is_fault, z)
-
-  pub command_get_response : (fault : FaultNumbers) → read ≡ Ok U2fCommand'.GetResponse → fault ≡ no_fault → r ≡ bare_command (record { number = 0x9000; kind = fault.kind; place = fault.place }) 0xC0 → r ≡ command_numbers (command_said read)
-  command_get_response fault z is_fault is = is ∙ rw (is_fault, z)
-
-  pub command_status : (s : ApduStatusCode) (n : ℕ) (fault : FaultNumbers) → read ≡ Err s → n ≡ status_no s → fault ≡ fault_of s → r ≡ bare_command (record { number = n; kind = fault.kind; place = fault.place }) 0 → r ≡ command_numbers (command_said read)
-  command_status s n fault z is_n is_fault is = is ∙ rw (is_n, is_fault, z)
-
--- ---- writing
-module _ (written : Written) where
-  pub wrote_refusal : (why : Refusal) (n : ℕ) → written ≡ Err why → n ≡ refusal_no why → ◌≡◌ {A = Wrote} (record { answer = n; length = 0 }) (length_numbers (written_of written))
-  wrote_refusal why n z is = rw (is, z)
-
-  pub wrote_frame : (n : ℕ) → written ≡ Ok n → ◌≡◌ {A = Wrote} (record { answer = 0x9000; length = n }) (length_numbers (written_of written))
-  wrote_frame n z = rw z
 
 -- a shape's number is that shape
 pub shaped : (s : Case) (number : ℕ) → number ≡ shape_no s → Some s ≡ shape_of number

@@ -8,10 +8,8 @@ use borrow.Author.Tests.{eq-eqb, ne_eqb, not-true, not-false}
 use lib.Dec.{ltb}
 use lib.ListN.{length, set}
 use lib.Seq.{get_or-set_same, get_or-set_other, lt-length-set}
-use Rattle.std.specs.Prelude.{Ok, Err}
 use Rattle.outcome.specs.Notation.{when◌then◌else◌}
 use Rattle.outcome.specs.Outcome.{Outcome, R, Word, SW, Gives, refusal_no}
-use Rattle.outcome.specs.declared.ApduStatusCode.{ApduStatusCode}
 use Rattle.outcome.specs.declared.Refusal.{Refusal}
 use Rattle.outcome.proofs.Laws.{r_gives}
 use Rattle.apdu_stated.specs.Answers.{Says, says_of, reading_of, Reading}
@@ -33,7 +31,7 @@ use Rattle.ctap1_stated.proofs.Laws.{alone, handed, with_record, with_head}
 use Rattle.ctap1_stated.specs.Path.{sent_path, fetch_path}
 use Rattle.ctap1_stated.specs.Decision.{refusal_result, status_result, along, blank_alone}
 use Rattle.ctap1_stated.specs.Session.{part_after}
-use Rattle.session_stated.specs.Held.{remainder_in, session_in, room_on, frame_room_of}
+use Rattle.session_stated.specs.Held.{remainder_in, session_in}
 
 -- ---- a GET RESPONSE that comes so far
 never_other : (body_room : ℕ) (k : Remainder) (limit room n : ℕ) → R n ≡ next_part_of body_room k limit room → n ≡ 2
@@ -116,15 +114,3 @@ dropped_is s limit long = three s 0 0 limit long
 pub stated_is : (s : List ℕ) (fetches : Bool) (limit : ℕ) → 2 < length s → not fetches ≡ true
     → session_in (set (set (set s 0 0) 1 0) 2 limit) ≡ record { remainder = when fetches then remainder_in s else rest 0 0; limit = limit }
 stated_is s fetches limit long is = three s 0 0 limit long ∙ rw (not-true fetches is)
-
--- ---- room for a response
-module _ (frame : List ℕ) (reading : Reading) (is_r : reading_of reading ≡ read_of frame) (longest : ℕ) where
-  room_here : (r : Reading) → reading ≡ r → room_on (reading_of r) longest ≡ frame_room_of frame longest
-  unfolding frame_room_of
-  room_here r e = ap (λ (x : Reading). room_on (reading_of x) longest) (sym e) ∙ ap (λ (o : Outcome Says). room_on o longest) is_r
-
-  pub room_of_frame : (a : Apdu) (limit : ℕ) (r : ResponseRoom) → reading ≡ Ok a → limit ≡ limit_of (says_of a) → room_said r ≡ response_room_of limit longest → room_said r ≡ frame_room_of frame longest
-  room_of_frame a limit r e is q = q ∙ ap (λ (n : ℕ). response_room_of n longest) is ∙ room_here (Ok a) e
-
-  pub room_of_status : (s : ApduStatusCode) → reading ≡ Err s → Gives 2 ≡ frame_room_of frame longest
-  room_of_status s e = room_here (Err s) e

@@ -372,12 +372,6 @@ module _ (i : Inputs) (kept : Presence) (t : ℕ) (s : Ready) (is_s : ready_of s
       yes_part new h n q = part_by Allowed'.Yes new (is_k ∙ yes_is k h n) q
 
 -- ---- what the session goes on with
-pub limit_of_frame : (r : Reading) (a : Apdu) (n : ℕ) → r ≡ Ok a → n ≡ limit_of (says_of a) → n ≡ limit_on (reading_of r)
-limit_of_frame r a n e is = is ∙ ap (λ (x : Reading). limit_on (reading_of x)) (sym e)
-
-pub asks_of_frame : (r : Reading) (a : Apdu) → r ≡ Ok a → eqb a.header.ins 0xC0 ≡ is_get_response (reading_of r)
-asks_of_frame r a e = ap (λ (x : Reading). is_get_response (reading_of x)) (sym e)
-
 module _ (frame : List ℕ) (r : Reading) (is_r : reading_of r ≡ read_of frame) where
   pub limit_is : (n : ℕ) → n ≡ limit_on (reading_of r) → n ≡ frame_limit frame
   unfolding frame_limit
