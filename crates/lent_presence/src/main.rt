@@ -4,21 +4,22 @@
 
 mod lent;
 
+use outcome::Refusal;
 use program_spell::{number, words};
-use u2f_up::{Answer, Presence, Step, Window};
+use u2f_up::{Presence, Step, Window};
 
 fn print_window(out: &impl Print, window: Window) {
     match window {
-        Window::Closed => words(out, true, b" -"),
-        Window::Opened(m) => number(out, true, b" ", m),
+        None => words(out, true, b" -"),
+        Some(m) => number(out, true, b" ", m),
     };
 }
 
-fn print_answer(out: &impl Print, answer: Answer) {
+fn print_answer(out: &impl Print, answer: Result<bool, Refusal>) {
     match answer {
-        Answer::Yes => words(out, true, b": yes;"),
-        Answer::No => words(out, true, b": no;"),
-        Answer::Refused(why) => {
+        Ok(true) => words(out, true, b": yes;"),
+        Ok(false) => words(out, true, b": no;"),
+        Err(why) => {
             number(out, true, b": R", outcome::refusal_number(why) as u64);
             words(out, true, b";")
         }
@@ -60,8 +61,8 @@ fn ask(out: &impl Print, presence: Presence, t: u64) -> Presence {
 fn closed(w: u64, asker: u64) -> Presence {
     Presence {
         w,
-        prompt: Window::Closed,
-        touch: Window::Closed,
+        prompt: None,
+        touch: None,
         last: 0,
         asker,
     }

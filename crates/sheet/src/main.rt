@@ -8,7 +8,7 @@ mod grouped;
 mod lines;
 mod table;
 
-use datasheet::{RoomNeeded, Sheet};
+use datasheet::NoSheet;
 use program_text::Said;
 use std::rt::Env;
 
@@ -33,12 +33,12 @@ fn not_asked_so(rt: &impl Eprint) {
 // The figures for a buffer of this length, behind what was said of it before.
 fn for_buffer(rt: &(impl Print + Eprint), good: bool, room: u64) {
     match datasheet::row(room) {
-        Sheet::Row(figures) => program_spell::close(rt, lines::print(rt, good, figures)),
-        Sheet::TooShort => refuse(
+        Ok(figures) => program_spell::close(rt, lines::print(rt, good, figures)),
+        Err(NoSheet::TooShort) => refuse(
             rt,
             "too short: a reply buffer of 394 bytes or more is expected; a shorter one has no room for a handle of 255 bytes, even without a certificate",
         ),
-        Sheet::TooLong => refuse(
+        Err(NoSheet::TooLong) => refuse(
             rt,
             "too long: a reply buffer of at most 18446744073709551613 bytes is expected",
         ),
@@ -48,8 +48,8 @@ fn for_buffer(rt: &(impl Print + Eprint), good: bool, room: u64) {
 // The buffer for a certificate of this length, and its figures.
 fn for_certificate(rt: &(impl Print + Eprint), certificate: u64) {
     match datasheet::needed(certificate) {
-        RoomNeeded::Room(room) => for_buffer(rt, lines::print_needed(rt, certificate, room), room),
-        RoomNeeded::NoBuffer => refuse(
+        Some(room) => for_buffer(rt, lines::print_needed(rt, certificate, room), room),
+        None => refuse(
             rt,
             "too long: a certificate of at most 18446744073709551219 bytes is expected",
         ),

@@ -1,6 +1,6 @@
 // The data sheet's table: a row for each of six buffers, the shortest and the longest that have one among them.
 use crate::grouped::number;
-use datasheet::{Figures, Sheet};
+use datasheet::{Figures, NoSheet};
 use program_spell::words;
 
 fn print_figures(out: &impl Print, good: bool, figures: Figures) -> bool {
@@ -16,9 +16,9 @@ fn print_figures(out: &impl Print, good: bool, figures: Figures) -> bool {
 
 fn print_row(out: &impl Print, good: bool, room: u64) -> bool {
     match datasheet::row(room) {
-        Sheet::Row(figures) => print_figures(out, good, figures),
-        Sheet::TooShort => words(out, good, b"| too short |\n"),
-        Sheet::TooLong => words(out, good, b"| too long |\n"),
+        Ok(figures) => print_figures(out, good, figures),
+        Err(NoSheet::TooShort) => words(out, good, b"| too short |\n"),
+        Err(NoSheet::TooLong) => words(out, good, b"| too long |\n"),
     }
 }
 
