@@ -3,7 +3,7 @@
 
 ghost use Rattle.datasheet_stated.specs.Promises.{SheetSaid, NeededSaid};
 
-pub use datasheet_stated::{Figures, RoomNeeded, Sheet};
+pub use datasheet_stated::{Figures, NoSheet};
 
 // 139 + 255: what a Register with the longest handle and no certificate asks for.
 const LEAST: u64 = 394;
@@ -12,17 +12,17 @@ const MOST: u64 = 0xffff_ffff_ffff_fffd;
 
 // The figures for a reply buffer of `room` bytes.
 #[tactic(auto, using(datasheet_stated::proofs::Cases::row_short, datasheet_stated::proofs::Cases::row_long, datasheet_stated::proofs::Cases::row_within))]
-pub fn row(room: u64) -> Sheet
+pub fn row(room: u64) -> Result<Figures, NoSheet>
     ensures { SheetSaid room result }
 {
     if room < LEAST {
-        return Sheet::TooShort;
+        return Err(NoSheet::TooShort);
     }
     if MOST < room {
-        return Sheet::TooLong;
+        return Err(NoSheet::TooLong);
     }
-    Sheet::Row(Figures {
-        room: room,
+    Ok(Figures {
+        room,
         certificate: room - LEAST,
         handle: 255,
         body: room,
@@ -32,12 +32,12 @@ pub fn row(room: u64) -> Sheet
     })
 }
 
-// The shortest reply buffer with room for a certificate of so many bytes, whatever the handle.
-pub fn needed(certificate: u64) -> RoomNeeded
+// The shortest reply buffer with room for a certificate of so many bytes, whatever the handle; there is none where it has no row.
+pub fn needed(certificate: u64) -> Option<u64>
     ensures { NeededSaid certificate result }
 {
     if MOST - LEAST < certificate {
-        return RoomNeeded::NoBuffer;
+        return None;
     }
-    RoomNeeded::Room(certificate + LEAST)
+    Some(certificate + LEAST)
 }

@@ -14,8 +14,9 @@ use Rattle.signing_stated.proofs.Laws.{makes_register, finishes_exactly}
 use Rattle.session_stated.specs.Held.{frame_room_of}
 use Rattle.session_stated.proofs.Laws.{frame_room_exactly}
 use Rattle.datasheet_stated.specs.declared.Figures.{Figures}
-use Rattle.datasheet_stated.specs.declared.Sheet.{Sheet}
-use Rattle.datasheet_stated.specs.declared.Sheet.TheVariants.{Row, TooShort, TooLong}
+use Rattle.datasheet_stated.specs.Words.{Sheet}
+use Rattle.std.specs.Prelude.{Ok, Err}
+use Rattle.datasheet_stated.specs.declared.NoSheet.TheVariants.{TooShort, TooLong}
 use Rattle.datasheet_stated.specs.Terms.{UpTo, Longest, TakesCommands}
 use Rattle.datasheet_stated.specs.Claims
 
@@ -44,7 +45,7 @@ one_longest a b p q =
 
 -- ---- and so is a row
 module _ (f g : ℕ → Sheet) (p : Claims.SheetExactly f) (q : Claims.SheetExactly g) (n : ℕ) where
-  figures : (a b : Figures) → f n ≡ Row a → g n ≡ Row b → a ≡ b
+  figures : (a b : Figures) → f n ≡ Ok a → g n ≡ Ok b → a ≡ b
   figures a b x y =
       let room = p.has_row.its_own n a x ∙ sym (q.has_row.its_own n b y) in
       let certificate = one_bound _ _ (p.certificate.up_to has_room has_room_exactly n a x) (q.certificate.up_to has_room has_room_exactly n b y) in
@@ -59,8 +60,8 @@ module _ (f g : ℕ → Sheet) (p : Claims.SheetExactly f) (q : Claims.SheetExac
   rows_alike = go (f n) (g n) refl refl
     where
       go : (s t : Sheet) → f n ≡ s → g n ≡ t → f n ≡ g n
-      go TooShort t x y = x ∙ sym ((q.has_row.too_short n).1 ((p.has_row.too_short n).0 x))
-      go TooLong t x y = x ∙ sym ((q.has_row.too_long n).1 ((p.has_row.too_long n).0 x))
-      go (Row a) TooShort x y = (p.has_row.too_short n).1 ((q.has_row.too_short n).0 y) ∙ sym y
-      go (Row a) TooLong x y = (p.has_row.too_long n).1 ((q.has_row.too_long n).0 y) ∙ sym y
-      go (Row a) (Row b) x y = x ∙ (λ d. Row (figures a b x y d)) ∙ sym y
+      go (Err TooShort) t x y = x ∙ sym ((q.has_row.too_short n).1 ((p.has_row.too_short n).0 x))
+      go (Err TooLong) t x y = x ∙ sym ((q.has_row.too_long n).1 ((p.has_row.too_long n).0 x))
+      go (Ok a) (Err TooShort) x y = (p.has_row.too_short n).1 ((q.has_row.too_short n).0 y) ∙ sym y
+      go (Ok a) (Err TooLong) x y = (p.has_row.too_long n).1 ((q.has_row.too_long n).0 y) ∙ sym y
+      go (Ok a) (Ok b) x y = x ∙ (λ d. Ok (figures a b x y d)) ∙ sym y

@@ -20,10 +20,11 @@ use Rattle.signing_stated.proofs.Laws.{finishes_exactly, finishes_only}
 use Rattle.session_stated.specs.Terms.{FrameRoom}
 use Rattle.session_stated.specs.Claims.{FrameRoomExactly}
 use Rattle.datasheet_stated.specs.declared.Figures.{Figures}
-use Rattle.datasheet_stated.specs.declared.Sheet.{Sheet}
-use Rattle.datasheet_stated.specs.declared.Sheet.TheVariants.{TooShort, TooLong}
-use Rattle.datasheet_stated.specs.declared.RoomNeeded.{RoomNeeded}
-use Rattle.datasheet_stated.specs.declared.RoomNeeded.TheVariants.{Room, NoBuffer}
+use Rattle.datasheet_stated.specs.Words.{Sheet}
+use Rattle.std.specs.Prelude.{Err}
+use Rattle.datasheet_stated.specs.declared.NoSheet.TheVariants.{TooShort, TooLong}
+use Rattle.datasheet_stated.specs.Words.{RoomNeeded}
+use Rattle.std.specs.Prelude.{Some, None}
 use Rattle.datasheet_stated.specs.Sheet.{longest_room, figures_of, sheet_of, needed_of}
 use Rattle.datasheet_stated.specs.Terms.{UpTo, Longest, Least, HasRoom, FinishR2At255, HandleOf, BodyOf, ShortResponse, AnyResponse, CommandOf, HasCertificate}
 use Rattle.datasheet_stated.specs.Claims
@@ -34,18 +35,18 @@ use Rattle.datasheet_stated.proofs.Commands.{command_most, longest_frame, longes
 use Rattle.datasheet_stated.proofs.Bodies.{body_most, never_short, full_finish, full_shaped}
 
 -- ---- which buffers have a row
-is_short : (n : ℕ) → (sheet_of n ≡ TooShort) ↔ (n < 394)
+is_short : (n : ℕ) → (sheet_of n ≡ Err TooShort) ↔ (n < 394)
 is_short n = (go (way n), λ h. sym (row_short n h))
   where
-    go : {s : Sheet} → Way n s → s ≡ TooShort → n < 394
+    go : {s : Sheet} → Way n s → s ≡ Err TooShort → n < 394
     go (short h) e = h
     go (long h g) e = absurd (short_not_long (sym e))
     go (within h g) e = absurd (not_row _ (sym e))
 
-is_long : (n : ℕ) → (sheet_of n ≡ TooLong) ↔ (longest_room < n)
+is_long : (n : ℕ) → (sheet_of n ≡ Err TooLong) ↔ (longest_room < n)
 is_long n = (go (way n), λ h. sym (row_long n (omega arith) h))
   where
-    go : {s : Sheet} → Way n s → s ≡ TooLong → longest_room < n
+    go : {s : Sheet} → Way n s → s ≡ Err TooLong → longest_room < n
     go (short h) e = absurd (short_not_long e)
     go (long h g) e = g
     go (within h g) e = absurd (long_not_row _ (sym e))
@@ -237,15 +238,15 @@ SheetExactly =
     }
 
 -- ---- the buffer for a certificate
-room_same : (a b : ℕ) → Room a ≡ Room b → a ≡ b
+room_same : (a b : ℕ) → Some a ≡ Some b → a ≡ b
 room_same a b e = cc
 
-room_some : (a : ℕ) → NoBuffer ≡ Room a → ⊥
+room_some : (a : ℕ) → None ≡ Some a → ⊥
 room_some a e = let z : ◌≡◌ {A = ℕ} 0 1 = cc in omega arith
 
 pub data NeedWay (c : ℕ) : RoomNeeded → Type 0 where
-  none : longest_room < c + 394 → NeedWay c NoBuffer
-  some : c + 394 ≤ longest_room → NeedWay c (Room (c + 394))
+  none : longest_room < c + 394 → NeedWay c None
+  some : c + 394 ≤ longest_room → NeedWay c (Some (c + 394))
 
 need_way : (c : ℕ) → NeedWay c (needed_of c)
 need_way c = by (dec_lt longest_room (c + 394))
@@ -273,28 +274,28 @@ module _ (row : ℕ → Sheet) (exact : Claims.SheetExactly row) (c : ℕ) where
   least_at : c + 394 ≤ longest_room → Least (HasCertificate row c) (c + 394)
   least_at h = record { serves = holds_at h; at_least = λ k x. (holds_so k x).0 }
 
-  room_needed : (n : ℕ) → (needed_of c ≡ Room n) ↔ Least (HasCertificate row c) n
+  room_needed : (n : ℕ) → (needed_of c ≡ Some n) ↔ Least (HasCertificate row c) n
   room_needed n = (forth (need_way c), back (need_way c))
     where
-      forth : {o : RoomNeeded} → NeedWay c o → o ≡ Room n → Least (HasCertificate row c) n
+      forth : {o : RoomNeeded} → NeedWay c o → o ≡ Some n → Least (HasCertificate row c) n
       forth (none h) e = absurd (room_some n e)
       forth (some h) e = subst (Least (HasCertificate row c)) (room_same _ _ e) (least_at h)
 
-      back : {o : RoomNeeded} → NeedWay c o → Least (HasCertificate row c) n → o ≡ Room n
+      back : {o : RoomNeeded} → NeedWay c o → Least (HasCertificate row c) n → o ≡ Some n
       back (none h) l = let so = holds_so n l.serves in absurd (omega (arith, so.0, so.1))
       back (some h) l =
           let low = (holds_so n l.serves).0 in
           let high = l.at_least (c + 394) (holds_at h) in
-          ap Room (omega (arith, low, high))
+          ap Some (omega (arith, low, high))
 
-  none_needed : (needed_of c ≡ NoBuffer) ↔ ((n : ℕ) → HasCertificate row c n → ⊥)
+  none_needed : (needed_of c ≡ None) ↔ ((n : ℕ) → HasCertificate row c n → ⊥)
   none_needed = (forth (need_way c), back (need_way c))
     where
-      forth : {o : RoomNeeded} → NeedWay c o → o ≡ NoBuffer → (n : ℕ) → HasCertificate row c n → ⊥
+      forth : {o : RoomNeeded} → NeedWay c o → o ≡ None → (n : ℕ) → HasCertificate row c n → ⊥
       forth (none h) e n x = let so = holds_so n x in omega (arith, so.0, so.1)
       forth (some h) e n x = room_some _ (sym e)
 
-      back : {o : RoomNeeded} → NeedWay c o → ((n : ℕ) → HasCertificate row c n → ⊥) → o ≡ NoBuffer
+      back : {o : RoomNeeded} → NeedWay c o → ((n : ℕ) → HasCertificate row c n → ⊥) → o ≡ None
       back (none h) nowhere = refl
       back (some h) nowhere = absurd (nowhere (c + 394) (holds_at h))
 

@@ -2,7 +2,7 @@
 -- 1,024) and a handle of at most 255, the decision and the finish of its order never give Register or Authenticate R2 for the reply buffer, and no body
 -- is longer than n." The line as a row of the data sheet, with the longest responses and the longest command beside it.
 use Rattle.std.specs.Prelude.{◌+◌, ◌-◌}
-use Rattle.datasheet_stated.specs.Words.{ℕ, ltb, when◌then◌else◌, Figures, Sheet, Row, TooShort, TooLong, RoomNeeded, Room, NoBuffer}
+use Rattle.datasheet_stated.specs.Words.{ℕ, ltb, when◌then◌else◌, Figures, Sheet, Ok, Err, TooShort, TooLong, RoomNeeded, Some, None}
 
 -- ours: the longest buffer with a row, 2^64 - 3: a response that takes all of it and two status bytes has a length of 64 bits
 abbrev pub longest_room : ℕ
@@ -23,10 +23,10 @@ figures_of n =
 
 abbrev pub sheet_of : ℕ → Sheet
 sheet_of n =
-    when ltb n 394 then TooShort  -- "n at least 394"
-    else when ltb longest_room n then TooLong
-    else Row (figures_of n)
+    when ltb n 394 then Err TooShort  -- "n at least 394"
+    else when ltb longest_room n then Err TooLong
+    else Ok (figures_of n)
 
 -- the least buffer for a certificate of c bytes
 abbrev pub needed_of : ℕ → RoomNeeded
-needed_of c = when ltb longest_room (c + 394) then NoBuffer else Room (c + 394)
+needed_of c = when ltb longest_room (c + 394) then None else Some (c + 394)

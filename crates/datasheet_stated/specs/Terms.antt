@@ -1,6 +1,6 @@
 -- Words that only the claims use: how a figure bounds what it is a figure of, and what comes of a buffer, a frame or a command.
 use Rattle.std.specs.Prelude.{◌≤◌, ◌≡◌, ◌↔◌}
-use Rattle.datasheet_stated.specs.Words.{ℕ, Bool, true, List, length, Outcome, R, Gives, AreBytes, Says, read_of, Command, RegisterExactly, AuthenticateExactly, VersionExactly, GetResponseExactly, RegisterFields, Order, Finishing, Ended, certificate_length, RegisterShaped, IsWhole, IsBlank, FrameRoom, Figures, Sheet, Row}
+use Rattle.datasheet_stated.specs.Words.{ℕ, Bool, true, List, length, Outcome, R, Gives, AreBytes, Says, read_of, Command, RegisterExactly, AuthenticateExactly, VersionExactly, GetResponseExactly, RegisterFields, Order, Finishing, Ended, certificate_length, RegisterShaped, IsWhole, IsBlank, FrameRoom, Figures, Sheet, Ok}
 
 -- ---- bounds
 -- `UpTo Fits m`: of the numbers just those up to m fit
@@ -81,5 +81,5 @@ pub record TakesCommands (command : List ℕ → Outcome Command) : Type 0 where
 -- a buffer of n bytes has a row, and a certificate of c bytes is within it
 pub record HasCertificate (row : ℕ → Sheet) (c n : ℕ) : Type 0 where
   pub figures : Figures
-  pub its_row : row n ≡ Row figures
+  pub its_row : row n ≡ Ok figures
   pub within : c ≤ figures.certificate

@@ -15,7 +15,14 @@ pub use Rattle.signing_stated.specs.Claims.{MakesRegister, RegisterRoomExactly, 
 pub use Rattle.session_stated.specs.Terms.{FrameRoom}
 pub use Rattle.session_stated.specs.Claims.{FrameRoomExactly}
 pub use Rattle.datasheet_stated.specs.declared.Figures.{Figures}
-pub use Rattle.datasheet_stated.specs.declared.Sheet.{Sheet}
-pub use Rattle.datasheet_stated.specs.declared.Sheet.TheVariants.{Row, TooShort, TooLong}
-pub use Rattle.datasheet_stated.specs.declared.RoomNeeded.{RoomNeeded}
-pub use Rattle.datasheet_stated.specs.declared.RoomNeeded.TheVariants.{Room, NoBuffer}
+pub use Rattle.datasheet_stated.specs.declared.NoSheet.{NoSheet}
+pub use Rattle.datasheet_stated.specs.declared.NoSheet.TheVariants.{TooShort, TooLong}
+pub use Rattle.std.specs.Prelude.{Option, None, Some, Result, Ok, Err}
+
+-- the row of a buffer: its figures, or why it has none
+abbrev pub Sheet : Type 0
+Sheet = Result Figures NoSheet
+
+-- the buffer that a certificate needs, by its length; `None` where there is none
+abbrev pub RoomNeeded : Type 0
+RoomNeeded = Option ℕ

@@ -1,13 +1,12 @@
 -- Wrong data sheets, one fault each. proofs/Refuted.antt shows the claim that is false of each.
 use Rattle.std.specs.Prelude.{◌+◌, ◌-◌}
-use Rattle.datasheet_stated.specs.Words.{ℕ, ltb, when◌then◌else◌, Figures, Sheet, Row, TooShort, TooLong, RoomNeeded, Room, NoBuffer}
+use Rattle.datasheet_stated.specs.Words.{ℕ, ltb, when◌then◌else◌, Figures, Sheet, Ok, Err, TooShort, TooLong, RoomNeeded, Some, None}
 use Rattle.datasheet_stated.specs.Sheet.{longest_room, figures_of, sheet_of}
 
 -- a sheet with other figures
 abbrev changed : (Figures → Figures) → Sheet → Sheet
-changed by TooShort = TooShort
-changed by TooLong = TooLong
-changed by (Row f) = Row (by f)
+changed by (Err why) = Err why
+changed by (Ok f) = Ok (by f)
 
 -- figures with one of them changed
 abbrev with_certificate : ℕ → Figures → Figures
@@ -28,11 +27,11 @@ with_command k f = record { room = f.room; certificate = f.certificate; handle =
 -- ---- which buffers have a row
 -- "n at least 394": here from 393 on
 abbrev pub from393 : ℕ → Sheet
-from393 n = when ltb n 393 then TooShort else when ltb longest_room n then TooLong else Row (figures_of n)
+from393 n = when ltb n 393 then Err TooShort else when ltb longest_room n then Err TooLong else Ok (figures_of n)
 
 -- a row for every longer buffer
 abbrev pub without_end : ℕ → Sheet
-without_end n = when ltb n 394 then TooShort else Row (figures_of n)
+without_end n = when ltb n 394 then Err TooShort else Ok (figures_of n)
 
 -- ---- the columns
 -- "at most n - 394 bytes": here n - 393, n - 395, and n - 322, which has no room for a signature
@@ -72,10 +71,10 @@ short_frames_only n = changed (with_command 261) (sheet_of n)
 
 -- ---- the buffer for a certificate
 abbrev pub needed_one_less : ℕ → RoomNeeded
-needed_one_less c = when ltb longest_room (c + 393) then NoBuffer else Room (c + 393)
+needed_one_less c = when ltb longest_room (c + 393) then None else Some (c + 393)
 
 abbrev pub needed_one_more : ℕ → RoomNeeded
-needed_one_more c = when ltb longest_room (c + 395) then NoBuffer else Room (c + 395)
+needed_one_more c = when ltb longest_room (c + 395) then None else Some (c + 395)
 
 abbrev pub needed_without_end : ℕ → RoomNeeded
-needed_without_end c = Room (c + 394)
+needed_without_end c = Some (c + 394)

@@ -18,17 +18,9 @@ pub struct Figures {
     pub command: u64,
 }
 
-// The row of a buffer: its figures; or none, where it is shorter than a Register may ask for, or a response to be as long as no number says.
+// Why a buffer has no row: it is shorter than a Register may ask for, or a response to be as long as no number says.
 #[derive(Clone, Copy)]
-pub enum Sheet {
-    Row(Figures),
+pub enum NoSheet {
     TooShort,
     TooLong,
-}
-
-// The buffer that a certificate needs, by its length, or that there is none.
-#[derive(Clone, Copy)]
-pub enum RoomNeeded {
-    Room(u64),
-    NoBuffer,
 }

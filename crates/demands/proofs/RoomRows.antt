@@ -12,7 +12,7 @@ use Rattle.command_stated.proofs.Laws.{RegisterExactly, AuthenticateExactly, Ver
 use Rattle.panel_stated.specs.declared.CommandSaid.{CommandSaid}
 use Rattle.panel_stated.specs.Exports.{ToDecide, command_numbers}
 use Rattle.datasheet_stated.specs.declared.Figures.{Figures}
-use Rattle.datasheet_stated.specs.declared.Sheet.TheVariants.{Row}
+use Rattle.std.specs.Prelude.{Ok}
 use Rattle.datasheet_stated.specs.Sheet.{sheet_of}
 use Rattle.datasheet_stated.specs.Terms.{TakesCommands}
 use Rattle.datasheet_stated.proofs.Laws.{row_is}
@@ -32,7 +32,7 @@ takes_commands : TakesCommands command_of
 takes_commands = record { register = RegisterExactly; authenticate = AuthenticateExactly; version = VersionExactly; get_response = GetResponseExactly }
 
 module _ (P : Panel) (M : Meets P) where
-  line : (n : ℕ) (f : Figures) (i : ToDecide) → sheet_of n ≡ Row f → FitsRow f i → Fits 394 f.room i
+  line : (n : ℕ) (f : Figures) (i : ToDecide) → sheet_of n ≡ Ok f → FitsRow f i → Fits 394 f.room i
   line n f i e fits =
       let w = row_is n f e in
       let certificate : f.certificate + 394 ≡ f.room = rw (← w.is) (omega (arith, w.low)) in

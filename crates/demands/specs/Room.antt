@@ -8,8 +8,8 @@ use Rattle.session_stated.specs.Held.{remainder_in, session_in}
 use Rattle.panel_stated.specs.declared.FrameSaid.{FrameSaid}
 use Rattle.panel_stated.specs.Exports.{ToDecide, ToFinish}
 use Rattle.datasheet_stated.specs.declared.Figures.{Figures}
-use Rattle.datasheet_stated.specs.declared.Sheet.{Sheet}
-use Rattle.datasheet_stated.specs.declared.Sheet.TheVariants.{Row}
+use Rattle.datasheet_stated.specs.Words.{Sheet}
+use Rattle.std.specs.Prelude.{Ok}
 use Rattle.datasheet_stated.specs.Sheet.{sheet_of}
 use Rattle.demands.specs.Panel.{Panel}
 use Rattle.demands.specs.Sessions.{first_part_of}
@@ -114,18 +114,18 @@ abbrev pub FitsRow : Figures → ToDecide → Type 0
 FitsRow f i = (length i.reply ≡ f.room) × (length i.certificate ≤ f.certificate) × (length i.new_handle ≤ f.handle)
 
 pub record RowsServe (row : ℕ → Sheet) (P : Panel) : Type 0 where
-  pub own : (n : ℕ) (f : Figures) → row n ≡ Row f → f.room ≡ n
+  pub own : (n : ℕ) (f : Figures) → row n ≡ Ok f → f.room ≡ n
   -- certificate and handle
-  pub register : (n : ℕ) (f : Figures) (i : ToDecide) → row n ≡ Row f → FitsRow f i → (P.read_command i.frame).command ≡ 1 → (P.decide i).said.answer ≡ 2 → ⊥
-  pub authenticate : (n : ℕ) (f : Figures) (i : ToDecide) → row n ≡ Row f → FitsRow f i → (P.read_command i.frame).command ≡ 2 → (P.decide i).said.answer ≡ 2 → ⊥
+  pub register : (n : ℕ) (f : Figures) (i : ToDecide) → row n ≡ Ok f → FitsRow f i → (P.read_command i.frame).command ≡ 1 → (P.decide i).said.answer ≡ 2 → ⊥
+  pub authenticate : (n : ℕ) (f : Figures) (i : ToDecide) → row n ≡ Ok f → FitsRow f i → (P.read_command i.frame).command ≡ 2 → (P.decide i).said.answer ≡ 2 → ⊥
   -- the longest body
-  pub body : (n : ℕ) (f : Figures) (i : ToDecide) (g : ToFinish) → row n ≡ Row f → FitsRow f i → FinishesIn P f.room i g → (P.finish g).said.length ≤ f.body
+  pub body : (n : ℕ) (f : Figures) (i : ToDecide) (g : ToFinish) → row n ≡ Ok f → FitsRow f i → FinishesIn P f.room i g → (P.finish g).said.length ≤ f.body
   -- part and status, any frame and short frames
-  pub extended : (n : ℕ) (f : Figures) (limit m : ℕ) → row n ≡ Row f → m ≤ f.body → GoesIn f.extended limit m
-  pub short : (n : ℕ) (f : Figures) (frame : List ℕ) (m : ℕ) → row n ≡ Row f → AreBytes frame → (P.read frame).answer ≡ 0x9000 → (P.read frame).shape ≤ 4
+  pub extended : (n : ℕ) (f : Figures) (limit m : ℕ) → row n ≡ Ok f → m ≤ f.body → GoesIn f.extended limit m
+  pub short : (n : ℕ) (f : Figures) (frame : List ℕ) (m : ℕ) → row n ≡ Ok f → AreBytes frame → (P.read frame).answer ≡ 0x9000 → (P.read frame).shape ≤ 4
       → GoesIn f.short (takes (P.read frame)) m
   -- the longest command
-  pub command : (n : ℕ) (f : Figures) (frame : List ℕ) → row n ≡ Row f → AreBytes frame → (P.read_command frame).answer ≡ 0x9000 → length frame ≤ f.command
+  pub command : (n : ℕ) (f : Figures) (frame : List ℕ) → row n ≡ Ok f → AreBytes frame → (P.read_command frame).answer ≡ 0x9000 → length frame ≤ f.command
 
 -- ---- all of it
 pub record DataSheet (P : Panel) : Type 0 where

@@ -25,8 +25,8 @@ use Rattle.panel_stated.specs.declared.Asked.{Asked}
 use Rattle.panel_stated.specs.Numbers.{presence_numbers, session_numbers}
 use Rattle.panel_stated.specs.Exports.{ToWrite, ToDecide, ToFinish, AfterMaking, AfterStep, AfterDeciding, AfterWriting, AfterPart, makes_of, step_numbers, touches_of, checks_of, asks_of, decides_of, finish_numbered, length_numbers, reads_of, writes_of, command_numbers, responds_of, response_numbers, nexts_of, rooms_of}
 use Rattle.panel_stated.specs.Wrong as Exports
-use Rattle.datasheet_stated.specs.declared.Sheet.{Sheet}
-use Rattle.datasheet_stated.specs.declared.Sheet.TheVariants.{Row}
+use Rattle.datasheet_stated.specs.Words.{Sheet}
+use Rattle.std.specs.Prelude.{Ok}
 use Rattle.datasheet_stated.specs.Sheet.{figures_of, sheet_of}
 use Rattle.demands.specs.Panel.{Panel}
 
@@ -387,7 +387,7 @@ reads_shape4 =
 
 -- ---- rows of the data sheet: for every buffer, however short; and of a buffer that is one byte longer
 abbrev pub row_for_any : ℕ → Sheet
-row_for_any n = Row (figures_of n)
+row_for_any n = Ok (figures_of n)
 
 abbrev pub row_of_another : ℕ → Sheet
 row_of_another n = sheet_of (n + 1)

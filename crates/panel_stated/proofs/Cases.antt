@@ -3,8 +3,7 @@ use Prim.Native.Nat.{ℕ, ◌+◌, ◌<◌, ◌^◌}
 use mathlib.Core.Path.{◌≡◌, refl, ap, ap₂, sym, ◌∙◌}
 use mathlib.Core.List.{List}
 use borrow.Author.Tests.{ne_eqb, not-true, not-false}
-use lib.ListN.{length, get_or, set}
-use lib.Seq.{lt-length-set}
+use lib.ListN.{length, get_or}
 use Rattle.outcome.specs.Notation.{when◌then◌else◌}
 use Rattle.outcome.proofs.Laws.{r_gives}
 use Rattle.outcome.specs.Outcome.{Outcome, R, Word, Gives, status_no, fault_of, word_of, refusal_no, no_fault}
@@ -27,21 +26,19 @@ use Rattle.command_stated.specs.Command.{Register, Authenticate, flags_no, handl
 use Rattle.command_stated.specs.declared.Ctap1Flags.{Ctap1Flags}
 use Rattle.panel_stated.specs.Words.{FrameSaid, CommandSaid, Wrote, Shaped, Asked, OrderNumbers, DecisionSaid, ResponseSaid, RoomSaid, Kinded, Session, presence_in, remainder_in, session_in, session_after}
 use Rattle.panel_stated.specs.Numbers.{answer_no, shape_of, is_yes, kind_of, no_order}
-use Rattle.panel_stated.specs.Exports.{frame_numbers, length_numbers, ToWrite, strict_as, write_as, write_numbered, buffer_as, bare_command, command_numbers, made_over, asked_numbers, head_after, decided_numbers, response_numbers, sent_numbers, sent_over, room_numbers, ToFinish, order_from, finish_numbered}
+use Rattle.panel_stated.specs.Exports.{frame_numbers, length_numbers, ToWrite, strict_as, write_as, write_numbered, buffer_as, bare_command, command_numbers, made_over, asked_numbers, head_after, decided_numbers, sent_numbers, sent_over, ToFinish, order_from, finish_numbered}
 use Rattle.std.specs.Prelude.{Some, None}
 use mathlib.Core.Bool.{true, false, not, Bool}
-use Rattle.u2f_up_stated.specs.Moments.{Told, is_r6, fresh, moved_to, new_of, settle_of, checked_of, granted_of, on_settled, gave, touch_of, check_of, ask_of}
+use Rattle.u2f_up_stated.specs.Moments.{Told, is_r6, fresh, moved_to, new_of, settle_of, checked_of, granted_of, on_settled, gave, touch_of, check_of}
 use Rattle.u2f_up_stated.specs.Numbers.{checked_in, granted_in}
-use Rattle.u2f_up_stated.specs.Answers.{ready_of, outcome_of}
-use Rattle.u2f_up_stated.specs.Words.{Answer}
+use Rattle.u2f_up_stated.specs.Answers.{ready_of}
 use Rattle.std.specs.Prelude.{Ok, Err}
 use Rattle.u2f_up_stated.specs.Words.{Ready}
 use Rattle.u2f_up_stated.specs.declared.Presence.{Presence}
-use Rattle.u2f_up_stated.proofs.Laws.{settles_moved, checked_below, granted_below, five_set}
+use Rattle.u2f_up_stated.proofs.Laws.{settles_moved, checked_below, granted_below}
 use Rattle.signing_stated.specs.Orders.{kind_no}
 use Rattle.signing_stated.specs.Finishing.{Finishing, finished_of, length_of, reply_of}
 use Rattle.signing_stated.specs.Words.{Finished}
-use Rattle.outcome.specs.declared.NotDone.TheVariants as NotDone'
 use Rattle.signing_stated.specs.declared.Kind.{Kind}
 use Rattle.signing_stated.specs.declared.Kind.TheVariants as Kind'
 use Rattle.signing_stated.specs.declared.Head.{Head}
@@ -54,15 +51,12 @@ use Rattle.ctap1_stated.specs.declared.DecisionAnswer.TheVariants as DecisionAns
 use Rattle.ctap1_stated.proofs.Laws.{leaves}
 use Rattle.apdu_stated.specs.Reading.{read_of}
 use Rattle.apdu_stated.proofs.Laws.{strict_out, strict_out_kept, strict_same, strict_same_buffer}
-use Rattle.response_stated.specs.Words.{rest, response_read, response_written, part_sent, room_said}
+use Rattle.response_stated.specs.Words.{rest, response_written, part_sent}
 use Rattle.response_stated.specs.declared.Sent.{Sent}
-use Rattle.response_stated.specs.declared.Response.{Response}
 use Rattle.response_stated.specs.Terms.{sending_of}
 use Rattle.response_stated.specs.declared.Remainder.{Remainder}
-use Rattle.response_stated.specs.Words.{ReadResponse}
 use Rattle.response_stated.specs.Words.{WroteResponse}
 use Rattle.response_stated.specs.Words.{NextPart}
-use Rattle.response_stated.specs.Words.{ResponseRoom}
 
 -- ---- a definition over an outcome, at the outcome that the call's contract names
 pub through : {A B : Type 0} (f : A → B) (x y : A) (r : B) → x ≡ y → r ≡ f x → r ≡ f y
@@ -169,21 +163,6 @@ module _ (header : ApduHeader) (shape : ℕ) (content : List ℕ) (le : ℕ) (ol
 pub refused_asked : (why : Refusal) (n : ℕ) → n ≡ refusal_no why → ◌≡◌ {A = Asked} (record { answer = n; yes = false }) (asked_numbers (R (refusal_no why)))
 refused_asked why n is = rw is
 
-module _ (answer : Answer) (r : Asked) where
-  pub asked_refused : (why : Refusal) → answer ≡ Err why → r ≡ asked_numbers (R (refusal_no why)) → r ≡ asked_numbers (outcome_of answer)
-  asked_refused why z is = is ∙ rw z
-
-  pub asked_found : (found : Bool) → answer ≡ Ok found → r ≡ asked_numbers (Gives found) → r ≡ asked_numbers (outcome_of answer)
-  asked_found found z is = is ∙ rw z
-
--- a record that is made
-pub fresh_is : (s : List ℕ) (w : ℕ) → 4 < length s → presence_in (set (set (set (set (set s 0 w) 1 0) 2 0) 3 0) 4 0) ≡ fresh w
-fresh_is s w long = five_set s w 0 0 0 0 long
-
-pub four_written : (s : List ℕ) (w : ℕ) → 4 < length s → 4 < length (set (set (set (set s 0 w) 1 0) 2 0) 3 0)
-four_written s w long =
-    lt-length-set (set (set (set s 0 w) 1 0) 2 0) 3 0 (lt-length-set (set (set s 0 w) 1 0) 2 0 (lt-length-set (set s 0 w) 1 0 (lt-length-set s 0 w long)))
-
 module _ (w : ℕ) (made : Ready) (is_made : ready_of made ≡ new_of w) where
   made_at : (d : Ready) → made ≡ d → ready_of d ≡ new_of w
   made_at d z = ap ready_of (sym z) ∙ is_made
@@ -270,9 +249,6 @@ module _ (n : List ℕ) (held : Presence) (is_held_lem : held ≡ presence_in n)
 
   pub touch_moved : (q after : Presence) → ready ≡ Ok q → after ≡ (granted_in (moved_to (presence_in n) t) t).presence → after ≡ (touch_of (presence_in n) t).presence
   touch_moved q after z is = is ∙ ap (λ (x : Told). x.presence) (touches_found q z)
-
-pub ask_at : (n : List ℕ) (held : Presence) (t : ℕ) (a : Answer) (r : Asked) → held ≡ presence_in n → r ≡ asked_numbers (outcome_of a) → outcome_of a ≡ (ask_of held t).outcome → r ≡ asked_numbers (ask_of (presence_in n) t).outcome
-ask_at n held t a r is_held_lem is e = is ∙ ap asked_numbers e ∙ ap (λ (p : Presence). asked_numbers (ask_of p t).outcome) is_held_lem
 
 -- ---- numbers that stand for cases
 -- a kind's number is that kind
@@ -372,31 +348,6 @@ module _ (answer : DecisionAnswer) (top : Head) (used : Bool) (q : Presence) (bl
       pub goes_part : (n : ℕ) (left : Remainder) → answer ≡ DecisionAnswer'.Part n left → s ≡ record { remainder = left; limit = limit } → GoesOn s
       goes_part n left z e = goes (DecisionAnswer'.Part n left) s z (limited _ e)
 
--- ---- responses and parts
-module _ (read : ReadResponse) where
-  pub response_refused : (why : Refusal) (n : ℕ) → read ≡ Err why → n ≡ refusal_no why → ◌≡◌ {A = ResponseSaid} (record { answer = n; status = 0; length = 0 }) (response_numbers (response_read read))
-  response_refused why n z is = rw (is, z)
-
-  pub response_read_lem : (r : Response) → read ≡ Ok r → ◌≡◌ {A = ResponseSaid} (record { answer = 0x9000; status = r.status; length = r.length }) (response_numbers (response_read read))
-  response_read_lem r z = rw z
-
-module _ (written : WroteResponse) where
-  pub response_unwritten : (why : Refusal) (n : ℕ) → written ≡ Err why → n ≡ refusal_no why → ◌≡◌ {A = Wrote} (record { answer = n; length = 0 }) (length_numbers (response_written written))
-  response_unwritten why n z is = rw (is, z)
-
-  pub response_wrote : (long : ℕ) → written ≡ Ok long → ◌≡◌ {A = Wrote} (record { answer = 0x9000; length = long }) (length_numbers (response_written written))
-  response_wrote long z = rw z
-
-pub refused_part : (why : Refusal) (n : ℕ) → n ≡ refusal_no why → ◌≡◌ {A = Wrote} (record { answer = n; length = 0 }) (record { answer = refusal_no why; length = 0 })
-refused_part why n is = rw is
-
-module _ (room : ResponseRoom) where
-  pub room_refused : (why : Refusal) (n : ℕ) → room ≡ Err why → n ≡ refusal_no why → ◌≡◌ {A = RoomSaid} (record { answer = n; length = 0 }) (room_numbers (room_said room))
-  room_refused why n z is = rw (is, z)
-
-  pub room_bytes : (n : ℕ) → room ≡ Ok n → ◌≡◌ {A = RoomSaid} (record { answer = 0x9000; length = n }) (room_numbers (room_said room))
-  room_bytes n z = rw z
-
 -- the next part of what the session says remains
 module _ (session body old : List ℕ) (k : Remainder) (limit : ℕ) (is_k : k ≡ remainder_in session) (is_limit : limit ≡ get_or session 2 0) (next : NextPart) (is_next : part_sent next ≡ (sending_of body k limit old).0) where
   sends : part_sent next ≡ (sending_of body (remainder_in session) (get_or session 2 0) old).0
@@ -421,16 +372,6 @@ module _ (session body old : List ℕ) (k : Remainder) (limit : ℕ) (is_k : k �
   next_laid new e = e ∙ ap₂ (λ (r : Remainder) (n : ℕ). (sending_of body r n old).1) is_k is_limit
 
 -- ---- finishing
-module _ (finished : Finished) where
-  pub finished_refused : (why : Refusal) (n : ℕ) → finished ≡ Err (NotDone'.Refused why) → n ≡ refusal_no why → ◌≡◌ {A = Wrote} (record { answer = n; length = 0 }) (length_numbers (finished_of finished))
-  finished_refused why n z is = rw (is, z)
-
-  pub finished_status : (s : ApduStatusCode) (n : ℕ) → finished ≡ Err (NotDone'.Status s) → n ≡ status_no s → ◌≡◌ {A = Wrote} (record { answer = n; length = 0 }) (length_numbers (finished_of finished))
-  finished_status s n z is = rw (is, z)
-
-  pub finished_body : (n : ℕ) → finished ≡ Ok n → ◌≡◌ {A = Wrote} (record { answer = 0x9000; length = n }) (length_numbers (finished_of finished))
-  finished_body n z = rw z
-
 -- the order as numbers, and what signing's finishing is then lent
 abbrev to_finish : (n : OrderNumbers) (block certificate : List ℕ) (signed : ℕ) (signature reply : List ℕ) → ToFinish
 to_finish n block certificate signed signature reply =
@@ -447,10 +388,3 @@ module _ (n : OrderNumbers) (block certificate : List ℕ) (signed : ℕ) (signa
 
     pub reply_as : new ≡ reply_of (finish_numbered (to_finish n block certificate signed signature reply)) reply
     reply_as = does.leaves ∙ rw (← is_kinded, z)
-
-  module _ (z : kinded ≡ None) where
-    pub finish_none : ◌≡◌ {A = Wrote} (record { answer = 7; length = 0 }) (length_numbers (length_of (finish_numbered (to_finish n block certificate signed signature reply))))
-    finish_none = rw (← is_kinded, z)
-
-    pub reply_none : reply ≡ reply_of (finish_numbered (to_finish n block certificate signed signature reply)) reply
-    reply_none = rw (← is_kinded, z)

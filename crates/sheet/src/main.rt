@@ -8,7 +8,6 @@ mod lines;
 mod refusal;
 mod table;
 
-use datasheet::{Figures, RoomNeeded, Sheet};
 use refusal::Refusal;
 use std::rt::Env;
 
@@ -48,29 +47,14 @@ fn asked(rt: &impl Env) -> Option<Wanted> {
     Some(Wanted::Certificate(length(rt, 2)?))
 }
 
-fn figures(room: u64) -> Result<Figures, Refusal> {
-    match datasheet::row(room) {
-        Sheet::Row(figures) => Ok(figures),
-        Sheet::TooShort => Err(Refusal::TooShort),
-        Sheet::TooLong => Err(Refusal::TooLong),
-    }
-}
-
-fn needed(certificate: u64) -> Result<u64, Refusal> {
-    match datasheet::needed(certificate) {
-        RoomNeeded::Room(room) => Ok(room),
-        RoomNeeded::NoBuffer => Err(Refusal::NoBuffer),
-    }
-}
-
 fn answer(rt: &(impl Print + Env)) -> Result<(), Refusal> {
     match asked(rt).ok_or(Refusal::NotAskedSo)? {
         Wanted::Table => table::print(rt)?,
-        Wanted::Buffer(room) => lines::print(rt, figures(room)?)?,
+        Wanted::Buffer(room) => lines::print(rt, datasheet::row(room)?)?,
         Wanted::Certificate(certificate) => {
-            let room = needed(certificate)?;
+            let room = datasheet::needed(certificate).ok_or(Refusal::NoBuffer)?;
             lines::print_needed(rt, certificate, room)?;
-            lines::print(rt, figures(room)?)?;
+            lines::print(rt, datasheet::row(room)?)?;
         }
     }
     Ok(())

@@ -1,5 +1,6 @@
 // Why there are no figures, or not all of them, as standard error has it. The bounds in these sentences are written out, and .ci/sheet holds them
 // to where the two functions of crate datasheet answer so.
+use datasheet::NoSheet;
 use std::{fmt, io};
 
 #[derive(Clone, Copy)]
@@ -14,6 +15,15 @@ pub enum Refusal {
 impl From<io::Error> for Refusal {
     fn from(_error: io::Error) -> Refusal {
         Refusal::Unwritten
+    }
+}
+
+impl From<NoSheet> for Refusal {
+    fn from(why: NoSheet) -> Refusal {
+        match why {
+            NoSheet::TooShort => Refusal::TooShort,
+            NoSheet::TooLong => Refusal::TooLong,
+        }
     }
 }
 

@@ -1,6 +1,6 @@
 // The data sheet's table: a row for each of six buffers, the shortest and the longest that have one among them.
 use crate::grouped::in_order;
-use datasheet::{Figures, Sheet};
+use datasheet::{Figures, NoSheet};
 use std::io;
 
 const BUFFERS: [u64; 6] = [394, 512, 1024, 2048, 65535, 0xffff_ffff_ffff_fffd];
@@ -14,9 +14,9 @@ fn print_figures(out: &impl Print, figures: Figures) -> io::Result<()> {
 
 fn print_row(out: &impl Print, room: u64) -> io::Result<()> {
     match datasheet::row(room) {
-        Sheet::Row(figures) => print_figures(out, figures),
-        Sheet::TooShort => println!(out; "| too short |"),
-        Sheet::TooLong => println!(out; "| too long |"),
+        Ok(figures) => print_figures(out, figures),
+        Err(NoSheet::TooShort) => println!(out; "| too short |"),
+        Err(NoSheet::TooLong) => println!(out; "| too long |"),
     }
 }
 
