@@ -6,8 +6,8 @@ mod call;
 mod lent;
 
 use call::Call;
-use std::io;
 use outcome::Refusal;
+use std::io;
 use u2f_up::{Presence, Window};
 
 fn print_window(out: &impl Print, window: Window) -> io::Result<()> {
