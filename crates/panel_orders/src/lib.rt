@@ -101,6 +101,8 @@ pub fn order_numbers(order: Head, taken: bool) -> DecisionSaid
     numbers(ORDER, outcome::no_fault(), 0, said, taken)
 }
 
+// Its error may be a status word too, as no other writer's here: one function for both errors would want a trait of theirs, and be no
+// plainer.
 pub fn finished_plain(finished: Result<usize, NotDone>) -> Wrote
     ensures { FinishedPlain finished result }
 {

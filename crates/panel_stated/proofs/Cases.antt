@@ -13,7 +13,6 @@ use Rattle.outcome.specs.declared.Refusal.{Refusal}
 use Rattle.apdu_stated.specs.Words.{shape_no}
 use Rattle.apdu_stated.specs.Answers.{says_of, written_of, Written}
 use Rattle.apdu_stated.specs.Reading.{place_of}
-use Rattle.apdu_stated.specs.Table.{in_row}
 use Rattle.apdu_stated.specs.declared.Entry.{Entry}
 use Rattle.apdu_stated.specs.declared.Entry.TheVariants.{Ordinary, Strict}
 use Rattle.apdu_stated.specs.Writing.{parts_of, write_by, buffer_by}
@@ -128,13 +127,6 @@ module _ (entry : Entry) (header : ApduHeader) (shape : ℕ) (content : List ℕ
     buffer_as_none = rw (← is_shaped, z)
 
 -- the strict writer: a number whose row the strict table has not decides, else the writer
-module _ (number count : ℕ) (shaped : Shaped) (is_shaped : shaped ≡ shape_of number) where
-  pub strict_as_lem : (s : Case) (b : Bool) → shaped ≡ Some s → b ≡ in_row Strict s count → b ≡ strict_as (shape_of number) count
-  strict_as_lem s b z e = e ∙ rw (← is_shaped, z)
-
-  pub strict_as_none : shaped ≡ None → false ≡ strict_as (shape_of number) count
-  strict_as_none z = rw (← is_shaped, z)
-
 module _ (w : ToWrite) where
   strict_refused : (t : Shaped) → strict_as t (length w.content) ≡ false → (R 5 ≡ write_as Strict t w) × (w.out ≡ buffer_as Strict t w)
   strict_refused (Some s) e = let parts = parts_of w.header s w.content w.le in (strict_out parts e (length w.out), strict_out_kept parts e w.out)
@@ -261,32 +253,7 @@ pub no_kind : (number : ℕ) → (number ≡ 1 → ⊥) → (number ≡ 2 → �
 unfolding kind_of
 no_kind number a b = rw (ne_eqb number 1 a, ne_eqb number 2 b)
 
--- ---- the decision: its numbers, by its answer, as the code puts them together
-module _ (taken : Bool) (r : DecisionSaid) (fault : FaultNumbers) (order : OrderNumbers) where
-  abbrev Put : ℕ → ℕ → Type 0
-  Put answer long = r ≡ record { answer = answer; fault = fault.kind; taken = taken; length = long; order = order; place = fault.place }
-
-  module _ (is_fault : fault ≡ no_fault) where
-    pub refused_put : (why : Refusal) (n : ℕ) → n ≡ refusal_no why → order ≡ no_order → Put n 0 → r ≡ decided_numbers (R (refusal_no why)) no_order taken
-    refused_put why n is none put = put ∙ rw (is, none, is_fault)
-
-    pub body_put : (long : ℕ) → order ≡ no_order → Put 0x9000 long → r ≡ decided_numbers (Gives (Body long)) no_order taken
-    body_put long none put = put ∙ rw (none, is_fault)
-
-    pub part_put : (long : ℕ) (left : Remainder) → order ≡ no_order → Put 0x0200 long → r ≡ decided_numbers (Gives (Part long left)) no_order taken
-    part_put long left none put = put ∙ rw (none, is_fault)
-
-    pub order_put : (head : Head) → order ≡ head_after (Gives Ordered) head → Put 0x0100 0 → r ≡ decided_numbers (Gives Ordered) (head_after (Gives Ordered) head) taken
-    order_put head is put = put ∙ rw (is, is_fault)
-
-pub status_put : (taken : Bool) (r : DecisionSaid) (number kind place : ℕ) (order : OrderNumbers) → order ≡ no_order
-    → r ≡ record { answer = number; fault = kind; taken = taken; length = 0; order = order; place = place } → r ≡ decided_numbers (Word (record { number = number; kind = kind; place = place })) no_order taken
-status_put taken r number kind place order none put = put ∙ rw none
-
-pub head_put : (head : Head) (kind : ℕ) → kind ≡ kind_no head.kind
-    → ◌≡◌ {A = OrderNumbers} (record { kind = kind; to_sign = head.to_sign; certificate_length = head.certificate_length }) (head_after (Gives Ordered) head)
-head_put head kind is = rw is
-
+-- ---- the decision
 -- the session's decision, with the record and the block beside it, is the decision on what is lent: what is said of it by its answer, and what the session goes on with
 module _ (answer : DecisionAnswer) (top : Head) (used : Bool) (q : Presence) (block : List ℕ) (a : Outcome DecisionGives) (p : Presence) (h : Head) (u : Bool) (b : List ℕ)
     (is : leaves (decision_answer_of answer) top used q block ≡ leaves a h u p b) where
