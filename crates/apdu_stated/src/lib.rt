@@ -47,6 +47,7 @@ pub enum Entry {
 
 // What the bytes after the header say: shape, Lc and Le; or too few bytes; or too many, from a place on that is counted from the
 // frame's start. Lc is as wide as a length: all of it in one word would be packed and taken apart again by every reading.
+// No Result: the definitions of specs/Reading.antt are written with these three cases, and an error of two would stand in each of them.
 #[derive(Clone, Copy)]
 pub enum Lengths {
     Found(Case, usize, u32),

@@ -8,7 +8,7 @@ use signing_stated::Head;
 
 // The hardware's answers as the panel hands them in. allowed: 0 no, 1 yes, else failed. attestation: 0 missing, 1 present, else failed.
 // stored (the new handle) and good (the given one): 1 yes, else no. The counter is offered where `counted` is 1, else its reading
-// failed. An answer that the path does not reach is not looked at.
+// failed. An answer that the path does not reach is not looked at. Numbers: the C interface has them.
 #[repr(C)]
 #[derive(Clone, Copy)]
 pub struct HardwareSaid {
@@ -64,7 +64,8 @@ pub struct NewKey<'a> {
 }
 
 // What a decision is answered with. A status word is its number, and the kind and place of a 6700: numbers, so that it is told where it is found. A part is GET
-// RESPONSE's: its response's length, and what remains after it.
+// RESPONSE's: its response's length, and what remains after it. No Result, and the numbers stay: SaidExactly says both ways which case has which number and pair, of any
+// three numbers, and DecidedOneToOne that the answer alone, without an order, tells the cases apart.
 #[derive(Clone, Copy)]
 pub enum DecisionAnswer {
     Refused(Refusal),
@@ -74,7 +75,8 @@ pub enum DecisionAnswer {
     Part(usize, Remainder),
 }
 
-// The answer, the order's head (blank where the answer is none; its block is in the lent one), and whether the counter was taken.
+// The answer, the order's head (blank where the answer is none; its block is in the lent one), and whether the counter was taken. Beside the answer, and not in its
+// case: ContractsAsClaimed (HandsNoOrder) says of both what they are where nothing is ordered.
 #[derive(Clone, Copy)]
 pub struct Decision {
     pub answer: DecisionAnswer,

@@ -85,7 +85,7 @@ pub fn status_number(status: ApduStatusCode) -> u16
     }
 }
 
-// A fault as two numbers, its kind and its place: 0 and 0 where there is none.
+// A fault as two numbers, its kind and its place: 0 and 0 where there is none, and no Option: the C interface has both in every answer.
 #[derive(Clone, Copy)]
 pub struct FaultNumbers {
     pub kind: u16,

@@ -9,7 +9,7 @@ pub enum Kind {
 }
 
 // An order beside its block, which stands in the caller's memory: its kind, the number of bytes to sign, and the certificate
-// length. In specs/ an order holds its block.
+// length. In specs/ an order holds its block. The length stands beside the block: the C interface has an order so, in fixed memory.
 #[derive(Clone, Copy)]
 pub struct Head {
     pub kind: Kind,
