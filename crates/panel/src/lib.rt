@@ -10,7 +10,7 @@ ghost use Rattle.panel_stated.specs.Promises.{BrinecandleRead, BrinecandleReadSt
 
 use apdu::Reading;
 use apdu_table::TableReading;
-use ctap1_stated::{Call, DecisionAnswer, NewKey};
+use ctap1_stated::{Call, DecisionAnswer, HardwareSaid, NewKey};
 use panel_stated::{
     Asked, CommandSaid, DecisionSaid, FrameSaid, Kinded, OrderNumbers, ResponseSaid, RoomSaid,
     Wrote,
@@ -205,7 +205,7 @@ pub extern "C" fn brinecandle_decide(
     frame: &[u8],
     side: u64,
     t: u64,
-    hardware: &[u32; 6],
+    hardware: &HardwareSaid,
     handle: &[u8],
     certificate: &[u8],
     x: &[u8; 32],

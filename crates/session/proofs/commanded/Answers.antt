@@ -16,7 +16,7 @@ pub returns-in-Register : goal.returns-in-Register
 returns-in-Register c =
     let a = c.args in
     let is_c = OuterChecks.command_is a.call.frame.now a.reading c.requires.0 c.on_reading-read.result c.on_reading-read.ensures in (
-      search (rules, OuterChecks.on_register, is_c, c.in-Register.is, c.hardware_lent.ensures),
+      search (rules, OuterChecks.on_register, is_c, c.in-Register.is),
       search (rules, OuterChecks.register_kept, is_c, c.in-Register.is),
       search (rules, OuterChecks.register_part, is_c, c.in-Register.is),
     )
@@ -25,7 +25,7 @@ pub returns-in-Authenticate : goal.returns-in-Authenticate
 returns-in-Authenticate c =
     let a = c.args in
     let is_c = OuterChecks.command_is a.call.frame.now a.reading c.requires.0 c.on_reading-read.result c.on_reading-read.ensures in (
-      search (rules, OuterChecks.on_authenticate, is_c, c.in-Authenticate.is, c.hardware_lent-in-Authenticate.ensures),
+      search (rules, OuterChecks.on_authenticate, is_c, c.in-Authenticate.is),
       search (rules, OuterChecks.authenticate_kept, is_c, c.in-Authenticate.is),
       search (rules, OuterChecks.authenticate_part, is_c, c.in-Authenticate.is),
     )
