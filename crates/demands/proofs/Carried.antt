@@ -24,7 +24,7 @@ use Rattle.ctap1_stated.specs.Words.{Inputs, inputs_from, enrolment_of}
 use Rattle.ctap1_stated.specs.Numbers.{hardware_of}
 use Rattle.std.specs.Prelude.{Some, None}
 use Rattle.ctap1_stated.proofs.Laws.{enrolment_in, login_in, MadeOf, of_enrolment, of_login, made_of}
-use Rattle.session_stated.specs.Held.{hardware_in, remainder_in}
+use Rattle.session_stated.specs.Held.{remainder_in}
 use Rattle.session_stated.specs.Promises.{inputs_in}
 use Rattle.panel_stated.specs.declared.CommandSaid.{CommandSaid}
 use Rattle.panel_stated.specs.declared.OrderNumbers.{OrderNumbers}
@@ -48,7 +48,7 @@ offered false n m e = let z : ◌≡◌ {A = ℕ} 0 1 = cc in absurd (omega arit
 -- what a decision is lent, with this frame to be decided; `inputs_in i` is that with its own
 abbrev deciding : (frame : List ℕ) → ToDecide → Inputs
 deciding frame i =
-    inputs_from i.side frame (hardware_of (hardware_in i.hardware)) (enrolment_of i.new_handle i.certificate i.x i.y) (length i.reply) (remainder_in i.session) (length i.part)
+    inputs_from i.side frame (hardware_of i.hardware) (enrolment_of i.new_handle i.certificate i.x i.y) (length i.reply) (remainder_in i.session) (length i.part)
 
 module _ (P : Panel) (M : Meets P) where
   -- a command's application and challenge, by the places that are said of it
@@ -79,7 +79,7 @@ module _ (P : Panel) (M : Meets P) where
       let within = CutAtPlaces.authenticate_within frame p1 said c in
       let (a, d) = parts frame said (ap (λ (r : CommandSaid). r.application) r) (ap (λ (r : CommandSaid). r.challenge) r) (omega (arith, within.2, within.3, within.4)) in
       let present = ap (λ (r : CommandSaid). eqb r.p1 0x03) r in
-      let h = hardware_in i.hardware in
+      let h = i.hardware in
       let number = offered (eqb h.counted 1) h.counter n counter in
       rw e (logs (login_in (deciding frame i) said p1 n) lengths (λ j. record { application = a j; challenge = d j; present = present j; counter = number j }) is)
 
@@ -118,7 +118,7 @@ module _ (P : Panel) (M : Meets P) where
   is_enrolment {s = s} _ k (enrols f c m e is) = subst (λ (g : RegisterFields). IsEnrolment g s) (sym e) (subst (IsEnrolment f) (sym is) ((Signing.SignsFido).registration f c m))
   is_enrolment _ k (logs p n d are) = absurd (omega arith)
 
-  is_login : {f : List ℕ} {i : ToDecide} {s : List ℕ} (k : ℕ) → k ≡ 2 → (hardware_in i.hardware).counter < 0x100000000 → Signs f i s k → IsLogin (login P f i) s
+  is_login : {f : List ℕ} {i : ToDecide} {s : List ℕ} (k : ℕ) → k ≡ 2 → i.hardware.counter < 0x100000000 → Signs f i s k → IsLogin (login P f i) s
   is_login {s = s} _ k low (logs p m e is) =
       let small : p.counter < 0x100000000 = omega (arith, low, ap (λ (q : AuthenticateParts). q.counter) e) in
       subst (λ (q : AuthenticateParts). IsLogin q s) (sym e) (subst (IsLogin p) (sym is) ((Signing.SignsFido).authentication p m small))

@@ -22,7 +22,6 @@ use Rattle.panel_stated.specs.declared.CommandSaid.{CommandSaid}
 use Rattle.panel_stated.specs.Terms.{IsNumbered}
 use Rattle.panel_stated.specs.Exports.{command_numbers}
 use Rattle.panel_stated.proofs.Outcomes as Outcomes
-use Rattle.session_stated.specs.Held.{hardware_in}
 use Rattle.session_stated.specs.Promises.{inputs_in}
 use Rattle.panel_stated.specs.Exports.{ToDecide}
 use Rattle.demands.specs.Panel.{Panel, Meets}
@@ -128,14 +127,14 @@ module _ (P : Panel) (M : Meets P) (i : ToDecide) where
   reached =
       let a = inputs_in i in
       let on = goes i.side (path_of a) in
-      let allowed = by_allowed (hardware_in i.hardware).allowed a in
+      let allowed = by_allowed i.hardware.allowed a in
       let command = by_command a (command_of i.frame) (Outcomes.command_said i.frame) in (
         λ e.
             let x = allowed.0 (on.0 e) in
             let y = command.0 x.1 in
-            (x.0, rw (M.read_command i.frame) y.0, rw (M.read_command i.frame) (⊎_elim (λ z. inl z) (λ z. inr (z.0, z.1, eqb-true (hardware_in i.hardware).good 1 z.2, z.3)) y.1)),
+            (x.0, rw (M.read_command i.frame) y.0, rw (M.read_command i.frame) (⊎_elim (λ z. inl z) (λ z. inr (z.0, z.1, eqb-true i.hardware.good 1 z.2, z.3)) y.1)),
         λ r.
             let y = rw (M.read_command i.frame) at r.1 in
             let z = rw (M.read_command i.frame) at r.2 in
-            on.1 (allowed.1 (r.0, command.1 (y, ⊎_elim (λ z. inl z) (λ z. inr (z.0, z.1, eq-eqb (hardware_in i.hardware).good 1 z.2, z.3)) z))),
+            on.1 (allowed.1 (r.0, command.1 (y, ⊎_elim (λ z. inl z) (λ z. inr (z.0, z.1, eq-eqb i.hardware.good 1 z.2, z.3)) z))),
       )

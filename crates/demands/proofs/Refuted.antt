@@ -85,7 +85,7 @@ lent frame t =
       frame = frame;
       side = 0;
       moment = t;
-      hardware = 1 ∷ 1 ∷ 1 ∷ 1 ∷ 1 ∷ 5 ∷ [];
+      hardware = record { allowed = 1; attestation = 1; stored = 1; good = 1; counted = 1; counter = 5 };
       new_handle = [];
       certificate = [];
       x = replicate 32 0;
@@ -341,7 +341,7 @@ in_extended =
       frame = 0x00 ∷ 0x01 ∷ 0x00 ∷ 0x00 ∷ 0 ∷ 0 ∷ 64 ∷ replicate 64 0;
       side = 0;
       moment = 0;
-      hardware = 1 ∷ 1 ∷ 1 ∷ 1 ∷ 1 ∷ 5 ∷ [];
+      hardware = record { allowed = 1; attestation = 1; stored = 1; good = 1; counted = 1; counter = 5 };
       new_handle = [];
       certificate = replicate 200 0;
       x = replicate 32 0;

@@ -40,9 +40,9 @@ came_of_answer role answer =
 -- 03, a good handle and room
 abbrev pub Reaches : Panel → ToDecide → Type 0
 Reaches P i =
-    ((hardware_in i.hardware).allowed ≡ 1) × ((P.read_command i.frame).answer ≡ 0x9000)
+    (i.hardware.allowed ≡ 1) × ((P.read_command i.frame).answer ≡ 0x9000)
     × ((((P.read_command i.frame).command ≡ 1) × (139 + length i.new_handle + length i.certificate ≤ length i.reply))
-    ⊎ (((P.read_command i.frame).command ≡ 2) × ((P.read_command i.frame).p1 ≡ 0x03) × ((hardware_in i.hardware).good ≡ 1) × (77 ≤ length i.reply)))
+    ⊎ (((P.read_command i.frame).command ≡ 2) × ((P.read_command i.frame).p1 ≡ 0x03) × (i.hardware.good ≡ 1) × (77 ≤ length i.reply)))
 
 -- of a record's numbers, the touch window's, 0 closed and m + 1 opened at m, and the asker's
 abbrev pub touch_number : (presence : List ℕ) → ℕ

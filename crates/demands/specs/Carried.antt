@@ -28,7 +28,7 @@ module _ (P : Panel) where
         application = bytes_at (P.read_command frame).application 32 frame;
         challenge = bytes_at (P.read_command frame).challenge 32 frame;
         present = eqb (P.read_command frame).p1 0x03;  -- the presence byte: 01 for P1 03, 00 for 08
-        counter = (hardware_in i.hardware).counter;
+        counter = i.hardware.counter;
       }
 
 -- "no Register and Authenticate order have the same bytes to sign, and two of one kind with equal bytes have every field inside them equal"

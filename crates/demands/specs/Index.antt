@@ -41,7 +41,8 @@ use Rattle.ctap1_stated.specs.Path.{frame_limit}
 use Rattle.ctap1_stated.specs.Decision.{decision_of, reply_left, block_after}
 use Rattle.ctap1_stated.specs.Session.{remainder_left, part_left}
 use Rattle.session_stated.specs.Claims as Sessions
-use Rattle.session_stated.specs.Held.{remainder_in, session_in, hardware_in, session_after, frame_room_of}
+use Rattle.session_stated.specs.Held.{remainder_in, session_in, session_after, frame_room_of}
+use Rattle.session_stated.specs.Promises.{inputs_in}
 use Rattle.u2f_up_stated.specs.Numbers.{presence_in, checked_in, granted_in}
 use Rattle.ctap1_stated.specs.OneSide.{base_decision_of}
 use Rattle.datasheet_stated.specs.Claims as Datasheet
@@ -95,7 +96,7 @@ pub record EveryInputIsAnswered : Type 0 where
   pub checks_on_numbers : Presence.AsOnRecords checked_in granted_in
   pub remainders_stand : Sessions.RemainderStands remainder_in
   pub sessions_stand : Sessions.SessionStands session_in
-  pub hardware_stands : Sessions.HardwareStands hardware_in
+  pub hardware_stands : Sessions.HardwareStands inputs_in
   -- what a transport goes on with; the room for a response, and that no touch is lost to a length
   pub goes_on : Sessions.GoesOnExactly session_after
   pub rooms : Sessions.FrameRoomExactly frame_room_of

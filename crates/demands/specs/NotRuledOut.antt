@@ -12,7 +12,7 @@ lend frame counter new_handle certificate x y =
       frame = frame;
       side = 0;
       moment = 0;
-      hardware = 1 ∷ 1 ∷ 1 ∷ 1 ∷ 1 ∷ counter ∷ [];
+      hardware = record { allowed = 1; attestation = 1; stored = 1; good = 1; counted = 1; counter = counter };
       new_handle = new_handle;
       certificate = certificate;
       x = x;

@@ -48,7 +48,7 @@ enrolling n h c =
       frame = 0x00 ∷ 0x01 ∷ 0x00 ∷ 0x00 ∷ 64 ∷ replicate 64 0xA1;
       side = 0;
       moment = 0;
-      hardware = 1 ∷ 1 ∷ 1 ∷ 1 ∷ 1 ∷ 7 ∷ [];
+      hardware = record { allowed = 1; attestation = 1; stored = 1; good = 1; counted = 1; counter = 7 };
       new_handle = replicate h 0xB1;
       certificate = replicate c 0xC1;
       x = replicate 32 0xD1;

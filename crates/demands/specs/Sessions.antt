@@ -13,7 +13,7 @@ IsC0 P i = ((P.read i.frame).answer ≡ 0x9000) × ((P.read i.frame).ins ≡ 0xC
 
 -- one that brinecandle_read_command takes, too (CLA, P1, P2 and Lc are 0), where CTAP1 is allowed
 abbrev pub IsGetResponse : Panel → ToDecide → Type 0
-IsGetResponse P i = ((P.read_command i.frame).answer ≡ 0x9000) × ((P.read_command i.frame).command ≡ 0xC0) × ((hardware_in i.hardware).allowed ≡ 1)
+IsGetResponse P i = ((P.read_command i.frame).answer ≡ 0x9000) × ((P.read_command i.frame).command ≡ 0xC0) × (i.hardware.allowed ≡ 1)
 
 -- one that nothing stands against, where n bytes or fewer remain
 pub record Unhindered (P : Panel) (n : ℕ) (i : ToDecide) : Type 0 where

@@ -9,7 +9,7 @@ ghost use Rattle.panel_stated.specs.Exports.{frame_numbers};
 ghost use Rattle.panel_stated.specs.Promises.{BrinecandleRead, BrinecandleReadStrict, BrinecandleReadByTable, BrinecandleReadStrictByTable, BrinecandleWrite, BrinecandleWriteStrict, BrinecandleReadCommand, BrinecandleNew, BrinecandleGrantUp, BrinecandleConsumeUp, BrinecandleIsUpNeeded, BrinecandleDecide, BrinecandleFinish, BrinecandleWriteResponse, BrinecandleReadResponse, BrinecandleNextPart, BrinecandleResponseRoom};
 
 use apdu_table::RowSays;
-use ctap1_stated::{Call, DecisionAnswer, NewKey};
+use ctap1_stated::{Call, DecisionAnswer, HardwareSaid, NewKey};
 use outcome::ApduStatusCode;
 use panel_stated::{
     Asked, CommandSaid, DecisionSaid, FrameSaid, OrderNumbers, ResponseSaid, RoomSaid, Wrote,
@@ -202,7 +202,7 @@ pub extern "C" fn brinecandle_decide(
     frame: &[u8],
     side: u64,
     t: u64,
-    hardware: &[u32; 6],
+    hardware: &HardwareSaid,
     handle: &[u8],
     certificate: &[u8],
     x: &[u8; 32],

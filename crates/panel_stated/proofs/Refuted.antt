@@ -35,7 +35,7 @@ use Rattle.octets.specs.Bytes.{part_of, byte}
 use Rattle.signing_stated.specs.Orders.{is_authenticate_layout, register_order_of, block}
 use Rattle.signing_stated.specs.Finishing.{finish_of}
 use Rattle.signing_stated.specs.declared.Kind.TheVariants as Kind'
-use Rattle.panel_stated.specs.Words.{Ordinary, Strict, Instruction, Lc3DataLe2, OrderNumbers, FrameSaid, CommandSaid, Wrote, Asked, Order, ResponseSaid, RoomSaid, Remainder, Session}
+use Rattle.panel_stated.specs.Words.{HardwareSaid, Ordinary, Strict, Instruction, Lc3DataLe2, OrderNumbers, FrameSaid, CommandSaid, Wrote, Asked, Order, ResponseSaid, RoomSaid, Remainder, Session}
 use Rattle.panel_stated.specs.Numbers.{answer_no, decided_no, shape_of, kind_of}
 use Rattle.panel_stated.specs.Exports.{ToWrite, ToDecide, write_numbered, finish_numbered, touches_of, checks_of, asks_of, decides_of, command_numbers}
 use Rattle.panel_stated.specs.Claims
@@ -200,8 +200,8 @@ no_kind_is_r2 p =
     omega arith
 
 -- ---- the exported decision
-abbrev hardware : (allowed : ℕ) → List ℕ
-hardware n = n ∷ 1 ∷ 1 ∷ 1 ∷ 1 ∷ 7 ∷ []
+abbrev hardware : (allowed : ℕ) → HardwareSaid
+hardware n = record { allowed = n; attestation = 1; stored = 1; good = 1; counted = 1; counter = 7 }
 
 -- with a live touch
 abbrev touched : List ℕ

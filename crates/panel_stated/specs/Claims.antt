@@ -3,7 +3,7 @@
 use Rattle.std.specs.Prelude.{◌↔◌, ◌⊎◌, ◌∷◌, drop, ◌≡◌, ◌≤◌, ◌<◌, ◌+◌}
 use Rattle.panel_stated.specs.Words.{ℕ, Bool, List, AtMostOne, StatusWord, Outcome, R, Word, Gives, HasStatus, last_refusal, None, Presence, Order, Head}
 use Rattle.panel_stated.specs.Words.{Instruction, Le1, Lc1Data, Lc1DataLe1, Lc3Data, Lc3DataLe2, Le3}
-use Rattle.panel_stated.specs.Words.{OrderNumbers, Shaped, Kinded, presence_in, remainder_in, session_in, hardware_in, frame_room_of}
+use Rattle.panel_stated.specs.Words.{OrderNumbers, Shaped, Kinded, presence_in, remainder_in, session_in, frame_room_of}
 use Rattle.panel_stated.specs.Words.{FrameSaid, CommandSaid, Wrote, Asked, DecisionSaid, ResponseSaid, RoomSaid}
 use Rattle.panel_stated.specs.Words.{Says, Entry, Case, Parts, parts_of, shape_no, Command, Register, Authenticate, Version, GetResponse, length, Remainder, Response, Sent, write_response_of, read_response_of, next_part_of, false, read_of, strict_of, command_of, new_of, touch_of, check_of, ask_of, DecisionGives, Body, Ordered, Part, DecisionResult, finish_of}
 use Rattle.panel_stated.specs.Exports.{order_after, ToWrite, ToDecide, ToFinish, decided_by, write_numbered, finish_numbered}
@@ -269,7 +269,7 @@ pub record DecideExported (decide : ToDecide → AfterDeciding) : Type 0 where
   pub row : (i : ToDecide)
       → (r : DecisionResult)
       × Answers (presence_in i.presence) i.moment
-      (record { side = i.side; frame = i.frame; hardware = hardware_of (hardware_in i.hardware); new_handle = i.new_handle; certificate = i.certificate; x = i.x; y = i.y; room = length i.reply; remainder = remainder_in i.session; part_room = length i.part }) r
+      (record { side = i.side; frame = i.frame; hardware = hardware_of i.hardware; new_handle = i.new_handle; certificate = i.certificate; x = i.x; y = i.y; room = length i.reply; remainder = remainder_in i.session; part_room = length i.part }) r
       × Reports (decide i).said r
       × (presence_in (decide i).presence ≡ r.presence)
       × ((decide i).said.answer ≡ 0x0100 → (decide i).block ≡ r.order.bytes)

@@ -1,8 +1,8 @@
 // What crosses to C, as plain numbers: the structs of include/brinecandle.h, which .ci/header compares with these. No function:
 // panel_frames, panel_presence, panel_orders and panel_responses have the conversions, panel the exports.
 //
-// What the firmware keeps between calls is lent and changed in place: the presence record as five numbers, a transport's session as three. So are the
-// hardware's answers lent, as six, to be read. In C each is a struct of as many numbers; here an array, since references to structs are not covered. Results
+// What the firmware keeps between calls is lent and changed in place: the presence record as five numbers, a transport's session as three. The
+// hardware's answers are lent as a struct, to be read. Results
 // and an order cross as #[repr(C)] structs by value. An order's block of 385 bytes is an array lent beside it. Slices are a pointer and a length.
 //
 // Where a frame's length is wrong, `fault` is 1 to 3 and `place` where; else both are 0. `fault` stands beside the answer, where the two

@@ -12,7 +12,6 @@ ghost use Rattle.ctap1_stated.specs.Words.{handed_of, handed_from};
 ghost use Rattle.ctap1_stated.specs.Path.{limit_on, frame_limit, fetch_path};
 ghost use Rattle.ctap1_stated.specs.Decision.{along};
 ghost use Rattle.ctap1_stated.specs.Session.{is_get_response, part_after};
-ghost use Rattle.session_stated.specs.Held.{hardware_in};
 ghost use Rattle.session_stated.specs.Promises.{to_decide, Commanded, RemainderLent, Decide, Stated, Dropped, Left, RoomForResponse};
 
 use apdu::Apdu;
@@ -28,20 +27,6 @@ const NO: u32 = 0;
 const YES: u32 = 1;
 
 const GET_RESPONSE: u8 = 0xc0;
-
-// The hardware's six answers by name, in the order of their struct.
-fn hardware_lent(numbers: &[u32; 6]) -> HardwareSaid
-    ensures { result ≡ hardware_in numbers.now }
-{
-    HardwareSaid {
-        allowed: numbers[0],
-        attestation: numbers[1],
-        stored: numbers[2],
-        good: numbers[3],
-        counted: numbers[4],
-        counter: numbers[5],
-    }
-}
 
 // What remains of a body, of a session's three numbers.
 pub fn remainder_lent(numbers: &[u64; 3]) -> Remainder
@@ -112,7 +97,7 @@ fn commanded(
     session: &[u64; 3],
     call: Call,
     reading: Result<Apdu, ApduStatusCode>,
-    hardware: &[u32; 6],
+    hardware: &HardwareSaid,
     key: NewKey,
     limit: u64,
     reply: &mut [u8],
@@ -142,7 +127,7 @@ fn commanded(
             call,
             says,
             presence,
-            hardware_lent(hardware),
+            *hardware,
             key,
             room,
             block,
@@ -152,7 +137,7 @@ fn commanded(
             flags,
             says,
             presence,
-            hardware_lent(hardware),
+            *hardware,
             room,
             block,
         ),
@@ -179,7 +164,7 @@ pub fn decide(
     presence: &mut [u64; 5],
     session: &[u64; 3],
     call: Call,
-    hardware: &[u32; 6],
+    hardware: &HardwareSaid,
     key: NewKey,
     reply: &mut [u8],
     block: &mut [u8; 385],
@@ -205,7 +190,7 @@ pub fn decide(
     match ready {
         Err(why) => beside_frame(ctap1::refused(why), call.frame),
         Ok(_) => {
-            let allowed = hardware[0];
+            let allowed = hardware.allowed;
             if YES < allowed {
                 u2f_up::moved(presence, call.t);
                 return beside_frame(

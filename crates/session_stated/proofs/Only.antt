@@ -1,6 +1,6 @@
 -- Only the definition meets each claim: two functions that meet it agree on every input.
 use Prim.Native.Nat.{ℕ, ◌<◌}
-use mathlib.Core.Path.{◌≡◌, sym, ◌∙◌}
+use mathlib.Core.Path.{◌≡◌, refl, sym, ◌∙◌}
 use mathlib.Core.List.{List, [], ◌∷◌}
 use native.Mathlib.Omega.{arith}
 use native.Mathlib.Decide.{dec_lt, ℕ_discrete}
@@ -9,9 +9,9 @@ use Rattle.outcome.specs.Outcome.{Outcome, R, Word, Gives}
 use Rattle.outcome.proofs.Laws.{r_gives, r_word, word_gives}
 use Rattle.apdu_stated.specs.Answers.{Says}
 use Rattle.response_stated.specs.declared.Remainder.{Remainder}
-use Rattle.ctap1_stated.specs.declared.HardwareSaid.{HardwareSaid}
-use Rattle.ctap1_stated.specs.Words.{DecisionGives, Body, Ordered, Part}
+use Rattle.ctap1_stated.specs.Words.{Inputs, DecisionGives, Body, Ordered, Part}
 use Rattle.session_stated.specs.Held.{Session}
+use Rattle.session_stated.specs.Promises.{ToDecide}
 use Rattle.session_stated.specs.Terms.{NoShape, TakesAtATime, given, absent, CanTake}
 use Rattle.session_stated.specs.Claims
 use Rattle.session_stated.proofs.Rooms.{some_take}
@@ -25,9 +25,8 @@ pub SessionStands : (f g : List ℕ → Session) → Claims.SessionStands f → 
     → (place count limit : ℕ) → f (place ∷ count ∷ limit ∷ []) ≡ g (place ∷ count ∷ limit ∷ [])
 SessionStands f g F G place count limit = F place count limit ∙ sym (G place count limit)
 
-pub HardwareStands : (f g : List ℕ → HardwareSaid) → Claims.HardwareStands f → Claims.HardwareStands g
-    → (allowed attestation stored good counted counter : ℕ) → f (allowed ∷ attestation ∷ stored ∷ good ∷ counted ∷ counter ∷ []) ≡ g (allowed ∷ attestation ∷ stored ∷ good ∷ counted ∷ counter ∷ [])
-HardwareStands f g F G allowed attestation stored good counted counter = F allowed attestation stored good counted counter ∙ sym (G allowed attestation stored good counted counter)
+pub HardwareStands : (f g : ToDecide → Inputs) → Claims.HardwareStands f → Claims.HardwareStands g → (i : ToDecide) → (f i).hardware ≡ (g i).hardware
+HardwareStands f g F G i = let h = i.hardware in F i h.allowed h.attestation h.stored h.good h.counted h.counter refl ∙ sym (G i h.allowed h.attestation h.stored h.good h.counted h.counter refl)
 
 -- ---- what a transport goes on with
 no_says_r : (n : ℕ) → NoShape (R n)

@@ -179,22 +179,22 @@ module _ (i : Inputs) (check : Presence → Finding) (kept settled : Presence) (
     unfolding command_path
     on_version h e q = with_block h _ old q ∙ version_lands check kept settled i.room old ∙ lands (Ok U2fCommand'.Version) e
 
-    -- the hardware's answers and the remainder as they are taken out of their numbers
-    pub on_register : (x : DecisionLeft) (a : Apdu) (n m : HardwareSaid) → c ≡ Ok (U2fCommand'.Register a) → n ≡ m → i.hardware ≡ hardware_of m
+    -- the hardware's answers as they are lent, and the remainder as it is taken out of its numbers
+    pub on_register : (x : DecisionLeft) (a : Apdu) (n : HardwareSaid) → c ≡ Ok (U2fCommand'.Register a) → i.hardware ≡ hardware_of n
         → x ≡ left_of (along_by check (register_path (unfetched i.side i.frame (hardware_of n) (enrolment_of i.new_handle i.certificate i.x i.y) i.room) (says_of a)) kept settled) old
         → x ≡ left_of decided old
     unfolding command_path register_path register_ending
-    on_register x a n m e is h q =
+    on_register x a n e h q =
         q
         ∙ ap (λ (w : Hardware). left_of (along_by check (register_path (unfetched i.side i.frame w (enrolment_of i.new_handle i.certificate i.x i.y) i.room) (says_of a)) kept settled) old)
-        (ap hardware_of is ∙ sym h)
+        (sym h)
         ∙ lands (Ok (U2fCommand'.Register a)) e
 
-    pub on_authenticate : (x : DecisionLeft) (f : Ctap1Flags) (a : Apdu) (n m : HardwareSaid) → c ≡ Ok (U2fCommand'.Authenticate f a) → n ≡ m → i.hardware ≡ hardware_of m
+    pub on_authenticate : (x : DecisionLeft) (f : Ctap1Flags) (a : Apdu) (n : HardwareSaid) → c ≡ Ok (U2fCommand'.Authenticate f a) → i.hardware ≡ hardware_of n
         → x ≡ left_of (along_by check (login_path i.frame (hardware_of n) i.room (flags_no f) (says_of a)) kept settled) old → x ≡ left_of decided old
     unfolding command_path
-    on_authenticate x f a n m e is h q =
-        q ∙ ap (λ (w : Hardware). left_of (along_by check (login_path i.frame w i.room (flags_no f) (says_of a)) kept settled) old) (ap hardware_of is ∙ sym h)
+    on_authenticate x f a n e h q =
+        q ∙ ap (λ (w : Hardware). left_of (along_by check (login_path i.frame w i.room (flags_no f) (says_of a)) kept settled) old) (sym h)
         ∙ lands (Ok (U2fCommand'.Authenticate f a)) e
 
     pub on_fetch : (h : DecisionHanded) (k : Remainder) (n : ℕ) → c ≡ Ok U2fCommand'.GetResponse → k ≡ i.remainder → n ≡ frame_limit i.frame

@@ -1,7 +1,7 @@
 -- Each wrong program of specs/Wrong.antt, and the claim that is false of it: a body of the bytes 7 8 9, fetched one byte at a time.
 use Prim.Native.Nat.{ℕ, ◌<◌}
 use mathlib.Core.Path.{◌≡◌, refl, ap, sym, ◌∙◌}
-use mathlib.Core.Bool.{true}
+use mathlib.Core.Bool.{true, false≢true}
 use mathlib.Core.Logic.{inr, ⊎_elim}
 use mathlib.Core.List.{List, [], ◌∷◌, ◌++◌}
 use native.Mathlib.Omega.{arith}
@@ -23,6 +23,7 @@ use Rattle.response_stated.specs.Fetching.{up}
 use Rattle.response_stated.proofs.Laws.{next_exactly}
 use Rattle.u2f_up_stated.specs.Moments.{fresh, settle_of}
 use Rattle.u2f_up_stated.specs.Terms.{NotRefused}
+use Rattle.ctap1_stated.specs.declared.Hardware.{Hardware}
 use Rattle.ctap1_stated.specs.declared.HardwareSaid.{HardwareSaid}
 use Rattle.ctap1_stated.specs.Words.{Inputs, Body, Ordered}
 use Rattle.ctap1_stated.specs.Path.{frame_limit, fetch_path, login_path, counted_ending, command_path, allowed_path, path_of}
@@ -32,6 +33,7 @@ use Rattle.ctap1_stated.specs.declared.Allowed.TheVariants as Allowed'
 use Rattle.ctap1_stated.specs.declared.Attestation.TheVariants as Attestation'
 use Rattle.std.specs.Prelude.{Some, None}
 use Rattle.session_stated.specs.Held.{Session}
+use Rattle.session_stated.specs.Promises.{ToDecide}
 use Rattle.session_stated.specs.Terms.{given, absent, whole, extended, no_shape, authenticate, FrameRoom, RoomWasAsked, FirstPart}
 use Rattle.session_stated.specs.Sessions.{Visit, none, also}
 use Rattle.session_stated.specs.Claims
@@ -137,7 +139,10 @@ pub limit_of_8_bits : Claims.SessionStands Wrong.limit_of_8_bits → ⊥
 limit_of_8_bits c = let z : ◌≡◌ {A = ℕ} 0 256 = ap (λ (s : Session). s.limit) (c 0 0 256) in omega arith
 
 pub good_for_stored : Claims.HardwareStands Wrong.good_for_stored → ⊥
-good_for_stored c = let z : ◌≡◌ {A = ℕ} 0 1 = ap (λ (s : HardwareSaid). s.stored) (c 0 0 1 0 0 0) in omega arith
+good_for_stored c =
+    let h : HardwareSaid = record { allowed = 0; attestation = 0; stored = 1; good = 0; counted = 0; counter = 0 } in
+    let i : ToDecide = record { presence = []; session = []; frame = []; side = 0; moment = 0; hardware = h; new_handle = []; certificate = []; x = []; y = []; reply = []; block = []; part = [] } in
+    false≢true (ap (λ (a : Hardware). a.stored) (c i 0 0 1 0 0 0 refl))
 
 -- ---- what a transport goes on with: two bytes remain, under limit 7
 abbrev before : Session

@@ -28,6 +28,7 @@ use Rattle.u2f_up_stated.specs.declared.Presence.{Presence}
 use Rattle.u2f_up_stated.specs.Numbers.{presence_in}
 use Rattle.ctap1_stated.specs.declared.Decision.{Decision}
 use Rattle.ctap1_stated.specs.Words.{Inputs, Body, Ordered, Part, DecisionGives, DecisionResult, DecisionLeft, handed_of}
+use Rattle.ctap1_stated.specs.Numbers.{hardware_of}
 use Rattle.ctap1_stated.specs.Terms.{Decider}
 use Rattle.ctap1_stated.specs.Claims.{DecidesExactly, LimitsExactly, RepliesExactly, PartsExactly}
 use Rattle.ctap1_stated.specs.Path.{limit_on, frame_limit, fetch_path, command_path, allowed_path, path_of}
@@ -38,7 +39,7 @@ use Rattle.ctap1_stated.specs.declared.Attestation.TheVariants as Attestation'
 use Rattle.std.specs.Prelude.{None}
 use Rattle.ctap1_stated.proofs.Laws.{takes, is_a_part, limits_exactly, limits_only, replies_exactly, parts_exactly, decides_exactly, decides_only, left_apart}
 use Rattle.signing_stated.specs.Finishing.{end_of}
-use Rattle.session_stated.specs.Held.{Session, remainder_in, session_in, hardware_in, session_after, frame_room_of}
+use Rattle.session_stated.specs.Held.{Session, remainder_in, session_in, session_after, frame_room_of}
 use Rattle.session_stated.specs.Sessions.{Visit, joined_over, left_over}
 use Rattle.session_stated.specs.Claims
 use Rattle.session_stated.specs.Promises.{ToDecide, inputs_in, Stated, Dropped, Left}
@@ -212,8 +213,8 @@ RemainderStands place count limit = refl
 pub SessionStands : Claims.SessionStands session_in
 SessionStands place count limit = refl
 
-pub HardwareStands : Claims.HardwareStands hardware_in
-HardwareStands allowed attestation stored good counted counter = refl
+pub HardwareStands : Claims.HardwareStands inputs_in
+HardwareStands i allowed attestation stored good counted counter is = ap hardware_of is
 
 -- ---- what a transport goes on with
 limit_after : (answer : Outcome DecisionGives) (read : Outcome Says) (s : Session) → ((k : ℕ) → answer ≡ R k → ⊥) → (session_after answer read s).limit ≡ limit_on read

@@ -6,21 +6,17 @@ use Rattle.apdu_stated.specs.Reading.{read_of}
 use Rattle.response_stated.specs.Words.{rest}
 use Rattle.response_stated.specs.Parts.{limit_of, response_room_of}
 use Rattle.response_stated.specs.declared.Remainder.{Remainder}
-use Rattle.ctap1_stated.specs.declared.HardwareSaid.{HardwareSaid}
 use Rattle.ctap1_stated.specs.Words.{DecisionGives}
 use Rattle.ctap1_stated.specs.Path.{limit_on}
 use Rattle.ctap1_stated.specs.Session.{is_get_response, remainder_after}
 pub use Rattle.session_stated.specs.declared.Session.{Session}
 
--- ours: what is lent as an array, by name, each in the order of its struct: a session's three numbers, the hardware's six
+-- ours: what is lent as an array, by name, in the order of its struct: a session's three numbers
 abbrev pub remainder_in : List ℕ → Remainder
 remainder_in s = rest (get_or s 0 0) (get_or s 1 0)
 
 abbrev pub session_in : List ℕ → Session
 session_in s = record { remainder = remainder_in s; limit = get_or s 2 0 }
-
-abbrev pub hardware_in : List ℕ → HardwareSaid
-hardware_in s = record { allowed = get_or s 0 0; attestation = get_or s 1 0; stored = get_or s 2 0; good = get_or s 3 0; counted = get_or s 4 0; counter = get_or s 5 0 }
 
 -- what remains by the decision's rule (ctap1_stated's Session.antt), and the limit of the frame that was answered, by which its body goes out; ours: "any R
 -- refusal keeps" both. `read` is what the frame is read as

@@ -10,23 +10,24 @@ use Rattle.response_stated.specs.Words.{rest, room_said}
 use Rattle.ctap1_stated.specs.Words.{Inputs, DecisionResult, inputs_from, enrolment_of, left_from}
 use Rattle.ctap1_stated.specs.declared.Call.{Call}
 use Rattle.ctap1_stated.specs.declared.Decision.{Decision}
+use Rattle.ctap1_stated.specs.declared.HardwareSaid.{HardwareSaid}
 use Rattle.ctap1_stated.specs.declared.NewKey.{NewKey}
 use Rattle.ctap1_stated.specs.Numbers.{hardware_of}
 use Rattle.ctap1_stated.specs.Path.{frame_limit, command_path}
 use Rattle.ctap1_stated.specs.Decision.{decision_of, reply_left, left_of}
 use Rattle.ctap1_stated.specs.Promises.{along_in}
 use Rattle.ctap1_stated.specs.Session.{is_get_response, part_left}
-use Rattle.session_stated.specs.Held.{session_in, remainder_in, hardware_in, frame_room_of}
+use Rattle.session_stated.specs.Held.{session_in, remainder_in, frame_room_of}
 use Rattle.session_stated.specs.declared.SessionDecision.{SessionDecision}
 
--- all that a decision is lent, record, session and the hardware's answers as numbers
+-- all that a decision is lent, record and session as numbers, the hardware's answers by name
 pub record ToDecide : Type 0 where
   pub presence : List ℕ
   pub session : List ℕ
   pub frame : List ℕ
   pub side : ℕ
   pub moment : ℕ
-  pub hardware : List ℕ
+  pub hardware : HardwareSaid
   pub new_handle : List ℕ
   pub certificate : List ℕ
   pub x : List ℕ
@@ -36,7 +37,7 @@ pub record ToDecide : Type 0 where
   pub part : List ℕ
 
 -- of a call and a new key as they are lent, beside the rest
-abbrev pub to_decide : (presence session : List ℕ) → Call → (hardware : List ℕ) → NewKey → (reply block part : List ℕ) → ToDecide
+abbrev pub to_decide : (presence session : List ℕ) → Call → HardwareSaid → NewKey → (reply block part : List ℕ) → ToDecide
 to_decide presence session call hardware key reply block part =
     record {
       presence = presence;
@@ -75,7 +76,7 @@ lending presence session reply i =
 
 abbrev pub inputs_in : ToDecide → Inputs
 inputs_in i =
-    inputs_from i.side i.frame (hardware_of (hardware_in i.hardware)) (enrolment_of i.new_handle i.certificate i.x i.y) (length i.reply) (remainder_in i.session) (length i.part)
+    inputs_from i.side i.frame (hardware_of i.hardware) (enrolment_of i.new_handle i.certificate i.x i.y) (length i.reply) (remainder_in i.session) (length i.part)
 
 -- what a decision leaves by this result: the record, the order's block, the reply buffer for Version's body, the buffer for part and status
 abbrev pub Leaves : ToDecide → DecisionResult → Decision → (presence reply block part : List ℕ) → Type 0

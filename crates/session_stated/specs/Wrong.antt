@@ -8,12 +8,12 @@ use Rattle.response_stated.specs.Words.{rest}
 use Rattle.response_stated.specs.Parts.{limit_of, part_length, rest_after, part_response, response_room_of}
 use Rattle.apdu_stated.specs.Answers.{Says}
 use Rattle.apdu_stated.specs.Reading.{read_of}
-use Rattle.ctap1_stated.specs.declared.HardwareSaid.{HardwareSaid}
 use Rattle.ctap1_stated.specs.Words.{Inputs, DecisionGives, Body, Ordered, Part}
 use Rattle.ctap1_stated.specs.Path.{limit_on, frame_limit}
 use Rattle.ctap1_stated.specs.Decision.{decision_of, status_result}
 use Rattle.ctap1_stated.specs.Terms.{Decider}
 use Rattle.session_stated.specs.Held.{Session, remainder_in, session_after}
+use Rattle.session_stated.specs.Promises.{ToDecide, inputs_in}
 use Rattle.session_stated.specs.Terms.{FrameRoom}
 use Rattle.session_stated.specs.Sessions.{PartWriter}
 
@@ -64,8 +64,8 @@ count_first s = rest (get_or s 1 0) (get_or s 0 0)
 abbrev pub limit_of_8_bits : List ℕ → Session
 limit_of_8_bits s = record { remainder = remainder_in s; limit = get_or s 2 0 % 256 }
 
-abbrev pub good_for_stored : List ℕ → HardwareSaid
-good_for_stored s = record { allowed = get_or s 0 0; attestation = get_or s 1 0; stored = get_or s 3 0; good = get_or s 2 0; counted = get_or s 4 0; counter = get_or s 5 0 }
+abbrev pub good_for_stored : ToDecide → Inputs
+good_for_stored i = let h = i.hardware in inputs_in (record i { hardware = record h { stored = h.good; good = h.stored } })
 
 -- ---- what a transport goes on with. "a refused C0 .. keeps it": it drops what remains
 abbrev After : Type 0

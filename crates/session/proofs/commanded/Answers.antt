@@ -27,7 +27,7 @@ returns-in-Ok-Register c =
     let a = c.args in
     let is = rw c.in-Ok-Register.field-0-is at c.in-Ok-Register.is in
     let is_c = OuterChecks.command_is a.call.frame.now a.reading c.requires.0 c.on_reading.result c.on_reading.ensures in (
-      search (rules, OuterChecks.on_register, is_c, is, c.hardware_lent.ensures),
+      search (rules, OuterChecks.on_register, is_c, is),
       search (rules, OuterChecks.register_kept, is_c, is),
       search (rules, OuterChecks.register_part, is_c, is),
     )
@@ -37,7 +37,7 @@ returns-in-Ok-Authenticate c =
     let a = c.args in
     let is = rw c.in-Ok-Authenticate.field-0-is at c.in-Ok-Authenticate.is in
     let is_c = OuterChecks.command_is a.call.frame.now a.reading c.requires.0 c.on_reading.result c.on_reading.ensures in (
-      search (rules, OuterChecks.on_authenticate, is_c, is, c.hardware_lent-in-Ok-Authenticate.ensures),
+      search (rules, OuterChecks.on_authenticate, is_c, is),
       search (rules, OuterChecks.authenticate_kept, is_c, is),
       search (rules, OuterChecks.authenticate_part, is_c, is),
     )
