@@ -63,17 +63,12 @@ fn authenticate(frame: &[u8], says: Apdu) -> Result<U2fCommand, ApduStatusCode>
         return against_ins();
     }
     let header = says.header;
-    let p1 = header.p1;
-    if p1 == 0x03 {
-        return Ok(U2fCommand::Authenticate(Ctap1Flags::EnforceUpAndSign, says));
+    match header.p1 {
+        0x03 => Ok(U2fCommand::Authenticate(Ctap1Flags::EnforceUpAndSign, says)),
+        0x07 => Ok(U2fCommand::Authenticate(Ctap1Flags::CheckOnly, says)),
+        0x08 => Ok(U2fCommand::Authenticate(Ctap1Flags::DontEnforceUpAndSign, says)),
+        _ => Err(ApduStatusCode::WrongData),
     }
-    if p1 == 0x07 {
-        return Ok(U2fCommand::Authenticate(Ctap1Flags::CheckOnly, says));
-    }
-    if p1 == 0x08 {
-        return Ok(U2fCommand::Authenticate(Ctap1Flags::DontEnforceUpAndSign, says));
-    }
-    Err(ApduStatusCode::WrongData)
 }
 
 #[tactic(auto, unfolding(command_stated::specs::Command::get_response_of))]
@@ -100,30 +95,18 @@ pub fn instructed(frame: &[u8], says: Apdu) -> Result<U2fCommand, ApduStatusCode
     ensures { Instructed frame.now says result }
 {
     let header = says.header;
-    let ins = header.ins;
-    let lc = says.lc;
     if header.cla != CTAP1_CLA {
         return Err(ApduStatusCode::ClaInvalid);
     }
-    if ins == U2F_REGISTER {
-        if lc != 64 {
-            return against_ins();
-        }
-        return Ok(U2fCommand::Register(says));
+    match header.ins {
+        U2F_REGISTER if says.lc != 64 => against_ins(),
+        U2F_REGISTER => Ok(U2fCommand::Register(says)),
+        U2F_AUTHENTICATE => authenticate(frame, says),
+        U2F_VERSION if says.lc != 0 => against_ins(),
+        U2F_VERSION => Ok(U2fCommand::Version),
+        GET_RESPONSE => get_response(says),
+        _ => Err(ApduStatusCode::InsInvalid),
     }
-    if ins == U2F_AUTHENTICATE {
-        return authenticate(frame, says);
-    }
-    if ins == U2F_VERSION {
-        if lc != 0 {
-            return against_ins();
-        }
-        return Ok(U2fCommand::Version);
-    }
-    if ins == GET_RESPONSE {
-        return get_response(says);
-    }
-    Err(ApduStatusCode::InsInvalid)
 }
 
 // What a frame asks for that was read so.
