@@ -159,6 +159,7 @@ fn enforce(
 }
 
 // A check-only 6985 is the good answer: it looks at no touch, asks for no room and leaves the windows alone.
+#[tactic(auto, using(ctap1_stated::proofs::Cases::yes_said, ctap1_stated::proofs::Cases::no_said), unfolding(ctap1_stated::specs::Path::login_path))]
 pub fn authenticate(
     call: Call,
     flags: Ctap1Flags,
@@ -170,19 +171,18 @@ pub fn authenticate(
 ) -> Decision
     ensures { Authenticate call.entry.frame.now call.entry.side call.entry.t presence.old hardware room flags says block.old result presence.new block.new }
 {
-    let p1 = command::flags_number(flags);
     if hardware.good != YES {
         u2f_up::moved(presence, call.t);
         return answered(ApduStatusCode::WrongData);
     }
-    if p1 == 0x07 {
+    if let Ctap1Flags::CheckOnly = flags {
         u2f_up::moved(presence, call.t);
         return answered(ApduStatusCode::CondUseNotSatisfied);
     }
     if !signing::has_authenticate_room(room) {
         return refused(Refusal::R2);
     }
-    if p1 == 0x03 {
+    if let Ctap1Flags::EnforceUpAndSign = flags {
         return enforce(call, says, presence, hardware, block);
     }
     u2f_up::moved(presence, call.t);
