@@ -10,7 +10,7 @@ pub struct ApduHeader {
 }
 
 // The seven shapes by their numbers; the sixth of document 01 is retired. The names say the fields after the header: Lc3DataLe2 has three bytes of Lc, data and two of Le.
-#[derive(Clone, Copy)]
+#[derive(Clone, Copy, Debug)]
 pub enum Case {
     Instruction = 1,
     Le1 = 2,
@@ -38,7 +38,8 @@ pub struct Apdu {
     pub le: u32,
 }
 
-// Which table a frame is read by: the seven shapes, or ISO 7816-3's seven cases, which have no Lc of 0.
+// Which table a frame is read by: the seven shapes, or ISO 7816-3's seven cases, which have no Lc of 0. Data, and no type parameter: one reading serves both, and the
+// definitions are written with the two names.
 #[derive(Clone, Copy)]
 pub enum Entry {
     Ordinary,

@@ -1,4 +1,4 @@
-// Frames read by a table of rows: a row, and what comes of trying a table's rows on a frame. No function: table has them.
+// Frames read by a table of rows: a row, and what comes of trying a table's rows on a frame. No function: apdu_table has them.
 #![tactic(auto)]
 
 use apdu_stated::ApduHeader;

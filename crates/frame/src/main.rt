@@ -8,7 +8,7 @@ mod rows;
 
 ghost use Rattle.std.specs.Prelude.{◌≤◌, length};
 
-use apdu::{Apdu, Case};
+use apdu::Apdu;
 use program_spell::StatusWord;
 use std::io;
 use std::io::Read;
@@ -22,21 +22,8 @@ enum Way {
     Parts,
 }
 
-// A shape by its name: `Case` has no Display.
-fn name(shape: Case) -> &'static str {
-    match shape {
-        Case::Instruction => "Instruction",
-        Case::Le1 => "Le1",
-        Case::Lc1Data => "Lc1Data",
-        Case::Lc1DataLe1 => "Lc1DataLe1",
-        Case::Lc3Data => "Lc3Data",
-        Case::Lc3DataLe2 => "Lc3DataLe2",
-        Case::Le3 => "Le3",
-    }
-}
-
 fn print_frame(out: &impl Print, says: Apdu) -> io::Result<()> {
-    println!(out; "{} {} {}", name(says.shape), says.lc, says.le)
+    println!(out; "{:?} {} {}", says.shape, says.lc, says.le)
 }
 
 fn print_reading(out: &impl Print, frame: &[u8]) -> io::Result<()> {
@@ -54,6 +41,7 @@ fn asked(rt: &impl Env) -> Option<Way> {
     if program_text::is_given(rt, 2) {
         return None;
     }
+    // An argument is copied to where it is asked for, and a longer one is neither word.
     let mut space = [0u8; 16];
     let n = rt.arg(1, &mut space).ok()?;
     match &space[..n] {

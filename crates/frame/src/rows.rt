@@ -1,4 +1,4 @@
-// What the argument `table` asks for: by each of the two tables of crate table, the row that fits the frame, with its columns, and what
+// What the argument `table` asks for: by each of the two tables of crate apdu_table, the row that fits the frame, with its columns, and what
 // the frame says by it; or the status word, and what is wrong with the length and where.
 use apdu_table::{NoRow, Row, RowSays};
 use outcome::ApduStatusCode;

@@ -68,7 +68,7 @@ impl From<ApduStatusCode> for NotDone {
     }
 }
 
-// The status word as the number that goes out.
+// The status word as the number that goes out. By arms: an enum that carries a value has no discriminants.
 pub fn status_number(status: ApduStatusCode) -> u16
     ensures { StatusNumber status result }
 {

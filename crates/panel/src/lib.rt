@@ -166,8 +166,7 @@ pub extern "C" fn brinecandle_grant_up(presence: &mut [u64; 5], t: u64) -> Asked
     ensures { BrinecandleGrantUp presence.old t result presence.new }
 {
     let held = u2f_up::record_lent(presence);
-    let ready = u2f_up::settle(held, held.asker, t);
-    match ready {
+    match u2f_up::settle(held, held.asker, t) {
         Err(why) => panel_presence::refused_plain(why),
         Ok(_) => panel_presence::found_plain(u2f_up::touch_granted(presence, t)),
     }
@@ -178,8 +177,7 @@ pub extern "C" fn brinecandle_grant_up(presence: &mut [u64; 5], t: u64) -> Asked
 pub extern "C" fn brinecandle_consume_up(presence: &mut [u64; 5], side: u64, t: u64) -> Asked
     ensures { BrinecandleConsumeUp presence.old side t result presence.new }
 {
-    let ready = u2f_up::settle(u2f_up::record_lent(presence), side, t);
-    match ready {
+    match u2f_up::settle(u2f_up::record_lent(presence), side, t) {
         Err(why) => panel_presence::refused_plain(why),
         Ok(_) => panel_presence::found_plain(u2f_up::touch_checked(presence, side, t)),
     }

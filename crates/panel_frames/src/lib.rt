@@ -3,9 +3,9 @@
 
 ghost use Rattle.std.specs.Prelude.{◌≡◌};
 ghost use Rattle.outcome.specs.Outcome.{Gives};
-ghost use Rattle.apdu_stated.specs.Answers.{says_of, written_of};
+ghost use Rattle.apdu_stated.specs.Answers.{says_of};
 ghost use Rattle.command_stated.specs.Command.{flags_no, Register, Authenticate};
-ghost use Rattle.panel_stated.specs.Exports.{bare_command, command_numbers, length_numbers};
+ghost use Rattle.panel_stated.specs.Exports.{bare_command, command_numbers};
 ghost use Rattle.panel_stated.specs.Promises.{ShapeNumbered, FramePlain, FrameStatusPlain, StrictPlain, WritePlain, CommandPlain, BrinecandleReadCommand};
 
 use apdu::{Apdu, ApduHeader, Case};
@@ -13,6 +13,7 @@ use command::{Ctap1Flags, U2fCommand};
 use outcome::{ApduStatusCode, FaultNumbers, Refusal};
 use panel_stated::{CommandSaid, FrameSaid, Wrote};
 
+// A number of C is a shape's or none; a TryFrom would want an error that says no more than None.
 #[tactic(auto, unfolding(panel_stated::specs::Numbers::shape_of))]
 pub fn shape_numbered(number: u32) -> Option<Case>
     ensures { ShapeNumbered number result }
@@ -72,21 +73,6 @@ pub fn frame_status(status: ApduStatusCode) -> FrameSaid
     }
 }
 
-fn wrote_said(written: Result<usize, Refusal>) -> Wrote
-    ensures { result ≡ length_numbers (written_of written) }
-{
-    match written {
-        Err(why) => Wrote {
-            answer: outcome::refusal_number(why) as u16,
-            length: 0,
-        },
-        Ok(length) => Wrote {
-            answer: 0x9000,
-            length,
-        },
-    }
-}
-
 // Whether the strict writer may write so many bytes of data in the shape of this number; what it may not is R5.
 pub fn strict_plain(number: u32, count: usize) -> bool
     ensures { StrictPlain number count result }
@@ -97,14 +83,11 @@ pub fn strict_plain(number: u32, count: usize) -> bool
 pub fn write_plain(header: ApduHeader, shape: u32, content: &[u8], le: u32, out: &mut [u8]) -> Wrote
     ensures { WritePlain (record { header = header; shape = shape; content = content.now; le = le; out = out.old }) result out.new }
 {
-    let shaped = shape_numbered(shape);
-    match shaped {
-        Some(case) => wrote_said(apdu::write(header, case, content, le, out)),
-        None => Wrote {
-            answer: 5,
-            length: 0,
-        },
-    }
+    let Some(case) = shape_numbered(shape) else {
+        return panel_responses::refused_part(Refusal::R5);
+    };
+    // A frame that is written is said as a response is: its length, or why not.
+    panel_responses::wrote_response_plain(apdu::write(header, case, content, le, out))
 }
 
 fn register_numbers(says: Apdu) -> CommandSaid

@@ -56,6 +56,7 @@ pub fn input<R: Files + Env + Eprint + Alloc>(rt: &R) -> Option<Source<R::File>>
     if is_given(rt, 2) {
         return nothing(rt, "one argument is known: a file");
     }
+    // Fixed memory: no Vec that could run out. The system has no longer name.
     let mut name = [0u8; 4096];
     let Ok(n) = rt.arg(1, &mut name) else {
         return nothing(rt, "the argument: File name too long");

@@ -15,7 +15,7 @@ const DONE: u16 = 0x9000;
 
 const WAITING: u16 = 0x6100;
 
-// No limit: a body goes out whole.
+// No limit: a body goes out whole. A number and no Option: C holds it so, in a session.
 const WHOLE: u64 = 0;
 
 // A response is its part and two bytes of status: of a longer part no length can say the response's.

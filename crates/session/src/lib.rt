@@ -124,22 +124,10 @@ fn commanded(
             part,
         ),
         Ok(U2fCommand::Register(says)) => ctap1::register(
-            call,
-            says,
-            presence,
-            *hardware,
-            key,
-            room,
-            block,
+            call, says, presence, *hardware, key, room, block,
         ),
         Ok(U2fCommand::Authenticate(flags, says)) => ctap1::authenticate(
-            call,
-            flags,
-            says,
-            presence,
-            *hardware,
-            room,
-            block,
+            call, flags, says, presence, *hardware, room, block,
         ),
     }
 }
@@ -186,8 +174,7 @@ pub fn decide(
       part = part.old;
     }) result presence.new reply.new block.new part.new }
 {
-    let ready = u2f_up::settle(u2f_up::record_lent(presence), call.side, call.t);
-    match ready {
+    match u2f_up::settle(u2f_up::record_lent(presence), call.side, call.t) {
         Err(why) => beside_frame(ctap1::refused(why), call.frame),
         Ok(_) => {
             let allowed = hardware.allowed;

@@ -21,12 +21,14 @@ enum Wanted {
 
 // The length that an argument says.
 fn length(rt: &impl Env, i: usize) -> Option<u64> {
+    // Fixed memory: no Vec that could run out. A longer argument is no number.
     let mut space = [0u8; 4096];
     let n = rt.arg(i, &mut space).ok()?;
     program_text::number(&space[..n], u64::MAX)
 }
 
 fn is_certificate(rt: &impl Env) -> bool {
+    // As much as tells the word from a longer one.
     let mut space = [0u8; 16];
     match rt.arg(1, &mut space) {
         Ok(n) => matches!(&space[..n], b"certificate"),

@@ -227,6 +227,7 @@ fn put_body(
 }
 
 // Order and block, certificate, the signer's answer and the reply buffer to the reply. `signed` is false where the signer failed.
+// Beside the signature and no Option of it: the C interface has both, and FinishesExactly speaks of a failed signer beside any signature.
 pub fn finish(
     order: Head,
     block: &[u8; 385],

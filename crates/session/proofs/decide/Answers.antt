@@ -7,7 +7,7 @@ use Rattle.session.proofs.decide.Goals as goal
 pub returns-then-allowed-gt-YES : goal.returns-then-allowed-gt-YES
 returns-then-allowed-gt-YES c =
     let a = c.args in
-    let is_s = OuterChecks.settles_in c.record_lent.result (presence_in a.presence.now) a.call.side a.call.t c.settle-ready.result c.record_lent.ensures c.settle-ready.ensures in
+    let is_s = OuterChecks.settles_in c.record_lent.result (presence_in a.presence.now) a.call.side a.call.t c.settle.result c.record_lent.ensures c.settle.ensures in
     let told = c.in-Ok.is in (
       rw c.beside_frame-then-allowed-gt-YES.ensures.0 (
         search (rules, OuterChecks.allowed_failed, is_s, told, c.if-allowed-gt-YES.true),
@@ -21,7 +21,7 @@ returns-then-allowed-gt-YES c =
 pub returns-then-allowed-eq-NO : goal.returns-then-allowed-eq-NO
 returns-then-allowed-eq-NO c =
     let a = c.args in
-    let is_s = OuterChecks.settles_in c.record_lent.result (presence_in a.presence.now) a.call.side a.call.t c.settle-ready.result c.record_lent.ensures c.settle-ready.ensures in
+    let is_s = OuterChecks.settles_in c.record_lent.result (presence_in a.presence.now) a.call.side a.call.t c.settle.result c.record_lent.ensures c.settle.ensures in
     let told = c.in-Ok.is in (
       rw c.beside_frame-then-allowed-eq-NO.ensures.0 (
         search (rules, OuterChecks.allowed_no, is_s, told, c.if-allowed-eq-NO.true),
@@ -35,7 +35,7 @@ returns-then-allowed-eq-NO c =
 pub returns-in-Err : goal.returns-in-Err
 returns-in-Err c =
     let a = c.args in
-    let is_s = OuterChecks.settles_in c.record_lent.result (presence_in a.presence.now) a.call.side a.call.t c.settle-ready.result c.record_lent.ensures c.settle-ready.ensures in
+    let is_s = OuterChecks.settles_in c.record_lent.result (presence_in a.presence.now) a.call.side a.call.t c.settle.result c.record_lent.ensures c.settle.ensures in
     let told = c.in-Err.is in (
       rw c.beside_frame.ensures.0 (
         search (rules, OuterChecks.not_settled, is_s, told),
@@ -52,7 +52,7 @@ commanded-decision-requires c = (search rules, search (rules, OuterChecks.limit_
 pub returns-else-allowed-eq-NO : goal.returns-else-allowed-eq-NO
 returns-else-allowed-eq-NO c =
     let a = c.args in
-    let is_s = OuterChecks.settles_in c.record_lent.result (presence_in a.presence.now) a.call.side a.call.t c.settle-ready.result c.record_lent.ensures c.settle-ready.ensures in
+    let is_s = OuterChecks.settles_in c.record_lent.result (presence_in a.presence.now) a.call.side a.call.t c.settle.result c.record_lent.ensures c.settle.ensures in
     let told = c.in-Ok.is in (
       (
         search (rules, OuterChecks.allowed_yes, is_s, told, c.if-allowed-eq-NO.false, c.if-allowed-gt-YES.false, c.commanded-decision.ensures),
