@@ -200,6 +200,6 @@ module _ (P : Panel) (M : Meets P) where
     decided = λ i low.
         let x = (Panel'.RefusalKeeps).decided i (rw (M.decide i).0 at low) in (
           λ k h. same_record (P.decide i).presence (decides_of i).presence ((M.decide i).1 ∙ sym (record_back (decided_by i).presence)) k h ∙ x.0 k h,
-          λ k h. same_session (P.decide i).session (decides_of i).session (M.decide i).2 k h ∙ x.1 k h,
+          same_session (P.decide i).session (decides_of i).session (M.decide i).2 ∙ x.1,
         );
   }

@@ -162,15 +162,15 @@ module _ (P : Panel) (M : Meets P) where
     joins r is e = rw (fetched_same r is, after_same r is) (joins_over body r (visits is) e)
 
     pub so_far : (buffer : List ℕ) (n limit : ℕ) (is : List ToDecide) → n ≤ length body → Each (IsC0 P) is
-        → first_bytes (P.next_part (0 ∷ n ∷ limit ∷ []) body buffer)
-        ++ (fetched P body (remainder_in (P.next_part (0 ∷ n ∷ limit ∷ []) body buffer).session) is
-        ++ remaining body (left_after P body (remainder_in (P.next_part (0 ∷ n ∷ limit ∷ []) body buffer).session) is))
+        → first_bytes (P.next_part (record { place = 0; count = n; limit = limit }) body buffer)
+        ++ (fetched P body (remainder_in (P.next_part (record { place = 0; count = n; limit = limit }) body buffer).session) is
+        ++ remaining body (left_after P body (remainder_in (P.next_part (record { place = 0; count = n; limit = limit }) body buffer).session) is))
         ≡ take n body
     so_far buffer n limit is h e =
-        let m = M.next_part (0 ∷ n ∷ limit ∷ []) body buffer in
+        let m = M.next_part (record { place = 0; count = n; limit = limit }) body buffer in
         let o = next_part_of (length body) (rest 0 n) limit (length buffer) in
         let a : Fetch = record { limit = limit; buffer = buffer } in
-        let p = P.next_part (0 ∷ n ∷ limit ∷ []) body buffer in
+        let p = P.next_part (record { place = 0; count = n; limit = limit }) body buffer in
         let bytes : first_bytes p ≡ response_body_of (got (called sending_of body (rest 0 n) a)) =
         ap₂ (λ (s : Wrote) (after : List ℕ). when eqb s.answer 0x9000 then response_body_of (take s.length after) else []) m.0 m.2
         ∙ first_same o _ (Outcomes.next_said (length body) (rest 0 n) limit (length buffer)) in

@@ -2,7 +2,7 @@
 use Prim.Native.Nat.{ℕ, ◌+◌, ◌≤◌}
 use mathlib.Core.Path.{◌≡◌, ap, ap₂, sym, subst, ◌∙◌}
 use mathlib.Core.Bool.{true}
-use mathlib.Core.List.{List, [], ◌∷◌}
+use mathlib.Core.List.{List, []}
 use mathlib.Core.Logic.{◌⊎◌, ⊎_elim}
 use native.Mathlib.Omega.{arith}
 use borrow.Author.Tests.{eq-eqb, ne_eqb}
@@ -97,7 +97,7 @@ module _ (P : Panel) (M : Meets P) (i : ToDecide) (f : ToFinish) (longest : ℕ)
 
 -- what goes out with a part that was sent
 sent_bytes : (body : List ℕ) (n limit : ℕ) (old bytes : List ℕ) (status : ℕ) (after : _) → Sends (sending_of body (rest 0 n) limit old) bytes status after
-    → first_bytes (nexts_of (0 ∷ n ∷ limit ∷ []) body old) ≡ bytes
+    → first_bytes (nexts_of (record { place = 0; count = n; limit = limit }) body old) ≡ bytes
 sent_bytes body n limit old bytes status after s =
     ap₂ (λ (o : Outcome Sent) (l : List ℕ). when eqb (sent_numbers o).answer 0x9000 then response_body_of (take (sent_numbers o).length l) else []) s.says s.holds
     ∙ ap response_body_of (front_of bytes status s.behind) ∙ cut_back bytes _ _
@@ -147,10 +147,10 @@ module _ (P : Panel) (M : Meets P) (i : ToDecide) (f : ToFinish) (part : List �
       ∙ ordered_limit i.frame (session_in i.session)
 
   abbrev first : (n limit : ℕ) (l : List ℕ) → ℕ
-  first n limit l = (nexts_of (0 ∷ n ∷ limit ∷ []) l part).said.answer
+  first n limit l = (nexts_of (record { place = 0; count = n; limit = limit }) l part).said.answer
 
   abbrev bytes : (n limit : ℕ) (l : List ℕ) → List ℕ
-  bytes n limit l = first_bytes (nexts_of (0 ∷ n ∷ limit ∷ []) l part)
+  bytes n limit l = first_bytes (nexts_of (record { place = 0; count = n; limit = limit }) l part)
 
   sends : f.signed ≡ 1
       → ((P.finish f).said.answer ≡ 0x9000)
@@ -161,7 +161,7 @@ module _ (P : Panel) (M : Meets P) (i : ToDecide) (f : ToFinish) (part : List �
       let ends = finished ∙ ap length_numbers s.1 in
       let long = ap (λ (w : Wrote). w.length) ends in (
         ap (λ (w : Wrote). w.answer) ends,
-        ap (λ (w : Wrote). w.answer) (M.next_part (0 ∷ (P.finish f).said.length ∷ (session_in (P.decide i).session).limit ∷ []) (P.finish f).buffer part).0
+        ap (λ (w : Wrote). w.answer) (M.next_part (record { place = 0; count = (P.finish f).said.length; limit = (session_in (P.decide i).session).limit }) (P.finish f).buffer part).0
             ∙ ap (λ (l : List ℕ). first (P.finish f).said.length (session_in (P.decide i).session).limit l) body
             ∙ ap₂ (λ (n k : ℕ). first n k (end_of end).reply) long limit
             ∙ ap (λ (o : Outcome Sent). (sent_numbers o).answer) s.2.sends.says,
@@ -169,8 +169,8 @@ module _ (P : Panel) (M : Meets P) (i : ToDecide) (f : ToFinish) (part : List �
           s.2.part,
           rw (limit, long) s.2.goes,
           ap₂ (λ (w : Wrote) (l : List ℕ). when eqb w.answer 0x9000 then response_body_of (take w.length l) else [])
-              (M.next_part (0 ∷ (P.finish f).said.length ∷ (session_in (P.decide i).session).limit ∷ []) (P.finish f).buffer part).0
-              (M.next_part (0 ∷ (P.finish f).said.length ∷ (session_in (P.decide i).session).limit ∷ []) (P.finish f).buffer part).2
+              (M.next_part (record { place = 0; count = (P.finish f).said.length; limit = (session_in (P.decide i).session).limit }) (P.finish f).buffer part).0
+              (M.next_part (record { place = 0; count = (P.finish f).said.length; limit = (session_in (P.decide i).session).limit }) (P.finish f).buffer part).2
               ∙ ap (λ (l : List ℕ). bytes (P.finish f).said.length (session_in (P.decide i).session).limit l) body
               ∙ ap₂ (λ (n k : ℕ). bytes n k (end_of end).reply) long limit
               ∙ sent_bytes (end_of end).reply s.0 (frame_limit i.frame) part _ _ _ s.2.sends

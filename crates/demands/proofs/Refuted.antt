@@ -81,7 +81,7 @@ lent : (frame : List ℕ) (t : ℕ) → ToDecide
 lent frame t =
     record {
       presence = unused;
-      session = 0 ∷ 0 ∷ 0 ∷ [];
+      session = record { place = 0; count = 0; limit = 0 };
       frame = frame;
       side = 0;
       moment = t;
@@ -337,7 +337,7 @@ abbrev in_extended : ToDecide
 in_extended =
     record {
       presence = 1000 ∷ 0 ∷ 1 ∷ 0 ∷ 0 ∷ [];
-      session = 0 ∷ 0 ∷ 0 ∷ [];
+      session = record { place = 0; count = 0; limit = 0 };
       frame = 0x00 ∷ 0x01 ∷ 0x00 ∷ 0x00 ∷ 0 ∷ 0 ∷ 64 ∷ replicate 64 0;
       side = 0;
       moment = 0;
@@ -509,13 +509,13 @@ says1024 d =
 pub part_wants_body : ResponsesServed Wrong.part_wants_body → ⊥
 unfolding frame_limit limit_of read_by say_of lengths_of short_of extended_of after_data
 part_wants_body d =
-    let one_left : ToDecide = lending (1000 ∷ 0 ∷ 0 ∷ 0 ∷ 0 ∷ []) (511 ∷ 1 ∷ 0 ∷ []) (replicate 512 0) (lend (0x00 ∷ 0xC0 ∷ 0x00 ∷ 0x00 ∷ []) 7 [] [] [] []) in
+    let one_left : ToDecide = lending (1000 ∷ 0 ∷ 0 ∷ 0 ∷ 0 ∷ []) (record { place = 511; count = 1; limit = 0 }) (replicate 512 0) (lend (0x00 ∷ 0xC0 ∷ 0x00 ∷ 0x00 ∷ []) 7 [] [] [] []) in
     d.decided 512 one_left (record { reply = refl; certificate = omega arith; handle = omega arith }) (omega arith) (inr (omega arith, omega arith)) refl
 
 -- a part of no bytes, in 2
 pub part_wants3 : ResponsesServed Wrong.part_wants3 → ⊥
 unfolding next_part_of part_length
-part_wants3 d = (d.sent (0 ∷ 0 ∷ 0 ∷ []) [] (0 ∷ 0 ∷ []) (omega arith)).0 refl (inl (omega arith))
+part_wants3 d = (d.sent (record { place = 0; count = 0; limit = 0 }) [] (0 ∷ 0 ∷ []) (omega arith)).0 refl (inl (omega arith))
 
 -- a status word, in 2
 pub response_wants3 : ResponsesServed Wrong.response_wants3 → ⊥

@@ -20,6 +20,7 @@ use Rattle.ctap1_stated.specs.Words.{DecisionGives}
 use Rattle.ctap1_stated.specs.Path.{frame_limit, limit_on}
 use Rattle.session_stated.specs.declared.Session.{Session}
 use Rattle.session_stated.specs.Held.{remainder_in, session_in, session_after}
+use Rattle.session_stated.specs.declared.SessionRecord.{SessionRecord}
 use Rattle.session_stated.specs.Promises.{inputs_in}
 use Rattle.panel_stated.specs.declared.FrameSaid.{FrameSaid}
 use Rattle.panel_stated.specs.declared.RoomSaid.{RoomSaid}
@@ -28,7 +29,6 @@ use Rattle.panel_stated.specs.Terms.{IsNumbered}
 use Rattle.panel_stated.specs.Exports.{frame_numbers, length_numbers, sent_numbers, room_numbers, decided_by}
 use Rattle.panel_stated.proofs.Outcomes as Outcomes
 use borrow.Author.Tests.{le-leb, eq-eqb, ne_eqb}
-use mathlib.Core.List.{[], ◌∷◌}
 use Rattle.octets.proofs.Laws.{length_laid}
 use Rattle.command_stated.proofs.Laws.{GetResponseExactly}
 use Rattle.signing_stated.specs.Finishing.{reply_of}
@@ -152,7 +152,7 @@ module _ (P : Panel) (M : Meets P) where
       ap (λ (s : Session). s.limit) (M.decide i).2
       ∙ limit_left (decided_by i).answer (read_of i.frame) (session_in i.session) (Outcomes.decision_said (presence_in i.presence) i.moment (inputs_in i)) (rw (M.decide i).0 at above)
 
-  part_exactly : (session body part : List ℕ) → (remainder_in session).place + (remainder_in session).count ≤ length body
+  part_exactly : (session : SessionRecord) (body part : List ℕ) → (remainder_in session).place + (remainder_in session).count ≤ length body
       → ((P.next_part session body part).said.answer ≡ 2) ↔ (length part < part_length (session_in session).limit (remainder_in session).count + 2)
   part_exactly session body part in_Body = rw (M.next_part session body part).0 (part_refused (length body) (remainder_in session) (session_in session).limit (length part) in_Body)
 
@@ -165,7 +165,7 @@ module _ (P : Panel) (M : Meets P) where
       let limit : (session_in (P.decide i).session).limit ≡ takes (P.read i.frame) = left_limit i (omega (arith, ordered)) ∙ sym (takes_is i.frame read.0 read.1) in
       let most : (P.finish f).said.length ≤ n = (reply_serves P M).body n i f s lent in
       let whole : length (P.finish f).buffer ≡ length f.reply = ap length (M.finish f).1 ∙ same_length (finish_numbered f) f.reply in
-      let x = (part_exactly (0 ∷ (P.finish f).said.length ∷ (session_in (P.decide i).session).limit ∷ []) (P.finish f).buffer part (omega (arith, most, whole, lent.reply))).0 e in
+      let x = (part_exactly (record { place = 0; count = (P.finish f).said.length; limit = (session_in (P.decide i).session).limit }) (P.finish f).buffer part (omega (arith, most, whole, lent.reply))).0 e in
       let room : length part < part_length (takes (P.read i.frame)) (P.finish f).said.length + 2 = rw (← limit) x in
       omega (arith, room, holds_less (length part) (takes (P.read i.frame)) n (P.finish f).said.length h most)
 
@@ -191,11 +191,11 @@ module _ (P : Panel) (M : Meets P) where
         let limit : (session_in (P.decide i).session).limit ≡ takes (P.read i.frame) = left_limit i above ∙ sym (limit_is i.frame taken) in
         let k = takes (P.read i.frame) in (
           λ none.
-              let exact = part_exactly (0 ∷ 300 ∷ (session_in (P.decide i).session).limit ∷ []) (replicate 300 0) (replicate 256 0) (omega arith) in
+              let exact = part_exactly (record { place = 0; count = 300; limit = (session_in (P.decide i).session).limit }) (replicate 300 0) (replicate 256 0) (omega arith) in
               let fits : part_length k 300 + 2 ≤ 256 = rw (← limit) (at_most (λ less. none (replicate 300 0) (replicate 256 0) refl (exact.1 less))) in
               in_all (P.read i.frame) few ((holds_part 256 k 300).1 fits),
           λ h body part long e.
-              let less = (part_exactly (0 ∷ length body ∷ (session_in (P.decide i).session).limit ∷ []) body part (omega arith)).0 e in
+              let less = (part_exactly (record { place = 0; count = length body; limit = (session_in (P.decide i).session).limit }) body part (omega arith)).0 e in
               let room : length part < part_length k (length body) + 2 = rw (← limit) less in
               omega (arith, room, long, (holds_part 256 k (length body)).0 (all_in (P.read i.frame) few h (length body))),
         );

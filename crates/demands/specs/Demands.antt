@@ -38,9 +38,9 @@ module _ (P : Panel) (old : List ℕ) (w : ℕ) where
 pub record BodiesAreFetched (P : Panel) : Type 0 where
   -- a body of n bytes, a first part at any limit, any GET RESPONSEs, refused or not: what went out, joined and followed by what is left, is the body
   pub so_far : (body buffer : List ℕ) (n limit : ℕ) (fetches : List ToDecide) → n ≤ length body → Each (IsC0 P) fetches
-      → first_bytes (P.next_part (0 ∷ n ∷ limit ∷ []) body buffer)
-      ++ (fetched P body (remainder_in (P.next_part (0 ∷ n ∷ limit ∷ []) body buffer).session) fetches
-      ++ remaining body (left_after P body (remainder_in (P.next_part (0 ∷ n ∷ limit ∷ []) body buffer).session) fetches))
+      → first_bytes (P.next_part (record { place = 0; count = n; limit = limit }) body buffer)
+      ++ (fetched P body (remainder_in (P.next_part (record { place = 0; count = n; limit = limit }) body buffer).session) fetches
+      ++ remaining body (left_after P body (remainder_in (P.next_part (record { place = 0; count = n; limit = limit }) body buffer).session) fetches))
       ≡ take n body
   -- one that is not refused and finds something left takes at least one byte of it, and leaves the rest
   pub takes : (body : List ℕ) (r : Remainder) (i : ToDecide) → IsGetResponse P i → 0 < r.count → last_refusal < (fetch P body r i).said.answer

@@ -8,7 +8,7 @@ abbrev pub lend : (frame : List ℕ) (counter : ℕ) (new_handle certificate x y
 lend frame counter new_handle certificate x y =
     record {
       presence = 1000 ∷ 0 ∷ 1 ∷ 0 ∷ 0 ∷ [];
-      session = 0 ∷ 0 ∷ 0 ∷ [];
+      session = record { place = 0; count = 0; limit = 0 };
       frame = frame;
       side = 0;
       moment = 0;

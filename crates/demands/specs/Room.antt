@@ -5,6 +5,7 @@ use Rattle.outcome.specs.Notation.{when◌then◌else◌}
 use Rattle.outcome.specs.Outcome.{last_refusal}
 use Rattle.octets.specs.Bytes.{AreBytes}
 use Rattle.session_stated.specs.Held.{remainder_in, session_in}
+use Rattle.session_stated.specs.declared.SessionRecord.{SessionRecord}
 use Rattle.panel_stated.specs.declared.FrameSaid.{FrameSaid}
 use Rattle.panel_stated.specs.Exports.{ToDecide, ToFinish}
 use Rattle.datasheet_stated.specs.declared.Figures.{Figures}
@@ -44,7 +45,7 @@ abbrev pub enrolling : (n h c : ℕ) → ToDecide
 enrolling n h c =
     record {
       presence = 1000 ∷ 0 ∷ 1 ∷ 0 ∷ 0 ∷ [];
-      session = 0 ∷ 0 ∷ 0 ∷ [];
+      session = record { place = 0; count = 0; limit = 0 };
       frame = 0x00 ∷ 0x01 ∷ 0x00 ∷ 0x00 ∷ 64 ∷ replicate 64 0xA1;
       side = 0;
       moment = 0;
@@ -94,7 +95,7 @@ pub record ResponsesServed (P : Panel) : Type 0 where
   pub first : (n : ℕ) (i : ToDecide) (f : ToFinish) (part : List ℕ) → Fits 394 n i → FinishesIn P n i f
       → GoesIn (length part) (takes (P.read i.frame)) n → (first_part_of P i f part).said.answer ≡ 2 → ⊥
   -- a part of a body in its buffer is R2 exactly where it has not its room, by the session's limit, which after a decision is its frame's
-  pub sent : (session body part : List ℕ) → (remainder_in session).place + (remainder_in session).count ≤ length body
+  pub sent : (session : SessionRecord) (body part : List ℕ) → (remainder_in session).place + (remainder_in session).count ≤ length body
       → ((P.next_part session body part).said.answer ≡ 2) ↔ (GoesIn (length part) (session_in session).limit (remainder_in session).count → ⊥)
   pub limit : (i : ToDecide) → (P.read i.frame).answer ≡ 0x9000 → last_refusal < (P.decide i).said.answer → (session_in (P.decide i).session).limit ≡ takes (P.read i.frame)
   -- a body with any status, and a status word alone, is R2 exactly in fewer bytes than these
@@ -103,7 +104,7 @@ pub record ResponsesServed (P : Panel) : Type 0 where
   pub short : (frame : List ℕ) → AreBytes frame → (P.read frame).answer ≡ 0x9000 → (P.read frame).shape ≤ 4 → (n : ℕ) → GoesIn 258 (takes (P.read frame)) n
   -- for a reader that carries 256 bytes in all: in so many no first part to a short frame is R2, whatever the body, exactly where Le is given and at most 254
   pub in_256 : (i : ToDecide) → (P.read i.frame).answer ≡ 0x9000 → (P.read i.frame).shape ≤ 4 → last_refusal < (P.decide i).said.answer
-      → ((body part : List ℕ) → length part ≡ 256 → (P.next_part (0 ∷ length body ∷ (session_in (P.decide i).session).limit ∷ []) body part).said.answer ≡ 2 → ⊥)
+      → ((body part : List ℕ) → length part ≡ 256 → (P.next_part (record { place = 0; count = length body; limit = (session_in (P.decide i).session).limit }) body part).said.answer ≡ 2 → ⊥)
       ↔ ((1 ≤ (P.read i.frame).le) × ((P.read i.frame).le ≤ 254))
   -- the call that says the room says the least that holds
   pub asked : (frame : List ℕ) (n m : ℕ) → (P.read frame).answer ≡ 0x9000 → (P.response_room frame n).answer ≡ 0x9000

@@ -5,7 +5,7 @@ use Words.*
 
 -- all that is lent, with this body in the reply buffer and this remainder of it (`lending presence session reply i`: i with these in place of its own)
 abbrev pub fetching : (body : List ℕ) → Remainder → ToDecide → ToDecide
-fetching body r i = lending i.presence (r.place ∷ r.count ∷ (session_in i.session).limit ∷ []) body i
+fetching body r i = lending i.presence (record { place = r.place; count = r.count; limit = (session_in i.session).limit }) body i
 
 -- a frame with INS C0 that brinecandle_read takes, whatever else it says and whatever it is answered
 abbrev pub IsC0 : Panel → ToDecide → Type 0
@@ -26,7 +26,7 @@ pub record Unhindered (P : Panel) (n : ℕ) (i : ToDecide) : Type 0 where
 
 -- what C sends first of the body that finishing gave
 abbrev pub first_part_of : Panel → ToDecide → ToFinish → (part : List ℕ) → AfterPart
-first_part_of P i f part = P.next_part (0 ∷ (P.finish f).said.length ∷ (session_in (P.decide i).session).limit ∷ []) (P.finish f).buffer part
+first_part_of P i f part = P.next_part (record { place = 0; count = (P.finish f).said.length; limit = (session_in (P.decide i).session).limit }) (P.finish f).buffer part
 
 -- each of them is so
 pub data Each (Is : ToDecide → Type 0) : List ToDecide → Type 0 where

@@ -1,6 +1,6 @@
 -- The panel of the definitions, and wrong ones, each with one fault. proofs/Refuted.antt shows that the first meets every contract, and of each other that it
 -- does not meet the demands.
-use Rattle.std.specs.Prelude.{ℕ, ◌+◌, ◌-◌, ◌%◌, List, [], ◌∷◌, ◌++◌, Bool, false, not, eqb, ltb, length, take, drop, replicate}
+use Rattle.std.specs.Prelude.{ℕ, ◌+◌, ◌-◌, ◌%◌, List, ◌++◌, Bool, false, not, eqb, ltb, length, take, drop, replicate}
 use Rattle.outcome.specs.Notation.{when◌then◌else◌}
 use Rattle.outcome.specs.Outcome.{R, SW}
 use Rattle.octets.specs.Bytes.{laid}
@@ -11,6 +11,7 @@ use Rattle.response_stated.specs.Words.{rest}
 use Rattle.response_stated.specs.Responses.{read_response_of}
 use Rattle.ctap1_stated.specs.Path.{frame_limit}
 use Rattle.session_stated.specs.Held.{remainder_in, session_in}
+use Rattle.session_stated.specs.declared.SessionRecord.{SessionRecord}
 use Rattle.session_stated.specs.Promises.{lending}
 use Rattle.u2f_up_stated.specs.declared.Presence.{Presence}
 use Rattle.std.specs.Prelude.{Some}
@@ -53,7 +54,7 @@ abbrev RespondCall : Type 0
 RespondCall = (body : List ℕ) (status : ℕ) (old : List ℕ) → AfterWriting
 
 abbrev PartCall : Type 0
-PartCall = (session body part : List ℕ) → AfterPart
+PartCall = (session : SessionRecord) (body part : List ℕ) → AfterPart
 
 abbrev RoomCall : Type 0
 RoomCall = (frame : List ℕ) (longest : ℕ) → RoomSaid
@@ -373,7 +374,7 @@ limit_forgotten =
     panel_with makes_of touches_of checks_of asks_of
     (λ i.
     let d = decides_of i in
-    record { said = d.said; presence = d.presence; session = (remainder_in d.session).place ∷ (remainder_in d.session).count ∷ 0 ∷ []; reply = d.reply; block = d.block; part = d.part })
+    record { said = d.said; presence = d.presence; session = record { place = (remainder_in d.session).place; count = (remainder_in d.session).count; limit = 0 }; reply = d.reply; block = d.block; part = d.part })
     right_finish
 
 -- every frame is said to be in shape 4, with an Le of 300

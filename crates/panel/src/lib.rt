@@ -14,6 +14,7 @@ use outcome::ApduStatusCode;
 use panel_stated::{
     Asked, CommandSaid, DecisionSaid, FrameSaid, OrderNumbers, ResponseSaid, RoomSaid, Wrote,
 };
+use session::SessionRecord;
 use signing::Head;
 
 // Reads any bytes as a frame; its data comes back as a place in the caller's frame. By cases, and each is a return of its own:
@@ -196,7 +197,7 @@ pub extern "C" fn brinecandle_is_up_needed(presence: &[u64; 5], t: u64) -> Asked
 #[unsafe(no_mangle)]
 pub extern "C" fn brinecandle_decide(
     presence: &mut [u64; 5],
-    session: &mut [u64; 3],
+    session: &mut SessionRecord,
     frame: &[u8],
     side: u64,
     t: u64,
@@ -318,13 +319,13 @@ pub extern "C" fn brinecandle_read_response(response: &[u8]) -> ResponseSaid
 // Writes the next part of what remains of a body, and its status, at the front of part. A first part is the next one of (0, n).
 #[unsafe(no_mangle)]
 pub extern "C" fn brinecandle_next_part(
-    session: &mut [u64; 3],
+    session: &mut SessionRecord,
     body: &[u8],
     part: &mut [u8],
 ) -> Wrote
     ensures { BrinecandleNextPart session.old body.now part.old result session.new part.new }
 {
-    let limit = session[2];
+    let limit = session.limit;
     let next = response::next_part(body, session::remainder_lent(session), limit, part);
     match next {
         Err(why) => panel_responses::refused_part(why),

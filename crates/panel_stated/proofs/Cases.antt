@@ -23,7 +23,7 @@ use Rattle.apdu_stated.specs.declared.Case.TheVariants.{Instruction, Le1, Lc1Dat
 use Rattle.apdu_stated.specs.declared.Place.{Place}
 use Rattle.command_stated.specs.Command.{Register, Authenticate, flags_no, handle_place_of}
 use Rattle.command_stated.specs.declared.Ctap1Flags.{Ctap1Flags}
-use Rattle.panel_stated.specs.Words.{FrameSaid, CommandSaid, Wrote, Shaped, Asked, OrderNumbers, DecisionSaid, ResponseSaid, RoomSaid, Kinded, Session, presence_in, remainder_in, session_in, session_after}
+use Rattle.panel_stated.specs.Words.{FrameSaid, CommandSaid, Wrote, Shaped, Asked, OrderNumbers, DecisionSaid, ResponseSaid, RoomSaid, Kinded, Session, SessionRecord, presence_in, remainder_in, session_in, session_after}
 use Rattle.panel_stated.specs.Numbers.{answer_no, shape_of, is_yes, kind_of, no_order}
 use Rattle.panel_stated.specs.Exports.{frame_numbers, length_numbers, ToWrite, strict_as, write_as, write_numbered, buffer_as, bare_command, command_numbers, made_over, asked_numbers, head_after, decided_numbers, sent_numbers, sent_over, ToFinish, order_from, finish_numbered}
 use Rattle.std.specs.Prelude.{Some, None}
@@ -316,26 +316,26 @@ module _ (answer : DecisionAnswer) (top : Head) (used : Bool) (q : Presence) (bl
       goes_part n left z e = goes (DecisionAnswer'.Part n left) s z (limited _ e)
 
 -- the next part of what the session says remains
-module _ (session body old : List ℕ) (k : Remainder) (limit : ℕ) (is_k : k ≡ remainder_in session) (is_limit : limit ≡ get_or session 2 0) (next : NextPart) (is_next : part_sent next ≡ (sending_of body k limit old).0) where
-  sends : part_sent next ≡ (sending_of body (remainder_in session) (get_or session 2 0) old).0
+module _ (session : SessionRecord) (body old : List ℕ) (k : Remainder) (limit : ℕ) (is_k : k ≡ remainder_in session) (is_limit : limit ≡ session.limit) (next : NextPart) (is_next : part_sent next ≡ (sending_of body k limit old).0) where
+  sends : part_sent next ≡ (sending_of body (remainder_in session) (session.limit) old).0
   sends = is_next ∙ ap₂ (λ (r : Remainder) (n : ℕ). (sending_of body r n old).0) is_k is_limit
 
-  sends_at : (d : NextPart) → next ≡ d → part_sent d ≡ (sending_of body (remainder_in session) (get_or session 2 0) old).0
+  sends_at : (d : NextPart) → next ≡ d → part_sent d ≡ (sending_of body (remainder_in session) (session.limit) old).0
   sends_at d z = ap part_sent (sym z) ∙ sends
 
-  pub next_refused : (why : Refusal) (r : Wrote) → next ≡ Err why → r ≡ record { answer = refusal_no why; length = 0 } → r ≡ sent_numbers (sending_of body (remainder_in session) (get_or session 2 0) old).0
+  pub next_refused : (why : Refusal) (r : Wrote) → next ≡ Err why → r ≡ record { answer = refusal_no why; length = 0 } → r ≡ sent_numbers (sending_of body (remainder_in session) (session.limit) old).0
   next_refused why r z e = e ∙ ap sent_numbers (sends_at (Err why) z)
 
-  pub next_kept : (why : Refusal) → next ≡ Err why → session_in session ≡ sent_over (sending_of body (remainder_in session) (get_or session 2 0) old).0 (session_in session)
+  pub next_kept : (why : Refusal) → next ≡ Err why → session_in session ≡ sent_over (sending_of body (remainder_in session) (session.limit) old).0 (session_in session)
   next_kept why z = ap (λ (o : Outcome Sent). sent_over o (session_in session)) (sends_at (Err why) z)
 
-  pub next_sent : (sent : Sent) (r : Wrote) → next ≡ Ok sent → r ≡ record { answer = 0x9000; length = sent.length } → r ≡ sent_numbers (sending_of body (remainder_in session) (get_or session 2 0) old).0
+  pub next_sent : (sent : Sent) (r : Wrote) → next ≡ Ok sent → r ≡ record { answer = 0x9000; length = sent.length } → r ≡ sent_numbers (sending_of body (remainder_in session) (session.limit) old).0
   next_sent sent r z e = e ∙ ap sent_numbers (sends_at (Ok sent) z)
 
-  pub next_left : (sent : Sent) (s : Session) → next ≡ Ok sent → s ≡ record { remainder = sent.remainder; limit = limit } → s ≡ sent_over (sending_of body (remainder_in session) (get_or session 2 0) old).0 (session_in session)
+  pub next_left : (sent : Sent) (s : Session) → next ≡ Ok sent → s ≡ record { remainder = sent.remainder; limit = limit } → s ≡ sent_over (sending_of body (remainder_in session) (session.limit) old).0 (session_in session)
   next_left sent s z e = e ∙ ap (λ (m : ℕ). record { remainder = sent.remainder; limit = m }) is_limit ∙ ap (λ (o : Outcome Sent). sent_over o (session_in session)) (sends_at (Ok sent) z)
 
-  pub next_laid : (new : List ℕ) → new ≡ (sending_of body k limit old).1 → new ≡ (sending_of body (remainder_in session) (get_or session 2 0) old).1
+  pub next_laid : (new : List ℕ) → new ≡ (sending_of body k limit old).1 → new ≡ (sending_of body (remainder_in session) (session.limit) old).1
   next_laid new e = e ∙ ap₂ (λ (r : Remainder) (n : ℕ). (sending_of body r n old).1) is_k is_limit
 
 -- ---- finishing

@@ -24,7 +24,7 @@ use Rattle.response_stated.proofs.Laws.{next_given, next_exactly, next_only, wri
 use Rattle.ctap1_stated.specs.Words.{DecisionGives, Body, Ordered, Part}
 use Rattle.ctap1_stated.specs.Path.{frame_limit}
 use Rattle.ctap1_stated.proofs.Laws.{row, limits_exactly, limits_only, remainder_exactly, replies_exactly, is_a_part}
-use Rattle.panel_stated.specs.Words.{Session, presence_in, remainder_in, session_in, session_after, inputs_in}
+use Rattle.panel_stated.specs.Words.{Session, SessionRecord, presence_in, remainder_in, session_in, session_after, inputs_in}
 use Rattle.session_stated.specs.Held.{room_on, frame_room_of}
 use Rattle.ctap1_stated.specs.Session.{is_get_response, remainder_after}
 use Rattle.panel_stated.specs.Promises.{BrinecandleNextPart}
@@ -192,8 +192,8 @@ writer_exported entry none =
         ap (λ (t : Shaped). (write_as entry t w, buffer_as entry t w)) (sym (Cases.shaped s w.shape e))
         ∙ same_writing entry (writing_by entry) writer (write_exactly entry) x (parts_of w.header s w.content w.le) w.out
 
-pub next_part_exported : (f : (session body part : List ℕ) → AfterPart)
-    → ((session body part : List ℕ) → BrinecandleNextPart session body part (f session body part).said (f session body part).session (f session body part).part) → Claims.NextPartExported f
+pub next_part_exported : (f : (session : SessionRecord) (body part : List ℕ) → AfterPart)
+    → ((session : SessionRecord) (body part : List ℕ) → BrinecandleNextPart session body part (f session body part).said (f session body part).session (f session body part).part) → Claims.NextPartExported f
 next_part_exported f meets =
     record {
       given = λ sender x session body old n left e.

@@ -1,11 +1,11 @@
--- The numbers of a record and of a session, written down and read again; and lists that stand for the same. It mentions no function.
+-- The numbers of a record and of a session, written down and read again; and records that stand for the same. It mentions no function.
 use Prim.Native.Nat.{ℕ, zero, suc, ◌<◌}
 use mathlib.Core.Path.{◌≡◌, refl, ap, sym, ◌∙◌}
-use mathlib.Core.List.{List, [], ◌∷◌}
+use mathlib.Core.List.{List}
 use native.Mathlib.Omega.{arith}
-use lib.ListN.{length, get_or}
+use lib.ListN.{get_or}
 use Rattle.u2f_up_stated.specs.Numbers.{window_of}
-use Rattle.panel_stated.specs.Words.{Window, None, Some, Presence, Session, presence_in, session_in}
+use Rattle.panel_stated.specs.Words.{Window, None, Some, Presence, SessionRecord, presence_in, session_in}
 use Rattle.panel_stated.specs.Numbers.{window_no, presence_numbers, session_numbers}
 use Rattle.panel_stated.specs.Terms.{SameNumbers}
 
@@ -32,22 +32,6 @@ numbers_back_lem n (suc (suc (suc (suc (suc k))))) h = absurd (omega (arith, h))
 pub same_record : (a b : List ℕ) → presence_in a ≡ presence_in b → SameNumbers 5 a b
 same_record a b e = λ k h. sym (numbers_back_lem a k h) ∙ ap (λ (p : Presence). get_or (presence_numbers p) k 0) e ∙ numbers_back_lem b k h
 
-three_back : (n : List ℕ) (k : ℕ) → k < 3 → get_or (session_numbers (session_in n)) k 0 ≡ get_or n k 0
-three_back n zero h = refl
-three_back n (suc zero) h = refl
-three_back n (suc (suc zero)) h = refl
-three_back n (suc (suc (suc k))) h = absurd (omega (arith, h))
-
-pub same_session : (a b : List ℕ) → session_in a ≡ session_in b → SameNumbers 3 a b
-same_session a b e = λ k h. sym (three_back a k h) ∙ ap (λ (s : Session). get_or (session_numbers s) k 0) e ∙ three_back b k h
-
--- three numbers are the session that they stand for
-three : (a : List ℕ) → length a ≡ 3 → a ≡ session_numbers (session_in a)
-three [] e = absurd (omega (arith, e))
-three (x ∷ []) e = absurd (omega (arith, e))
-three (x ∷ y ∷ []) e = absurd (omega (arith, e))
-three (x ∷ y ∷ z ∷ []) e = refl
-three (x ∷ y ∷ z ∷ w ∷ more) e = absurd (omega (arith, e))
-
-pub three_apart : (a b : List ℕ) → length a ≡ 3 → length b ≡ 3 → session_in a ≡ session_in b → a ≡ b
-three_apart a b m n e = three a m ∙ ap session_numbers e ∙ sym (three b n)
+-- a session's numbers are those that it stands for
+pub same_session : (a b : SessionRecord) → session_in a ≡ session_in b → a ≡ b
+same_session a b e = ap session_numbers e

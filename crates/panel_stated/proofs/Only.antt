@@ -33,7 +33,7 @@ use Rattle.response_stated.proofs.Laws.{next_exactly, room_exactly, writes_exact
 use Rattle.response_stated.specs.declared.Remainder.{Remainder}
 use Rattle.signing_stated.specs.declared.Kind.{Kind}
 use Rattle.signing_stated.specs.declared.Kind.TheVariants as Kind'
-use Rattle.panel_stated.specs.Words.{DecisionSaid, Session, presence_in, remainder_in, session_in, inputs_in, Entry, Ordinary, Strict, Case, Instruction, Le1, Lc1Data, Lc1DataLe1, Lc3Data, Lc3DataLe2, Le3, shape_no}
+use Rattle.panel_stated.specs.Words.{DecisionSaid, Session, SessionRecord, presence_in, remainder_in, session_in, inputs_in, Entry, Ordinary, Strict, Case, Instruction, Le1, Lc1Data, Lc1DataLe1, Lc3Data, Lc3DataLe2, Le3, shape_no}
 use Rattle.panel_stated.specs.Terms.{NoShape, nought, retired, above, SameNumbers, IsNumbered, AfterMaking, AfterWriting, AfterPart, AfterDeciding, Reports}
 use Rattle.panel_stated.specs.Numbers.{decided_no}
 use Rattle.panel_stated.proofs.Lists.{same_record}
@@ -294,8 +294,8 @@ MakeExported f g p q n w = by (ℕ_discrete w 0) (dec_lt 60000 w)
 after_writing : (a b : AfterWriting) → a.said ≡ b.said → a.buffer ≡ b.buffer → a ≡ b
 after_writing a b s t = λ d. record { said = s d; buffer = t d }
 
-pub NextPartExported : (f g : (session body part : List ℕ) → AfterPart) → Claims.NextPartExported f → Claims.NextPartExported g
-    → (session body old : List ℕ) → ((f session body old).said ≡ (g session body old).said) × (session_in (f session body old).session ≡ session_in (g session body old).session)
+pub NextPartExported : (f g : (session : SessionRecord) (body part : List ℕ) → AfterPart) → Claims.NextPartExported f → Claims.NextPartExported g
+    → (session : SessionRecord) (body old : List ℕ) → ((f session body old).said ≡ (g session body old).said) × (session_in (f session body old).session ≡ session_in (g session body old).session)
     × ((f session body old).part ≡ (g session body old).part)
 NextPartExported f g p q session body old = by (next_part_of (length body) k l (length old)) (next_way (length body) k l (length old)) refl
   where

@@ -35,7 +35,7 @@ use Rattle.octets.specs.Bytes.{part_of, byte}
 use Rattle.signing_stated.specs.Orders.{is_authenticate_layout, register_order_of, block}
 use Rattle.signing_stated.specs.Finishing.{finish_of}
 use Rattle.signing_stated.specs.declared.Kind.TheVariants as Kind'
-use Rattle.panel_stated.specs.Words.{HardwareSaid, Ordinary, Strict, Instruction, Lc3DataLe2, OrderNumbers, FrameSaid, CommandSaid, Wrote, Asked, Order, ResponseSaid, RoomSaid, Remainder, Session}
+use Rattle.panel_stated.specs.Words.{HardwareSaid, SessionRecord, Ordinary, Strict, Instruction, Lc3DataLe2, OrderNumbers, FrameSaid, CommandSaid, Wrote, Asked, Order, ResponseSaid, RoomSaid, Remainder, Session}
 use Rattle.panel_stated.specs.Numbers.{answer_no, decided_no, shape_of, kind_of}
 use Rattle.panel_stated.specs.Exports.{ToWrite, ToDecide, write_numbered, finish_numbered, touches_of, checks_of, asks_of, decides_of, command_numbers}
 use Rattle.panel_stated.specs.Claims
@@ -209,7 +209,7 @@ touched = 5000 ∷ 0 ∷ 1 ∷ 0 ∷ 0 ∷ []
 
 abbrev lending : (frame : List ℕ) (allowed : ℕ) (reply : List ℕ) → Remainder → (part : List ℕ) → ToDecide
 lending frame n reply r part =
-    record { presence = touched; session = r.place ∷ r.count ∷ 5 ∷ []; frame = frame; side = 0; moment = 1; hardware = hardware n; new_handle = []; certificate = []; x = replicate 32 1; y = replicate 32 2; reply = reply; block = []; part = part }
+    record { presence = touched; session = record { place = r.place; count = r.count; limit = 5 }; frame = frame; side = 0; moment = 1; hardware = hardware n; new_handle = []; certificate = []; x = replicate 32 1; y = replicate 32 2; reply = reply; block = []; part = part }
 
 abbrev fetch_frame : List ℕ
 fetch_frame = 0x00 ∷ 0xC0 ∷ 0x00 ∷ 0x00 ∷ []
@@ -223,8 +223,8 @@ limit_of_bodies_alone p = let e : ◌≡◌ {A = ℕ} 5 256 = p.limit (lending f
 pub refused_forgets : Claims.RefusalKeeps touches_of checks_of Wrong.refused_forgets → ⊥
 unfolding decision_of path_of allowed_path command_path settle_of command_of on_reading read_by allowed_of
 refused_forgets p =
-    let i : ToDecide = record { presence = 5000 ∷ 0 ∷ 0 ∷ 2 ∷ 0 ∷ []; session = 1 ∷ 2 ∷ 5 ∷ []; frame = []; side = 0; moment = 1; hardware = hardware 1; new_handle = []; certificate = []; x = []; y = []; reply = []; block = []; part = [] } in
-    let e : ◌≡◌ {A = ℕ} 0 5 = (p.decided i (omega arith)).1 2 (omega arith) in
+    let i : ToDecide = record { presence = 5000 ∷ 0 ∷ 0 ∷ 2 ∷ 0 ∷ []; session = record { place = 1; count = 2; limit = 5 }; frame = []; side = 0; moment = 1; hardware = hardware 1; new_handle = []; certificate = []; x = []; y = []; reply = []; block = []; part = [] } in
+    let e : ◌≡◌ {A = ℕ} 0 5 = ap (λ (s : SessionRecord). s.limit) (p.decided i (omega arith)).1 in
     omega arith
 
 -- a Register, with a touch: the touch stays
@@ -281,14 +281,14 @@ point_swapped p =
 pub next_forgets : Claims.NextPartExported Wrong.next_forgets → ⊥
 unfolding next_part_of part_length
 next_forgets p =
-    let e : ◌≡◌ {A = ℕ} 0 1 = ap (λ (s : Session). s.remainder.count) (p.refused sending_of next_exactly (0 ∷ 1 ∷ 1 ∷ []) (7 ∷ []) [] 2 refl).1 in
+    let e : ◌≡◌ {A = ℕ} 0 1 = ap (λ (s : Session). s.remainder.count) (p.refused sending_of next_exactly (record { place = 0; count = 1; limit = 1 }) (7 ∷ []) [] 2 refl).1 in
     omega arith
 
 -- two bytes by one
 pub next_whole : Claims.NextPartExported Wrong.next_whole → ⊥
 unfolding next_part_of part_length
 next_whole p =
-    let e : ◌≡◌ {A = ℕ} 4 3 = ap (λ (s : Wrote). s.length) (p.given sending_of next_exactly (0 ∷ 2 ∷ 1 ∷ []) (7 ∷ 8 ∷ []) (replicate 4 0) 3 (rest 1 1) refl).0 in
+    let e : ◌≡◌ {A = ℕ} 4 3 = ap (λ (s : Wrote). s.length) (p.given sending_of next_exactly (record { place = 0; count = 2; limit = 1 }) (7 ∷ 8 ∷ []) (replicate 4 0) 3 (rest 1 1) refl).0 in
     omega arith
 
 -- 6985
@@ -382,6 +382,6 @@ side_cut_in_check d = let z : ◌≡◌ {A = ℕ} 0x9000 8 = (d.checked closed 2
 pub side_cut_in_decide : Claims.SideCrosses touches_of asks_of checks_of Wrong.side_cut_in_decide → ⊥
 unfolding decision_of path_of allowed_path command_path settle_of command_of on_reading read_by allowed_of
 side_cut_in_decide d =
-    let i : ToDecide = record { presence = touched; session = 0 ∷ 0 ∷ 0 ∷ []; frame = []; side = 256; moment = 1; hardware = hardware 1; new_handle = []; certificate = []; x = []; y = []; reply = []; block = []; part = [] } in
+    let i : ToDecide = record { presence = touched; session = record { place = 0; count = 0; limit = 0 }; frame = []; side = 256; moment = 1; hardware = hardware 1; new_handle = []; certificate = []; x = []; y = []; reply = []; block = []; part = [] } in
     let z : ◌≡◌ {A = ℕ} 0x6a80 8 = (d.decided i).1 (⊎_elim (λ z. omega arith) (λ z. omega arith), inl (omega arith)) in
     omega arith

@@ -36,7 +36,7 @@ use Rattle.panel_stated.specs.Words.{Shaped}
 use Rattle.std.specs.Prelude.{Some, None}
 use Rattle.panel_stated.specs.Words.{Kinded}
 use Rattle.panel_stated.proofs.Cases
-use Rattle.panel_stated.proofs.Lists.{record_back, same_record, same_session, three_apart}
+use Rattle.panel_stated.proofs.Lists.{record_back, same_record, same_session}
 use Rattle.panel_stated.proofs.Outcomes
 use Rattle.panel_stated.proofs.Exported.{reader_exported, writer_exported, decide_exported, decide_anew, next_part_exported, room_exported, response_exported}
 
@@ -433,7 +433,7 @@ ResultsDetermined =
       brinecandle_grant_up = λ n t a b p q. stepped a b p.0 q.0 (both_are _ _ p.1.0 q.1.0) (both_are _ _ p.1.1 q.1.1);
       brinecandle_consume_up = λ n s t a b p q. stepped a b p.0 q.0 (both_are _ _ p.1.0 q.1.0) (both_are _ _ p.1.1 q.1.1);
       brinecandle_is_up_needed = λ n t a b. both_are a b;
-      brinecandle_decide = λ i a b p q. decided i a b p.0 q.0 p.1 q.1 p.2 q.2;
+      brinecandle_decide = λ i a b p q. decided i a b p.0 q.0 p.1 q.1;
       brinecandle_finish = λ i a b p q. written a b (both_are _ _ p.0 q.0) (both_are _ _ p.1 q.1);
       response_plain = λ read a b. both_are a b;
       wrote_response_plain = λ written a b. both_are a b;
@@ -443,7 +443,7 @@ ResultsDetermined =
       brinecandle_write_response = λ body status old a b p q. written a b (both_are _ _ p.0 q.0) (both_are _ _ p.1 q.1);
       brinecandle_read_response = λ response a b. both_are a b;
       brinecandle_next_part = λ session body part a b p q.
-          parted a b (both_are _ _ p.1.0 q.1.0) (three_apart a.session b.session p.0 q.0 (both_are _ _ p.1.1 q.1.1)) (both_are _ _ p.1.2 q.1.2);
+          parted a b (both_are _ _ p.0 q.0) (same_session a.session b.session (both_are _ _ p.1 q.1)) (both_are _ _ p.2 q.2);
       brinecandle_response_room = λ frame longest a b. both_are a b;
     }
   where
@@ -456,12 +456,12 @@ ResultsDetermined =
     stepped : (a b : AfterStep) → length a.presence ≡ 5 → length b.presence ≡ 5 → a.said ≡ b.said → presence_in a.presence ≡ presence_in b.presence → a ≡ b
     stepped a b m n e f = let same = five_apart a.presence b.presence m n f in λ d. record { said = e d; presence = same d }
 
-    decided : (i : ToDecide) (a b : AfterDeciding) → length a.presence ≡ 5 → length b.presence ≡ 5 → length a.session ≡ 3 → length b.session ≡ 3
+    decided : (i : ToDecide) (a b : AfterDeciding) → length a.presence ≡ 5 → length b.presence ≡ 5
         → BrinecandleDecide i a.said a.presence a.session a.reply a.block a.part → BrinecandleDecide i b.said b.presence b.session b.reply b.block b.part → a ≡ b
-    decided i a b m n k l p q =
+    decided i a b m n p q =
         let said = both_are _ _ p.0 q.0 in
         let presence = five_apart a.presence b.presence m n (both_are _ _ p.1 q.1) in
-        let session = three_apart a.session b.session k l (both_are _ _ p.2 q.2) in
+        let session = same_session a.session b.session (both_are _ _ p.2 q.2) in
         let reply = both_are _ _ p.3 q.3 in
         let block = both_are _ _ p.4 q.4 in
         let part = both_are _ _ p.5 q.5 in

@@ -3,7 +3,7 @@
 use Rattle.std.specs.Prelude.{◌↔◌, ◌⊎◌, ◌∷◌, drop, ◌≡◌, ◌≤◌, ◌<◌, ◌+◌}
 use Rattle.panel_stated.specs.Words.{ℕ, Bool, List, AtMostOne, StatusWord, Outcome, R, Word, Gives, HasStatus, last_refusal, None, Presence, Order, Head}
 use Rattle.panel_stated.specs.Words.{Instruction, Le1, Lc1Data, Lc1DataLe1, Lc3Data, Lc3DataLe2, Le3}
-use Rattle.panel_stated.specs.Words.{OrderNumbers, Shaped, Kinded, presence_in, remainder_in, session_in, frame_room_of}
+use Rattle.panel_stated.specs.Words.{SessionRecord, OrderNumbers, Shaped, Kinded, presence_in, remainder_in, session_in, frame_room_of}
 use Rattle.panel_stated.specs.Words.{FrameSaid, CommandSaid, Wrote, Asked, DecisionSaid, ResponseSaid, RoomSaid}
 use Rattle.panel_stated.specs.Words.{Says, Entry, Case, Parts, parts_of, shape_no, Command, Register, Authenticate, Version, GetResponse, length, Remainder, Response, Sent, write_response_of, read_response_of, next_part_of, false, read_of, strict_of, command_of, new_of, touch_of, check_of, ask_of, DecisionGives, Body, Ordered, Part, DecisionResult, finish_of}
 use Rattle.panel_stated.specs.Exports.{order_after, ToWrite, ToDecide, ToFinish, decided_by, write_numbered, finish_numbered}
@@ -94,7 +94,7 @@ pub record MakeExported (make : (presence : List ℕ) (w : ℕ) → AfterMaking)
 pub record RefusalKeeps (touch : (presence : List ℕ) (t : ℕ) → AfterStep) (check : (presence : List ℕ) (side t : ℕ) → AfterStep) (decide : ToDecide → AfterDeciding) : Type 0 where
   pub grant_up : (n : List ℕ) (t : ℕ) → (touch n t).said.answer ≤ last_refusal → SameNumbers 5 (touch n t).presence n
   pub consume_up : (n : List ℕ) (s t : ℕ) → (check n s t).said.answer ≤ last_refusal → SameNumbers 5 (check n s t).presence n
-  pub decided : (i : ToDecide) → (decide i).said.answer ≤ last_refusal → SameNumbers 5 (decide i).presence i.presence × SameNumbers 3 (decide i).session i.session
+  pub decided : (i : ToDecide) → (decide i).said.answer ≤ last_refusal → SameNumbers 5 (decide i).presence i.presence × ((decide i).session ≡ i.session)
 
 -- 02, E7: "R8 for a side other than 0 or 1, named or in the record"; ours: the side crosses with 64 bits, and so does the record's, so that 256, 2^32 or -1 in C
 -- is not cut down to a side. So a check and a decision answer 8 exactly for such a number, as it was lent, once W is right; touch and ask, which name
@@ -261,7 +261,7 @@ pub record DecisionNumbers (plain : DecisionResult → DecisionSaid) : Type 0 wh
 
 -- The exported decision as a whole, of what C lends under each name: a row of document 01's table and E2's (`row`), on what is lent, its numbers, and
 -- what the call leaves. 02, E2: "a refused C0 or any R refusal keeps it"; "A frame with another INS or in no shape drops the remainder". Ours: after every answer
--- but a refusal the frame's limit is the session's third number, with an order too; 6, 139 + h + c and 77 are asked of the uncut body's buffer; a part is cut out of
+-- but a refusal the frame's limit is the session's, with an order too; 6, 139 + h + c and 77 are asked of the uncut body's buffer; a part is cut out of
 -- that one and written to another. An export that leaves the limit with a body alone (`limit_of_bodies_alone`) fails it, one that asks the other buffer for room
 -- (`rooms_swapped`), leaves the record as it was lent (`record_forgotten`), drops the remainder at a refused C0 (`drops_at_c0`), cuts the part out of the buffer for it
 -- (`part_of_itself`), writes it over the body (`part_over_the_body`), or takes x for y (`point_swapped`).
@@ -288,13 +288,13 @@ pub record DecideExported (decide : ToDecide → AfterDeciding) : Type 0 where
 
 -- The exported next part, by whatever sender meets response_stated's `NextExactly`: its answer in numbers, and its buffer; what remains and the limit are the
 -- session's. 02, E2: "any R refusal keeps it". An export that forgets what remains with R2 (`next_forgets`) fails it, and one that looks at no limit (`next_whole`).
-pub record NextPartExported (next : (session body part : List ℕ) → AfterPart) : Type 0 where
-  pub given : (sender : Sender) → Responses.NextExactly sender → (session body old : List ℕ) (n : ℕ) (left : Remainder)
+pub record NextPartExported (next : (session : SessionRecord) (body part : List ℕ) → AfterPart) : Type 0 where
+  pub given : (sender : Sender) → Responses.NextExactly sender → (session : SessionRecord) (body old : List ℕ) (n : ℕ) (left : Remainder)
       → (sender body (remainder_in session) (session_in session).limit old).0 ≡ Gives (sending n left)
       → ((next session body old).said ≡ record { answer = 0x9000; length = n })
       × (session_in (next session body old).session ≡ record { remainder = left; limit = (session_in session).limit })
       × ((next session body old).part ≡ (sender body (remainder_in session) (session_in session).limit old).1)
-  pub refused : (sender : Sender) → Responses.NextExactly sender → (session body old : List ℕ) (m : ℕ)
+  pub refused : (sender : Sender) → Responses.NextExactly sender → (session : SessionRecord) (body old : List ℕ) (m : ℕ)
       → (sender body (remainder_in session) (session_in session).limit old).0 ≡ R m
       → ((next session body old).said ≡ record { answer = m; length = 0 }) × (session_in (next session body old).session ≡ session_in session) × ((next session body old).part ≡ old)
 
@@ -391,8 +391,8 @@ pub record ContractsAsClaimed : Type 0 where
   pub new : (f : (presence : List ℕ) (w : ℕ) → AfterMaking) → ((n : List ℕ) (w : ℕ) → BrinecandleNew n w (f n w).said (f n w).presence) → MakeExported f
   pub decide : (f : ToDecide → AfterDeciding)
       → ((i : ToDecide) → BrinecandleDecide i (f i).said (f i).presence (f i).session (f i).reply (f i).block (f i).part) → DecideExported f
-  pub next_part : (f : (session body part : List ℕ) → AfterPart)
-      → ((session body part : List ℕ) → BrinecandleNextPart session body part (f session body part).said (f session body part).session (f session body part).part) → NextPartExported f
+  pub next_part : (f : (session : SessionRecord) (body part : List ℕ) → AfterPart)
+      → ((session : SessionRecord) (body part : List ℕ) → BrinecandleNextPart session body part (f session body part).said (f session body part).session (f session body part).part) → NextPartExported f
   pub response_room : (f : (frame : List ℕ) (longest : ℕ) → RoomSaid) → ((frame : List ℕ) (longest : ℕ) → BrinecandleResponseRoom frame longest (f frame longest)) → RoomExported f
   pub write_response : (f : (body : List ℕ) (status : ℕ) (old : List ℕ) → AfterWriting)
       → ((body : List ℕ) (status : ℕ) (old : List ℕ) → BrinecandleWriteResponse body status old (f body status old).said (f body status old).buffer) → ResponseExported f
@@ -428,7 +428,7 @@ pub record ResultsDetermined : Type 0 where
   pub brinecandle_consume_up : (n : List ℕ) (s t : ℕ) → AtMostOne (λ (r : AfterStep). (length r.presence ≡ 5) × BrinecandleConsumeUp n s t r.said r.presence)
   pub brinecandle_is_up_needed : (n : List ℕ) (t : ℕ) → AtMostOne (BrinecandleIsUpNeeded n t)
   pub brinecandle_decide : (i : ToDecide)
-      → AtMostOne (λ (r : AfterDeciding). (length r.presence ≡ 5) × (length r.session ≡ 3) × BrinecandleDecide i r.said r.presence r.session r.reply r.block r.part)
+      → AtMostOne (λ (r : AfterDeciding). (length r.presence ≡ 5) × BrinecandleDecide i r.said r.presence r.session r.reply r.block r.part)
   pub brinecandle_finish : (i : ToFinish) → AtMostOne (λ (r : AfterWriting). BrinecandleFinish i r.said r.buffer)
   pub response_plain : (read : ReadResponse) → AtMostOne (ResponsePlain read)
   pub wrote_response_plain : (written : WroteResponse) → AtMostOne (WroteResponsePlain written)
@@ -437,6 +437,6 @@ pub record ResultsDetermined : Type 0 where
   pub room_plain : (room : ResponseRoom) → AtMostOne (RoomPlain room)
   pub brinecandle_write_response : (body : List ℕ) (status : ℕ) (old : List ℕ) → AtMostOne (λ (r : AfterWriting). BrinecandleWriteResponse body status old r.said r.buffer)
   pub brinecandle_read_response : (response : List ℕ) → AtMostOne (BrinecandleReadResponse response)
-  pub brinecandle_next_part : (session body part : List ℕ)
-      → AtMostOne (λ (r : AfterPart). (length r.session ≡ 3) × BrinecandleNextPart session body part r.said r.session r.part)
+  pub brinecandle_next_part : (session : SessionRecord) (body part : List ℕ)
+      → AtMostOne (λ (r : AfterPart). BrinecandleNextPart session body part r.said r.session r.part)
   pub brinecandle_response_room : (frame : List ℕ) (longest : ℕ) → AtMostOne (BrinecandleResponseRoom frame longest)

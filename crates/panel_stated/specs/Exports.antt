@@ -1,7 +1,7 @@
 -- What each export answers and leaves, in plain numbers, by the outcome that the definitions of the other crates give for its call.
 -- A number that an answer has no use for is 0.
 use Rattle.std.specs.Prelude.{◌+◌}
-use Rattle.panel_stated.specs.Words.{ℕ, Bool, false, List, length, StatusWord, Outcome, R, Word, Gives, plain_word, ApduHeader, Presence, Session, Kind, Head, Order, head_of}
+use Rattle.panel_stated.specs.Words.{ℕ, Bool, false, List, length, StatusWord, Outcome, R, Word, Gives, plain_word, ApduHeader, Presence, Session, SessionRecord, Kind, Head, Order, head_of}
 use Rattle.panel_stated.specs.Words.{OrderNumbers, FrameSaid, CommandSaid, Wrote, Asked, DecisionSaid, ResponseSaid, RoomSaid, Shaped, Kinded}
 use Rattle.panel_stated.specs.Words.{Says, read_of, place_of, Entry, Strict, in_row, read_by, parts_of, write_by, buffer_by, Command, Register, Authenticate, Version, GetResponse, handle_place_of, Told, new_of, touch_of, check_of, ask_of}
 use Rattle.panel_stated.specs.Words.{kind_no, finish_of, DecisionGives, Body, Ordered, Part, DecisionResult, decision_of, Response, Sent, part_left, reply_left, block_left, presence_in, session_in, session_after, frame_room_of, inputs_in}
@@ -189,7 +189,7 @@ pub record AfterWriting : Type 0 where
 -- what a part leaves: its answer, the session, and the buffer for part and status
 pub record AfterPart : Type 0 where
   pub said : Wrote
-  pub session : List ℕ
+  pub session : SessionRecord
   pub part : List ℕ
 
 -- the exported readings
@@ -203,7 +203,7 @@ writes_of entry w = record { said = length_numbers (write_numbered entry w); buf
 abbrev pub responds_of : (body : List ℕ) (status : ℕ) (old : List ℕ) → AfterWriting
 responds_of body status old = record { said = length_numbers (writing_of body status old).0; buffer = (writing_of body status old).1 }
 
-abbrev pub nexts_of : (session body part : List ℕ) → AfterPart
+abbrev pub nexts_of : (session : SessionRecord) (body part : List ℕ) → AfterPart
 nexts_of session body old =
     let sent = sending_of body (session_in session).remainder (session_in session).limit old in
     record { said = sent_numbers sent.0; session = session_numbers (sent_over sent.0 (session_in session)); part = sent.1 }
@@ -248,7 +248,7 @@ session_by i = session_after (decided_by i).answer (read_of i.frame) (session_in
 pub record AfterDeciding : Type 0 where
   pub said : DecisionSaid
   pub presence : List ℕ
-  pub session : List ℕ
+  pub session : SessionRecord
   pub reply : List ℕ
   pub block : List ℕ
   pub part : List ℕ

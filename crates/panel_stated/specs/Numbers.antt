@@ -1,7 +1,7 @@
 -- Document 01, 'Forms that change': "exported to it over plain numbers and byte slices". Which number stands for what: answers, records and sessions, shapes and
 -- kinds. The hardware's answers are ctap1_stated's, which takes them as numbers.
 use Rattle.std.specs.Prelude.{◌∷◌}
-use Rattle.panel_stated.specs.Words.{ℕ, suc, List, [], eqb, when◌then◌else◌, Outcome, R, Word, Gives, Session}
+use Rattle.panel_stated.specs.Words.{ℕ, suc, List, [], eqb, when◌then◌else◌, Outcome, R, Word, Gives, Session, SessionRecord}
 use Rattle.panel_stated.specs.Words.{Instruction, Le1, Lc1Data, Lc1DataLe1, Lc3Data, Lc3DataLe2, Le3}
 use Rattle.panel_stated.specs.Words.{Window, None, Some, Presence}
 pub use Rattle.ctap1_stated.specs.Numbers.{allowed_of, attestation_of, is_yes, counter_of, hardware_of}
@@ -34,7 +34,7 @@ place_no (R n) = 0
 place_no (Word s) = s.place
 place_no (Gives a) = 0
 
--- the numbers of a record, and of a session, in their order; what they stand for: `presence_in` (u2f_up_stated's Numbers.antt), `session_in` (session_stated's Held.antt)
+-- the numbers of a record, in their order, and of a session, by name; what they stand for: `presence_in` (u2f_up_stated's Numbers.antt), `session_in` (session_stated's Held.antt)
 abbrev pub window_no : Window → ℕ
 window_no None = 0
 window_no (Some m) = suc m
@@ -42,8 +42,8 @@ window_no (Some m) = suc m
 abbrev pub presence_numbers : Presence → List ℕ
 presence_numbers p = p.w ∷ window_no p.prompt ∷ window_no p.touch ∷ p.last ∷ p.asker ∷ []
 
-abbrev pub session_numbers : Session → List ℕ
-session_numbers s = s.remainder.place ∷ s.remainder.count ∷ s.limit ∷ []
+abbrev pub session_numbers : Session → SessionRecord
+session_numbers s = record { place = s.remainder.place; count = s.remainder.count; limit = s.limit }
 
 -- 01, 'Eight frame shapes', the column "no"; ours: a shape number outside 1..8 is R5; 02, E13: shape 6 is retired, "the writer
 -- R5", and the others keep their numbers

@@ -1,7 +1,7 @@
 -- What is promised of each public function of panel_frames, panel_presence, panel_orders, panel_responses and panel, over what it is lent,
 -- its result, and the final contents of what it writes.
 use Rattle.std.specs.Prelude.{◌≡◌}
-use Rattle.panel_stated.specs.Words.{ℕ, Bool, List, R, Word, Gives, Body, Ordered, Part, Head, Remainder, Ordinary, Strict, command_of, new_of, touch_of, check_of, length_of, reply_of, response_read, response_written, read_response_of, presence_in, session_in}
+use Rattle.panel_stated.specs.Words.{ℕ, Bool, List, SessionRecord, R, Word, Gives, Body, Ordered, Part, Head, Remainder, Ordinary, Strict, command_of, new_of, touch_of, check_of, length_of, reply_of, response_read, response_written, read_response_of, presence_in, session_in}
 use Rattle.panel_stated.specs.Words.{FrameSaid, CommandSaid, Wrote, Asked, DecisionSaid, ResponseSaid, RoomSaid, Shaped, Kinded}
 use Rattle.panel_stated.specs.Numbers.{shape_of, kind_of, no_order}
 use Rattle.panel_stated.specs.Exports.{frame_numbers, length_numbers, ToWrite, strict_as, reads_of, writes_of, command_numbers, made_over, makes_of, asked_numbers, touches_of, checks_of, asks_of, head_after, decided_numbers, ToDecide, decided_by, session_by, decides_of, responds_of, response_numbers, nexts_of, sent_over, room_numbers, rooms_of, ToFinish, finish_numbered}
@@ -134,7 +134,7 @@ abbrev pub BrinecandleIsUpNeeded : (presence : List ℕ) (t : ℕ) → Asked →
 BrinecandleIsUpNeeded presence t r = r ≡ asks_of presence t
 
 -- the answer, and the record, the session, the reply buffer, the block and the buffer for part and status after the call
-abbrev pub BrinecandleDecide : ToDecide → DecisionSaid → (presence session reply block part : List ℕ) → Type 0
+abbrev pub BrinecandleDecide : ToDecide → DecisionSaid → (presence : List ℕ) (session : SessionRecord) (reply block part : List ℕ) → Type 0
 BrinecandleDecide i r presence session reply block part =
     (r ≡ (decides_of i).said) × (presence_in presence ≡ (decided_by i).presence) × (session_in session ≡ session_by i)
     × (reply ≡ (decides_of i).reply) × (block ≡ (decides_of i).block) × (part ≡ (decides_of i).part)
@@ -152,7 +152,7 @@ abbrev pub BrinecandleReadResponse : List ℕ → ResponseSaid → Type 0
 BrinecandleReadResponse response r = r ≡ response_numbers (read_response_of response)
 
 -- the answer, and the session and the buffer for part and status after the call
-abbrev pub BrinecandleNextPart : (session body part : List ℕ) → Wrote → (left exit : List ℕ) → Type 0
+abbrev pub BrinecandleNextPart : (session : SessionRecord) (body part : List ℕ) → Wrote → (left : SessionRecord) (exit : List ℕ) → Type 0
 BrinecandleNextPart session body part r left exit =
     let sent = sending_of body (session_in session).remainder (session_in session).limit part in
     (r ≡ (nexts_of session body part).said) × (session_in left ≡ sent_over sent.0 (session_in session)) × (exit ≡ (nexts_of session body part).part)

@@ -48,6 +48,7 @@ pub use Rattle.response_stated.specs.declared.Sent.{Sent}
 pub use Rattle.response_stated.specs.Responses.{response_of, write_response_of, response_laid, read_response_of}
 pub use Rattle.response_stated.specs.Parts.{next_part_of, part_response, part_laid}
 pub use Rattle.session_stated.specs.declared.Session.{Session}
+pub use Rattle.session_stated.specs.declared.SessionRecord.{SessionRecord}
 pub use Rattle.session_stated.specs.Held.{remainder_in, session_in, session_after, frame_room_of}
 pub use Rattle.session_stated.specs.Promises.{ToDecide, inputs_in}
 pub use Rattle.u2f_up_stated.specs.Numbers.{presence_in}

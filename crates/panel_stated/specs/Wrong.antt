@@ -2,7 +2,7 @@
 -- its claim.
 use Rattle.panel_stated.specs.Words.{ℕ, Bool, true, false, eqb, List, when◌then◌else◌, Outcome, R, Word, Gives, last_refusal, Order, Instruction, Lc3DataLe2}
 use Rattle.panel_stated.specs.Words.{DecisionSaid, OrderNumbers, FrameSaid, CommandSaid, Wrote, Asked, ResponseSaid, RoomSaid, Shaped, Kinded}
-use Rattle.panel_stated.specs.Words.{Says, Command, Register, Authenticate, Version, GetResponse, touch_of, DecisionResult, DecisionGives, Body, Ordered, Part, to_sign, certificate_length, rest, Response, Sent, presence_in, remainder_in, session_in, inputs_in}
+use Rattle.panel_stated.specs.Words.{Says, Command, Register, Authenticate, Version, GetResponse, touch_of, DecisionResult, DecisionGives, Body, Ordered, Part, to_sign, certificate_length, rest, Response, Sent, SessionRecord, presence_in, remainder_in, session_in, inputs_in}
 use Rattle.panel_stated.specs.Numbers.{presence_numbers, session_numbers, shape_of, kind_of}
 use Rattle.panel_stated.specs.Exports.{ToFinish, finish_numbered, frame_numbers, command_numbers, length_numbers, makes_of, asked_numbers, order_after, decision_numbers, step_numbers, touches_of, checks_of, response_numbers, sent_numbers, room_numbers}
 use Rattle.panel_stated.specs.Words.{Entry, Ordinary, Strict}
@@ -60,10 +60,13 @@ refused_moves n t =
     let a = touches_of n t in
     record { said = a.said; presence = when leb a.said.answer last_refusal then presence_numbers (moved_to (presence_in n) t) else a.presence }
 
+abbrev no_session : SessionRecord
+no_session = record { place = 0; count = 0; limit = 0 }
+
 abbrev pub refused_forgets : ToDecide → AfterDeciding
 refused_forgets i =
     let a = decides_of i in
-    record { said = a.said; presence = a.presence; session = when leb a.said.answer last_refusal then replicate 3 0 else a.session; reply = a.reply; block = a.block; part = a.part }
+    record { said = a.said; presence = a.presence; session = when leb a.said.answer last_refusal then no_session else a.session; reply = a.reply; block = a.block; part = a.part }
 
 -- ours: a side has 64 bits, so that 256, 2^32 or -1 in C is not cut down to one. Here 8 bits of it are looked at, in a check, in a decision; and, "named or in the
 -- record", a touch takes any record
@@ -274,7 +277,7 @@ abbrev pub no_kind_is_r2 : ToFinish → Outcome (List ℕ)
 no_kind_is_r2 i = when leb 3 i.order.kind then R 2 else finish_numbered i
 
 -- ---- the exported decision, next part and response: all as they are to be, but for one thing
-abbrev leaves_session : AfterDeciding → (session : List ℕ) → AfterDeciding
+abbrev leaves_session : AfterDeciding → SessionRecord → AfterDeciding
 leaves_session a session = record { said = a.said; presence = a.presence; session = session; reply = a.reply; block = a.block; part = a.part }
 
 -- the limit comes with every answer but a refusal. Here with a body alone
@@ -316,13 +319,13 @@ abbrev pub point_swapped : ToDecide → AfterDeciding
 point_swapped i = decides_of (lent_with i i.side i.y i.x i.reply i.part)
 
 -- 02, E2: "any R refusal keeps it". Here nothing is left after it
-abbrev pub next_forgets : (session body part : List ℕ) → AfterPart
+abbrev pub next_forgets : (session : SessionRecord) (body part : List ℕ) → AfterPart
 next_forgets session body old =
     let a = nexts_of session body old in
-    record { said = a.said; session = when eqb a.said.answer 2 then replicate 3 0 else a.session; part = a.part }
+    record { said = a.said; session = when eqb a.said.answer 2 then no_session else a.session; part = a.part }
 
 -- 02, E2: "a body longer than Le (256 where absent) is cut". Here it goes out as a whole
-abbrev pub next_whole : (session body part : List ℕ) → AfterPart
+abbrev pub next_whole : (session : SessionRecord) (body part : List ℕ) → AfterPart
 next_whole session body old = nexts_of (session_numbers (record { remainder = remainder_in session; limit = 0 })) body old
 
 -- in the short shapes the first part is cut. Here the room is the whole body's

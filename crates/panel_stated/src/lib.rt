@@ -1,8 +1,8 @@
 // What crosses to C, as plain numbers: the structs of include/brinecandle.h, which .ci/header compares with these. No function:
 // panel_frames, panel_presence, panel_orders and panel_responses have the conversions, panel the exports.
 //
-// What the firmware keeps between calls is lent and changed in place: the presence record as five numbers, a transport's session as three. The
-// hardware's answers are lent as a struct, to be read. Results
+// What the firmware keeps between calls is lent and changed in place: the presence record as five numbers, a transport's session as a struct of three
+// (session_stated). The hardware's answers are lent as a struct, to be read (ctap1_stated). Results
 // and an order cross as #[repr(C)] structs by value. An order's block of 385 bytes is an array lent beside it. Slices are a pointer and a length.
 //
 // Where a frame's length is wrong, `fault` is 1 to 3 and `place` where; else both are 0. `fault` stands beside the answer, where the two
@@ -18,14 +18,6 @@ pub struct PresenceRecord {
     pub touch: u64,
     pub last: u64,
     pub asker: u64,
-}
-
-// A session's three: what remains of a body, from which place on and how many bytes, and how many of them the latest frame takes at a time.
-#[derive(Clone, Copy)]
-pub struct SessionRecord {
-    pub place: u64,
-    pub count: u64,
-    pub limit: u64,
 }
 
 // What a frame says: the header, the shape's number, Lc and Le, and where the data stands in the frame.

@@ -19,7 +19,7 @@ use command::U2fCommand;
 use ctap1::{Call, Decision, DecisionAnswer, HardwareSaid, NewKey};
 use outcome::{ApduStatusCode, Refusal};
 use response::Remainder;
-pub use session_stated::SessionDecision;
+pub use session_stated::{SessionDecision, SessionRecord};
 
 // Whether CTAP1 is allowed, by its number; above yes it could not be found out.
 const NO: u32 = 0;
@@ -29,12 +29,12 @@ const YES: u32 = 1;
 const GET_RESPONSE: u8 = 0xc0;
 
 // What remains of a body, of a session's three numbers.
-pub fn remainder_lent(numbers: &[u64; 3]) -> Remainder
-    ensures { RemainderLent numbers.now result }
+pub fn remainder_lent(session: &SessionRecord) -> Remainder
+    ensures { RemainderLent session.now result }
 {
     Remainder {
-        place: numbers[0] as usize,
-        count: numbers[1] as usize,
+        place: session.place as usize,
+        count: session.count as usize,
     }
 }
 
@@ -94,7 +94,7 @@ fn fetched(
 // By the command.
 fn commanded(
     presence: &mut [u64; 5],
-    session: &[u64; 3],
+    session: &SessionRecord,
     call: Call,
     reading: Result<Apdu, ApduStatusCode>,
     hardware: &HardwareSaid,
@@ -150,7 +150,7 @@ fn beside_frame(decision: Decision, frame: &[u8]) -> SessionDecision
 // is looked at: else a decision takes up to 40 instructions more.
 pub fn decide(
     presence: &mut [u64; 5],
-    session: &[u64; 3],
+    session: &SessionRecord,
     call: Call,
     hardware: &HardwareSaid,
     key: NewKey,
@@ -209,35 +209,32 @@ pub fn decide(
 
 // What the transport goes on with, after each answer but a refusal, which leaves it: a status word to a GET RESPONSE keeps what remains, and any other frame drops
 // it; after a part it is what that left. The limit is the frame's.
-pub fn stated(fetches: bool, limit: u64, session: &mut [u64; 3])
+pub fn stated(fetches: bool, limit: u64, session: &mut SessionRecord)
     ensures { Stated fetches limit session.old session.new }
 {
-    let whole: &mut [u64] = session;
     if !fetches {
-        whole[0] = 0;
-        whole[1] = 0;
-        whole[2] = limit;
+        session.place = 0;
+        session.count = 0;
+        session.limit = limit;
         return;
     }
-    whole[2] = limit;
+    session.limit = limit;
 }
 
-pub fn dropped(limit: u64, session: &mut [u64; 3])
+pub fn dropped(limit: u64, session: &mut SessionRecord)
     ensures { Dropped limit session.new }
 {
-    let whole: &mut [u64] = session;
-    whole[0] = 0;
-    whole[1] = 0;
-    whole[2] = limit;
+    session.place = 0;
+    session.count = 0;
+    session.limit = limit;
 }
 
-pub fn left(remainder: Remainder, limit: u64, session: &mut [u64; 3])
+pub fn left(remainder: Remainder, limit: u64, session: &mut SessionRecord)
     ensures { Left remainder limit session.new }
 {
-    let whole: &mut [u64] = session;
-    whole[0] = remainder.place as u64;
-    whole[1] = remainder.count as u64;
-    whole[2] = limit;
+    session.place = remainder.place as u64;
+    session.count = remainder.count as u64;
+    session.limit = limit;
 }
 
 // How many bytes a response to this frame can take, where no body to it is longer than `longest`: in no shape a status word alone.

@@ -1,13 +1,11 @@
 -- A law for each `return` of the session's functions, with the facts as the code has them. It mentions no function.
-use Prim.Native.Nat.{ℕ, ◌+◌, ◌<◌}
+use Prim.Native.Nat.{ℕ, ◌+◌}
 use mathlib.Core.Path.{◌≡◌, refl, ap, sym, ◌∙◌}
-use mathlib.Core.Bool.{Bool, true, false, not}
-use native.Mathlib.Omega.{arith}
+use mathlib.Core.Bool.{Bool, true, false}
 use mathlib.Core.List.{List}
-use borrow.Author.Tests.{eq-eqb, ne_eqb, not-true, not-false}
+use borrow.Author.Tests.{eq-eqb, ne_eqb}
 use lib.Dec.{ltb}
-use lib.ListN.{length, set}
-use lib.Seq.{get_or-set_same, get_or-set_other, lt-length-set}
+use lib.ListN.{length}
 use Rattle.outcome.specs.Notation.{when◌then◌else◌}
 use Rattle.outcome.specs.Outcome.{Outcome, R, Word, SW, Gives, refusal_no}
 use Rattle.outcome.specs.declared.Refusal.{Refusal}
@@ -90,27 +88,3 @@ module _ (kept settled : Presence) (k : Remainder) (limit : ℕ) (body old : Lis
         by (Word s) = refl
         by (Gives sent) = refl
 
--- ---- the session's numbers
-module _ (s : List ℕ) (long : 2 < length s) where
-  two : (n : ℕ) → session_in (set s 2 n) ≡ record { remainder = remainder_in s; limit = n }
-  two n = rw (get_or-set_same s 2 n 0 long, get_or-set_other s 2 0 n 0 (λ e. omega arith), get_or-set_other s 2 1 n 0 (λ e. omega arith))
-
-pub kept_is : (s : List ℕ) (fetches : Bool) (limit : ℕ) → 2 < length s → not fetches ≡ false
-    → session_in (set s 2 limit) ≡ record { remainder = when fetches then remainder_in s else rest 0 0; limit = limit }
-kept_is s fetches limit long is = two s long limit ∙ rw (not-false fetches is)
-
-three : (s : List ℕ) (a b c : ℕ) → 2 < length s → session_in (set (set (set s 0 a) 1 b) 2 c) ≡ record { remainder = rest a b; limit = c }
-three s a b c long =
-    let one : 1 < length (set s 0 a) = lt-length-set s 0 a (omega (arith, long)) in
-    two (set (set s 0 a) 1 b) (lt-length-set (set s 0 a) 1 b (lt-length-set s 0 a long)) c
-    ∙ rw (get_or-set_same (set s 0 a) 1 b 0 one, get_or-set_other (set s 0 a) 1 0 b 0 (λ e. omega arith), get_or-set_same s 0 a 0 (omega (arith, long)))
-
-pub left_is : (s : List ℕ) (r : Remainder) (limit : ℕ) → 2 < length s → session_in (set (set (set s 0 r.place) 1 r.count) 2 limit) ≡ record { remainder = r; limit = limit }
-left_is s r limit long = three s r.place r.count limit long
-
-pub dropped_is : (s : List ℕ) (limit : ℕ) → 2 < length s → session_in (set (set (set s 0 0) 1 0) 2 limit) ≡ record { remainder = rest 0 0; limit = limit }
-dropped_is s limit long = three s 0 0 limit long
-
-pub stated_is : (s : List ℕ) (fetches : Bool) (limit : ℕ) → 2 < length s → not fetches ≡ true
-    → session_in (set (set (set s 0 0) 1 0) 2 limit) ≡ record { remainder = when fetches then remainder_in s else rest 0 0; limit = limit }
-stated_is s fetches limit long is = three s 0 0 limit long ∙ rw (not-true fetches is)

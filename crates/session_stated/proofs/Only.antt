@@ -1,7 +1,6 @@
 -- Only the definition meets each claim: two functions that meet it agree on every input.
 use Prim.Native.Nat.{ℕ, ◌<◌}
 use mathlib.Core.Path.{◌≡◌, refl, sym, ◌∙◌}
-use mathlib.Core.List.{List, [], ◌∷◌}
 use native.Mathlib.Omega.{arith}
 use native.Mathlib.Decide.{dec_lt, ℕ_discrete}
 use Rattle.outcome.specs.Notation.{Determines2, Determines3}
@@ -10,20 +9,20 @@ use Rattle.outcome.proofs.Laws.{r_gives, r_word, word_gives}
 use Rattle.apdu_stated.specs.Answers.{Says}
 use Rattle.response_stated.specs.declared.Remainder.{Remainder}
 use Rattle.ctap1_stated.specs.Words.{Inputs, DecisionGives, Body, Ordered, Part}
-use Rattle.session_stated.specs.Held.{Session}
+use Rattle.session_stated.specs.Held.{Session, SessionRecord}
 use Rattle.session_stated.specs.Promises.{ToDecide}
 use Rattle.session_stated.specs.Terms.{NoShape, TakesAtATime, given, absent, CanTake}
 use Rattle.session_stated.specs.Claims
 use Rattle.session_stated.proofs.Rooms.{some_take}
 
--- ---- what is lent as an array
-pub RemainderStands : (f g : List ℕ → Remainder) → Claims.RemainderStands f → Claims.RemainderStands g
-    → (place count limit : ℕ) → f (place ∷ count ∷ limit ∷ []) ≡ g (place ∷ count ∷ limit ∷ [])
-RemainderStands f g F G place count limit = F place count limit ∙ sym (G place count limit)
+-- ---- what is lent by name
+pub RemainderStands : (f g : SessionRecord → Remainder) → Claims.RemainderStands f → Claims.RemainderStands g
+    → (s : SessionRecord) → f s ≡ g s
+RemainderStands f g F G s = F s.place s.count s.limit ∙ sym (G s.place s.count s.limit)
 
-pub SessionStands : (f g : List ℕ → Session) → Claims.SessionStands f → Claims.SessionStands g
-    → (place count limit : ℕ) → f (place ∷ count ∷ limit ∷ []) ≡ g (place ∷ count ∷ limit ∷ [])
-SessionStands f g F G place count limit = F place count limit ∙ sym (G place count limit)
+pub SessionStands : (f g : SessionRecord → Session) → Claims.SessionStands f → Claims.SessionStands g
+    → (s : SessionRecord) → f s ≡ g s
+SessionStands f g F G s = F s.place s.count s.limit ∙ sym (G s.place s.count s.limit)
 
 pub HardwareStands : (f g : ToDecide → Inputs) → Claims.HardwareStands f → Claims.HardwareStands g → (i : ToDecide) → (f i).hardware ≡ (g i).hardware
 HardwareStands f g F G i = let h = i.hardware in F i h.allowed h.attestation h.stored h.good h.counted h.counter refl ∙ sym (G i h.allowed h.attestation h.stored h.good h.counted h.counter refl)

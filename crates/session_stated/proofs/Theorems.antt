@@ -7,7 +7,7 @@ use mathlib.Core.List.{List, [], ◌∷◌, ◌++◌, append-nil}
 use native.Mathlib.Omega.{arith}
 use native.Mathlib.Decide.{dec_lt}
 use borrow.Author.Tests.{eq-eqb, ne_eqb, eqb-true}
-use lib.ListN.{length, take, drop, get_or}
+use lib.ListN.{length, take, drop}
 use Rattle.outcome.specs.Outcome.{Outcome, R, Word, Gives}
 use Rattle.outcome.proofs.Laws.{gives_same, r_gives, word_gives, both_are}
 use Rattle.octets.specs.Bytes.{laid}
@@ -39,7 +39,7 @@ use Rattle.ctap1_stated.specs.declared.Attestation.TheVariants as Attestation'
 use Rattle.std.specs.Prelude.{None}
 use Rattle.ctap1_stated.proofs.Laws.{takes, is_a_part, limits_exactly, limits_only, replies_exactly, parts_exactly, decides_exactly, decides_only, left_apart}
 use Rattle.signing_stated.specs.Finishing.{end_of}
-use Rattle.session_stated.specs.Held.{Session, remainder_in, session_in, session_after, frame_room_of}
+use Rattle.session_stated.specs.Held.{Session, SessionRecord, remainder_in, session_in, session_after, frame_room_of}
 use Rattle.session_stated.specs.Sessions.{Visit, joined_over, left_over}
 use Rattle.session_stated.specs.Claims
 use Rattle.session_stated.specs.Promises.{ToDecide, inputs_in, Stated, Dropped, Left}
@@ -206,7 +206,7 @@ SessionParts =
         let a : Fetch = record { limit = frame_limit frame; buffer = buffer } in
         subst (λ (o : Outcome Sent). (left (rest 0 n) o).place + (left (rest 0 n) o).count ≤ length body) e (step_within body (rest 0 n) a (omega arith))
 
--- ---- what is lent as an array
+-- ---- what is lent by name
 pub RemainderStands : Claims.RemainderStands remainder_in
 RemainderStands place count limit = refl
 
@@ -274,11 +274,11 @@ FrameRoomServes =
     }
 
 -- ---- the contracts
-module _ (stated : Bool → (limit : ℕ) → List ℕ → List ℕ) (dropped : (limit : ℕ) → List ℕ → List ℕ) (left : Remainder → (limit : ℕ) → List ℕ → List ℕ)
-    (S : (fetches : Bool) (limit : ℕ) (n : List ℕ) → Stated fetches limit n (stated fetches limit n)) (D : (limit : ℕ) (n : List ℕ) → Dropped limit (dropped limit n))
-    (L : (r : Remainder) (limit : ℕ) (n : List ℕ) → Left r limit (left r limit n)) where
+module _ (stated : Bool → (limit : ℕ) → SessionRecord → SessionRecord) (dropped : (limit : ℕ) → SessionRecord → SessionRecord) (left : Remainder → (limit : ℕ) → SessionRecord → SessionRecord)
+    (S : (fetches : Bool) (limit : ℕ) (n : SessionRecord) → Stated fetches limit n (stated fetches limit n)) (D : (limit : ℕ) (n : SessionRecord) → Dropped limit (dropped limit n))
+    (L : (r : Remainder) (limit : ℕ) (n : SessionRecord) → Left r limit (left r limit n)) where
   goes_on_as : (answer : Outcome DecisionGives) (read : Outcome Says) (s : Session)
-      → session_after answer read s ≡ session_in (changed_by stated dropped left answer read (s.remainder.place ∷ s.remainder.count ∷ s.limit ∷ []))
+      → session_after answer read s ≡ session_in (changed_by stated dropped left answer read (record { place = s.remainder.place; count = s.remainder.count; limit = s.limit }))
   goes_on_as (R n) read s = refl
   goes_on_as (Word w) read s = sym (S (is_get_response read) (limit_on read) _)
   goes_on_as (Gives (Body n)) read s = sym (D (limit_on read) _)
@@ -376,15 +376,8 @@ ContractsAsClaimed =
     }
 
 -- ---- two results are equal
-three : (a : List ℕ) → length a ≡ 3 → a ≡ get_or a 0 0 ∷ get_or a 1 0 ∷ get_or a 2 0 ∷ []
-three [] e = absurd (omega (arith, e))
-three (v ∷ []) e = absurd (omega (arith, e))
-three (v ∷ w ∷ []) e = absurd (omega (arith, e))
-three (v ∷ w ∷ x ∷ []) e = refl
-three (v ∷ w ∷ x ∷ y ∷ more) e = absurd (omega (arith, e))
-
-three_apart : (a b : List ℕ) → length a ≡ 3 → length b ≡ 3 → session_in a ≡ session_in b → a ≡ b
-three_apart a b m n e = three a m ∙ ap (λ (s : Session). s.remainder.place ∷ s.remainder.count ∷ s.limit ∷ []) e ∙ sym (three b n)
+three_apart : (a b : SessionRecord) → session_in a ≡ session_in b → a ≡ b
+three_apart a b e = ap (λ (s : Session). record { place = s.remainder.place; count = s.remainder.count; limit = s.limit }) e
 
 pub ResultsDetermined : Claims.ResultsDetermined
 ResultsDetermined =
@@ -398,9 +391,9 @@ ResultsDetermined =
           let replies : a.1.1.0 ≡ b.1.1.0 = both_are _ _ p.1.0.1 q.1.0.1 in
           let parts : a.1.1.1.1 ≡ b.1.1.1.1 = both_are _ _ p.1.0.2 q.1.0.2 in
           λ d. (record { decision = (lefts d).0; limit = limits d; fetches = fetches d }, ((lefts d).1.0, (replies d, ((lefts d).1.1, parts d))));
-      stated = λ fetches limit n a b p q. three_apart a b p.0 q.0 (both_are _ _ p.1 q.1);
-      dropped = λ limit a b p q. three_apart a b p.0 q.0 (both_are _ _ p.1 q.1);
-      left = λ r limit a b p q. three_apart a b p.0 q.0 (both_are _ _ p.1 q.1);
+      stated = λ fetches limit n a b p q. three_apart a b (both_are _ _ p q);
+      dropped = λ limit a b p q. three_apart a b (both_are _ _ p q);
+      left = λ r limit a b p q. three_apart a b (both_are _ _ p q);
       room_for_response = λ frame longest a b p q. room_same a b (both_are _ _ p q);
     }
 

@@ -24,7 +24,7 @@ use Rattle.ctap1_stated.specs.Terms.{Decider, HasInsC0}
 use Rattle.signing_stated.specs.Finishing.{Finishing, Ended}
 use Rattle.session_stated.specs.declared.SessionDecision.{SessionDecision}
 use Rattle.session_stated.specs.Promises.{ToDecide, inputs_in, Decide, RemainderLent, Stated, Dropped, Left, RoomForResponse}
-use Rattle.session_stated.specs.Held.{Session, session_in}
+use Rattle.session_stated.specs.Held.{Session, SessionRecord, session_in}
 use Rattle.session_stated.specs.Terms.{NoShape, changed_by, TakesAtATime, CanTake, FrameRoom, RoomWasAsked, Answered}
 use Rattle.session_stated.specs.Sessions.{Visit, Leaver, PartWriter, sent_in, left_in, joined_over, left_over, parts_over, Each, IsFetch, Serves}
 
@@ -98,15 +98,15 @@ pub record SessionParts (decide : Decider) (limit : List ℕ → ℕ) (leaves : 
       → limit frame ≡ L → (next body (rest 0 n) (limit frame) buffer).0 ≡ Gives sent → Each (Serves limit L) visits → k ≤ 1 + length visits
       → 1 + parts_over decide leaves write body sent.remainder visits ≡ k
 
--- ---- what is lent as an array
+-- ---- what is lent by name
 
 -- Ours: which number is what. A session's three are place and count of what remains, and the limit. Count and place in each other's place (`count_first`) fails the first,
 -- and a limit cut to 8 bits (`limit_of_8_bits`) the second, at 256.
-abbrev pub RemainderStands : (List ℕ → Remainder) → Type 0
-RemainderStands stands = (place count limit : ℕ) → stands (place ∷ count ∷ limit ∷ []) ≡ rest place count
+abbrev pub RemainderStands : (SessionRecord → Remainder) → Type 0
+RemainderStands stands = (place count limit : ℕ) → stands (record { place = place; count = count; limit = limit }) ≡ rest place count
 
-abbrev pub SessionStands : (List ℕ → Session) → Type 0
-SessionStands stands = (place count limit : ℕ) → stands (place ∷ count ∷ limit ∷ []) ≡ record { remainder = rest place count; limit = limit }
+abbrev pub SessionStands : (SessionRecord → Session) → Type 0
+SessionStands stands = (place count limit : ℕ) → stands (record { place = place; count = count; limit = limit }) ≡ record { remainder = rest place count; limit = limit }
 
 -- The hardware's six answers are lent by name: whether CTAP1 is allowed, the attestation, whether the new handle was stored, whether the handle is good, whether a counter is
 -- offered, and which. What is decided on is each under its own name. `good_for_stored` fails it.
@@ -167,11 +167,11 @@ NoTouchIsLost decide finish room limit next =
 -- INS C0; and the reply buffer, the block and the buffer for part and status are what ctap1_stated's claims on them say, the block written for an order alone. A contract of
 -- `left` that says no limit after a part fails it, with code to match, and so does one of a decision that leaves Version's body out.
 pub record ContractsAsClaimed : Type 0 where
-  pub remainder_lent : (f : List ℕ → Remainder) → ((n : List ℕ) → RemainderLent n (f n)) → RemainderStands f
-  pub goes_on : (stated : Bool → (limit : ℕ) → List ℕ → List ℕ) (dropped : (limit : ℕ) → List ℕ → List ℕ) (left : Remainder → (limit : ℕ) → List ℕ → List ℕ)
-      → ((fetches : Bool) (limit : ℕ) (n : List ℕ) → Stated fetches limit n (stated fetches limit n)) → ((limit : ℕ) (n : List ℕ) → Dropped limit (dropped limit n))
-      → ((r : Remainder) (limit : ℕ) (n : List ℕ) → Left r limit (left r limit n))
-      → GoesOnExactly (λ answer read s. session_in (changed_by stated dropped left answer read (s.remainder.place ∷ s.remainder.count ∷ s.limit ∷ [])))
+  pub remainder_lent : (f : SessionRecord → Remainder) → ((n : SessionRecord) → RemainderLent n (f n)) → RemainderStands f
+  pub goes_on : (stated : Bool → (limit : ℕ) → SessionRecord → SessionRecord) (dropped : (limit : ℕ) → SessionRecord → SessionRecord) (left : Remainder → (limit : ℕ) → SessionRecord → SessionRecord)
+      → ((fetches : Bool) (limit : ℕ) (n : SessionRecord) → Stated fetches limit n (stated fetches limit n)) → ((limit : ℕ) (n : SessionRecord) → Dropped limit (dropped limit n))
+      → ((r : Remainder) (limit : ℕ) (n : SessionRecord) → Left r limit (left r limit n))
+      → GoesOnExactly (λ answer read s. session_in (changed_by stated dropped left answer read (record { place = s.remainder.place; count = s.remainder.count; limit = s.limit })))
   pub room_for_response : (f : (frame : List ℕ) (longest : ℕ) → ResponseRoom) → ((frame : List ℕ) (longest : ℕ) → RoomForResponse frame longest (f frame longest))
       → FrameRoomExactly (λ frame longest. room_said (f frame longest))
   pub decide : (g : Decider) → DecidesExactly g → (limit : List ℕ → ℕ) → LimitsExactly limit → (i : ToDecide) (r : SessionDecision) (presence reply block part : List ℕ) → Decide i r presence reply block part
@@ -187,12 +187,12 @@ pub record ContractsAsClaimed : Type 0 where
       → (i : ToDecide) (r : SessionDecision) (presence reply block part : List ℕ) → Decide i r presence reply block part
       → part ≡ left (inputs_in i) (g (presence_in i.presence) i.moment (inputs_in i)) i.reply i.part
 
--- 01, What each statement has to say: "two results satisfying it are equal", on every input; what is lent for writing counts, five numbers of a record and three of a session.
+-- 01, What each statement has to say: "two results satisfying it are equal", on every input; what is lent for writing counts, five numbers of a record, and a session.
 -- A promise that is silent on the limit after a part fails it.
 pub record ResultsDetermined : Type 0 where
-  pub remainder_lent : (n : List ℕ) → AtMostOne (RemainderLent n)
+  pub remainder_lent : (n : SessionRecord) → AtMostOne (RemainderLent n)
   pub decide : (i : ToDecide) → AtMostOne (λ (o : SessionDecision × (List ℕ × (List ℕ × (List ℕ × List ℕ)))). (length o.1.0 ≡ 5) × Decide i o.0 o.1.0 o.1.1.0 o.1.1.1.0 o.1.1.1.1)
-  pub stated : (fetches : Bool) (limit : ℕ) (n : List ℕ) → AtMostOne (λ (exit : List ℕ). (length exit ≡ 3) × Stated fetches limit n exit)
-  pub dropped : (limit : ℕ) → AtMostOne (λ (exit : List ℕ). (length exit ≡ 3) × Dropped limit exit)
-  pub left : (r : Remainder) (limit : ℕ) → AtMostOne (λ (exit : List ℕ). (length exit ≡ 3) × Left r limit exit)
+  pub stated : (fetches : Bool) (limit : ℕ) (n : SessionRecord) → AtMostOne (Stated fetches limit n)
+  pub dropped : (limit : ℕ) → AtMostOne (Dropped limit)
+  pub left : (r : Remainder) (limit : ℕ) → AtMostOne (Left r limit)
   pub room_for_response : (frame : List ℕ) (longest : ℕ) → AtMostOne (RoomForResponse frame longest)

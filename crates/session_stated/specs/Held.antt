@@ -1,5 +1,5 @@
 -- Document 02, E2: what a transport holds between its frames, and goes on with after a decision; and how much room a response to a frame can take.
-use Rattle.std.specs.Prelude.{ℕ, List, get_or}
+use Rattle.std.specs.Prelude.{ℕ, List}
 use Rattle.outcome.specs.Outcome.{Outcome, R, Word, Gives}
 use Rattle.apdu_stated.specs.Answers.{Says}
 use Rattle.apdu_stated.specs.Reading.{read_of}
@@ -10,13 +10,14 @@ use Rattle.ctap1_stated.specs.Words.{DecisionGives}
 use Rattle.ctap1_stated.specs.Path.{limit_on}
 use Rattle.ctap1_stated.specs.Session.{is_get_response, remainder_after}
 pub use Rattle.session_stated.specs.declared.Session.{Session}
+pub use Rattle.session_stated.specs.declared.SessionRecord.{SessionRecord}
 
--- ours: what is lent as an array, by name, in the order of its struct: a session's three numbers
-abbrev pub remainder_in : List ℕ → Remainder
-remainder_in s = rest (get_or s 0 0) (get_or s 1 0)
+-- ours: what a session's three numbers, as they are lent, stand for
+abbrev pub remainder_in : SessionRecord → Remainder
+remainder_in s = rest s.place s.count
 
-abbrev pub session_in : List ℕ → Session
-session_in s = record { remainder = remainder_in s; limit = get_or s 2 0 }
+abbrev pub session_in : SessionRecord → Session
+session_in s = record { remainder = remainder_in s; limit = s.limit }
 
 -- what remains by the decision's rule (ctap1_stated's Session.antt), and the limit of the frame that was answered, by which its body goes out; ours: "any R
 -- refusal keeps" both. `read` is what the frame is read as

@@ -17,13 +17,13 @@ use Rattle.ctap1_stated.specs.Path.{frame_limit, command_path}
 use Rattle.ctap1_stated.specs.Decision.{decision_of, reply_left, left_of}
 use Rattle.ctap1_stated.specs.Promises.{along_in}
 use Rattle.ctap1_stated.specs.Session.{is_get_response, part_left}
-use Rattle.session_stated.specs.Held.{session_in, remainder_in, frame_room_of}
+use Rattle.session_stated.specs.Held.{SessionRecord, session_in, remainder_in, frame_room_of}
 use Rattle.session_stated.specs.declared.SessionDecision.{SessionDecision}
 
--- all that a decision is lent, record and session as numbers, the hardware's answers by name
+-- all that a decision is lent, the record as numbers, the session's numbers and the hardware's answers by name
 pub record ToDecide : Type 0 where
   pub presence : List ℕ
-  pub session : List ℕ
+  pub session : SessionRecord
   pub frame : List ℕ
   pub side : ℕ
   pub moment : ℕ
@@ -37,7 +37,7 @@ pub record ToDecide : Type 0 where
   pub part : List ℕ
 
 -- of a call and a new key as they are lent, beside the rest
-abbrev pub to_decide : (presence session : List ℕ) → Call → HardwareSaid → NewKey → (reply block part : List ℕ) → ToDecide
+abbrev pub to_decide : (presence : List ℕ) (session : SessionRecord) → Call → HardwareSaid → NewKey → (reply block part : List ℕ) → ToDecide
 to_decide presence session call hardware key reply block part =
     record {
       presence = presence;
@@ -56,7 +56,7 @@ to_decide presence session call hardware key reply block part =
     }
 
 -- the same with another record, session and reply buffer
-abbrev pub lending : (presence session reply : List ℕ) → ToDecide → ToDecide
+abbrev pub lending : (presence : List ℕ) (session : SessionRecord) (reply : List ℕ) → ToDecide → ToDecide
 lending presence session reply i =
     record {
       presence = presence;
@@ -96,19 +96,19 @@ Commanded i r presence reply block part =
     Leaves i (along_in (command_path (inputs_in i) (command_of i.frame)) i.presence i.side i.moment) r presence reply block part
 
 -- ---- the session's numbers
-abbrev pub RemainderLent : (entry : List ℕ) → Remainder → Type 0
+abbrev pub RemainderLent : (entry : SessionRecord) → Remainder → Type 0
 RemainderLent entry r = r ≡ remainder_in entry
 
 -- 02, E2: "A frame with another INS or in no shape drops the remainder; a refused C0 .. keeps it": after a status word
-abbrev pub Stated : (fetches : Bool) (limit : ℕ) (entry exit : List ℕ) → Type 0
+abbrev pub Stated : (fetches : Bool) (limit : ℕ) (entry exit : SessionRecord) → Type 0
 Stated fetches limit entry exit = session_in exit ≡ record { remainder = when fetches then remainder_in entry else rest 0 0; limit = limit }
 
 -- after a body or an order
-abbrev pub Dropped : (limit : ℕ) (exit : List ℕ) → Type 0
+abbrev pub Dropped : (limit : ℕ) (exit : SessionRecord) → Type 0
 Dropped limit exit = session_in exit ≡ record { remainder = rest 0 0; limit = limit }
 
 -- after a part
-abbrev pub Left : Remainder → (limit : ℕ) (exit : List ℕ) → Type 0
+abbrev pub Left : Remainder → (limit : ℕ) (exit : SessionRecord) → Type 0
 Left remainder limit exit = session_in exit ≡ record { remainder = remainder; limit = limit }
 
 abbrev pub RoomForResponse : (frame : List ℕ) (longest : ℕ) → ResponseRoom → Type 0

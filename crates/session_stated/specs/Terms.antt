@@ -16,6 +16,7 @@ use Rattle.ctap1_stated.specs.Words.{Inputs, DecisionGives, Body, Ordered, Part}
 use Rattle.ctap1_stated.specs.Path.{limit_on}
 use Rattle.ctap1_stated.specs.Session.{is_get_response}
 use Rattle.ctap1_stated.specs.Terms.{Decider, AreBlocks, room_of_register}
+use Rattle.session_stated.specs.declared.SessionRecord.{SessionRecord}
 
 -- ---- a frame
 -- bytes in no shape
@@ -74,8 +75,8 @@ pub record Answered (finish : Finishing → Ended) (next : Sender) (i : Finishin
   pub served : i.signed ≡ true → (n : ℕ) × ((finish i).answer ≡ Gives n) × FirstPart next (finish i).reply n limit buffer
 
 -- ---- the session's numbers after each answer, changed by these three functions; an R refusal leaves them
-abbrev pub changed_by : (stated : Bool → (limit : ℕ) → List ℕ → List ℕ) (dropped : (limit : ℕ) → List ℕ → List ℕ) (left : Remainder → (limit : ℕ) → List ℕ → List ℕ)
-    → Outcome DecisionGives → (read : Outcome Says) → List ℕ → List ℕ
+abbrev pub changed_by : (stated : Bool → (limit : ℕ) → SessionRecord → SessionRecord) (dropped : (limit : ℕ) → SessionRecord → SessionRecord) (left : Remainder → (limit : ℕ) → SessionRecord → SessionRecord)
+    → Outcome DecisionGives → (read : Outcome Says) → SessionRecord → SessionRecord
 changed_by stated dropped left (R n) read s = s
 changed_by stated dropped left (Word w) read s = stated (is_get_response read) (limit_on read) s
 changed_by stated dropped left (Gives (Body n)) read s = dropped (limit_on read) s

@@ -1,5 +1,5 @@
 -- Wrong programs, each with one fault. proofs/Refuted.antt shows of each that a claim is false of it.
-use Rattle.std.specs.Prelude.{ℕ, ◌+◌, ◌-◌, ◌%◌, List, eqb, get_or}
+use Rattle.std.specs.Prelude.{ℕ, ◌+◌, ◌-◌, ◌%◌, List, eqb}
 use Rattle.outcome.specs.Notation.{when◌then◌else◌}
 use Rattle.outcome.specs.Outcome.{Outcome, R, Word, Gives}
 use Rattle.octets.specs.Bytes.{laid}
@@ -12,7 +12,7 @@ use Rattle.ctap1_stated.specs.Words.{Inputs, DecisionGives, Body, Ordered, Part}
 use Rattle.ctap1_stated.specs.Path.{limit_on, frame_limit}
 use Rattle.ctap1_stated.specs.Decision.{decision_of, status_result}
 use Rattle.ctap1_stated.specs.Terms.{Decider}
-use Rattle.session_stated.specs.Held.{Session, remainder_in, session_after}
+use Rattle.session_stated.specs.Held.{Session, SessionRecord, remainder_in, session_after}
 use Rattle.session_stated.specs.Promises.{ToDecide, inputs_in}
 use Rattle.session_stated.specs.Terms.{FrameRoom}
 use Rattle.session_stated.specs.Sessions.{PartWriter}
@@ -57,12 +57,12 @@ again a r body old = part_by (laid (part_response body (rest 0 a.remainder.count
 abbrev pub refuses_c0 : Decider
 refuses_c0 p t a = status_result 0x6985 p
 
--- ---- what is lent as an array: count and place in each other's place; a limit of 8 bits; 'good' where 'stored' is
-abbrev pub count_first : List ℕ → Remainder
-count_first s = rest (get_or s 1 0) (get_or s 0 0)
+-- ---- what is lent by name: count and place in each other's place; a limit of 8 bits; 'good' where 'stored' is
+abbrev pub count_first : SessionRecord → Remainder
+count_first s = rest s.count s.place
 
-abbrev pub limit_of_8_bits : List ℕ → Session
-limit_of_8_bits s = record { remainder = remainder_in s; limit = get_or s 2 0 % 256 }
+abbrev pub limit_of_8_bits : SessionRecord → Session
+limit_of_8_bits s = record { remainder = remainder_in s; limit = s.limit % 256 }
 
 abbrev pub good_for_stored : ToDecide → Inputs
 good_for_stored i = let h = i.hardware in inputs_in (record i { hardware = record h { stored = h.good; good = h.stored } })

@@ -12,6 +12,15 @@ pub struct Session {
     pub limit: u64,
 }
 
+// The same as C lends it, to be changed in place: three numbers, place and count of what remains, and the limit.
+#[repr(C)]
+#[derive(Clone, Copy)]
+pub struct SessionRecord {
+    pub place: u64,
+    pub count: u64,
+    pub limit: u64,
+}
+
 // A decision, and what its frame says to the session, whatever it is answered: its limit, and whether it is a GET RESPONSE.
 #[derive(Clone, Copy)]
 pub struct SessionDecision {

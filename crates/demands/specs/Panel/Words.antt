@@ -1,5 +1,6 @@
 -- The names that Panel.antt is written with.
 pub use Rattle.std.specs.Prelude.{ℕ, List}
+pub use Rattle.session_stated.specs.declared.SessionRecord.{SessionRecord}
 pub use Rattle.panel_stated.specs.declared.FrameSaid.{FrameSaid}
 pub use Rattle.panel_stated.specs.declared.CommandSaid.{CommandSaid}
 pub use Rattle.panel_stated.specs.declared.Asked.{Asked}
