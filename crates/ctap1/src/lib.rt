@@ -19,6 +19,7 @@ use command::Ctap1Flags;
 pub use ctap1_stated::{Call, Decision, DecisionAnswer, HardwareSaid, NewKey};
 use outcome::{ApduStatusCode, Refusal};
 use signing::Head;
+use u2f_up::PresenceRecord;
 
 // The hardware's answers by their numbers: yes, and the attestation that is there. Every other number is a failure, or no.
 const YES: u32 = 1;
@@ -57,7 +58,7 @@ fn ordered(order: Head, taken: bool) -> Decision
 }
 
 // The record's last moment moves with every answer but a refusal.
-pub fn version(presence: &mut [u64; 5], t: u64, reply: &mut [u8]) -> Decision
+pub fn version(presence: &mut PresenceRecord, t: u64, reply: &mut [u8]) -> Decision
     ensures { Version presence.old t reply.old result presence.new reply.new }
 {
     if reply.len() < 6 {
@@ -92,7 +93,7 @@ fn enrol(frame: &[u8], says: Apdu, key: NewKey, block: &mut [u8; 385]) -> Decisi
 pub fn register(
     call: Call,
     says: Apdu,
-    presence: &mut [u64; 5],
+    presence: &mut PresenceRecord,
     hardware: HardwareSaid,
     key: NewKey,
     room: usize,
@@ -144,7 +145,7 @@ fn counted(
 fn enforce(
     call: Call,
     says: Apdu,
-    presence: &mut [u64; 5],
+    presence: &mut PresenceRecord,
     hardware: HardwareSaid,
     block: &mut [u8; 385],
 ) -> Decision
@@ -164,7 +165,7 @@ pub fn authenticate(
     call: Call,
     flags: Ctap1Flags,
     says: Apdu,
-    presence: &mut [u64; 5],
+    presence: &mut PresenceRecord,
     hardware: HardwareSaid,
     room: usize,
     block: &mut [u8; 385],

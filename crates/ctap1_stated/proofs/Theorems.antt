@@ -30,6 +30,7 @@ use Rattle.u2f_up_stated.specs.declared.Presence.{Presence}
 use Rattle.u2f_up_stated.specs.Numbers.{presence_in}
 use Rattle.signing_stated.proofs.Laws.{made_whole, room_most}
 use Rattle.u2f_up_stated.proofs.Laws.{five_apart, demand_3, r_apart, servers_next, named_later, named_counts, count, length_those}
+use Rattle.u2f_up_stated.specs.declared.PresenceRecord.{PresenceRecord}
 use Rattle.signing_stated.specs.Orders.{kind_no, certificate_length, blank_order, is_of_layout}
 use Rattle.signing_stated.specs.Finishing.{room_needed, register_room, authenticate_room}
 use Rattle.ctap1_stated.specs.Words.{Remainder, rest, Inputs, Order, DecisionGives, Body, Ordered, Part, DecisionResult, Allowed, DecisionAlone, DecisionHanded, DecisionLeft, Decision, Hardware, left_from, handed_of, enrolment_of, unfetched, decision_answer_of}
@@ -579,8 +580,8 @@ SaidExactly = record {
 
 -- ---- the contracts
 -- Version's buffer, by its contract
-version_reply : (n : List ℕ) (t : ℕ) (a : Inputs) (old : List ℕ) → NotRefused (presence_in n) a.side t → Comes a Version → length old ≡ a.room
-    → (r : Decision) (after reply : List ℕ) → Contract.Version n t old r after reply
+version_reply : (n : PresenceRecord) (t : ℕ) (a : Inputs) (old : List ℕ) → NotRefused (presence_in n) a.side t → Comes a Version → length old ≡ a.room
+    → (r : Decision) (after : PresenceRecord) (reply : List ℕ) → Contract.Version n t old r after reply
     → (6 ≤ length old → reply ≡ 0x55 ∷ 0x32 ∷ 0x46 ∷ 0x5F ∷ 0x56 ∷ 0x32 ∷ drop 6 old) × (length old < 6 → reply ≡ old)
 version_reply n t a old ok c is r after reply h =
     let p = presence_in n in
@@ -612,12 +613,12 @@ pub DecidedOneToOne : Claims.DecidedOneToOne
 DecidedOneToOne = decided_apart
 
 -- a decision, the record's numbers and the block are determined together
-pub left_apart : (x y : Decision × (List ℕ × List ℕ)) (o : DecisionLeft) → length x.1.0 ≡ 5 → length y.1.0 ≡ 5
+pub left_apart : (x y : Decision × (PresenceRecord × List ℕ)) (o : DecisionLeft)
     → left_from x.0 (presence_in x.1.0) x.1.1 ≡ o → left_from y.0 (presence_in y.1.0) y.1.1 ≡ o → x ≡ y
-left_apart x y o l m p q =
+left_apart x y o p q =
     let same = both_are _ _ p q in
     let decisions : x.0 ≡ y.0 = decision_apart x.0 y.0 (ap (λ (w : DecisionLeft). record { answer = w.said.answer; head = w.said.head; taken = w.said.taken }) same) in
-    let records : x.1.0 ≡ y.1.0 = five_apart x.1.0 y.1.0 l m (ap (λ (w : DecisionLeft). w.said.presence) same) in
+    let records : x.1.0 ≡ y.1.0 = five_apart x.1.0 y.1.0 (ap (λ (w : DecisionLeft). w.said.presence) same) in
     λ d. (decisions d, (records d, (same d).block))
 
 pub ResultsDetermined : Claims.ResultsDetermined
@@ -626,13 +627,13 @@ ResultsDetermined = record {
   answered = λ s x y p q. decision_apart x y (both_are _ _ p q);
   version =
       λ presence t old x y p q.
-      let same = both_are _ _ p.1.0 q.1.0 in
+      let same = both_are _ _ p.0 q.0 in
       let decisions : x.0 ≡ y.0 = decision_apart x.0 y.0 (ap (λ (w : DecisionHanded). record { answer = w.answer; head = w.head; taken = w.taken }) same) in
-      let records : x.1.0 ≡ y.1.0 = five_apart x.1.0 y.1.0 p.0 q.0 (ap (λ (w : DecisionHanded). w.presence) same) in
-      let replies : x.1.1 ≡ y.1.1 = both_are _ _ p.1.1 q.1.1 in
+      let records : x.1.0 ≡ y.1.0 = five_apart x.1.0 y.1.0 (ap (λ (w : DecisionHanded). w.presence) same) in
+      let replies : x.1.1 ≡ y.1.1 = both_are _ _ p.1 q.1 in
       λ d. (decisions d, (records d, replies d));
-  register = λ frame side t presence n e room says old x y p q. left_apart x y _ p.0 q.0 p.1 q.1;
-  authenticate = λ frame side t presence n room flags says old x y p q. left_apart x y _ p.0 q.0 p.1 q.1;
+  register = λ frame side t presence n e room says old x y p q. left_apart x y _ p q;
+  authenticate = λ frame side t presence n room flags says old x y p q. left_apart x y _ p q;
 }
 
 -- ---- the hardware's answers by their numbers

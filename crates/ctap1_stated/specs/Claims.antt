@@ -30,6 +30,7 @@ use Rattle.u2f_up_stated.specs.OneSide.{OnlySide}
 use Rattle.u2f_up_stated.specs.Terms.{BadWindow, BadSide, NotRefused, HasTouch}
 use Rattle.u2f_up_stated.specs.Numbers.{presence_in}
 use Rattle.u2f_up_stated.specs.Claims as Up
+use Rattle.u2f_up_stated.specs.declared.PresenceRecord.{PresenceRecord}
 use Rattle.signing_stated.specs.Orders.{kind_no, certificate_length, blank_order, is_of_layout}
 use Rattle.signing_stated.specs.Finishing.{Finishing, finish_of}
 
@@ -284,18 +285,18 @@ pub record ContractsAsClaimed : Type 0 where
   pub refused : (why : Refusal) (r : Decision) → Contract.Refused why r → (r.answer ≡ DecisionAnswer'.Refused why) × HandsNoOrder r
   pub answered : (s : ApduStatusCode) (r : Decision) → Contract.Answered s r
       → (r.answer ≡ DecisionAnswer'.Status (word_of s).number (word_of s).kind (word_of s).place) × HandsNoOrder r
-  pub version : (g : Decider) → DecidesExactly g → (n : List ℕ) (t : ℕ) (a : Inputs) (old : List ℕ) → NotRefused (presence_in n) a.side t → Comes a Version → length old ≡ a.room
-      → (r : Decision) (after reply : List ℕ) → Contract.Version n t old r after reply
+  pub version : (g : Decider) → DecidesExactly g → (n : PresenceRecord) (t : ℕ) (a : Inputs) (old : List ℕ) → NotRefused (presence_in n) a.side t → Comes a Version → length old ≡ a.room
+      → (r : Decision) (after : PresenceRecord) (reply : List ℕ) → Contract.Version n t old r after reply
       → (handed_from r (presence_in after) ≡ handed_of (g (presence_in n) t a))
       × (6 ≤ length old → reply ≡ 0x55 ∷ 0x32 ∷ 0x46 ∷ 0x5F ∷ 0x56 ∷ 0x32 ∷ drop 6 old)
       × (length old < 6 → reply ≡ old)
-  pub register : (g : Decider) → DecidesExactly g → (n : List ℕ) (t : ℕ) (a : Inputs) (h : HardwareSaid) (says : Apdu) (old : List ℕ)
+  pub register : (g : Decider) → DecidesExactly g → (n : PresenceRecord) (t : ℕ) (a : Inputs) (h : HardwareSaid) (says : Apdu) (old : List ℕ)
       → NotRefused (presence_in n) a.side t → Comes a (Register (says_of says)) → hardware_of h ≡ a.hardware
-      → (r : Decision) (after block : List ℕ) → Contract.Register a.frame a.side t n h (enrolment_of a.new_handle a.certificate a.x a.y) a.room says old r after block
+      → (r : Decision) (after : PresenceRecord) (block : List ℕ) → Contract.Register a.frame a.side t n h (enrolment_of a.new_handle a.certificate a.x a.y) a.room says old r after block
       → (handed_from r (presence_in after) ≡ handed_of (g (presence_in n) t a)) × BlockWritten (g (presence_in n) t a) old block
-  pub authenticate : (g : Decider) → DecidesExactly g → (n : List ℕ) (t : ℕ) (a : Inputs) (h : HardwareSaid) (flags : Ctap1Flags) (says : Apdu) (old : List ℕ)
+  pub authenticate : (g : Decider) → DecidesExactly g → (n : PresenceRecord) (t : ℕ) (a : Inputs) (h : HardwareSaid) (flags : Ctap1Flags) (says : Apdu) (old : List ℕ)
       → NotRefused (presence_in n) a.side t → Comes a (Authenticate (flags_no flags) (says_of says)) → hardware_of h ≡ a.hardware
-      → (r : Decision) (after block : List ℕ) → Contract.Authenticate a.frame a.side t n h a.room flags says old r after block
+      → (r : Decision) (after : PresenceRecord) (block : List ℕ) → Contract.Authenticate a.frame a.side t n h a.room flags says old r after block
       → (handed_from r (presence_in after) ≡ handed_of (g (presence_in n) t a)) × BlockWritten (g (presence_in n) t a) old block
 
 -- ---- two results that satisfy the contract are equal
@@ -306,9 +307,9 @@ DecidedOneToOne = (a b : DecisionAnswer) → decision_answer_of a ≡ decision_a
 pub record ResultsDetermined : Type 0 where
   pub refused : (why : Refusal) → AtMostOne (Contract.Refused why)
   pub answered : (s : ApduStatusCode) → AtMostOne (Contract.Answered s)
-  pub version : (presence : List ℕ) (t : ℕ) (old : List ℕ)
-      → AtMostOne (λ (o : Decision × (List ℕ × List ℕ)). (length o.1.0 ≡ 5) × Contract.Version presence t old o.0 o.1.0 o.1.1)
-  pub register : (frame : List ℕ) (side t : ℕ) (presence : List ℕ) (n : HardwareSaid) (e : Enrolment) (room : ℕ) (says : Apdu) (old : List ℕ)
-      → AtMostOne (λ (o : Decision × (List ℕ × List ℕ)). (length o.1.0 ≡ 5) × Contract.Register frame side t presence n e room says old o.0 o.1.0 o.1.1)
-  pub authenticate : (frame : List ℕ) (side t : ℕ) (presence : List ℕ) (n : HardwareSaid) (room : ℕ) (flags : Ctap1Flags) (says : Apdu) (old : List ℕ)
-      → AtMostOne (λ (o : Decision × (List ℕ × List ℕ)). (length o.1.0 ≡ 5) × Contract.Authenticate frame side t presence n room flags says old o.0 o.1.0 o.1.1)
+  pub version : (presence : PresenceRecord) (t : ℕ) (old : List ℕ)
+      → AtMostOne (λ (o : Decision × (PresenceRecord × List ℕ)). Contract.Version presence t old o.0 o.1.0 o.1.1)
+  pub register : (frame : List ℕ) (side t : ℕ) (presence : PresenceRecord) (n : HardwareSaid) (e : Enrolment) (room : ℕ) (says : Apdu) (old : List ℕ)
+      → AtMostOne (λ (o : Decision × (PresenceRecord × List ℕ)). Contract.Register frame side t presence n e room says old o.0 o.1.0 o.1.1)
+  pub authenticate : (frame : List ℕ) (side t : ℕ) (presence : PresenceRecord) (n : HardwareSaid) (room : ℕ) (flags : Ctap1Flags) (says : Apdu) (old : List ℕ)
+      → AtMostOne (λ (o : Decision × (PresenceRecord × List ℕ)). Contract.Authenticate frame side t presence n room flags says old o.0 o.1.0 o.1.1)

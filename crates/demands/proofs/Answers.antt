@@ -188,18 +188,18 @@ module _ (P : Panel) (M : Meets P) where
     decided = λ i. rw (M.decide i).0 ((Panel'.SideCrosses).decided i);
   }
 
-  -- lists that stand for the same have the same numbers
+  -- records that stand for the same have the same numbers
   pub keeps : Exports.RefusalKeeps P.grant_up P.consume_up P.decide
   keeps = record {
-    grant_up = λ n t low k h.
-        same_record (P.grant_up n t).presence (touches_of n t).presence ((M.grant_up n t).1 ∙ sym (record_back (touch_of (presence_in n) t).presence)) k h
-        ∙ (Panel'.RefusalKeeps).grant_up n t (rw (M.grant_up n t).0 at low) k h;
-    consume_up = λ n s t low k h.
-        same_record (P.consume_up n s t).presence (checks_of n s t).presence ((M.consume_up n s t).1 ∙ sym (record_back (check_of (presence_in n) s t).presence)) k h
-        ∙ (Panel'.RefusalKeeps).consume_up n s t (rw (M.consume_up n s t).0 at low) k h;
+    grant_up = λ n t low.
+        same_record (P.grant_up n t).presence (touches_of n t).presence ((M.grant_up n t).1 ∙ sym (record_back (touch_of (presence_in n) t).presence))
+        ∙ (Panel'.RefusalKeeps).grant_up n t (rw (M.grant_up n t).0 at low);
+    consume_up = λ n s t low.
+        same_record (P.consume_up n s t).presence (checks_of n s t).presence ((M.consume_up n s t).1 ∙ sym (record_back (check_of (presence_in n) s t).presence))
+        ∙ (Panel'.RefusalKeeps).consume_up n s t (rw (M.consume_up n s t).0 at low);
     decided = λ i low.
         let x = (Panel'.RefusalKeeps).decided i (rw (M.decide i).0 at low) in (
-          λ k h. same_record (P.decide i).presence (decides_of i).presence ((M.decide i).1 ∙ sym (record_back (decided_by i).presence)) k h ∙ x.0 k h,
+          same_record (P.decide i).presence (decides_of i).presence ((M.decide i).1 ∙ sym (record_back (decided_by i).presence)) ∙ x.0,
           same_session (P.decide i).session (decides_of i).session (M.decide i).2 ∙ x.1,
         );
   }

@@ -37,6 +37,7 @@ use Rattle.panel_stated.proofs.Lists.{record_back}
 use Rattle.panel_stated.proofs.Refuted as Exports
 use Rattle.command_stated.proofs.Theorems as Commands
 use Rattle.u2f_up_stated.proofs.Theorems as Up
+use Rattle.u2f_up_stated.specs.declared.PresenceRecord.{PresenceRecord}
 use Rattle.demands.specs.Panel.{Meets}
 use Rattle.demands.specs.Calls.{Touch, Check, Ask, Decide, record_after, came_next, history_of}
 use Rattle.demands.specs.Sessions.{none as no_more, also, fetched, left_after}
@@ -73,8 +74,8 @@ meets = record {
 }
 
 -- a record that nothing was done with
-abbrev unused : List ℕ
-unused = 1000 ∷ 0 ∷ 0 ∷ 0 ∷ 0 ∷ []
+abbrev unused : PresenceRecord
+unused = record { w = 1000; prompt = 0; touch = 0; last = 0; asker = 0 }
 
 -- what is lent with a frame at a moment, CTAP1 allowed
 lent : (frame : List ℕ) (t : ℕ) → ToDecide
@@ -99,7 +100,7 @@ lent frame t =
 -- 65,537 is taken for 1
 pub new_cut : Demands Wrong.new_cut → ⊥
 unfolding new_of
-new_cut d = omega (arith, ((d.makes [] 65537).0 refl).1)
+new_cut d = omega (arith, ((d.makes unused 65537).0 refl).1)
 
 -- ---- which decisions reach the touch check
 -- a Register with room is no command
@@ -114,21 +115,21 @@ knows_no_command d =
 pub touch_asks : Demands Wrong.touch_asks → ⊥
 unfolding came_next history_of record_after touch_of check_of ask_of settle_of granted_of checked_of foretold latest_prompt unspent latest_touch is_prompt_standing last_moment new_of
 touch_asks d =
-    let e : NoTouchFound ≡ TouchFound = (d.touches [] 1000 refl (Touch 1 ∷ Check 0 0 ∷ [])).foretells (Check 0 2) in
+    let e : NoTouchFound ≡ TouchFound = (d.touches unused 1000 refl (Touch 1 ∷ Check 0 0 ∷ [])).foretells (Check 0 2) in
     let z : ◌≡◌ {A = ℕ} 0 1 = cc in omega arith
 
 -- side 0 fetches, the finger touches, and side 1 finds the touch
 pub check_is0 : Demands Wrong.check_is0 → ⊥
 unfolding came_next history_of record_after touch_of check_of ask_of settle_of granted_of checked_of foretold latest_prompt unspent latest_touch is_prompt_standing last_moment new_of
 check_is0 d =
-    let e : TouchFound ≡ NoTouchFound = (d.touches [] 1000 refl (Touch 1 ∷ Check 0 0 ∷ [])).foretells (Check 1 2) in
+    let e : TouchFound ≡ NoTouchFound = (d.touches unused 1000 refl (Touch 1 ∷ Check 0 0 ∷ [])).foretells (Check 1 2) in
     let z : ◌≡◌ {A = ℕ} 0 1 = cc in omega arith
 
 -- the touch that it finds is another side's
 pub check_is0_serves : Demands Wrong.check_is0 → ⊥
 unfolding came_next history_of record_after touch_of check_of ask_of settle_of granted_of checked_of foretold latest_prompt unspent latest_touch is_prompt_standing last_moment new_of
 check_is0_serves d =
-    let x = (d.touches [] 1000 refl (Touch 1 ∷ Check 0 0 ∷ [])).serves (Check 1 2) refl in
+    let x = (d.touches unused 1000 refl (Touch 1 ∷ Check 0 0 ∷ [])).serves (Check 1 2) refl in
     let k : ◌≡◌ {A = ℕ} 0 x.0.side = cc in
     let l : ◌≡◌ {A = ℕ} 1 x.0.side = cc in omega arith
 
@@ -136,94 +137,94 @@ check_is0_serves d =
 pub side_cut : Demands Wrong.side_cut → ⊥
 unfolding came_next history_of record_after touch_of check_of ask_of settle_of granted_of checked_of foretold latest_prompt unspent latest_touch is_prompt_standing last_moment new_of
 side_cut d =
-    let e : NoTouchFound ≡ RefusedBy 8 = ((d.touches [] 1000 refl []).refuses_side (Check 2 0)).1 (omega arith) in
+    let e : NoTouchFound ≡ RefusedBy 8 = ((d.touches unused 1000 refl []).refuses_side (Check 2 0)).1 (omega arith) in
     let z : ◌≡◌ {A = ℕ} 0 1 = cc in omega arith
 
 -- R6, from a record that was made
 pub refuses_window : Demands Wrong.refuses_window → ⊥
 unfolding came_next new_of
-refuses_window d = (d.touches [] 1000 refl []).refuses_no_window (Check 0 0) refl
+refuses_window d = (d.touches unused 1000 refl []).refuses_no_window (Check 0 0) refl
 
 -- nobody asked, and the light blinks
 pub ask_swapped : Demands Wrong.ask_swapped → ⊥
 unfolding came_next history_of record_after touch_of check_of ask_of settle_of granted_of checked_of foretold latest_prompt unspent latest_touch is_prompt_standing last_moment new_of
 ask_swapped d =
-    let e : PromptStands ≡ NoPromptStands = (d.touches [] 1000 refl []).foretells (Ask 0) in
+    let e : PromptStands ≡ NoPromptStands = (d.touches unused 1000 refl []).foretells (Ask 0) in
     let z : ◌≡◌ {A = ℕ} 0 1 = cc in omega arith
 
 -- a decision at 5 does not move the last moment, and a check at 3 is taken
 pub record_kept : Demands Wrong.record_kept → ⊥
 unfolding lent decision_of path_of allowed_path command_path command_of on_reading by_instruction read_by say_of lengths_of short_of extended_of after_data allowed_of attestation_of came_next history_of record_after touch_of check_of ask_of settle_of granted_of checked_of foretold latest_prompt unspent latest_touch is_prompt_standing last_moment new_of
 record_kept d =
-    let e : NoTouchFound ≡ RefusedBy 1 = (d.touches [] 1000 refl (Decide (lent [] 5) ∷ [])).foretells (Check 0 3) in
+    let e : NoTouchFound ≡ RefusedBy 1 = (d.touches unused 1000 refl (Decide (lent [] 5) ∷ [])).foretells (Check 0 3) in
     let z : ◌≡◌ {A = ℕ} 0 1 = cc in omega arith
 
 -- one touch, and two checks find it
 pub touch_kept : Demands Wrong.touch_kept → ⊥
 unfolding came_next history_of record_after touch_of check_of ask_of settle_of granted_of checked_of foretold latest_prompt unspent latest_touch is_prompt_standing last_moment new_of
 touch_kept d =
-    let e : TouchFound ≡ NoTouchFound = (d.touches [] 1000 refl (Check 0 2 ∷ Touch 1 ∷ Check 0 0 ∷ [])).foretells (Check 0 3) in
+    let e : TouchFound ≡ NoTouchFound = (d.touches unused 1000 refl (Check 0 2 ∷ Touch 1 ∷ Check 0 0 ∷ [])).foretells (Check 0 3) in
     let z : ◌≡◌ {A = ℕ} 0 1 = cc in omega arith
 
 -- it named the touch twice, and two calls spent the one that was accepted
 pub touch_kept_twice : Demands Wrong.touch_kept → ⊥
 unfolding came_next history_of record_after touch_of check_of ask_of settle_of granted_of checked_of foretold latest_prompt unspent latest_touch is_prompt_standing last_moment new_of servers
-touch_kept_twice d = omega (arith, (d.touches [] 1000 refl (Check 0 3 ∷ Check 0 2 ∷ Touch 1 ∷ Check 0 0 ∷ [])).once 1)
+touch_kept_twice d = omega (arith, (d.touches unused 1000 refl (Check 0 3 ∷ Check 0 2 ∷ Touch 1 ∷ Check 0 0 ∷ [])).once 1)
 
 pub touch_kept_totals : Demands Wrong.touch_kept → ⊥
 unfolding came_next history_of record_after touch_of check_of ask_of settle_of granted_of checked_of foretold latest_prompt unspent latest_touch is_prompt_standing last_moment new_of accepted
-touch_kept_totals d = omega (arith, (d.touches [] 1000 refl (Check 0 3 ∷ Check 0 2 ∷ Touch 1 ∷ Check 0 0 ∷ [])).side_totals 0)
+touch_kept_totals d = omega (arith, (d.touches unused 1000 refl (Check 0 3 ∷ Check 0 2 ∷ Touch 1 ∷ Check 0 0 ∷ [])).side_totals 0)
 
 -- the touch at 1 is in C's hand as the one at 2
 pub touch_late : Demands Wrong.touch_late → ⊥
 unfolding came_next history_of record_after touch_of check_of ask_of settle_of granted_of checked_of foretold latest_prompt unspent latest_touch is_prompt_standing last_moment new_of
 touch_late d =
-    let e = (d.touches [] 1000 refl (Touch 1 ∷ Check 0 0 ∷ [])).holds (record { number = 1; moment = 1; side = 0 }) 1 (omega arith) refl [] (Touch 1 ∷ Check 0 0 ∷ []) refl (omega arith) in
+    let e = (d.touches unused 1000 refl (Touch 1 ∷ Check 0 0 ∷ [])).holds (record { number = 1; moment = 1; side = 0 }) 1 (omega arith) refl [] (Touch 1 ∷ Check 0 0 ∷ []) refl (omega arith) in
     omega (arith, e)
 
 -- side 1 fetches, and the record says side 0
 pub asker_kept : Demands Wrong.asker_kept → ⊥
 unfolding came_next history_of record_after touch_of check_of ask_of settle_of granted_of checked_of foretold latest_prompt unspent latest_touch is_prompt_standing last_moment new_of
-asker_kept d = omega (arith, (d.touches [] 1000 refl (Check 1 0 ∷ [])).asker)
+asker_kept d = omega (arith, (d.touches unused 1000 refl (Check 1 0 ∷ [])).asker)
 
 -- the remaining sentences of demand 3: a check before the last moment, a second touch for one prompt, another side's touch found, two touches held, a side that is none
 pub record_kept_moment : Demands Wrong.record_kept → ⊥
 unfolding lent decision_of path_of allowed_path command_path command_of on_reading by_instruction read_by say_of lengths_of short_of extended_of after_data allowed_of attestation_of came_next history_of record_after touch_of check_of ask_of settle_of granted_of checked_of foretold latest_prompt unspent latest_touch is_prompt_standing last_moment new_of
 record_kept_moment d =
-    let e : NoTouchFound ≡ RefusedBy 1 = ((d.touches [] 1000 refl (Decide (lent [] 5) ∷ [])).refuses (Check 0 3)).1 ((λ z. omega arith), inr (omega arith)) in
+    let e : NoTouchFound ≡ RefusedBy 1 = ((d.touches unused 1000 refl (Decide (lent [] 5) ∷ [])).refuses (Check 0 3)).1 ((λ z. omega arith), inr (omega arith)) in
     let z : ◌≡◌ {A = ℕ} 0 1 = cc in omega arith
 
 pub touch_asks_twice : Demands Wrong.touch_asks → ⊥
 unfolding came_next history_of record_after touch_of check_of ask_of settle_of granted_of checked_of foretold latest_prompt unspent latest_touch is_prompt_standing last_moment new_of
 touch_asks_twice d =
-    let x = (((d.touches [] 1000 refl (Touch 1 ∷ Check 0 0 ∷ [])).accepts (Touch 2) refl).0 refl).1 in
+    let x = (((d.touches unused 1000 refl (Touch 1 ∷ Check 0 0 ∷ [])).accepts (Touch 2) refl).0 refl).1 in
     let z : ◌≡◌ {A = ℕ} 0 x.0.number = cc in
     let after : ◌≡◌ {A = Bool} false true = cc in false≢true after
 
 pub check_is0_finds : Demands Wrong.check_is0 → ⊥
 unfolding came_next history_of record_after touch_of check_of ask_of settle_of granted_of checked_of foretold latest_prompt unspent latest_touch is_prompt_standing last_moment new_of
 check_is0_finds d =
-    let x = (((d.touches [] 1000 refl (Touch 1 ∷ Check 0 0 ∷ [])).finds (Check 1 2) 1 refl).0 refl).2 in
+    let x = (((d.touches unused 1000 refl (Touch 1 ∷ Check 0 0 ∷ [])).finds (Check 1 2) 1 refl).0 refl).2 in
     let e : ◌≡◌ {A = ℕ} 0 1 = ap length x.1 in omega (arith, e)
 
 pub touch_asks_held : Demands Wrong.touch_asks → ⊥
 unfolding came_next history_of record_after touch_of check_of ask_of settle_of granted_of checked_of foretold latest_prompt unspent latest_touch is_prompt_standing last_moment new_of
-touch_asks_held d = omega (arith, (d.touches [] 1000 refl (Touch 3 ∷ Check 0 2 ∷ Touch 1 ∷ Check 0 0 ∷ [])).one_held)
+touch_asks_held d = omega (arith, (d.touches unused 1000 refl (Touch 3 ∷ Check 0 2 ∷ Touch 1 ∷ Check 0 0 ∷ [])).one_held)
 
 pub touch_kept_totals_plain : Demands Wrong.touch_kept → ⊥
 unfolding came_next history_of record_after touch_of check_of ask_of settle_of granted_of checked_of foretold latest_prompt unspent latest_touch is_prompt_standing last_moment new_of accepted
-touch_kept_totals_plain d = omega (arith, (d.touches [] 1000 refl (Check 0 3 ∷ Check 0 2 ∷ Touch 1 ∷ Check 0 0 ∷ [])).totals)
+touch_kept_totals_plain d = omega (arith, (d.touches unused 1000 refl (Check 0 3 ∷ Check 0 2 ∷ Touch 1 ∷ Check 0 0 ∷ [])).totals)
 
 pub side_cut_touch : Demands Wrong.side_cut → ⊥
 unfolding came_next history_of record_after touch_of check_of ask_of settle_of granted_of checked_of foretold latest_prompt unspent latest_touch is_prompt_standing last_moment new_of accepted
-side_cut_touch d = omega (arith, (d.touches [] 1000 refl (Touch 1 ∷ Check 2 0 ∷ [])).two_sides)
+side_cut_touch d = omega (arith, (d.touches unused 1000 refl (Touch 1 ∷ Check 2 0 ∷ [])).two_sides)
 
 -- ---- orders
 -- an Authenticate with P1 03 and no touch at all gets an order with presence byte 01
 pub untouched : Demands Wrong.untouched → ⊥
 unfolding lent decision_of path_of allowed_path command_path login_path counted_ending authenticate_order_of block part_of data_of command_of on_reading by_instruction authenticate_of challenge_of application_of read_by say_of lengths_of short_of extended_of after_data allowed_of attestation_of history_of record_after settle_of checked_of latest_touch new_of
 untouched d =
-    let k = (d.orders [] 1000 refl).own [] (lent (0x00 ∷ 0x02 ∷ 0x03 ∷ 0x00 ∷ 65 ∷ replicate 65 0) 0) (refl, inr (refl, refl)) in
+    let k = (d.orders unused 1000 refl).own [] (lent (0x00 ∷ 0x02 ∷ 0x03 ∷ 0x00 ∷ 65 ∷ replicate 65 0) 0) (refl, inr (refl, refl)) in
     let e : ◌≡◌ {A = Option Mark} none (some k.0) = k.1 in
     let z : ◌≡◌ {A = ℕ} 0 1 = cc in omega arith
 
@@ -232,7 +233,7 @@ pub record_kept_twice : Demands Wrong.record_kept → ⊥
 unfolding lent decision_of path_of allowed_path command_path login_path counted_ending authenticate_order_of block part_of data_of command_of on_reading by_instruction authenticate_of challenge_of application_of read_by say_of lengths_of short_of extended_of after_data allowed_of attestation_of history_of record_after came_next touch_of check_of granted_of settle_of checked_of latest_touch latest_prompt unspent last_moment new_of foretold is_prompt_standing
 record_kept_twice d =
     let login : ToDecide = lent (0x00 ∷ 0x02 ∷ 0x03 ∷ 0x00 ∷ 65 ∷ replicate 65 0) 2 in
-    (d.orders [] 1000 refl).apart (Touch 1 ∷ Check 0 0 ∷ []) [] login login (record { number = 1; moment = 1; side = 0 }) (record { number = 1; moment = 1; side = 0 })
+    (d.orders unused 1000 refl).apart (Touch 1 ∷ Check 0 0 ∷ []) [] login login (record { number = 1; moment = 1; side = 0 }) (record { number = 1; moment = 1; side = 0 })
     (refl, inr (refl, refl)) refl (refl, inr (refl, refl)) refl refl
 
 -- ---- finishing
@@ -336,7 +337,7 @@ side_cut_in_decide d = Exports.side_cut_in_decide d.answers.sides
 abbrev in_extended : ToDecide
 in_extended =
     record {
-      presence = 1000 ∷ 0 ∷ 1 ∷ 0 ∷ 0 ∷ [];
+      presence = record { w = 1000; prompt = 0; touch = 1; last = 0; asker = 0 };
       session = record { place = 0; count = 0; limit = 0 };
       frame = 0x00 ∷ 0x01 ∷ 0x00 ∷ 0x00 ∷ 0 ∷ 0 ∷ 64 ∷ replicate 64 0;
       side = 0;
@@ -457,7 +458,7 @@ block_signed_in_front d =
 pub touch_opens_nothing : Demands Wrong.touch_asks → ⊥
 unfolding touch_of ask_of settle_of granted_of
 touch_opens_nothing d =
-    let e : ◌≡◌ {A = Window} None (Some 0) = ap (λ (p : Presence). p.touch) (d.answers.presences.touched touch_of Up.TouchesExactly (1000 ∷ 1 ∷ 0 ∷ 0 ∷ 0 ∷ []) 0).1 in
+    let e : ◌≡◌ {A = Window} None (Some 0) = ap (λ (p : Presence). p.touch) (d.answers.presences.touched touch_of Up.TouchesExactly (record { w = 1000; prompt = 1; touch = 0; last = 0; asker = 0 }) 0).1 in
     let z : ◌≡◌ {A = ℕ} 0 1 = cc in omega arith
 
 -- ---- 02, E10: the claim with another number. A certificate of n - 393 bytes is said to fit; the witness is shown at handle length 254
@@ -509,7 +510,7 @@ says1024 d =
 pub part_wants_body : ResponsesServed Wrong.part_wants_body → ⊥
 unfolding frame_limit limit_of read_by say_of lengths_of short_of extended_of after_data
 part_wants_body d =
-    let one_left : ToDecide = lending (1000 ∷ 0 ∷ 0 ∷ 0 ∷ 0 ∷ []) (record { place = 511; count = 1; limit = 0 }) (replicate 512 0) (lend (0x00 ∷ 0xC0 ∷ 0x00 ∷ 0x00 ∷ []) 7 [] [] [] []) in
+    let one_left : ToDecide = lending (record { w = 1000; prompt = 0; touch = 0; last = 0; asker = 0 }) (record { place = 511; count = 1; limit = 0 }) (replicate 512 0) (lend (0x00 ∷ 0xC0 ∷ 0x00 ∷ 0x00 ∷ []) 7 [] [] [] []) in
     d.decided 512 one_left (record { reply = refl; certificate = omega arith; handle = omega arith }) (omega arith) (inr (omega arith, omega arith)) refl
 
 -- a part of no bytes, in 2

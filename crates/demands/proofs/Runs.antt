@@ -23,6 +23,7 @@ use Rattle.panel_stated.specs.Terms.{IsNumbered}
 use Rattle.panel_stated.specs.Exports.{yes_in, made_over}
 use Rattle.panel_stated.proofs.Outcomes as Outcomes
 use Rattle.u2f_up_stated.specs.Numbers.{presence_in}
+use Rattle.u2f_up_stated.specs.declared.PresenceRecord.{PresenceRecord}
 use Rattle.session_stated.specs.Promises.{inputs_in}
 use Rattle.demands.specs.Panel.{Panel, Meets}
 use Rattle.demands.specs.Calls.{CCall, Touch as CTouch, Check, Ask, Decide, on, as_call, came_of_yes, came_of_answer, record_after, came_next, history_of}
@@ -89,7 +90,7 @@ new_is : (w : ℕ) → 0 < w → w ≤ 60000 → new_of w ≡ Gives (fresh w)
 unfolding new_of
 new_is w low high = rw (ne_eqb w 0 (λ e. omega arith), le-ltb 60000 w high)
 
-module _ (P : Panel) (M : Meets P) (old : List ℕ) (w : ℕ) (low : 0 < w) (high : w ≤ 60000) where
+module _ (P : Panel) (M : Meets P) (old : PresenceRecord) (w : ℕ) (low : 0 < w) (high : w ≤ 60000) where
   -- the record of the definitions' run
   abbrev pub there : List CCall → Presence
   there cs = after panel_calls w (all_as cs)

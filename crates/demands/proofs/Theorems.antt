@@ -23,6 +23,7 @@ use Rattle.ctap1_stated.specs.Terms as Terms
 use Rattle.ctap1_stated.proofs.Theorems as Decision
 use Rattle.panel_stated.specs.declared.DecisionSaid.{DecisionSaid}
 use Rattle.u2f_up_stated.specs.Numbers.{window_of, presence_in}
+use Rattle.u2f_up_stated.specs.declared.PresenceRecord.{PresenceRecord}
 use Rattle.panel_stated.specs.Numbers.{answer_no, decided_no}
 use Rattle.panel_stated.specs.Exports.{ToDecide, AfterDeciding, order_after}
 use Rattle.panel_stated.proofs.Outcomes as Outcomes
@@ -63,7 +64,7 @@ made_exactly w = by (bad_window w)
         not_above z = n (inr z)
 
 -- ---- demand 3
-module _ (P : Panel) (M : Meets P) (old : List ℕ) (w : ℕ) (low : 0 < w) (high : w ≤ 60000) (calls : List CCall) where
+module _ (P : Panel) (M : Meets P) (old : PresenceRecord) (w : ℕ) (low : 0 < w) (high : w ≤ 60000) (calls : List CCall) where
   meets : RunOf panel_calls w (all_as calls)
   meets = Decision.Demand3OfThePanel w low high (all_as calls)
 
@@ -114,7 +115,7 @@ orders_there p t a old r answer order block (e, h) =
     let ordered = ((Panel'.DecisionTells).ordered (decision_of p t a).answer (Outcomes.decision_said p t a)).0 (sym answer ∙ e) in
     (ordered, says_present (decision_of p t a).answer (decision_of p t a).order old ordered (rw (← order, ← block) h))
 
-module _ (P : Panel) (M : Meets P) (old : List ℕ) (w : ℕ) (low : 0 < w) (high : w ≤ 60000) where
+module _ (P : Panel) (M : Meets P) (old : PresenceRecord) (w : ℕ) (low : 0 < w) (high : w ≤ 60000) where
   ordered_in : (earlier : List CCall) (i : ToDecide) → OrdersNext P old w earlier i → Terms.OrdersPresent (decision_of (there P M old w low high earlier) i.moment (inputs_in i))
   ordered_in earlier i o =
       let n = record_after P old w earlier in
@@ -171,5 +172,5 @@ OnTop P M = record {
   };
 }
   where
-    from : (old : List ℕ) (w : ℕ) → (P.new old w).said ≡ 0x9000 → answer_no (new_of w) ≡ 0x9000
+    from : (old : PresenceRecord) (w : ℕ) → (P.new old w).said ≡ 0x9000 → answer_no (new_of w) ≡ 0x9000
     from old w made = sym (M.new old w).0 ∙ made

@@ -4,7 +4,7 @@ mod Words
 use Words.*
 
 -- what is lent to a decision, with the record in hand
-abbrev pub on : (presence : List ℕ) → ToDecide → ToDecide
+abbrev pub on : (presence : PresenceRecord) → ToDecide → ToDecide
 on n i = lending n i.session i.reply i
 
 -- a call on the record in hand
@@ -45,30 +45,30 @@ Reaches P i =
     ⊎ (((P.read_command i.frame).command ≡ 2) × ((P.read_command i.frame).p1 ≡ 0x03) × (i.hardware.good ≡ 1) × (77 ≤ length i.reply)))
 
 -- of a record's numbers, the touch window's, 0 closed and m + 1 opened at m, and the asker's
-abbrev pub touch_number : (presence : List ℕ) → ℕ
-touch_number n = get_or n 2 0
+abbrev pub touch_number : (presence : PresenceRecord) → ℕ
+touch_number n = n.touch
 
-abbrev pub asker_number : (presence : List ℕ) → ℕ
-asker_number n = get_or n 4 0
+abbrev pub asker_number : (presence : PresenceRecord) → ℕ
+asker_number n = n.asker
 
 module _ (P : Panel) where
   -- the record after one more call, and what C saw of it; an ask is lent the record to be read: it stays
-  abbrev pub record_by : (presence : List ℕ) → CCall → List ℕ
+  abbrev pub record_by : (presence : PresenceRecord) → CCall → PresenceRecord
   record_by n (Touch t) = (P.grant_up n t).presence
   record_by n (Check s t) = (P.consume_up n s t).presence
   record_by n (Ask t) = n
   record_by n (Decide i) = (P.decide (on n i)).presence
 
-  abbrev pub came_by : (presence : List ℕ) → CCall → Came
+  abbrev pub came_by : (presence : PresenceRecord) → CCall → Came
   came_by n (Touch t) = came_of_yes Touching (P.grant_up n t).said.answer (P.grant_up n t).said.yes
   came_by n (Check s t) = came_of_yes (Checking s) (P.consume_up n s t).said.answer (P.consume_up n s t).said.yes
   came_by n (Ask t) = came_of_yes Asking (P.is_up_needed n t).answer (P.is_up_needed n t).yes
   came_by n (Decide i) = came_of_answer (role_of (inputs_in i)) (P.decide (on n i)).said.answer
 
   -- from `brinecandle_new w` on, over whatever the numbers were
-  module _ (old : List ℕ) (w : ℕ) where
+  module _ (old : PresenceRecord) (w : ℕ) where
     -- the record in hand after the calls
-    unfoldable pub record_after : List CCall → List ℕ
+    unfoldable pub record_after : List CCall → PresenceRecord
     record_after [] = (P.new old w).presence
     record_after (c ∷ earlier) = record_by (record_after earlier) c
 

@@ -5,7 +5,7 @@ use Words.*
 
 -- ---- demand 3 (Demand.antt), after the calls from `brinecandle_new w` on, over whatever the numbers were, of what C sees. In C's record a touch window is a number: 0
 -- closed, m + 1 opened at m
-abbrev pub Demand3 : (P : Panel) (old : List ℕ) (w : ℕ) → List CCall → Type 0
+abbrev pub Demand3 : (P : Panel) (old : PresenceRecord) (w : ℕ) → List CCall → Type 0
 Demand3 P old w calls =
     RunMeets w as_call calls (history_of P old w calls) (came_next P old w calls) (λ earlier m. touch_number (record_after P old w earlier) ≡ m + 1) (asker_number (record_after P old w calls))
 
@@ -15,7 +15,7 @@ Demand3 P old w calls =
 abbrev pub OrdersPresent : AfterDeciding → Type 0
 OrdersPresent r = (r.said.answer ≡ 0x0100) × ((r.said.order.kind ≡ 1) ⊎ ((r.said.order.kind ≡ 2) × (byte r.block 32 ≡ 0x01)))
 
-module _ (P : Panel) (old : List ℕ) (w : ℕ) where
+module _ (P : Panel) (old : PresenceRecord) (w : ℕ) where
   -- the next call is a decision, and gives such an order
   abbrev pub OrdersNext : (earlier : List CCall) → ToDecide → Type 0
   OrdersNext earlier i = OrdersPresent (P.decide (on (record_after P old w earlier) i))
@@ -92,12 +92,12 @@ pub record NoTouchIsLost (P : Panel) : Type 0 where
 -- ---- all demands on a panel
 pub record Demands (P : Panel) : Type 0 where
   -- a record is made for W from 1 to 60,000, and for no other
-  pub makes : (old : List ℕ) (w : ℕ) → ((P.new old w).said ≡ 0x9000) ↔ ((1 ≤ w) × (w ≤ 60000))
+  pub makes : (old : PresenceRecord) (w : ℕ) → ((P.new old w).said ≡ 0x9000) ↔ ((1 ≤ w) × (w ≤ 60000))
   -- which decisions reach the touch check, in C's numbers
   pub reaches : (i : ToDecide) → ((as_call (Decide i)).role ≡ Checking i.side) ↔ Reaches P i
   -- and then, whatever is called, in any order
-  pub touches : (old : List ℕ) (w : ℕ) → (P.new old w).said ≡ 0x9000 → (calls : List CCall) → Demand3 P old w calls
-  pub orders : (old : List ℕ) (w : ℕ) → (P.new old w).said ≡ 0x9000 → OrdersHaveTheirTouch P old w
+  pub touches : (old : PresenceRecord) (w : ℕ) → (P.new old w).said ≡ 0x9000 → (calls : List CCall) → Demand3 P old w calls
+  pub orders : (old : PresenceRecord) (w : ℕ) → (P.new old w).said ≡ 0x9000 → OrdersHaveTheirTouch P old w
   pub finished : OrdersAreFinished P
   pub none_lost : NoTouchIsLost P
   pub carried : NoneCarriesOver P  -- Carried.antt

@@ -91,7 +91,7 @@ pub record EveryInputIsAnswered : Type 0 where
   pub presence_as_claimed : Presence.ContractsAsClaimed
   pub decision_as_claimed : Decision.ContractsAsClaimed
   pub sessions_as_claimed : Sessions.ContractsAsClaimed
-  -- what is lent as an array: which number is what, and touch check and touch on the numbers
+  -- what is lent by name: which number is what, and touch check and touch on the numbers
   pub records_stand : Presence.StandsExactly presence_in
   pub checks_on_numbers : Presence.AsOnRecords checked_in granted_in
   pub remainders_stand : Sessions.RemainderStands remainder_in

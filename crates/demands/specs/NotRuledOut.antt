@@ -7,7 +7,7 @@ use Words.*
 abbrev pub lend : (frame : List ℕ) (counter : ℕ) (new_handle certificate x y : List ℕ) → ToDecide
 lend frame counter new_handle certificate x y =
     record {
-      presence = 1000 ∷ 0 ∷ 1 ∷ 0 ∷ 0 ∷ [];
+      presence = record { w = 1000; prompt = 0; touch = 1; last = 0; asker = 0 };
       session = record { place = 0; count = 0; limit = 0 };
       frame = frame;
       side = 0;

@@ -1,6 +1,6 @@
 -- ROOM, FOR THE DATA SHEET: document 02, E10, of the reply buffer, and (ours) of the buffer for part and status. Of any panel that meets the contracts; R2 is answer 2.
 -- docs/DATASHEET.md says it in words, and for some lengths in numbers (datasheet_stated).
-use Rattle.std.specs.Prelude.{ℕ, ◌+◌, ◌-◌, ◌<◌, ◌≤◌, ◌≡◌, ◌↔◌, ◌⊎◌, List, [], ◌∷◌, eqb, leb, length, replicate}
+use Rattle.std.specs.Prelude.{ℕ, ◌+◌, ◌-◌, ◌<◌, ◌≤◌, ◌≡◌, ◌↔◌, ◌⊎◌, List, ◌∷◌, eqb, leb, length, replicate}
 use Rattle.outcome.specs.Notation.{when◌then◌else◌}
 use Rattle.outcome.specs.Outcome.{last_refusal}
 use Rattle.octets.specs.Bytes.{AreBytes}
@@ -44,7 +44,7 @@ pub record ReplyServes (beside : ℕ) (P : Panel) : Type 0 where
 abbrev pub enrolling : (n h c : ℕ) → ToDecide
 enrolling n h c =
     record {
-      presence = 1000 ∷ 0 ∷ 1 ∷ 0 ∷ 0 ∷ [];
+      presence = record { w = 1000; prompt = 0; touch = 1; last = 0; asker = 0 };
       session = record { place = 0; count = 0; limit = 0 };
       frame = 0x00 ∷ 0x01 ∷ 0x00 ∷ 0x00 ∷ 64 ∷ replicate 64 0xA1;
       side = 0;

@@ -17,6 +17,7 @@ use Rattle.u2f_up_stated.specs.declared.Presence.{Presence}
 use Rattle.std.specs.Prelude.{Some}
 use Rattle.u2f_up_stated.specs.Numbers.{presence_in}
 use Rattle.u2f_up_stated.specs.Moments.{ask_of}
+use Rattle.u2f_up_stated.specs.declared.PresenceRecord.{PresenceRecord}
 use Rattle.signing_stated.specs.Finishing.{length_of, reply_of}
 use Rattle.panel_stated.specs.declared.FrameSaid.{FrameSaid}
 use Rattle.panel_stated.specs.declared.CommandSaid.{CommandSaid}
@@ -39,16 +40,16 @@ right_response response = response_numbers (read_response_of response)
 
 -- any functions on the record, any decision and finishing, any functions on frames and responses, and any room, so that wrong ones can be tried
 abbrev MakeCall : Type 0
-MakeCall = (presence : List ℕ) (w : ℕ) → AfterMaking
+MakeCall = (presence : PresenceRecord) (w : ℕ) → AfterMaking
 
 abbrev TouchCall : Type 0
-TouchCall = (presence : List ℕ) (t : ℕ) → AfterStep
+TouchCall = (presence : PresenceRecord) (t : ℕ) → AfterStep
 
 abbrev CheckCall : Type 0
-CheckCall = (presence : List ℕ) (side t : ℕ) → AfterStep
+CheckCall = (presence : PresenceRecord) (side t : ℕ) → AfterStep
 
 abbrev AskCall : Type 0
-AskCall = (presence : List ℕ) (t : ℕ) → Asked
+AskCall = (presence : PresenceRecord) (t : ℕ) → Asked
 
 abbrev RespondCall : Type 0
 RespondCall = (body : List ℕ) (status : ℕ) (old : List ℕ) → AfterWriting
@@ -182,7 +183,7 @@ abbrev pub refuses_window : Panel
 refuses_window = panel_with makes_of touches_of (λ n s t. record { said = record { answer = 6; yes = false }; presence = n }) asks_of decides_of right_finish
 
 -- a check that finds a touch keeps it
-abbrev kept_if : Bool → (presence : List ℕ) → AfterStep → AfterStep
+abbrev kept_if : Bool → (presence : PresenceRecord) → AfterStep → AfterStep
 kept_if found n r = when found then record { said = r.said; presence = n } else r
 
 abbrev pub touch_kept : Panel
@@ -231,7 +232,7 @@ abbrev pub finish_claims : Panel
 finish_claims = panel_with makes_of touches_of checks_of asks_of decides_of (λ i. record { said = record { answer = 0x9000; length = 0 }; buffer = i.reply })
 
 -- what is lent, with another record and another remainder
-abbrev changed : (presence : List ℕ) → Remainder → ToDecide → ToDecide
+abbrev changed : (presence : PresenceRecord) → Remainder → ToDecide → ToDecide
 changed n k i = lending n (session_numbers (record { remainder = k; limit = (session_in i.session).limit })) i.reply i
 
 -- what a decision left, with another remainder

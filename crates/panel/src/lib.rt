@@ -16,6 +16,7 @@ use panel_stated::{
 };
 use session::SessionRecord;
 use signing::Head;
+use u2f_up::PresenceRecord;
 
 // Reads any bytes as a frame; its data comes back as a place in the caller's frame. By cases, and each is a return of its own:
 // so each is written to the caller at once.
@@ -148,7 +149,7 @@ pub extern "C" fn brinecandle_read_command(frame: &[u8]) -> CommandSaid
 
 // A fresh record, or R6, which leaves the numbers as they were.
 #[unsafe(no_mangle)]
-pub extern "C" fn brinecandle_new(presence: &mut [u64; 5], w: u64) -> u16
+pub extern "C" fn brinecandle_new(presence: &mut PresenceRecord, w: u64) -> u16
     ensures { BrinecandleNew presence.old w result presence.new }
 {
     let made = u2f_up::new(w);
@@ -163,7 +164,7 @@ pub extern "C" fn brinecandle_new(presence: &mut [u64; 5], w: u64) -> u16
 
 // A finger touches at t.
 #[unsafe(no_mangle)]
-pub extern "C" fn brinecandle_grant_up(presence: &mut [u64; 5], t: u64) -> Asked
+pub extern "C" fn brinecandle_grant_up(presence: &mut PresenceRecord, t: u64) -> Asked
     ensures { BrinecandleGrantUp presence.old t result presence.new }
 {
     let held = u2f_up::record_lent(presence);
@@ -175,7 +176,7 @@ pub extern "C" fn brinecandle_grant_up(presence: &mut [u64; 5], t: u64) -> Asked
 
 // The touch check at t, for the side that checks.
 #[unsafe(no_mangle)]
-pub extern "C" fn brinecandle_consume_up(presence: &mut [u64; 5], side: u64, t: u64) -> Asked
+pub extern "C" fn brinecandle_consume_up(presence: &mut PresenceRecord, side: u64, t: u64) -> Asked
     ensures { BrinecandleConsumeUp presence.old side t result presence.new }
 {
     match u2f_up::settle(u2f_up::record_lent(presence), side, t) {
@@ -186,7 +187,7 @@ pub extern "C" fn brinecandle_consume_up(presence: &mut [u64; 5], side: u64, t: 
 
 // Whether a prompt is live at t. The record is only read.
 #[unsafe(no_mangle)]
-pub extern "C" fn brinecandle_is_up_needed(presence: &[u64; 5], t: u64) -> Asked
+pub extern "C" fn brinecandle_is_up_needed(presence: &PresenceRecord, t: u64) -> Asked
     ensures { BrinecandleIsUpNeeded presence.now t result }
 {
     panel_presence::asked_plain(u2f_up::is_up_needed(u2f_up::record_lent(presence), t))
@@ -196,7 +197,7 @@ pub extern "C" fn brinecandle_is_up_needed(presence: &[u64; 5], t: u64) -> Asked
 // for its signature whole. By cases, as brinecandle_read.
 #[unsafe(no_mangle)]
 pub extern "C" fn brinecandle_decide(
-    presence: &mut [u64; 5],
+    presence: &mut PresenceRecord,
     session: &mut SessionRecord,
     frame: &[u8],
     side: u64,

@@ -5,6 +5,7 @@ ghost use Rattle.panel_stated.specs.Promises.{RefusedAsked, FoundAsked, AskedPla
 
 use outcome::Refusal;
 use panel_stated::Asked;
+use u2f_up_stated::PresenceRecord;
 
 // What a call says that is refused, and one that is not.
 pub fn refused_plain(why: Refusal) -> Asked
@@ -35,13 +36,12 @@ pub fn asked_plain(answer: Result<bool, Refusal>) -> Asked
 }
 
 // A fresh record with the touch window `w`, over whatever the numbers were.
-pub fn fresh(w: u64, numbers: &mut [u64; 5])
-    ensures { FreshKept w numbers.new }
+pub fn fresh(w: u64, presence: &mut PresenceRecord)
+    ensures { FreshKept w presence.new }
 {
-    let whole: &mut [u64] = numbers;
-    whole[0] = w;
-    whole[1] = 0;
-    whole[2] = 0;
-    whole[3] = 0;
-    whole[4] = 0;
+    presence.w = w;
+    presence.prompt = 0;
+    presence.touch = 0;
+    presence.last = 0;
+    presence.asker = 0;
 }

@@ -3,7 +3,7 @@ use Prim.Native.Nat.{ℕ, ◌+◌, ◌<◌, ◌^◌}
 use mathlib.Core.Path.{◌≡◌, refl, ap, ap₂, sym, ◌∙◌}
 use mathlib.Core.List.{List}
 use borrow.Author.Tests.{ne_eqb, not-true, not-false}
-use lib.ListN.{length, get_or}
+use lib.ListN.{length}
 use Rattle.outcome.specs.Notation.{when◌then◌else◌}
 use Rattle.outcome.proofs.Laws.{r_gives}
 use Rattle.outcome.specs.Outcome.{Outcome, R, Word, Gives, status_no, fault_of, word_of, refusal_no, no_fault}
@@ -35,6 +35,7 @@ use Rattle.std.specs.Prelude.{Ok, Err}
 use Rattle.u2f_up_stated.specs.Words.{Ready}
 use Rattle.u2f_up_stated.specs.declared.Presence.{Presence}
 use Rattle.u2f_up_stated.proofs.Laws.{settles_moved, checked_below, granted_below}
+use Rattle.u2f_up_stated.specs.declared.PresenceRecord.{PresenceRecord}
 use Rattle.signing_stated.specs.Orders.{kind_no}
 use Rattle.signing_stated.specs.Finishing.{Finishing, finished_of, length_of, reply_of}
 use Rattle.signing_stated.specs.Words.{Finished}
@@ -178,7 +179,7 @@ module _ (w : ℕ) (made : Ready) (is_made : ready_of made ≡ new_of w) where
         by false e = refl
 
 -- ---- a call on lent numbers is the call on the record that they stand for: `held` is the record as it was taken out of them
-module _ (n : List ℕ) (held : Presence) (is_held_lem : held ≡ presence_in n) (side t : ℕ) (ready : Ready) (is_ready : ready_of ready ≡ settle_of held side t) where
+module _ (n : PresenceRecord) (held : Presence) (is_held_lem : held ≡ presence_in n) (side t : ℕ) (ready : Ready) (is_ready : ready_of ready ≡ settle_of held side t) where
   settles : ready_of ready ≡ settle_of (presence_in n) side t
   settles = is_ready ∙ ap (λ (p : Presence). settle_of p side t) is_held_lem
 
@@ -216,7 +217,7 @@ module _ (n : List ℕ) (held : Presence) (is_held_lem : held ≡ presence_in n)
   check_moved q after z is = is ∙ ap (λ (x : Told). x.presence) (checks_found q z)
 
 -- a touch settles as the record's own side
-module _ (n : List ℕ) (held : Presence) (is_held_lem : held ≡ presence_in n) (t : ℕ) (ready : Ready) (is_ready : ready_of ready ≡ settle_of held held.asker t) where
+module _ (n : PresenceRecord) (held : Presence) (is_held_lem : held ≡ presence_in n) (t : ℕ) (ready : Ready) (is_ready : ready_of ready ≡ settle_of held held.asker t) where
   own_side : ready_of ready ≡ settle_of (presence_in n) (presence_in n).asker t
   own_side = is_ready ∙ ap (λ (p : Presence). settle_of p p.asker t) is_held_lem
 

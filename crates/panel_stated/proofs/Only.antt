@@ -40,6 +40,7 @@ use Rattle.panel_stated.proofs.Lists.{same_record}
 use Rattle.panel_stated.specs.Exports.{ToDecide, decided_by}
 use Rattle.panel_stated.proofs.Outcomes
 use Rattle.panel_stated.specs.Claims
+use Rattle.u2f_up_stated.specs.declared.PresenceRecord.{PresenceRecord}
 
 -- ---- numbers that stand for cases
 pub ShapeNumbers : Determines Claims.ShapeNumbers
@@ -272,17 +273,17 @@ DecideExported f g p q i =
     )
 
 -- ---- the exported making
-pub MakeExported : (f g : (presence : List ℕ) (w : ℕ) → AfterMaking) → Claims.MakeExported f → Claims.MakeExported g
-    → (n : List ℕ) (w : ℕ) → ((f n w).said ≡ (g n w).said) × SameNumbers 5 (f n w).presence (g n w).presence
+pub MakeExported : (f g : (presence : PresenceRecord) (w : ℕ) → AfterMaking) → Claims.MakeExported f → Claims.MakeExported g
+    → (n : PresenceRecord) (w : ℕ) → ((f n w).said ≡ (g n w).said) × SameNumbers (f n w).presence (g n w).presence
 MakeExported f g p q n w = by (ℕ_discrete w 0) (dec_lt 60000 w)
   where
-    refused : (w ≡ 0) ⊎ (60000 < w) → ((f n w).said ≡ (g n w).said) × SameNumbers 5 (f n w).presence (g n w).presence
+    refused : (w ≡ 0) ⊎ (60000 < w) → ((f n w).said ≡ (g n w).said) × SameNumbers (f n w).presence (g n w).presence
     refused h =
         let x = p.refused n w h in
         let y = q.refused n w h in
-        (x.0 ∙ sym y.0, λ k m. x.1 k m ∙ sym (y.1 k m))
+        (x.0 ∙ sym y.0, x.1 ∙ sym y.1)
 
-    by : Dec (w ≡ 0) → Dec (60000 < w) → ((f n w).said ≡ (g n w).said) × SameNumbers 5 (f n w).presence (g n w).presence
+    by : Dec (w ≡ 0) → Dec (60000 < w) → ((f n w).said ≡ (g n w).said) × SameNumbers (f n w).presence (g n w).presence
     by (yes z) d = refused (inl z)
     by (no z) (yes h) = refused (inr h)
     by (no z) (no h) =

@@ -18,6 +18,7 @@ use Rattle.u2f_up_stated.specs.Moments.{new_of, touch_of, check_of, settle_of, g
 use Rattle.std.specs.Prelude.{None, Some}
 use Rattle.u2f_up_stated.specs.Words.{Window}
 use Rattle.u2f_up_stated.specs.declared.Presence.{Presence}
+use Rattle.u2f_up_stated.specs.declared.PresenceRecord.{PresenceRecord}
 use Rattle.ctap1_stated.specs.Words.{Ordered, Part, DecisionResult}
 use Rattle.ctap1_stated.specs.Path.{fetch_path, frame_limit, register_path, register_ending, enrolment_order, version_path, command_path, allowed_path, path_of}
 use Rattle.ctap1_stated.specs.Decision.{decision_of}
@@ -57,12 +58,12 @@ order_is0 p = p.decision (Gives Ordered) tt refl
 
 -- ---- records
 -- W, prompt, touch, last moment, asker: a touch opened at 7
-abbrev one_opened : List ℕ
-one_opened = 5000 ∷ 0 ∷ 8 ∷ 9 ∷ 0 ∷ []
+abbrev one_opened : PresenceRecord
+one_opened = record { w = 5000; prompt = 0; touch = 8; last = 9; asker = 0 }
 
 pub clears_at_r6 : Claims.MakeExported Wrong.clears_at_r6 → ⊥
 unfolding new_of
-clears_at_r6 p = let e : ◌≡◌ {A = ℕ} 0 5000 = (p.refused one_opened 0 (inl refl)).1 0 (omega arith) in omega arith
+clears_at_r6 p = let e : ◌≡◌ {A = ℕ} 0 5000 = ap (λ (n : PresenceRecord). n.w) (p.refused one_opened 0 (inl refl)).1 in omega arith
 
 -- 65,537 is R6, and 1 is not
 pub made_from16_bits : Claims.MakeExported Wrong.made_from16_bits → ⊥
@@ -71,7 +72,7 @@ made_from16_bits p = let e : ◌≡◌ {A = ℕ} 0x9000 6 = (p.refused one_opene
 
 pub refused_moves : Claims.RefusalKeeps Wrong.refused_moves checks_of decides_of → ⊥
 unfolding touch_of settle_of
-refused_moves p = let e : ◌≡◌ {A = ℕ} 8 9 = p.grant_up one_opened 8 (omega arith) 3 (omega arith) in omega arith
+refused_moves p = let e : ◌≡◌ {A = ℕ} 8 9 = ap (λ (n : PresenceRecord). n.last) (p.grant_up one_opened 8 (omega arith)) in omega arith
 
 -- ---- numbers that stand for cases
 pub shape0_accepted : Claims.ShapeNumbers Wrong.shape0_accepted → ⊥
@@ -204,8 +205,8 @@ abbrev hardware : (allowed : ℕ) → HardwareSaid
 hardware n = record { allowed = n; attestation = 1; stored = 1; good = 1; counted = 1; counter = 7 }
 
 -- with a live touch
-abbrev touched : List ℕ
-touched = 5000 ∷ 0 ∷ 1 ∷ 0 ∷ 0 ∷ []
+abbrev touched : PresenceRecord
+touched = record { w = 5000; prompt = 0; touch = 1; last = 0; asker = 0 }
 
 abbrev lending : (frame : List ℕ) (allowed : ℕ) (reply : List ℕ) → Remainder → (part : List ℕ) → ToDecide
 lending frame n reply r part =
@@ -223,7 +224,7 @@ limit_of_bodies_alone p = let e : ◌≡◌ {A = ℕ} 5 256 = p.limit (lending f
 pub refused_forgets : Claims.RefusalKeeps touches_of checks_of Wrong.refused_forgets → ⊥
 unfolding decision_of path_of allowed_path command_path settle_of command_of on_reading read_by allowed_of
 refused_forgets p =
-    let i : ToDecide = record { presence = 5000 ∷ 0 ∷ 0 ∷ 2 ∷ 0 ∷ []; session = record { place = 1; count = 2; limit = 5 }; frame = []; side = 0; moment = 1; hardware = hardware 1; new_handle = []; certificate = []; x = []; y = []; reply = []; block = []; part = [] } in
+    let i : ToDecide = record { presence = record { w = 5000; prompt = 0; touch = 0; last = 2; asker = 0 }; session = record { place = 1; count = 2; limit = 5 }; frame = []; side = 0; moment = 1; hardware = hardware 1; new_handle = []; certificate = []; x = []; y = []; reply = []; block = []; part = [] } in
     let e : ◌≡◌ {A = ℕ} 0 5 = ap (λ (s : SessionRecord). s.limit) (p.decided i (omega arith)).1 in
     omega arith
 
@@ -364,11 +365,11 @@ parameters_swapped p =
     omega arith
 
 -- ---- sides: 256 is cut down to 0
-abbrev asked_by256 : List ℕ
-asked_by256 = 5000 ∷ 0 ∷ 0 ∷ 0 ∷ 256 ∷ []
+abbrev asked_by256 : PresenceRecord
+asked_by256 = record { w = 5000; prompt = 0; touch = 0; last = 0; asker = 256 }
 
-abbrev closed : List ℕ
-closed = 5000 ∷ 0 ∷ 0 ∷ 0 ∷ 0 ∷ []
+abbrev closed : PresenceRecord
+closed = record { w = 5000; prompt = 0; touch = 0; last = 0; asker = 0 }
 
 pub touch_any_side : Claims.SideCrosses Wrong.touch_any_side asks_of checks_of decides_of → ⊥
 unfolding touch_of settle_of granted_of

@@ -22,6 +22,7 @@ use Rattle.u2f_up_stated.specs.Moments.{new_of, Told, settle_of, on_settled, tou
 use Rattle.u2f_up_stated.specs.declared.Presence.{Presence}
 use Rattle.u2f_up_stated.proofs.Laws.{touches_exactly, checks_exactly, asks_exactly}
 use Rattle.u2f_up_stated.proofs.Laws.{five_apart}
+use Rattle.u2f_up_stated.specs.declared.PresenceRecord.{PresenceRecord}
 use Rattle.signing_stated.specs.Orders.{kind_no, head_of}
 use Rattle.ctap1_stated.specs.Words.{Inputs, DecisionGives, Body, Ordered, Part}
 use Rattle.ctap1_stated.specs.Decision.{decision_of, block_after}
@@ -294,7 +295,7 @@ SideCrosses = record {
     through o said exactly = let told = AnswerTells.refused o said 8 (omega arith) in (λ e. exactly.0 (told.0 e), λ b. told.1 (exactly.1 b))
 
     -- what names no side counts as naming the record's
-    unnamed : (n : List ℕ) (o : Outcome Bool) → IsNumbered o → (o ≡ R 8) ↔ ((BadWindow (presence_in n).w → ⊥) × BadSide (presence_in n).asker (presence_in n).asker)
+    unnamed : (n : PresenceRecord) (o : Outcome Bool) → IsNumbered o → (o ≡ R 8) ↔ ((BadWindow (presence_in n).w → ⊥) × BadSide (presence_in n).asker (presence_in n).asker)
         → (answer_no o ≡ 8) ↔ ((BadWindow (presence_in n).w → ⊥) × (1 < (presence_in n).asker))
     unnamed n o said exactly = let x = through o said exactly in (λ e. ((x.0 e).0, ⊎_elim (λ h. h) (λ h. h) (x.0 e).1), λ b. x.1 (b.0, inl b.1))
 
@@ -316,7 +317,7 @@ RefusalKeeps =
       );
     }
   where
-    kept : (n : List ℕ) (p : Presence) → p ≡ presence_in n → SameNumbers 5 (presence_numbers p) n
+    kept : (n : PresenceRecord) (p : Presence) → p ≡ presence_in n → SameNumbers (presence_numbers p) n
     kept n p e = same_record (presence_numbers p) n (record_back p ∙ e)
 
 pub DecisionNumbers : Claims.DecisionNumbers decision_numbers
@@ -333,7 +334,7 @@ DecisionNumbers =
 
 -- ---- as they are exported
 -- of whatever meets the contract
-make_exported : (f : (presence : List ℕ) (w : ℕ) → AfterMaking) → ((n : List ℕ) (w : ℕ) → BrinecandleNew n w (f n w).said (f n w).presence) → Claims.MakeExported f
+make_exported : (f : (presence : PresenceRecord) (w : ℕ) → AfterMaking) → ((n : PresenceRecord) (w : ℕ) → BrinecandleNew n w (f n w).said (f n w).presence) → Claims.MakeExported f
 unfolding new_of
 make_exported f meets =
     record {
@@ -413,7 +414,7 @@ ResultsDetermined =
       command_plain = λ read a b. both_are a b;
       refused_asked = λ why a b. both_are a b;
       found_asked = λ found a b. both_are a b;
-      fresh_kept = λ w a b p q. five_apart a b p.0 q.0 (both_are _ _ p.1 q.1);
+      fresh_kept = λ w a b p q. five_apart a b (both_are _ _ p q);
       asked_plain = λ answer a b. both_are a b;
       kind_numbered = λ n a b. both_are a b;
       refused_numbers = λ why taken a b. both_are a b;
@@ -429,11 +430,11 @@ ResultsDetermined =
       brinecandle_write = λ w a b p q. written a b (both_are _ _ p.0 q.0) (both_are _ _ p.1 q.1);
       brinecandle_write_strict = λ w a b p q. written a b (both_are _ _ p.0 q.0) (both_are _ _ p.1 q.1);
       brinecandle_read_command = λ frame a b. both_are a b;
-      brinecandle_new = λ n w a b p q. made a b p.0 q.0 (both_are _ _ p.1.0 q.1.0) (both_are _ _ p.1.1 q.1.1);
-      brinecandle_grant_up = λ n t a b p q. stepped a b p.0 q.0 (both_are _ _ p.1.0 q.1.0) (both_are _ _ p.1.1 q.1.1);
-      brinecandle_consume_up = λ n s t a b p q. stepped a b p.0 q.0 (both_are _ _ p.1.0 q.1.0) (both_are _ _ p.1.1 q.1.1);
+      brinecandle_new = λ n w a b p q. made a b (both_are _ _ p.0 q.0) (both_are _ _ p.1 q.1);
+      brinecandle_grant_up = λ n t a b p q. stepped a b (both_are _ _ p.0 q.0) (both_are _ _ p.1 q.1);
+      brinecandle_consume_up = λ n s t a b p q. stepped a b (both_are _ _ p.0 q.0) (both_are _ _ p.1 q.1);
       brinecandle_is_up_needed = λ n t a b. both_are a b;
-      brinecandle_decide = λ i a b p q. decided i a b p.0 q.0 p.1 q.1;
+      brinecandle_decide = λ i a b p q. decided i a b p q;
       brinecandle_finish = λ i a b p q. written a b (both_are _ _ p.0 q.0) (both_are _ _ p.1 q.1);
       response_plain = λ read a b. both_are a b;
       wrote_response_plain = λ written a b. both_are a b;
@@ -450,17 +451,17 @@ ResultsDetermined =
     written : (a b : AfterWriting) → a.said ≡ b.said → a.buffer ≡ b.buffer → a ≡ b
     written a b e f = λ d. record { said = e d; buffer = f d }
 
-    made : (a b : AfterMaking) → length a.presence ≡ 5 → length b.presence ≡ 5 → a.said ≡ b.said → presence_in a.presence ≡ presence_in b.presence → a ≡ b
-    made a b m n e f = let same = five_apart a.presence b.presence m n f in λ d. record { said = e d; presence = same d }
+    made : (a b : AfterMaking) → a.said ≡ b.said → presence_in a.presence ≡ presence_in b.presence → a ≡ b
+    made a b e f = let same = five_apart a.presence b.presence f in λ d. record { said = e d; presence = same d }
 
-    stepped : (a b : AfterStep) → length a.presence ≡ 5 → length b.presence ≡ 5 → a.said ≡ b.said → presence_in a.presence ≡ presence_in b.presence → a ≡ b
-    stepped a b m n e f = let same = five_apart a.presence b.presence m n f in λ d. record { said = e d; presence = same d }
+    stepped : (a b : AfterStep) → a.said ≡ b.said → presence_in a.presence ≡ presence_in b.presence → a ≡ b
+    stepped a b e f = let same = five_apart a.presence b.presence f in λ d. record { said = e d; presence = same d }
 
-    decided : (i : ToDecide) (a b : AfterDeciding) → length a.presence ≡ 5 → length b.presence ≡ 5
+    decided : (i : ToDecide) (a b : AfterDeciding)
         → BrinecandleDecide i a.said a.presence a.session a.reply a.block a.part → BrinecandleDecide i b.said b.presence b.session b.reply b.block b.part → a ≡ b
-    decided i a b m n p q =
+    decided i a b p q =
         let said = both_are _ _ p.0 q.0 in
-        let presence = five_apart a.presence b.presence m n (both_are _ _ p.1 q.1) in
+        let presence = five_apart a.presence b.presence (both_are _ _ p.1 q.1) in
         let session = same_session a.session b.session (both_are _ _ p.2 q.2) in
         let reply = both_are _ _ p.3 q.3 in
         let block = both_are _ _ p.4 q.4 in

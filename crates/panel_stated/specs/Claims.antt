@@ -3,7 +3,7 @@
 use Rattle.std.specs.Prelude.{◌↔◌, ◌⊎◌, ◌∷◌, drop, ◌≡◌, ◌≤◌, ◌<◌, ◌+◌}
 use Rattle.panel_stated.specs.Words.{ℕ, Bool, List, AtMostOne, StatusWord, Outcome, R, Word, Gives, HasStatus, last_refusal, None, Presence, Order, Head}
 use Rattle.panel_stated.specs.Words.{Instruction, Le1, Lc1Data, Lc1DataLe1, Lc3Data, Lc3DataLe2, Le3}
-use Rattle.panel_stated.specs.Words.{SessionRecord, OrderNumbers, Shaped, Kinded, presence_in, remainder_in, session_in, frame_room_of}
+use Rattle.panel_stated.specs.Words.{PresenceRecord, SessionRecord, OrderNumbers, Shaped, Kinded, presence_in, remainder_in, session_in, frame_room_of}
 use Rattle.panel_stated.specs.Words.{FrameSaid, CommandSaid, Wrote, Asked, DecisionSaid, ResponseSaid, RoomSaid}
 use Rattle.panel_stated.specs.Words.{Says, Entry, Case, Parts, parts_of, shape_no, Command, Register, Authenticate, Version, GetResponse, length, Remainder, Response, Sent, write_response_of, read_response_of, next_part_of, false, read_of, strict_of, command_of, new_of, touch_of, check_of, ask_of, DecisionGives, Body, Ordered, Part, DecisionResult, finish_of}
 use Rattle.panel_stated.specs.Exports.{order_after, ToWrite, ToDecide, ToFinish, decided_by, write_numbered, finish_numbered}
@@ -83,27 +83,27 @@ pub record NoAnswerIs0 (answer : Outcome Bool → ℕ) (decided : Outcome Decisi
 -- A record is made in the numbers that are lent: W from 1 to 60,000, both windows closed, last moment 0, side 0; R6 for any other W leaves them. 01: "A fresh
 -- record is made with a touch window W of 1..60,000, both windows closed and last moment 0; a refused making hands back no record." A making that clears the
 -- record with R6 (`clears_at_r6`) fails it, and one that looks at 16 bits of W (`made_from16_bits`).
-pub record MakeExported (make : (presence : List ℕ) (w : ℕ) → AfterMaking) : Type 0 where
-  pub made : (n : List ℕ) (w : ℕ) → 1 ≤ w → w ≤ 60000
+pub record MakeExported (make : (presence : PresenceRecord) (w : ℕ) → AfterMaking) : Type 0 where
+  pub made : (n : PresenceRecord) (w : ℕ) → 1 ≤ w → w ≤ 60000
       → ((make n w).said ≡ 0x9000) × (presence_in (make n w).presence ≡ record { w = w; prompt = None; touch = None; last = 0; asker = 0 })
-  pub refused : (n : List ℕ) (w : ℕ) → (w ≡ 0) ⊎ (60000 < w) → ((make n w).said ≡ 6) × SameNumbers 5 (make n w).presence n
+  pub refused : (n : PresenceRecord) (w : ℕ) → (w ≡ 0) ⊎ (60000 < w) → ((make n w).said ≡ 6) × SameNumbers (make n w).presence n
 
 -- "An R refusal changes no buffer and no record", said of the numbers: after a refusal the record that was lent is as it was, number by number, and after a
 -- decision the session too (02, E2: "any R refusal keeps it"). A touch that moves the last moment all the same (`refused_moves`) fails it, before the last
 -- moment, and a decision that forgets the session (`refused_forgets`).
-pub record RefusalKeeps (touch : (presence : List ℕ) (t : ℕ) → AfterStep) (check : (presence : List ℕ) (side t : ℕ) → AfterStep) (decide : ToDecide → AfterDeciding) : Type 0 where
-  pub grant_up : (n : List ℕ) (t : ℕ) → (touch n t).said.answer ≤ last_refusal → SameNumbers 5 (touch n t).presence n
-  pub consume_up : (n : List ℕ) (s t : ℕ) → (check n s t).said.answer ≤ last_refusal → SameNumbers 5 (check n s t).presence n
-  pub decided : (i : ToDecide) → (decide i).said.answer ≤ last_refusal → SameNumbers 5 (decide i).presence i.presence × ((decide i).session ≡ i.session)
+pub record RefusalKeeps (touch : (presence : PresenceRecord) (t : ℕ) → AfterStep) (check : (presence : PresenceRecord) (side t : ℕ) → AfterStep) (decide : ToDecide → AfterDeciding) : Type 0 where
+  pub grant_up : (n : PresenceRecord) (t : ℕ) → (touch n t).said.answer ≤ last_refusal → SameNumbers (touch n t).presence n
+  pub consume_up : (n : PresenceRecord) (s t : ℕ) → (check n s t).said.answer ≤ last_refusal → SameNumbers (check n s t).presence n
+  pub decided : (i : ToDecide) → (decide i).said.answer ≤ last_refusal → SameNumbers (decide i).presence i.presence × SameNumbers (decide i).session i.session
 
 -- 02, E7: "R8 for a side other than 0 or 1, named or in the record"; ours: the side crosses with 64 bits, and so does the record's, so that 256, 2^32 or -1 in C
 -- is not cut down to a side. So a check and a decision answer 8 exactly for such a number, as it was lent, once W is right; touch and ask, which name
 -- none, exactly for the record's. An export that looks at 8 bits of the side (`side_cut_in_check`, `side_cut_in_decide`) fails it, at 256, and a touch that does
 -- not look at the record's (`touch_any_side`).
-pub record SideCrosses (touch : (presence : List ℕ) (t : ℕ) → AfterStep) (ask : (presence : List ℕ) (t : ℕ) → Asked) (check : (presence : List ℕ) (side t : ℕ) → AfterStep) (decide : ToDecide → AfterDeciding) : Type 0 where
-  pub touched : (n : List ℕ) (t : ℕ) → ((touch n t).said.answer ≡ 8) ↔ ((BadWindow (presence_in n).w → ⊥) × (1 < (presence_in n).asker))
-  pub asked : (n : List ℕ) (t : ℕ) → ((ask n t).answer ≡ 8) ↔ ((BadWindow (presence_in n).w → ⊥) × (1 < (presence_in n).asker))
-  pub checked : (n : List ℕ) (s t : ℕ) → ((check n s t).said.answer ≡ 8) ↔ ((BadWindow (presence_in n).w → ⊥) × BadSide s (presence_in n).asker)
+pub record SideCrosses (touch : (presence : PresenceRecord) (t : ℕ) → AfterStep) (ask : (presence : PresenceRecord) (t : ℕ) → Asked) (check : (presence : PresenceRecord) (side t : ℕ) → AfterStep) (decide : ToDecide → AfterDeciding) : Type 0 where
+  pub touched : (n : PresenceRecord) (t : ℕ) → ((touch n t).said.answer ≡ 8) ↔ ((BadWindow (presence_in n).w → ⊥) × (1 < (presence_in n).asker))
+  pub asked : (n : PresenceRecord) (t : ℕ) → ((ask n t).answer ≡ 8) ↔ ((BadWindow (presence_in n).w → ⊥) × (1 < (presence_in n).asker))
+  pub checked : (n : PresenceRecord) (s t : ℕ) → ((check n s t).said.answer ≡ 8) ↔ ((BadWindow (presence_in n).w → ⊥) × BadSide s (presence_in n).asker)
   pub decided : (i : ToDecide) → ((decide i).said.answer ≡ 8) ↔ ((BadWindow (presence_in i.presence).w → ⊥) × BadSide i.side (presence_in i.presence).asker)
 
 -- ---- numbers that stand for cases
@@ -388,7 +388,7 @@ pub record ContractsAsClaimed : Type 0 where
   pub read_strict_by_table : (f : List ℕ → FrameSaid) → ((frame : List ℕ) → BrinecandleReadStrictByTable frame (f frame)) → ReadStrictExported f
   pub write : (f : ToWrite → AfterWriting) → ((w : ToWrite) → BrinecandleWrite w (f w).said (f w).buffer) → WriteExported f
   pub write_strict : (f : ToWrite → AfterWriting) → ((w : ToWrite) → BrinecandleWriteStrict w (f w).said (f w).buffer) → WriteStrictExported f
-  pub new : (f : (presence : List ℕ) (w : ℕ) → AfterMaking) → ((n : List ℕ) (w : ℕ) → BrinecandleNew n w (f n w).said (f n w).presence) → MakeExported f
+  pub new : (f : (presence : PresenceRecord) (w : ℕ) → AfterMaking) → ((n : PresenceRecord) (w : ℕ) → BrinecandleNew n w (f n w).said (f n w).presence) → MakeExported f
   pub decide : (f : ToDecide → AfterDeciding)
       → ((i : ToDecide) → BrinecandleDecide i (f i).said (f i).presence (f i).session (f i).reply (f i).block (f i).part) → DecideExported f
   pub next_part : (f : (session : SessionRecord) (body part : List ℕ) → AfterPart)
@@ -407,7 +407,7 @@ pub record ResultsDetermined : Type 0 where
   pub command_plain : (read : CommandReading) → AtMostOne (CommandPlain read)
   pub refused_asked : (why : Refusal) → AtMostOne (RefusedAsked why)
   pub found_asked : (yes : Bool) → AtMostOne (FoundAsked yes)
-  pub fresh_kept : (w : ℕ) → AtMostOne (λ (n : List ℕ). (length n ≡ 5) × FreshKept w n)
+  pub fresh_kept : (w : ℕ) → AtMostOne (FreshKept w)
   pub asked_plain : (answer : Answer) → AtMostOne (AskedPlain answer)
   pub kind_numbered : (n : ℕ) → AtMostOne (KindNumbered n)
   pub refused_numbers : (why : Refusal) (taken : Bool) → AtMostOne (RefusedPlain why taken)
@@ -423,12 +423,12 @@ pub record ResultsDetermined : Type 0 where
   pub brinecandle_write : (w : ToWrite) → AtMostOne (λ (r : AfterWriting). BrinecandleWrite w r.said r.buffer)
   pub brinecandle_write_strict : (w : ToWrite) → AtMostOne (λ (r : AfterWriting). BrinecandleWriteStrict w r.said r.buffer)
   pub brinecandle_read_command : (frame : List ℕ) → AtMostOne (BrinecandleReadCommand frame)
-  pub brinecandle_new : (n : List ℕ) (w : ℕ) → AtMostOne (λ (r : AfterMaking). (length r.presence ≡ 5) × BrinecandleNew n w r.said r.presence)
-  pub brinecandle_grant_up : (n : List ℕ) (t : ℕ) → AtMostOne (λ (r : AfterStep). (length r.presence ≡ 5) × BrinecandleGrantUp n t r.said r.presence)
-  pub brinecandle_consume_up : (n : List ℕ) (s t : ℕ) → AtMostOne (λ (r : AfterStep). (length r.presence ≡ 5) × BrinecandleConsumeUp n s t r.said r.presence)
-  pub brinecandle_is_up_needed : (n : List ℕ) (t : ℕ) → AtMostOne (BrinecandleIsUpNeeded n t)
+  pub brinecandle_new : (n : PresenceRecord) (w : ℕ) → AtMostOne (λ (r : AfterMaking). BrinecandleNew n w r.said r.presence)
+  pub brinecandle_grant_up : (n : PresenceRecord) (t : ℕ) → AtMostOne (λ (r : AfterStep). BrinecandleGrantUp n t r.said r.presence)
+  pub brinecandle_consume_up : (n : PresenceRecord) (s t : ℕ) → AtMostOne (λ (r : AfterStep). BrinecandleConsumeUp n s t r.said r.presence)
+  pub brinecandle_is_up_needed : (n : PresenceRecord) (t : ℕ) → AtMostOne (BrinecandleIsUpNeeded n t)
   pub brinecandle_decide : (i : ToDecide)
-      → AtMostOne (λ (r : AfterDeciding). (length r.presence ≡ 5) × BrinecandleDecide i r.said r.presence r.session r.reply r.block r.part)
+      → AtMostOne (λ (r : AfterDeciding). BrinecandleDecide i r.said r.presence r.session r.reply r.block r.part)
   pub brinecandle_finish : (i : ToFinish) → AtMostOne (λ (r : AfterWriting). BrinecandleFinish i r.said r.buffer)
   pub response_plain : (read : ReadResponse) → AtMostOne (ResponsePlain read)
   pub wrote_response_plain : (written : WroteResponse) → AtMostOne (WroteResponsePlain written)

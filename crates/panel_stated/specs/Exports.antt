@@ -1,7 +1,7 @@
 -- What each export answers and leaves, in plain numbers, by the outcome that the definitions of the other crates give for its call.
 -- A number that an answer has no use for is 0.
 use Rattle.std.specs.Prelude.{◌+◌}
-use Rattle.panel_stated.specs.Words.{ℕ, Bool, false, List, length, StatusWord, Outcome, R, Word, Gives, plain_word, ApduHeader, Presence, Session, SessionRecord, Kind, Head, Order, head_of}
+use Rattle.panel_stated.specs.Words.{ℕ, Bool, false, List, length, StatusWord, Outcome, R, Word, Gives, plain_word, ApduHeader, Presence, PresenceRecord, Session, SessionRecord, Kind, Head, Order, head_of}
 use Rattle.panel_stated.specs.Words.{OrderNumbers, FrameSaid, CommandSaid, Wrote, Asked, DecisionSaid, ResponseSaid, RoomSaid, Shaped, Kinded}
 use Rattle.panel_stated.specs.Words.{Says, read_of, place_of, Entry, Strict, in_row, read_by, parts_of, write_by, buffer_by, Command, Register, Authenticate, Version, GetResponse, handle_place_of, Told, new_of, touch_of, check_of, ask_of}
 use Rattle.panel_stated.specs.Words.{kind_no, finish_of, DecisionGives, Body, Ordered, Part, DecisionResult, decision_of, Response, Sent, part_left, reply_left, block_left, presence_in, session_in, session_after, frame_room_of, inputs_in}
@@ -122,9 +122,9 @@ made_over (Gives p) lent = p
 -- what making a record leaves: its answer, and the record
 pub record AfterMaking : Type 0 where
   pub said : ℕ
-  pub presence : List ℕ
+  pub presence : PresenceRecord
 
-abbrev pub makes_of : (presence : List ℕ) (w : ℕ) → AfterMaking
+abbrev pub makes_of : (presence : PresenceRecord) (w : ℕ) → AfterMaking
 makes_of lent w = record { said = answer_no (new_of w); presence = presence_numbers (made_over (new_of w) (presence_in lent)) }
 
 -- a touch was accepted, a check found a touch, a prompt is live
@@ -139,18 +139,18 @@ asked_numbers o = record { answer = answer_no o; yes = yes_in o }
 -- what a touch and a check leave: their answer, and the record
 pub record AfterStep : Type 0 where
   pub said : Asked
-  pub presence : List ℕ
+  pub presence : PresenceRecord
 
 abbrev pub step_numbers : Told → AfterStep
 step_numbers told = record { said = asked_numbers told.outcome; presence = presence_numbers told.presence }
 
-abbrev pub touches_of : (presence : List ℕ) (t : ℕ) → AfterStep
+abbrev pub touches_of : (presence : PresenceRecord) (t : ℕ) → AfterStep
 touches_of lent t = step_numbers (touch_of (presence_in lent) t)
 
-abbrev pub checks_of : (presence : List ℕ) (side t : ℕ) → AfterStep
+abbrev pub checks_of : (presence : PresenceRecord) (side t : ℕ) → AfterStep
 checks_of lent s t = step_numbers (check_of (presence_in lent) s t)
 
-abbrev pub asks_of : (presence : List ℕ) (t : ℕ) → Asked
+abbrev pub asks_of : (presence : PresenceRecord) (t : ℕ) → Asked
 asks_of lent t = asked_numbers (ask_of (presence_in lent) t).outcome
 
 -- ---- responses and parts
@@ -247,7 +247,7 @@ session_by i = session_after (decided_by i).answer (read_of i.frame) (session_in
 -- all that a call leaves: its answer, the record, the session, the reply buffer, the block and the buffer for part and status
 pub record AfterDeciding : Type 0 where
   pub said : DecisionSaid
-  pub presence : List ℕ
+  pub presence : PresenceRecord
   pub session : SessionRecord
   pub reply : List ℕ
   pub block : List ℕ

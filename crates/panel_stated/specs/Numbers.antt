@@ -1,9 +1,8 @@
 -- Document 01, 'Forms that change': "exported to it over plain numbers and byte slices". Which number stands for what: answers, records and sessions, shapes and
 -- kinds. The hardware's answers are ctap1_stated's, which takes them as numbers.
-use Rattle.std.specs.Prelude.{◌∷◌}
-use Rattle.panel_stated.specs.Words.{ℕ, suc, List, [], eqb, when◌then◌else◌, Outcome, R, Word, Gives, Session, SessionRecord}
+use Rattle.panel_stated.specs.Words.{ℕ, suc, eqb, when◌then◌else◌, Outcome, R, Word, Gives, Session, SessionRecord}
 use Rattle.panel_stated.specs.Words.{Instruction, Le1, Lc1Data, Lc1DataLe1, Lc3Data, Lc3DataLe2, Le3}
-use Rattle.panel_stated.specs.Words.{Window, None, Some, Presence}
+use Rattle.panel_stated.specs.Words.{Window, None, Some, Presence, PresenceRecord}
 pub use Rattle.ctap1_stated.specs.Numbers.{allowed_of, attestation_of, is_yes, counter_of, hardware_of}
 use Rattle.panel_stated.specs.Words.{OrderNumbers, Shaped, Kinded, DecisionGives, Body, Ordered, Part}
 use Rattle.signing_stated.specs.declared.Kind.TheVariants.{Register, Authenticate}
@@ -34,13 +33,13 @@ place_no (R n) = 0
 place_no (Word s) = s.place
 place_no (Gives a) = 0
 
--- the numbers of a record, in their order, and of a session, by name; what they stand for: `presence_in` (u2f_up_stated's Numbers.antt), `session_in` (session_stated's Held.antt)
+-- the numbers of a record, and of a session, by name; what they stand for: `presence_in` (u2f_up_stated's Numbers.antt), `session_in` (session_stated's Held.antt)
 abbrev pub window_no : Window → ℕ
 window_no None = 0
 window_no (Some m) = suc m
 
-abbrev pub presence_numbers : Presence → List ℕ
-presence_numbers p = p.w ∷ window_no p.prompt ∷ window_no p.touch ∷ p.last ∷ p.asker ∷ []
+abbrev pub presence_numbers : Presence → PresenceRecord
+presence_numbers p = record { w = p.w; prompt = window_no p.prompt; touch = window_no p.touch; last = p.last; asker = p.asker }
 
 abbrev pub session_numbers : Session → SessionRecord
 session_numbers s = record { place = s.remainder.place; count = s.remainder.count; limit = s.limit }

@@ -1,7 +1,7 @@
 -- What is promised of each public function of panel_frames, panel_presence, panel_orders, panel_responses and panel, over what it is lent,
 -- its result, and the final contents of what it writes.
 use Rattle.std.specs.Prelude.{◌≡◌}
-use Rattle.panel_stated.specs.Words.{ℕ, Bool, List, SessionRecord, R, Word, Gives, Body, Ordered, Part, Head, Remainder, Ordinary, Strict, command_of, new_of, touch_of, check_of, length_of, reply_of, response_read, response_written, read_response_of, presence_in, session_in}
+use Rattle.panel_stated.specs.Words.{ℕ, Bool, List, PresenceRecord, SessionRecord, R, Word, Gives, Body, Ordered, Part, Head, Remainder, Ordinary, Strict, command_of, new_of, touch_of, check_of, length_of, reply_of, response_read, response_written, read_response_of, presence_in, session_in}
 use Rattle.panel_stated.specs.Words.{FrameSaid, CommandSaid, Wrote, Asked, DecisionSaid, ResponseSaid, RoomSaid, Shaped, Kinded}
 use Rattle.panel_stated.specs.Numbers.{shape_of, kind_of, no_order}
 use Rattle.panel_stated.specs.Exports.{frame_numbers, length_numbers, ToWrite, strict_as, reads_of, writes_of, command_numbers, made_over, makes_of, asked_numbers, touches_of, checks_of, asks_of, head_after, decided_numbers, ToDecide, decided_by, session_by, decides_of, responds_of, response_numbers, nexts_of, sent_over, room_numbers, rooms_of, ToFinish, finish_numbered}
@@ -54,7 +54,7 @@ FoundAsked found r = r ≡ asked_numbers (Gives found)
 abbrev pub AskedPlain : Answer → Asked → Type 0
 AskedPlain answer r = r ≡ asked_numbers (outcome_of answer)
 
-abbrev pub FreshKept : (w : ℕ) (exit : List ℕ) → Type 0
+abbrev pub FreshKept : (w : ℕ) (exit : PresenceRecord) → Type 0
 FreshKept w exit = presence_in exit ≡ fresh w
 
 -- ---- panel_orders
@@ -121,20 +121,20 @@ abbrev pub BrinecandleReadCommand : List ℕ → CommandSaid → Type 0
 BrinecandleReadCommand frame r = r ≡ command_numbers (command_of frame)
 
 -- the answer, and the record after the call
-abbrev pub BrinecandleNew : (entry : List ℕ) (w : ℕ) → ℕ → (exit : List ℕ) → Type 0
+abbrev pub BrinecandleNew : (entry : PresenceRecord) (w : ℕ) → ℕ → (exit : PresenceRecord) → Type 0
 BrinecandleNew entry w r exit = (r ≡ (makes_of entry w).said) × (presence_in exit ≡ made_over (new_of w) (presence_in entry))
 
-abbrev pub BrinecandleGrantUp : (entry : List ℕ) (t : ℕ) → Asked → (exit : List ℕ) → Type 0
+abbrev pub BrinecandleGrantUp : (entry : PresenceRecord) (t : ℕ) → Asked → (exit : PresenceRecord) → Type 0
 BrinecandleGrantUp entry t r exit = (r ≡ (touches_of entry t).said) × (presence_in exit ≡ (touch_of (presence_in entry) t).presence)
 
-abbrev pub BrinecandleConsumeUp : (entry : List ℕ) (side t : ℕ) → Asked → (exit : List ℕ) → Type 0
+abbrev pub BrinecandleConsumeUp : (entry : PresenceRecord) (side t : ℕ) → Asked → (exit : PresenceRecord) → Type 0
 BrinecandleConsumeUp entry s t r exit = (r ≡ (checks_of entry s t).said) × (presence_in exit ≡ (check_of (presence_in entry) s t).presence)
 
-abbrev pub BrinecandleIsUpNeeded : (presence : List ℕ) (t : ℕ) → Asked → Type 0
+abbrev pub BrinecandleIsUpNeeded : (presence : PresenceRecord) (t : ℕ) → Asked → Type 0
 BrinecandleIsUpNeeded presence t r = r ≡ asks_of presence t
 
 -- the answer, and the record, the session, the reply buffer, the block and the buffer for part and status after the call
-abbrev pub BrinecandleDecide : ToDecide → DecisionSaid → (presence : List ℕ) (session : SessionRecord) (reply block part : List ℕ) → Type 0
+abbrev pub BrinecandleDecide : ToDecide → DecisionSaid → (presence : PresenceRecord) (session : SessionRecord) (reply block part : List ℕ) → Type 0
 BrinecandleDecide i r presence session reply block part =
     (r ≡ (decides_of i).said) × (presence_in presence ≡ (decided_by i).presence) × (session_in session ≡ session_by i)
     × (reply ≡ (decides_of i).reply) × (block ≡ (decides_of i).block) × (part ≡ (decides_of i).part)

@@ -1,9 +1,9 @@
 -- Words that the claims use.
-use Rattle.std.specs.Prelude.{get_or, ◌≤◌, ◌<◌, ◌≡◌}
+use Rattle.std.specs.Prelude.{◌≤◌, ◌<◌, ◌≡◌}
 pub use Rattle.panel_stated.specs.Exports.{AfterMaking, AfterStep, AfterWriting, AfterDeciding, AfterPart}
 use Rattle.panel_stated.specs.Numbers.{decided_no, fault_no, place_no}
 use Rattle.panel_stated.specs.Exports.{body_length, order_after}
-use Rattle.panel_stated.specs.Words.{ℕ, List, Outcome, R, Word, Gives, last_refusal, DecisionSaid, DecisionResult, Says, Command, Register, Authenticate}
+use Rattle.panel_stated.specs.Words.{ℕ, Outcome, R, Word, Gives, last_refusal, DecisionSaid, DecisionResult, Says, Command, Register, Authenticate}
 
 -- a refusal's number is one of the refusals', and a status word's, where it is not what was asked for, is above them and not 9000
 abbrev pub IsNumbered : {A : Type 0} → Outcome A → Type 0
@@ -11,9 +11,9 @@ IsNumbered (R n) = (1 ≤ n) × (n ≤ last_refusal)
 IsNumbered (Word s) = (0x6000 ≤ s.number) × (s.number < 0x9000)
 IsNumbered (Gives a) = Unit {0}
 
--- the first so many numbers of two lists are the same, one by one
-abbrev pub SameNumbers : (count : ℕ) (a b : List ℕ) → Type 0
-SameNumbers count a b = (k : ℕ) → k < count → get_or a k 0 ≡ get_or b k 0
+-- the numbers of two records, or of two sessions, are the same, each of them
+abbrev pub SameNumbers : {A : Type 0} → (a b : A) → Type 0
+SameNumbers a b = a ≡ b
 
 -- a number that is no shape's. Ours: outside 1..8; 02, E13: number 6 is retired
 pub data NoShape (n : ℕ) : Type 0 where

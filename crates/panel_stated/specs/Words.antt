@@ -10,6 +10,7 @@ pub use Rattle.apdu_stated.specs.declared.ApduHeader.{ApduHeader}
 pub use Rattle.u2f_up_stated.specs.Words.{Window}
 pub use Rattle.std.specs.Prelude.{Option, None, Some}
 pub use Rattle.u2f_up_stated.specs.declared.Presence.{Presence}
+pub use Rattle.u2f_up_stated.specs.declared.PresenceRecord.{PresenceRecord}
 pub use Rattle.signing_stated.specs.declared.Kind.{Kind}
 pub use Rattle.signing_stated.specs.declared.Head.{Head}
 pub use Rattle.signing_stated.specs.Words.{Order, head_of}

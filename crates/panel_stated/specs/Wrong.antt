@@ -2,7 +2,7 @@
 -- its claim.
 use Rattle.panel_stated.specs.Words.{ℕ, Bool, true, false, eqb, List, when◌then◌else◌, Outcome, R, Word, Gives, last_refusal, Order, Instruction, Lc3DataLe2}
 use Rattle.panel_stated.specs.Words.{DecisionSaid, OrderNumbers, FrameSaid, CommandSaid, Wrote, Asked, ResponseSaid, RoomSaid, Shaped, Kinded}
-use Rattle.panel_stated.specs.Words.{Says, Command, Register, Authenticate, Version, GetResponse, touch_of, DecisionResult, DecisionGives, Body, Ordered, Part, to_sign, certificate_length, rest, Response, Sent, SessionRecord, presence_in, remainder_in, session_in, inputs_in}
+use Rattle.panel_stated.specs.Words.{Says, Command, Register, Authenticate, Version, GetResponse, touch_of, DecisionResult, DecisionGives, Body, Ordered, Part, to_sign, certificate_length, rest, Response, Sent, PresenceRecord, SessionRecord, presence_in, remainder_in, session_in, inputs_in}
 use Rattle.panel_stated.specs.Numbers.{presence_numbers, session_numbers, shape_of, kind_of}
 use Rattle.panel_stated.specs.Exports.{ToFinish, finish_numbered, frame_numbers, command_numbers, length_numbers, makes_of, asked_numbers, order_after, decision_numbers, step_numbers, touches_of, checks_of, response_numbers, sent_numbers, room_numbers}
 use Rattle.panel_stated.specs.Words.{Entry, Ordinary, Strict}
@@ -47,15 +47,18 @@ order_is0 (Gives (Part n after)) = 0x0200
 
 -- ---- records
 -- "a refused making hands back no record": the one that was lent is gone
-abbrev pub clears_at_r6 : (presence : List ℕ) (w : ℕ) → AfterMaking
-clears_at_r6 n w = let a = makes_of n w in record { said = a.said; presence = when eqb a.said 6 then replicate 5 0 else a.presence }
+abbrev no_record : PresenceRecord
+no_record = record { w = 0; prompt = 0; touch = 0; last = 0; asker = 0 }
+
+abbrev pub clears_at_r6 : (presence : PresenceRecord) (w : ℕ) → AfterMaking
+clears_at_r6 n w = let a = makes_of n w in record { said = a.said; presence = when eqb a.said 6 then no_record else a.presence }
 
 -- W has 64 bits. Here 16 of them are looked at
-abbrev pub made_from16_bits : (presence : List ℕ) (w : ℕ) → AfterMaking
+abbrev pub made_from16_bits : (presence : PresenceRecord) (w : ℕ) → AfterMaking
 made_from16_bits n w = makes_of n (w % 0x10000)
 
 -- "An R refusal changes no buffer and no record": the last moment moves all the same; and a decision forgets the session
-abbrev pub refused_moves : (presence : List ℕ) (t : ℕ) → AfterStep
+abbrev pub refused_moves : (presence : PresenceRecord) (t : ℕ) → AfterStep
 refused_moves n t =
     let a = touches_of n t in
     record { said = a.said; presence = when leb a.said.answer last_refusal then presence_numbers (moved_to (presence_in n) t) else a.presence }
@@ -70,10 +73,10 @@ refused_forgets i =
 
 -- ours: a side has 64 bits, so that 256, 2^32 or -1 in C is not cut down to one. Here 8 bits of it are looked at, in a check, in a decision; and, "named or in the
 -- record", a touch takes any record
-abbrev pub touch_any_side : (presence : List ℕ) (t : ℕ) → AfterStep
+abbrev pub touch_any_side : (presence : PresenceRecord) (t : ℕ) → AfterStep
 touch_any_side n t = let p = presence_in n in step_numbers (touch_of (record { w = p.w; prompt = p.prompt; touch = p.touch; last = p.last; asker = 0 }) t)
 
-abbrev pub side_cut_in_check : (presence : List ℕ) (side t : ℕ) → AfterStep
+abbrev pub side_cut_in_check : (presence : PresenceRecord) (side t : ℕ) → AfterStep
 side_cut_in_check n s t = checks_of n (s % 256) t
 
 abbrev lent_with : ToDecide → (side : ℕ) (x y reply part : List ℕ) → ToDecide

@@ -1,24 +1,13 @@
 // What crosses to C, as plain numbers: the structs of include/brinecandle.h, which .ci/header compares with these. No function:
 // panel_frames, panel_presence, panel_orders and panel_responses have the conversions, panel the exports.
 //
-// What the firmware keeps between calls is lent and changed in place: the presence record as five numbers, a transport's session as a struct of three
-// (session_stated). The hardware's answers are lent as a struct, to be read (ctap1_stated). Results
-// and an order cross as #[repr(C)] structs by value. An order's block of 385 bytes is an array lent beside it. Slices are a pointer and a length.
+// What the firmware keeps between calls is lent as a struct and changed in place: the presence record's five numbers (u2f_up_stated), a transport's session's
+// three (session_stated). So are the hardware's answers lent, to be read (ctap1_stated). Results and an order cross as #[repr(C)] structs by value. An order's block
+// of 385 bytes is an array lent beside it. Slices are a pointer and a length.
 //
 // Where a frame's length is wrong, `fault` is 1 to 3 and `place` where; else both are 0. `fault` stands beside the answer, where the two
 // are stored at once.
 #![tactic(auto)]
-
-// The presence record's five numbers, by name. A window is 0 where it is closed, and otherwise the moment at which it was opened and one more. The asking side
-// is 0 or 1; it has 64 bits, and so has a side that a call names, so that no other number is cut down to one of the two.
-#[derive(Clone, Copy)]
-pub struct PresenceRecord {
-    pub w: u64,
-    pub prompt: u64,
-    pub touch: u64,
-    pub last: u64,
-    pub asker: u64,
-}
 
 // What a frame says: the header, the shape's number, Lc and Le, and where the data stands in the frame.
 #[repr(C)]

@@ -20,6 +20,7 @@ use ctap1::{Call, Decision, DecisionAnswer, HardwareSaid, NewKey};
 use outcome::{ApduStatusCode, Refusal};
 use response::Remainder;
 pub use session_stated::{SessionDecision, SessionRecord};
+use u2f_up::PresenceRecord;
 
 // Whether CTAP1 is allowed, by its number; above yes it could not be found out.
 const NO: u32 = 0;
@@ -60,7 +61,7 @@ fn is_get_response(reading: Result<Apdu, ApduStatusCode>) -> bool
 
 // A GET RESPONSE that comes so far: 6985 where nothing is left, else the next part of the body in `reply`.
 fn fetched(
-    presence: &mut [u64; 5],
+    presence: &mut PresenceRecord,
     t: u64,
     remainder: Remainder,
     limit: u64,
@@ -93,7 +94,7 @@ fn fetched(
 
 // By the command.
 fn commanded(
-    presence: &mut [u64; 5],
+    presence: &mut PresenceRecord,
     session: &SessionRecord,
     call: Call,
     reading: Result<Apdu, ApduStatusCode>,
@@ -149,7 +150,7 @@ fn beside_frame(decision: Decision, frame: &[u8]) -> SessionDecision
 // public key. The block is written for an order alone. The frame is read in each case by itself, and what it says to the session is found before its command
 // is looked at: else a decision takes up to 40 instructions more.
 pub fn decide(
-    presence: &mut [u64; 5],
+    presence: &mut PresenceRecord,
     session: &SessionRecord,
     call: Call,
     hardware: &HardwareSaid,

@@ -141,7 +141,7 @@ limit_of_8_bits c = let z : ◌≡◌ {A = ℕ} 0 256 = ap (λ (s : Session). s.
 pub good_for_stored : Claims.HardwareStands Wrong.good_for_stored → ⊥
 good_for_stored c =
     let h : HardwareSaid = record { allowed = 0; attestation = 0; stored = 1; good = 0; counted = 0; counter = 0 } in
-    let i : ToDecide = record { presence = []; session = record { place = 0; count = 0; limit = 0 }; frame = []; side = 0; moment = 0; hardware = h; new_handle = []; certificate = []; x = []; y = []; reply = []; block = []; part = [] } in
+    let i : ToDecide = record { presence = record { w = 0; prompt = 0; touch = 0; last = 0; asker = 0 }; session = record { place = 0; count = 0; limit = 0 }; frame = []; side = 0; moment = 0; hardware = h; new_handle = []; certificate = []; x = []; y = []; reply = []; block = []; part = [] } in
     false≢true (ap (λ (a : Hardware). a.stored) (c i 0 0 1 0 0 0 refl))
 
 -- ---- what a transport goes on with: two bytes remain, under limit 7

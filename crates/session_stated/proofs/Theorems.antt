@@ -26,6 +26,7 @@ use Rattle.response_stated.proofs.Laws.{PartWay, whole, cut, last, part_way, par
 use Rattle.u2f_up_stated.specs.Moments.{fresh, settle_of}
 use Rattle.u2f_up_stated.specs.declared.Presence.{Presence}
 use Rattle.u2f_up_stated.specs.Numbers.{presence_in}
+use Rattle.u2f_up_stated.specs.declared.PresenceRecord.{PresenceRecord}
 use Rattle.ctap1_stated.specs.declared.Decision.{Decision}
 use Rattle.ctap1_stated.specs.Words.{Inputs, Body, Ordered, Part, DecisionGives, DecisionResult, DecisionLeft, handed_of}
 use Rattle.ctap1_stated.specs.Numbers.{hardware_of}
@@ -384,12 +385,12 @@ ResultsDetermined =
     record {
       remainder_lent = λ n a b. both_are a b;
       decide = λ i a b p q.
-          let lefts : ◌≡◌ {A = Decision × (List ℕ × List ℕ)} (a.0.decision, (a.1.0, a.1.1.1.0)) (b.0.decision, (b.1.0, b.1.1.1.0)) =
-          left_apart _ _ _ p.0 q.0 p.1.0.0 q.1.0.0 in
-          let limits : a.0.limit ≡ b.0.limit = both_are _ _ p.1.1 q.1.1 in
-          let fetches : a.0.fetches ≡ b.0.fetches = both_are _ _ p.1.2 q.1.2 in
-          let replies : a.1.1.0 ≡ b.1.1.0 = both_are _ _ p.1.0.1 q.1.0.1 in
-          let parts : a.1.1.1.1 ≡ b.1.1.1.1 = both_are _ _ p.1.0.2 q.1.0.2 in
+          let lefts : ◌≡◌ {A = Decision × (PresenceRecord × List ℕ)} (a.0.decision, (a.1.0, a.1.1.1.0)) (b.0.decision, (b.1.0, b.1.1.1.0)) =
+          left_apart _ _ _ p.0.0 q.0.0 in
+          let limits : a.0.limit ≡ b.0.limit = both_are _ _ p.1 q.1 in
+          let fetches : a.0.fetches ≡ b.0.fetches = both_are _ _ p.2 q.2 in
+          let replies : a.1.1.0 ≡ b.1.1.0 = both_are _ _ p.0.1 q.0.1 in
+          let parts : a.1.1.1.1 ≡ b.1.1.1.1 = both_are _ _ p.0.2 q.0.2 in
           λ d. (record { decision = (lefts d).0; limit = limits d; fetches = fetches d }, ((lefts d).1.0, (replies d, ((lefts d).1.1, parts d))));
       stated = λ fetches limit n a b p q. three_apart a b (both_are _ _ p q);
       dropped = λ limit a b p q. three_apart a b (both_are _ _ p q);

@@ -19,6 +19,7 @@ use Rattle.ctap1_stated.specs.Numbers.{hardware_of}
 use Rattle.ctap1_stated.specs.Words.{Inputs, DecisionGives, Body, Ordered, Part, DecisionResult, handed_of, handed_from}
 use Rattle.ctap1_stated.specs.Claims.{LimitsExactly, DecidesExactly, RepliesExactly, PartsExactly}
 use Rattle.u2f_up_stated.specs.Numbers.{presence_in}
+use Rattle.u2f_up_stated.specs.declared.PresenceRecord.{PresenceRecord}
 use Rattle.response_stated.specs.Words.{ResponseRoom}
 use Rattle.ctap1_stated.specs.Terms.{Decider, HasInsC0}
 use Rattle.signing_stated.specs.Finishing.{Finishing, Ended}
@@ -174,24 +175,24 @@ pub record ContractsAsClaimed : Type 0 where
       → GoesOnExactly (λ answer read s. session_in (changed_by stated dropped left answer read (record { place = s.remainder.place; count = s.remainder.count; limit = s.limit })))
   pub room_for_response : (f : (frame : List ℕ) (longest : ℕ) → ResponseRoom) → ((frame : List ℕ) (longest : ℕ) → RoomForResponse frame longest (f frame longest))
       → FrameRoomExactly (λ frame longest. room_said (f frame longest))
-  pub decide : (g : Decider) → DecidesExactly g → (limit : List ℕ → ℕ) → LimitsExactly limit → (i : ToDecide) (r : SessionDecision) (presence reply block part : List ℕ) → Decide i r presence reply block part
+  pub decide : (g : Decider) → DecidesExactly g → (limit : List ℕ → ℕ) → LimitsExactly limit → (i : ToDecide) (r : SessionDecision) (presence : PresenceRecord) (reply block part : List ℕ) → Decide i r presence reply block part
       → (handed_from r.decision (presence_in presence) ≡ handed_of (g (presence_in i.presence) i.moment (inputs_in i)))
       × (r.limit ≡ limit i.frame)
       × ((r.fetches ≡ true) ↔ HasInsC0 (inputs_in i))
-  pub reply : (g : Decider) → DecidesExactly g → (left : DecisionResult → List ℕ → List ℕ) → RepliesExactly g left → (i : ToDecide) (r : SessionDecision) (presence reply block part : List ℕ) → Decide i r presence reply block part
+  pub reply : (g : Decider) → DecidesExactly g → (left : DecisionResult → List ℕ → List ℕ) → RepliesExactly g left → (i : ToDecide) (r : SessionDecision) (presence : PresenceRecord) (reply block part : List ℕ) → Decide i r presence reply block part
       → reply ≡ left (g (presence_in i.presence) i.moment (inputs_in i)) i.reply
-  pub block : (g : Decider) → DecidesExactly g → (i : ToDecide) (r : SessionDecision) (presence reply block part : List ℕ) → Decide i r presence reply block part
+  pub block : (g : Decider) → DecidesExactly g → (i : ToDecide) (r : SessionDecision) (presence : PresenceRecord) (reply block part : List ℕ) → Decide i r presence reply block part
       → ((g (presence_in i.presence) i.moment (inputs_in i)).answer ≡ Gives Ordered → block ≡ (g (presence_in i.presence) i.moment (inputs_in i)).order.bytes)
       × (((g (presence_in i.presence) i.moment (inputs_in i)).answer ≡ Gives Ordered → ⊥) → block ≡ i.block)
   pub part : (g : Decider) → DecidesExactly g → (limit : List ℕ → ℕ) → LimitsExactly limit → (left : Inputs → DecisionResult → (body old : List ℕ) → List ℕ) → PartsExactly g limit left
-      → (i : ToDecide) (r : SessionDecision) (presence reply block part : List ℕ) → Decide i r presence reply block part
+      → (i : ToDecide) (r : SessionDecision) (presence : PresenceRecord) (reply block part : List ℕ) → Decide i r presence reply block part
       → part ≡ left (inputs_in i) (g (presence_in i.presence) i.moment (inputs_in i)) i.reply i.part
 
--- 01, What each statement has to say: "two results satisfying it are equal", on every input; what is lent for writing counts, five numbers of a record, and a session.
+-- 01, What each statement has to say: "two results satisfying it are equal", on every input; what is lent for writing counts, the record and the session too.
 -- A promise that is silent on the limit after a part fails it.
 pub record ResultsDetermined : Type 0 where
   pub remainder_lent : (n : SessionRecord) → AtMostOne (RemainderLent n)
-  pub decide : (i : ToDecide) → AtMostOne (λ (o : SessionDecision × (List ℕ × (List ℕ × (List ℕ × List ℕ)))). (length o.1.0 ≡ 5) × Decide i o.0 o.1.0 o.1.1.0 o.1.1.1.0 o.1.1.1.1)
+  pub decide : (i : ToDecide) → AtMostOne (λ (o : SessionDecision × (PresenceRecord × (List ℕ × (List ℕ × List ℕ)))). Decide i o.0 o.1.0 o.1.1.0 o.1.1.1.0 o.1.1.1.1)
   pub stated : (fetches : Bool) (limit : ℕ) (n : SessionRecord) → AtMostOne (Stated fetches limit n)
   pub dropped : (limit : ℕ) → AtMostOne (Dropped limit)
   pub left : (r : Remainder) (limit : ℕ) → AtMostOne (Left r limit)

@@ -4,6 +4,7 @@ use Rattle.outcome.specs.Notation.{when◌then◌else◌}
 use Rattle.apdu_stated.specs.Reading.{read_of}
 use Rattle.command_stated.specs.Command.{command_of}
 use Rattle.u2f_up_stated.specs.Numbers.{presence_in}
+use Rattle.u2f_up_stated.specs.declared.PresenceRecord.{PresenceRecord}
 use Rattle.response_stated.specs.declared.Remainder.{Remainder}
 use Rattle.response_stated.specs.Words.{ResponseRoom}
 use Rattle.response_stated.specs.Words.{rest, room_said}
@@ -20,9 +21,9 @@ use Rattle.ctap1_stated.specs.Session.{is_get_response, part_left}
 use Rattle.session_stated.specs.Held.{SessionRecord, session_in, remainder_in, frame_room_of}
 use Rattle.session_stated.specs.declared.SessionDecision.{SessionDecision}
 
--- all that a decision is lent, the record as numbers, the session's numbers and the hardware's answers by name
+-- all that a decision is lent, the record's and the session's numbers and the hardware's answers by name
 pub record ToDecide : Type 0 where
-  pub presence : List ℕ
+  pub presence : PresenceRecord
   pub session : SessionRecord
   pub frame : List ℕ
   pub side : ℕ
@@ -37,7 +38,7 @@ pub record ToDecide : Type 0 where
   pub part : List ℕ
 
 -- of a call and a new key as they are lent, beside the rest
-abbrev pub to_decide : (presence : List ℕ) (session : SessionRecord) → Call → HardwareSaid → NewKey → (reply block part : List ℕ) → ToDecide
+abbrev pub to_decide : (presence : PresenceRecord) (session : SessionRecord) → Call → HardwareSaid → NewKey → (reply block part : List ℕ) → ToDecide
 to_decide presence session call hardware key reply block part =
     record {
       presence = presence;
@@ -56,7 +57,7 @@ to_decide presence session call hardware key reply block part =
     }
 
 -- the same with another record, session and reply buffer
-abbrev pub lending : (presence : List ℕ) (session : SessionRecord) (reply : List ℕ) → ToDecide → ToDecide
+abbrev pub lending : (presence : PresenceRecord) (session : SessionRecord) (reply : List ℕ) → ToDecide → ToDecide
 lending presence session reply i =
     record {
       presence = presence;
@@ -79,19 +80,19 @@ inputs_in i =
     inputs_from i.side i.frame (hardware_of i.hardware) (enrolment_of i.new_handle i.certificate i.x i.y) (length i.reply) (remainder_in i.session) (length i.part)
 
 -- what a decision leaves by this result: the record, the order's block, the reply buffer for Version's body, the buffer for part and status
-abbrev pub Leaves : ToDecide → DecisionResult → Decision → (presence reply block part : List ℕ) → Type 0
+abbrev pub Leaves : ToDecide → DecisionResult → Decision → (presence : PresenceRecord) (reply block part : List ℕ) → Type 0
 Leaves i d r presence reply block part =
     (left_from r (presence_in presence) block ≡ left_of d i.block) × (reply ≡ reply_left d i.reply) × (part ≡ part_left (inputs_in i) d i.reply i.part)
 
 -- the decision as a whole (ctap1_stated's Decision.antt, `decision_of`), and what its frame says to the session
-abbrev pub Decide : ToDecide → SessionDecision → (presence reply block part : List ℕ) → Type 0
+abbrev pub Decide : ToDecide → SessionDecision → (presence : PresenceRecord) (reply block part : List ℕ) → Type 0
 Decide i r presence reply block part =
     Leaves i (decision_of (presence_in i.presence) i.moment (inputs_in i)) r.decision presence reply block part
     × (r.limit ≡ frame_limit i.frame)
     × (r.fetches ≡ is_get_response (read_of i.frame))
 
 -- by the command, once the moment is settled and CTAP1 is allowed
-abbrev pub Commanded : ToDecide → Decision → (presence reply block part : List ℕ) → Type 0
+abbrev pub Commanded : ToDecide → Decision → (presence : PresenceRecord) (reply block part : List ℕ) → Type 0
 Commanded i r presence reply block part =
     Leaves i (along_in (command_path (inputs_in i) (command_of i.frame)) i.presence i.side i.moment) r presence reply block part
 

@@ -1,6 +1,6 @@
 // Presence: prompts, touches and their spending, carried over from the Rust's u2f_up.rs. Moments are given in. A record
-// goes in by value and comes back; or it is lent, as the five numbers that C holds (record_lent to touch_granted), or as a struct for
-// writing (the last three functions).
+// goes in by value and comes back; or it is lent, as the struct of five numbers that C holds (record_lent to touch_granted), or as a record
+// for writing (the last three functions).
 // A direct check, like a decision, names the side that it comes from, 0 or 1; touch and ask name none. Any values may stand in a
 // record: no sum of moments is ever made, so none can wrap.
 #![tactic(auto)]
@@ -13,7 +13,7 @@ ghost use Rattle.u2f_up_stated.specs.Numbers.{window_of, number_of};
 ghost use Rattle.u2f_up_stated.specs.Promises.{New, Settle, TouchCheck, RecordLent, Moved, TouchChecked, TouchGranted, GrantUp, ConsumeUp, IsUpNeeded, GrantUpLent, ConsumeUpLent, IsUpNeededLent};
 
 use outcome::Refusal;
-pub use u2f_up_stated::{Finding, Presence, Step, Window};
+pub use u2f_up_stated::{Finding, Presence, PresenceRecord, Step, Window};
 
 const U2F_UP_PROMPT_TIMEOUT_MS: u64 = 10000;
 
@@ -164,7 +164,7 @@ pub fn touch_check(presence: Presence, side: u64, t: u64) -> Finding
     }
 }
 
-// ---- the record lent as five numbers: W, prompt, touch, last moment, asker. A window is 0 where it is closed, and otherwise its moment and one more. Only the
+// ---- the record lent as five numbers by name. A window is 0 where it is closed, and otherwise its moment and one more. Only the
 // numbers that change are written.
 
 fn window_of(number: u64) -> Window
@@ -181,24 +181,23 @@ fn number_of(t: u64) -> u64
 }
 
 // The record that the numbers stand for.
-pub fn record_lent(numbers: &[u64; 5]) -> Presence
-    ensures { RecordLent numbers.now result }
+pub fn record_lent(lent: &PresenceRecord) -> Presence
+    ensures { RecordLent lent.now result }
 {
     Presence {
-        w: numbers[0],
-        prompt: window_of(numbers[1]),
-        touch: window_of(numbers[2]),
-        last: numbers[3],
-        asker: numbers[4],
+        w: lent.w,
+        prompt: window_of(lent.prompt),
+        touch: window_of(lent.touch),
+        last: lent.last,
+        asker: lent.asker,
     }
 }
 
 // The last moment moves, and nothing else.
-pub fn moved(numbers: &mut [u64; 5], t: u64)
-    ensures { Moved numbers.old t numbers.new }
+pub fn moved(lent: &mut PresenceRecord, t: u64)
+    ensures { Moved lent.old t lent.new }
 {
-    let whole: &mut [u64] = numbers;
-    whole[3] = t;
+    lent.last = t;
 }
 
 // Whether the window of this number is live.
@@ -209,37 +208,37 @@ fn is_number_live(number: u64, d: u64, t: u64) -> bool
 }
 
 // The touch check of a side at a moment that settled, and the last moment moved.
-pub fn touch_checked(numbers: &mut [u64; 5], side: u64, t: u64) -> bool
-    ensures { TouchChecked numbers.old side t result numbers.new }
+#[tactic(auto, using(u2f_up_stated::proofs::OnNumbers::prompts, u2f_up_stated::proofs::OnNumbers::others, u2f_up_stated::proofs::OnNumbers::spends))]
+pub fn touch_checked(lent: &mut PresenceRecord, side: u64, t: u64) -> bool
+    ensures { TouchChecked lent.old side t result lent.new }
 {
-    let whole: &mut [u64] = numbers;
-    let live = is_number_live(whole[2], whole[0], t);
-    let asker = whole[4];
-    whole[3] = t;
+    let live = is_number_live(lent.touch, lent.w, t);
+    let asker = lent.asker;
+    lent.last = t;
     if !live {
-        whole[1] = number_of(t);
-        whole[4] = side;
+        lent.prompt = number_of(t);
+        lent.asker = side;
         return false;
     }
     if asker != side {
         return false;
     }
-    whole[2] = CLOSED;
+    lent.touch = CLOSED;
     true
 }
 
 // A touch at a moment that settled, and the last moment moved.
-pub fn touch_granted(numbers: &mut [u64; 5], t: u64) -> bool
-    ensures { TouchGranted numbers.old t result numbers.new }
+#[tactic(auto, using(u2f_up_stated::proofs::OnNumbers::not_granted, u2f_up_stated::proofs::OnNumbers::grants))]
+pub fn touch_granted(lent: &mut PresenceRecord, t: u64) -> bool
+    ensures { TouchGranted lent.old t result lent.new }
 {
-    let whole: &mut [u64] = numbers;
-    let live = is_number_live(whole[1], U2F_UP_PROMPT_TIMEOUT_MS, t);
-    whole[3] = t;
+    let live = is_number_live(lent.prompt, U2F_UP_PROMPT_TIMEOUT_MS, t);
+    lent.last = t;
     if !live {
         return false;
     }
-    whole[1] = CLOSED;
-    whole[2] = number_of(t);
+    lent.prompt = CLOSED;
+    lent.touch = number_of(t);
     true
 }
 

@@ -13,4 +13,4 @@ pub use Rattle.u2f_up_stated.proofs.OneSide.{Mine, base_refused, base_no_status,
 -- Which refusal a touch, a check and an ask give, exactly.
 pub use Rattle.u2f_up_stated.proofs.Theorems.{TouchesExactly as touches_exactly, ChecksExactly as checks_exactly, AsksExactly as asks_exactly}
 -- The record lent as five numbers: no two of the same; a moment that settles, and the touch check there.
-pub use Rattle.u2f_up_stated.proofs.OnNumbers.{settles_moved, checked_below, granted_below, five_apart, five_set}
+pub use Rattle.u2f_up_stated.proofs.OnNumbers.{settles_moved, checked_below, granted_below, five_apart}

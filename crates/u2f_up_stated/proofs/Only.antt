@@ -6,7 +6,7 @@ use mathlib.Core.List.{List, [], ◌∷◌}
 use Rattle.outcome.specs.Notation.{Determines, Determines2, Determines3}
 use native.Mathlib.Omega.{arith}
 use native.Mathlib.Decide.{ℕ_discrete}
-use Rattle.u2f_up_stated.specs.Words.{Outcome, R, Presence, Finding}
+use Rattle.u2f_up_stated.specs.Words.{Outcome, R, Presence, PresenceRecord, Finding}
 use Rattle.u2f_up_stated.specs.Moments.{Told}
 use Rattle.std.specs.Prelude.{Ok, Err, true, false}
 use Rattle.u2f_up_stated.specs.History.{Call, Came, Event, foretold}
@@ -81,18 +81,17 @@ AsksExactly f g F G p t = settled (λ p. p.asker) f g F.settles G.settles p t (�
     by ok (no h) = F.not_live p t ok h ∙ sym (G.not_live p t ok h)
 
 -- ---- the record lent as five numbers
-pub StandsExactly : (f g : List ℕ → Presence) → Claims.StandsExactly f → Claims.StandsExactly g
-    → (w prompt touch last asker : ℕ) → f (w ∷ prompt ∷ touch ∷ last ∷ asker ∷ []) ≡ g (w ∷ prompt ∷ touch ∷ last ∷ asker ∷ [])
-StandsExactly f g F G w prompt touch last asker =
-    λ d. record { w = (F.w w prompt touch last asker ∙ sym (G.w w prompt touch last asker)) d; prompt = asked prompt refl d; touch = touched touch refl d; last = (F.last w prompt touch last asker ∙ sym (G.last w prompt touch last asker)) d; asker = (F.asker w prompt touch last asker ∙ sym (G.asker w prompt touch last asker)) d }
+pub StandsExactly : (f g : PresenceRecord → Presence) → Claims.StandsExactly f → Claims.StandsExactly g → (n : PresenceRecord) → f n ≡ g n
+StandsExactly f g F G n =
+    λ d. record { w = (F.w n ∙ sym (G.w n)) d; prompt = asked n.prompt refl d; touch = touched n.touch refl d; last = (F.last n ∙ sym (G.last n)) d; asker = (F.asker n ∙ sym (G.asker n)) d }
   where
-    asked : (n : ℕ) → prompt ≡ n → (f (w ∷ prompt ∷ touch ∷ last ∷ asker ∷ [])).prompt ≡ (g (w ∷ prompt ∷ touch ∷ last ∷ asker ∷ [])).prompt
-    asked zero e = (F.prompt_closed w prompt touch last asker).1 e ∙ sym ((G.prompt_closed w prompt touch last asker).1 e)
-    asked (suc m) e = (F.prompt_opened w prompt touch last asker m).1 (omega (arith, e)) ∙ sym ((G.prompt_opened w prompt touch last asker m).1 (omega (arith, e)))
+    asked : (k : ℕ) → n.prompt ≡ k → (f n).prompt ≡ (g n).prompt
+    asked zero e = (F.prompt_closed n).1 e ∙ sym ((G.prompt_closed n).1 e)
+    asked (suc m) e = (F.prompt_opened n m).1 (omega (arith, e)) ∙ sym ((G.prompt_opened n m).1 (omega (arith, e)))
 
-    touched : (n : ℕ) → touch ≡ n → (f (w ∷ prompt ∷ touch ∷ last ∷ asker ∷ [])).touch ≡ (g (w ∷ prompt ∷ touch ∷ last ∷ asker ∷ [])).touch
-    touched zero e = (F.touch_closed w prompt touch last asker).1 e ∙ sym ((G.touch_closed w prompt touch last asker).1 e)
-    touched (suc m) e = (F.touch_opened w prompt touch last asker m).1 (omega (arith, e)) ∙ sym ((G.touch_opened w prompt touch last asker m).1 (omega (arith, e)))
+    touched : (k : ℕ) → n.touch ≡ k → (f n).touch ≡ (g n).touch
+    touched zero e = (F.touch_closed n).1 e ∙ sym ((G.touch_closed n).1 e)
+    touched (suc m) e = (F.touch_opened n m).1 (omega (arith, e)) ∙ sym ((G.touch_opened n m).1 (omega (arith, e)))
 
 pub NumbersExactly : Determines Claims.NumbersExactly
 NumbersExactly f g F G t = by (ℕ_discrete t 0xffffffffffffffff)
@@ -101,31 +100,26 @@ NumbersExactly f g F G t = by (ℕ_discrete t 0xffffffffffffffff)
     by (yes e) = ap f e ∙ F.greatest ∙ sym G.greatest ∙ ap g (sym e)
     by (no n) = F.next t n ∙ sym (G.next t n)
 
-pub MovesNumbers : (f g : List ℕ → ℕ → Presence) → Claims.MovesNumbers f → Claims.MovesNumbers g
-    → (w prompt touch last asker t : ℕ) → f (w ∷ prompt ∷ touch ∷ last ∷ asker ∷ []) t ≡ g (w ∷ prompt ∷ touch ∷ last ∷ asker ∷ []) t
-MovesNumbers f g F G w prompt touch last asker t = F w prompt touch last asker t ∙ sym (G w prompt touch last asker t)
+pub MovesNumbers : (f g : PresenceRecord → ℕ → Presence) → Claims.MovesNumbers f → Claims.MovesNumbers g → (n : PresenceRecord) (t : ℕ) → f n t ≡ g n t
+MovesNumbers f g F G n t = F n t ∙ sym (G n t)
 
-pub ChecksNumbers : (f g : List ℕ → (side t : ℕ) → Finding) → Claims.ChecksNumbers f → Claims.ChecksNumbers g
-    → (w prompt touch last asker s t : ℕ) → f (w ∷ prompt ∷ touch ∷ last ∷ asker ∷ []) s t ≡ g (w ∷ prompt ∷ touch ∷ last ∷ asker ∷ []) s t
-ChecksNumbers f g F G w prompt touch last asker s t = by (live_number touch w t) (ℕ_discrete asker s)
+pub ChecksNumbers : (f g : PresenceRecord → (side t : ℕ) → Finding) → Claims.ChecksNumbers f → Claims.ChecksNumbers g → (n : PresenceRecord) (s t : ℕ) → f n s t ≡ g n s t
+ChecksNumbers f g F G n s t = by (live_number n.touch n.w t) (ℕ_discrete n.asker s)
   where
-    own : LiveNumber touch w t → (r : ℕ) → asker ≡ r → f (w ∷ prompt ∷ touch ∷ last ∷ asker ∷ []) r t ≡ g (w ∷ prompt ∷ touch ∷ last ∷ asker ∷ []) r t
-    own h r e =
-        ap (λ (x : ℕ). f (w ∷ prompt ∷ touch ∷ last ∷ asker ∷ []) x t) (sym e) ∙ F.finds w prompt touch last asker t h
-        ∙ sym (G.finds w prompt touch last asker t h) ∙ ap (λ (x : ℕ). g (w ∷ prompt ∷ touch ∷ last ∷ asker ∷ []) x t) e
+    own : LiveNumber n.touch n.w t → (r : ℕ) → n.asker ≡ r → f n r t ≡ g n r t
+    own h r e = ap (λ (x : ℕ). f n x t) (sym e) ∙ F.finds n t h ∙ sym (G.finds n t h) ∙ ap (λ (x : ℕ). g n x t) e
 
-    by : Dec (LiveNumber touch w t) → Dec (asker ≡ s) → f (w ∷ prompt ∷ touch ∷ last ∷ asker ∷ []) s t ≡ g (w ∷ prompt ∷ touch ∷ last ∷ asker ∷ []) s t
+    by : Dec (LiveNumber n.touch n.w t) → Dec (n.asker ≡ s) → f n s t ≡ g n s t
     by (yes h) (yes o) = own h s o
-    by (yes h) (no o) = F.other w prompt touch last asker s t h o ∙ sym (G.other w prompt touch last asker s t h o)
-    by (no h) o = F.prompts w prompt touch last asker s t h ∙ sym (G.prompts w prompt touch last asker s t h)
+    by (yes h) (no o) = F.other n s t h o ∙ sym (G.other n s t h o)
+    by (no h) o = F.prompts n s t h ∙ sym (G.prompts n s t h)
 
-pub TouchesNumbers : (f g : List ℕ → ℕ → Finding) → Claims.TouchesNumbers f → Claims.TouchesNumbers g
-    → (w prompt touch last asker t : ℕ) → f (w ∷ prompt ∷ touch ∷ last ∷ asker ∷ []) t ≡ g (w ∷ prompt ∷ touch ∷ last ∷ asker ∷ []) t
-TouchesNumbers f g F G w prompt touch last asker t = by (live_number prompt 10000 t)
+pub TouchesNumbers : (f g : PresenceRecord → ℕ → Finding) → Claims.TouchesNumbers f → Claims.TouchesNumbers g → (n : PresenceRecord) (t : ℕ) → f n t ≡ g n t
+TouchesNumbers f g F G n t = by (live_number n.prompt 10000 t)
   where
-    by : Dec (LiveNumber prompt 10000 t) → f (w ∷ prompt ∷ touch ∷ last ∷ asker ∷ []) t ≡ g (w ∷ prompt ∷ touch ∷ last ∷ asker ∷ []) t
-    by (yes h) = F.accepts w prompt touch last asker t h ∙ sym (G.accepts w prompt touch last asker t h)
-    by (no h) = F.otherwise w prompt touch last asker t h ∙ sym (G.otherwise w prompt touch last asker t h)
+    by : Dec (LiveNumber n.prompt 10000 t) → f n t ≡ g n t
+    by (yes h) = F.accepts n t h ∙ sym (G.accepts n t h)
+    by (no h) = F.otherwise n t h ∙ sym (G.otherwise n t h)
 
 pub AsOnRecords : (f g : Presence → (side t : ℕ) → Finding) (h k : Presence → ℕ → Finding) → Claims.AsOnRecords f h → Claims.AsOnRecords g k
     → (p : Presence) (s t : ℕ) → (f p s t ≡ g p s t) × (h p t ≡ k p t)

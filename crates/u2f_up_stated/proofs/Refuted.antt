@@ -202,13 +202,13 @@ ask_moves d = let z : ◌≡◌ {A = ℕ} 7 0 = ap (λ (s : Told). s.presence.la
 
 -- ---- the record lent as five numbers
 pub moment_itself : Claims.StandsExactly Wrong.moment_itself → ⊥
-moment_itself d = let z = opened_same ((d.prompt_opened 100 1 0 0 0 0).1 refl) in omega arith
+moment_itself d = let z = opened_same ((d.prompt_opened (record { w = 100; prompt = 1; touch = 0; last = 0; asker = 0 }) 0).1 refl) in omega arith
 
 pub asker_of_8_bits : Claims.StandsExactly Wrong.asker_of_8_bits → ⊥
-asker_of_8_bits d = let z : ◌≡◌ {A = ℕ} 0 256 = d.asker 100 0 0 0 256 in omega arith
+asker_of_8_bits d = let z : ◌≡◌ {A = ℕ} 0 256 = d.asker (record { w = 100; prompt = 0; touch = 0; last = 0; asker = 256 }) in omega arith
 
 pub exchanged : Claims.StandsExactly Wrong.exchanged → ⊥
-exchanged d = closed_open 0 ((d.prompt_opened 100 1 0 0 0 0).1 refl)
+exchanged d = closed_open 0 ((d.prompt_opened (record { w = 100; prompt = 1; touch = 0; last = 0; asker = 0 }) 0).1 refl)
 
 pub wraps : Claims.NumbersExactly Wrong.wraps → ⊥
 wraps d = omega (arith, d.greatest)
@@ -217,36 +217,36 @@ pub no_one_more : Claims.NumbersExactly Wrong.no_one_more → ⊥
 no_one_more d = let z = d.next 0 (λ e. omega (arith, e)) in omega arith
 
 pub moment_left : Claims.MovesNumbers Wrong.moment_left → ⊥
-moment_left d = let z : ◌≡◌ {A = ℕ} 0 7 = ap (λ (p : Presence). p.last) (d 100 0 0 0 0 7) in omega arith
+moment_left d = let z : ◌≡◌ {A = ℕ} 0 7 = ap (λ (p : Presence). p.last) (d (record { w = 100; prompt = 0; touch = 0; last = 0; asker = 0 }) 7) in omega arith
 
 no_number : (w t : ℕ) → LiveNumber 0 w t → ⊥
 no_number w t (m, e, h) = omega (arith, e)
 
 -- both windows closed, side 1 checks at 7
 pub opens_no_prompt : Claims.ChecksNumbers Wrong.opens_no_prompt → ⊥
-opens_no_prompt d = closed_open 7 (ap (λ (f : Finding). f.presence.prompt) (d.prompts 100 0 0 0 0 1 7 (no_number 100 7)))
+opens_no_prompt d = closed_open 7 (ap (λ (f : Finding). f.presence.prompt) (d.prompts (record { w = 100; prompt = 0; touch = 0; last = 0; asker = 0 }) 1 7 (no_number 100 7)))
 
 pub prompts_for_asker : Claims.ChecksNumbers Wrong.prompts_for_asker → ⊥
 unfolding checked_in
-prompts_for_asker d = let z : ◌≡◌ {A = ℕ} 0 1 = ap (λ (f : Finding). f.presence.asker) (d.prompts 100 0 0 0 0 1 7 (no_number 100 7)) in omega arith
+prompts_for_asker d = let z : ◌≡◌ {A = ℕ} 0 1 = ap (λ (f : Finding). f.presence.asker) (d.prompts (record { w = 100; prompt = 0; touch = 0; last = 0; asker = 0 }) 1 7 (no_number 100 7)) in omega arith
 
 -- beside a touch of side 0, accepted at 0
 pub spends_others : Claims.ChecksNumbers Wrong.spends_others → ⊥
-spends_others d = true≢false (ap (λ (f : Finding). f.yes) (d.other 100 0 1 0 0 1 7 (0, refl, omega arith) (λ e. omega (arith, e))))
+spends_others d = true≢false (ap (λ (f : Finding). f.yes) (d.other (record { w = 100; prompt = 0; touch = 1; last = 0; asker = 0 }) 1 7 (0, refl, omega arith) (λ e. omega (arith, e))))
 
 pub leaves_open : Claims.ChecksNumbers Wrong.leaves_open → ⊥
-leaves_open d = closed_open 0 (sym (ap (λ (f : Finding). f.presence.touch) (d.finds 100 0 1 0 0 7 (0, refl, omega arith))))
+leaves_open d = closed_open 0 (sym (ap (λ (f : Finding). f.presence.touch) (d.finds (record { w = 100; prompt = 0; touch = 1; last = 0; asker = 0 }) 7 (0, refl, omega arith))))
 
 pub check_moves_nothing : Claims.ChecksNumbers Wrong.check_moves_nothing → ⊥
 unfolding checked_in
-check_moves_nothing d = let z : ◌≡◌ {A = ℕ} 0 7 = ap (λ (f : Finding). f.presence.last) (d.finds 100 0 1 0 0 7 (0, refl, omega arith)) in omega arith
+check_moves_nothing d = let z : ◌≡◌ {A = ℕ} 0 7 = ap (λ (f : Finding). f.presence.last) (d.finds (record { w = 100; prompt = 0; touch = 1; last = 0; asker = 0 }) 7 (0, refl, omega arith)) in omega arith
 
 -- a prompt opened at 0, touched at 7
 pub leaves_prompt : Claims.TouchesNumbers Wrong.leaves_prompt → ⊥
-leaves_prompt d = closed_open 0 (sym (ap (λ (f : Finding). f.presence.prompt) (d.accepts 100 1 0 0 0 7 (0, refl, omega arith))))
+leaves_prompt d = closed_open 0 (sym (ap (λ (f : Finding). f.presence.prompt) (d.accepts (record { w = 100; prompt = 1; touch = 0; last = 0; asker = 0 }) 7 (0, refl, omega arith))))
 
 pub touch_at_prompt : Claims.TouchesNumbers Wrong.touch_at_prompt → ⊥
-touch_at_prompt d = let z = opened_same (ap (λ (f : Finding). f.presence.touch) (d.accepts 100 1 0 0 0 7 (0, refl, omega arith))) in omega arith
+touch_at_prompt d = let z = opened_same (ap (λ (f : Finding). f.presence.touch) (d.accepts (record { w = 100; prompt = 1; touch = 0; last = 0; asker = 0 }) 7 (0, refl, omega arith))) in omega arith
 
 pub never_before : Claims.AsOnRecords Wrong.never_before granted_in → ⊥
 unfolding checked_of

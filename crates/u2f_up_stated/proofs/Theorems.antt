@@ -2,12 +2,11 @@
 use Prim.Native.Nat.{ℕ}
 use mathlib.Core.Path.{◌≡◌, refl, sym, ap, ap₂, subst, ◌∙◌}
 use mathlib.Core.Bool.{Bool}
-use mathlib.Core.List.{List}
 use native.Mathlib.Omega.{arith}
 use borrow.Author.Tests.{eq-eqb, ne_eqb}
 use Rattle.outcome.specs.Notation.{when◌then◌else◌}
 use Rattle.outcome.proofs.Laws.{r_gives, both_are}
-use Rattle.u2f_up_stated.specs.Words.{Outcome, R, Word, Gives, Presence}
+use Rattle.u2f_up_stated.specs.Words.{Outcome, R, Word, Gives, Presence, PresenceRecord}
 use Rattle.u2f_up_stated.specs.Answers.{Answer, Step, ready_of, outcome_of, told_of}
 use Rattle.u2f_up_stated.specs.Moments.{is_r6, fresh, is_prompting, new_of, moved_to, settle_of, granted_of, checked_of, gave, on_settled, touch_of, check_of, ask_of}
 use Rattle.u2f_up_stated.specs.Numbers.{presence_in, number_of, checked_in, granted_in}
@@ -97,34 +96,34 @@ AsksExactly = record {
 -- ---- the record lent as five numbers
 pub StandsExactly : Claims.StandsExactly presence_in
 StandsExactly = record {
-  w = λ w prompt touch last asker. refl;
-  prompt_closed = λ w prompt touch last asker. (closed_back prompt, λ e. sym (closed_is prompt e));
-  prompt_opened = λ w prompt touch last asker m. (opened_back prompt m, opened_after prompt m);
-  touch_closed = λ w prompt touch last asker. (closed_back touch, λ e. sym (closed_is touch e));
-  touch_opened = λ w prompt touch last asker m. (opened_back touch m, opened_after touch m);
-  last = λ w prompt touch last asker. refl;
-  asker = λ w prompt touch last asker. refl;
+  w = λ n. refl;
+  prompt_closed = λ n. (closed_back n.prompt, λ e. sym (closed_is n.prompt e));
+  prompt_opened = λ n m. (opened_back n.prompt m, opened_after n.prompt m);
+  touch_closed = λ n. (closed_back n.touch, λ e. sym (closed_is n.touch e));
+  touch_opened = λ n m. (opened_back n.touch m, opened_after n.touch m);
+  last = λ n. refl;
+  asker = λ n. refl;
 }
 
 pub NumbersExactly : Claims.NumbersExactly number_of
 NumbersExactly = record { next = λ t n. sym (next_is t n); greatest = refl }
 
 pub MovesNumbers : Claims.MovesNumbers (λ n t. moved_to (presence_in n) t)
-MovesNumbers w prompt touch last asker t = refl
+MovesNumbers n t = refl
 
 pub ChecksNumbers : Claims.ChecksNumbers (λ n s t. checked_in (moved_to (presence_in n) t) s t)
 unfolding checked_in
 ChecksNumbers = record {
-  finds = λ w prompt touch last asker t h. rw (number_live touch w t h, eq-eqb asker asker refl);
-  other = λ w prompt touch last asker s t h o. rw (number_live touch w t h, ne_eqb asker s o);
-  prompts = λ w prompt touch last asker s t h. rw (number_over touch w t h);
+  finds = λ n t h. rw (number_live n.touch n.w t h, eq-eqb n.asker n.asker refl);
+  other = λ n s t h o. rw (number_live n.touch n.w t h, ne_eqb n.asker s o);
+  prompts = λ n s t h. rw (number_over n.touch n.w t h);
 }
 
 pub TouchesNumbers : Claims.TouchesNumbers (λ n t. granted_in (moved_to (presence_in n) t) t)
 unfolding granted_in
 TouchesNumbers = record {
-  accepts = λ w prompt number last asker t h. rw (number_live prompt 10000 t h);
-  otherwise = λ w prompt number last asker t h. rw (number_over prompt 10000 t h);
+  accepts = λ n t h. rw (number_live n.prompt 10000 t h);
+  otherwise = λ n t h. rw (number_over n.prompt 10000 t h);
 }
 
 pub AsOnRecords : Claims.AsOnRecords checked_in granted_in
@@ -222,8 +221,8 @@ lent : (a b : Answer × Presence) → ◌≡◌ {A = Step} (record { answer = a.
 lent a b e = same_lent a b (ap (λ (s : Step). s.answer) e) (ap (λ (s : Step). s.presence) e)
 
 -- what is found, and the numbers at exit
-found_and_five : (a b : Bool × List ℕ) → a.0 ≡ b.0 → a.1 ≡ b.1 → a ≡ b
-found_and_five a b e f = ap₂ (λ (x : Bool) (n : List ℕ). (x, n)) e f
+found_and_five : (a b : Bool × PresenceRecord) → a.0 ≡ b.0 → a.1 ≡ b.1 → a ≡ b
+found_and_five a b e f = ap₂ (λ (x : Bool) (n : PresenceRecord). (x, n)) e f
 
 pub ResultsDetermined : Claims.ResultsDetermined
 ResultsDetermined = record {
@@ -237,7 +236,7 @@ ResultsDetermined = record {
   consume_up_lent = λ p s t a b ha hb. lent a b (step_apart _ _ (both_are _ _ ha hb));
   is_up_needed_lent = λ p t a b ha hb. same_lent a b (answer_apart a.0 b.0 (both_are _ _ ha.0 hb.0)) (both_are _ _ ha.1 hb.1);
   record_lent = λ n a b. both_are a b;
-  moved = λ n t a b ha hb. five_apart a b ha.0 hb.0 (both_are _ _ ha.1 hb.1);
-  touch_checked = λ n s t a b ha hb. found_and_five a b (both_are _ _ ha.1.0 hb.1.0) (five_apart a.1 b.1 ha.0 hb.0 (both_are _ _ ha.1.1 hb.1.1));
-  touch_granted = λ n t a b ha hb. found_and_five a b (both_are _ _ ha.1.0 hb.1.0) (five_apart a.1 b.1 ha.0 hb.0 (both_are _ _ ha.1.1 hb.1.1));
+  moved = λ n t a b ha hb. five_apart a b (both_are _ _ ha hb);
+  touch_checked = λ n s t a b ha hb. found_and_five a b (both_are _ _ ha.0 hb.0) (five_apart a.1 b.1 (both_are _ _ ha.1 hb.1));
+  touch_granted = λ n t a b ha hb. found_and_five a b (both_are _ _ ha.0 hb.0) (five_apart a.1 b.1 (both_are _ _ ha.1 hb.1));
 }

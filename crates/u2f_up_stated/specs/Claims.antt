@@ -1,7 +1,7 @@
 -- What is promised of presence beyond the functions' own promises: open this file first. Proved in proofs/Theorems.antt under the
 -- same names; proofs/Only.antt shows that no other function meets them, proofs/Refuted.antt that wrong ones do not.
-use Rattle.std.specs.Prelude.{List, [], ◌∷◌, length, ◌↔◌, ◌+◌, ◌<◌, ◌≤◌, ◌≡◌}
-use Rattle.u2f_up_stated.specs.Words.{ℕ, Bool, true, false, R, Gives, AtMostOne, None, Some, Outcome, Refusal, refusal_no, Presence, Finding}
+use Rattle.std.specs.Prelude.{List, ◌↔◌, ◌+◌, ◌<◌, ◌≤◌, ◌≡◌}
+use Rattle.u2f_up_stated.specs.Words.{ℕ, Bool, true, false, R, Gives, AtMostOne, None, Some, Outcome, Refusal, refusal_no, Presence, PresenceRecord, Finding}
 use Rattle.u2f_up_stated.specs.Moments.{Told, checked_of, granted_of}
 use Rattle.u2f_up_stated.specs.Numbers.{presence_in, number_of}
 use Rattle.u2f_up_stated.specs.Answers.{Ready, Answer, Step, ready_of, outcome_of, told_of, lent_step}
@@ -78,17 +78,17 @@ pub record AsksExactly (ask : Presence → ℕ → Told) : Type 0 where
 
 -- ---- the record lent as five numbers
 
--- Ours: which number is what. In this order W, prompt, touch, last moment, asker, each in full width; a window's number is 0 where it is closed and m + 1
+-- Ours: which number is what. By name W, prompt, touch, last moment, asker, each in full width; a window's number is 0 where it is closed and m + 1
 -- where it was opened at m. A window whose number is its moment (`moment_itself`) fails it at 1, an asker cut to 8 bits (`asker_of_8_bits`) at 256, and
 -- prompt and touch in each other's place (`exchanged`) where one is open.
-pub record StandsExactly (stands : List ℕ → Presence) : Type 0 where
-  pub w : (w prompt touch last asker : ℕ) → (stands (w ∷ prompt ∷ touch ∷ last ∷ asker ∷ [])).w ≡ w
-  pub prompt_closed : (w prompt touch last asker : ℕ) → ((stands (w ∷ prompt ∷ touch ∷ last ∷ asker ∷ [])).prompt ≡ None) ↔ (prompt ≡ 0)
-  pub prompt_opened : (w prompt touch last asker m : ℕ) → ((stands (w ∷ prompt ∷ touch ∷ last ∷ asker ∷ [])).prompt ≡ Some m) ↔ (prompt ≡ m + 1)
-  pub touch_closed : (w prompt touch last asker : ℕ) → ((stands (w ∷ prompt ∷ touch ∷ last ∷ asker ∷ [])).touch ≡ None) ↔ (touch ≡ 0)
-  pub touch_opened : (w prompt touch last asker m : ℕ) → ((stands (w ∷ prompt ∷ touch ∷ last ∷ asker ∷ [])).touch ≡ Some m) ↔ (touch ≡ m + 1)
-  pub last : (w prompt touch last asker : ℕ) → (stands (w ∷ prompt ∷ touch ∷ last ∷ asker ∷ [])).last ≡ last
-  pub asker : (w prompt touch last asker : ℕ) → (stands (w ∷ prompt ∷ touch ∷ last ∷ asker ∷ [])).asker ≡ asker
+pub record StandsExactly (stands : PresenceRecord → Presence) : Type 0 where
+  pub w : (n : PresenceRecord) → (stands n).w ≡ n.w
+  pub prompt_closed : (n : PresenceRecord) → ((stands n).prompt ≡ None) ↔ (n.prompt ≡ 0)
+  pub prompt_opened : (n : PresenceRecord) (m : ℕ) → ((stands n).prompt ≡ Some m) ↔ (n.prompt ≡ m + 1)
+  pub touch_closed : (n : PresenceRecord) → ((stands n).touch ≡ None) ↔ (n.touch ≡ 0)
+  pub touch_opened : (n : PresenceRecord) (m : ℕ) → ((stands n).touch ≡ Some m) ↔ (n.touch ≡ m + 1)
+  pub last : (n : PresenceRecord) → (stands n).last ≡ n.last
+  pub asker : (n : PresenceRecord) → (stands n).asker ≡ n.asker
 
 -- Ours: the number of a window that opens at t is t + 1; at 2^64 - 1, which has none after it in 64 bits, it is that itself, and says the moment before. No
 -- moment that settles comes near. A sum that wraps (`wraps`) fails it there: the window would be closed; the moment itself (`no_one_more`) fails it at 0.
@@ -96,31 +96,31 @@ pub record NumbersExactly (number : ℕ → ℕ) : Type 0 where
   pub next : (t : ℕ) → (t ≡ 0xffffffffffffffff → ⊥) → number t ≡ t + 1
   pub greatest : number 0xffffffffffffffff ≡ 0xffffffffffffffff
 
--- Moving the last moment. 01, Refusal numbers: "each touch, direct check and decision sets the last moment to t", and of five numbers the fourth alone. One that
+-- Moving the last moment. 01, Refusal numbers: "each touch, direct check and decision sets the last moment to t", and of the five numbers that alone. One that
 -- leaves it (`moment_left`) fails it.
-abbrev pub MovesNumbers : (List ℕ → (t : ℕ) → Presence) → Type 0
-MovesNumbers moves = (w prompt touch last asker t : ℕ) → moves (w ∷ prompt ∷ touch ∷ last ∷ asker ∷ []) t ≡ presence_in (w ∷ prompt ∷ touch ∷ t ∷ asker ∷ [])
+abbrev pub MovesNumbers : (PresenceRecord → (t : ℕ) → Presence) → Type 0
+MovesNumbers moves = (n : PresenceRecord) (t : ℕ) → moves n t ≡ presence_in (record n { last = t })
 
 -- The touch check on five numbers, the moment settled: what it finds, and which numbers the record then is. 01, Moments and touches: "with a live touch, it is
 -- spent; without, a prompt window opens at t"; 02, E7, as in `ChecksExactly`. One that opens no prompt (`opens_no_prompt`) fails it at numbers with both windows
 -- closed; so do one that opens it for the record's own side (`prompts_for_asker`), at another one's check, one that spends the other side's touch (`spends_others`),
 -- one that leaves the touch open (`leaves_open`), and one that does not move the last moment (`check_moves_nothing`).
-pub record ChecksNumbers (check : List ℕ → (side t : ℕ) → Finding) : Type 0 where
-  pub finds : (w prompt touch last asker t : ℕ) → LiveNumber touch w t
-      → check (w ∷ prompt ∷ touch ∷ last ∷ asker ∷ []) asker t ≡ record { yes = true; presence = presence_in (w ∷ prompt ∷ 0 ∷ t ∷ asker ∷ []) }
-  pub other : (w prompt touch last asker s t : ℕ) → LiveNumber touch w t → (asker ≡ s → ⊥)
-      → check (w ∷ prompt ∷ touch ∷ last ∷ asker ∷ []) s t ≡ record { yes = false; presence = presence_in (w ∷ prompt ∷ touch ∷ t ∷ asker ∷ []) }
-  pub prompts : (w prompt touch last asker s t : ℕ) → (LiveNumber touch w t → ⊥)
-      → check (w ∷ prompt ∷ touch ∷ last ∷ asker ∷ []) s t ≡ record { yes = false; presence = presence_in (w ∷ number_of t ∷ touch ∷ t ∷ s ∷ []) }
+pub record ChecksNumbers (check : PresenceRecord → (side t : ℕ) → Finding) : Type 0 where
+  pub finds : (n : PresenceRecord) (t : ℕ) → LiveNumber n.touch n.w t
+      → check n n.asker t ≡ record { yes = true; presence = presence_in (record n { touch = 0; last = t }) }
+  pub other : (n : PresenceRecord) (s t : ℕ) → LiveNumber n.touch n.w t → (n.asker ≡ s → ⊥)
+      → check n s t ≡ record { yes = false; presence = presence_in (record n { last = t }) }
+  pub prompts : (n : PresenceRecord) (s t : ℕ) → (LiveNumber n.touch n.w t → ⊥)
+      → check n s t ≡ record { yes = false; presence = presence_in (record n { prompt = number_of t; last = t; asker = s }) }
 
 -- The touch on five numbers, the moment settled. 01, Moments and touches: "accepted when the prompt is live; then the prompt closes and a touch window opens.
 -- Otherwise nothing but the last moment moves." One that leaves the prompt open (`leaves_prompt`) fails it, and one whose touch window opens at the prompt's
 -- moment (`touch_at_prompt`), where the moments differ.
-pub record TouchesNumbers (touch : List ℕ → (t : ℕ) → Finding) : Type 0 where
-  pub accepts : (w prompt number last asker t : ℕ) → LiveNumber prompt 10000 t
-      → touch (w ∷ prompt ∷ number ∷ last ∷ asker ∷ []) t ≡ record { yes = true; presence = presence_in (w ∷ 0 ∷ number_of t ∷ t ∷ asker ∷ []) }
-  pub otherwise : (w prompt number last asker t : ℕ) → (LiveNumber prompt 10000 t → ⊥)
-      → touch (w ∷ prompt ∷ number ∷ last ∷ asker ∷ []) t ≡ record { yes = false; presence = presence_in (w ∷ prompt ∷ number ∷ t ∷ asker ∷ []) }
+pub record TouchesNumbers (touch : PresenceRecord → (t : ℕ) → Finding) : Type 0 where
+  pub accepts : (n : PresenceRecord) (t : ℕ) → LiveNumber n.prompt 10000 t
+      → touch n t ≡ record { yes = true; presence = presence_in (record n { prompt = 0; touch = number_of t; last = t }) }
+  pub otherwise : (n : PresenceRecord) (t : ℕ) → (LiveNumber n.prompt 10000 t → ⊥)
+      → touch n t ≡ record { yes = false; presence = presence_in (record n { last = t }) }
 
 -- Ours: at every moment but 2^64 - 1 touch check and touch on numbers are those of the record. At that one, where a check without a live touch opens a prompt,
 -- and an accepted touch its window, the window says the moment before; every other answer is the record's. A check that is so at every moment (`never_before`)
@@ -208,11 +208,11 @@ pub record ContractsAsClaimed : Type 0 where
       → ChecksExactly (λ p s t. told_of (lent_step (f p s t)))
   pub is_up_needed_lent : (f : Presence → ℕ → Answer × Presence) → ((p : Presence) (t : ℕ) → IsUpNeededLent p t (f p t).0 (f p t).1)
       → AsksExactly (λ p t. told_of (lent_step (f p t)))
-  pub record_lent : (f : List ℕ → Presence) → ((n : List ℕ) → RecordLent n (f n)) → StandsExactly f
-  pub moved : (f : List ℕ → ℕ → List ℕ) → ((n : List ℕ) (t : ℕ) → Moved n t (f n t)) → MovesNumbers (λ n t. presence_in (f n t))
-  pub touch_checked : (f : List ℕ → (side t : ℕ) → Bool × List ℕ) → ((n : List ℕ) (s t : ℕ) → TouchChecked n s t (f n s t).0 (f n s t).1)
+  pub record_lent : (f : PresenceRecord → Presence) → ((n : PresenceRecord) → RecordLent n (f n)) → StandsExactly f
+  pub moved : (f : PresenceRecord → ℕ → PresenceRecord) → ((n : PresenceRecord) (t : ℕ) → Moved n t (f n t)) → MovesNumbers (λ n t. presence_in (f n t))
+  pub touch_checked : (f : PresenceRecord → (side t : ℕ) → Bool × PresenceRecord) → ((n : PresenceRecord) (s t : ℕ) → TouchChecked n s t (f n s t).0 (f n s t).1)
       → ChecksNumbers (λ n s t. record { yes = (f n s t).0; presence = presence_in (f n s t).1 })
-  pub touch_granted : (f : List ℕ → ℕ → Bool × List ℕ) → ((n : List ℕ) (t : ℕ) → TouchGranted n t (f n t).0 (f n t).1)
+  pub touch_granted : (f : PresenceRecord → ℕ → Bool × PresenceRecord) → ((n : PresenceRecord) (t : ℕ) → TouchGranted n t (f n t).0 (f n t).1)
       → TouchesNumbers (λ n t. record { yes = (f n t).0; presence = presence_in (f n t).1 })
 
 -- ---- two results that satisfy a contract are equal
@@ -239,7 +239,7 @@ pub record ResultsDetermined : Type 0 where
   pub grant_up_lent : (p : Presence) (t : ℕ) → AtMostOne (λ (o : Answer × Presence). GrantUpLent p t o.0 o.1)
   pub consume_up_lent : (p : Presence) (s t : ℕ) → AtMostOne (λ (o : Answer × Presence). ConsumeUpLent p s t o.0 o.1)
   pub is_up_needed_lent : (p : Presence) (t : ℕ) → AtMostOne (λ (o : Answer × Presence). IsUpNeededLent p t o.0 o.1)
-  pub record_lent : (n : List ℕ) → AtMostOne (RecordLent n)
-  pub moved : (n : List ℕ) (t : ℕ) → AtMostOne (λ (exit : List ℕ). (length exit ≡ 5) × Moved n t exit)
-  pub touch_checked : (n : List ℕ) (s t : ℕ) → AtMostOne (λ (o : Bool × List ℕ). (length o.1 ≡ 5) × TouchChecked n s t o.0 o.1)
-  pub touch_granted : (n : List ℕ) (t : ℕ) → AtMostOne (λ (o : Bool × List ℕ). (length o.1 ≡ 5) × TouchGranted n t o.0 o.1)
+  pub record_lent : (n : PresenceRecord) → AtMostOne (RecordLent n)
+  pub moved : (n : PresenceRecord) (t : ℕ) → AtMostOne (Moved n t)
+  pub touch_checked : (n : PresenceRecord) (s t : ℕ) → AtMostOne (λ (o : Bool × PresenceRecord). TouchChecked n s t o.0 o.1)
+  pub touch_granted : (n : PresenceRecord) (t : ℕ) → AtMostOne (λ (o : Bool × PresenceRecord). TouchGranted n t o.0 o.1)

@@ -1,6 +1,6 @@
--- Ours: the presence record lent as five numbers, in this order: W, prompt, touch, last moment, asker; and the touch check and the touch on it.
-use Rattle.std.specs.Prelude.{get_or, List, ◌+◌}
-use Rattle.u2f_up_stated.specs.Words.{ℕ, zero, suc, eqb, true, false, not, when◌then◌else◌, Window, None, Some, Presence, Finding}
+-- Ours: the presence record lent as five numbers, by name: W, prompt, touch, last moment, asker; and the touch check and the touch on it.
+use Rattle.std.specs.Prelude.{◌+◌}
+use Rattle.u2f_up_stated.specs.Words.{ℕ, zero, suc, eqb, true, false, not, when◌then◌else◌, Window, None, Some, Presence, PresenceRecord, Finding}
 use Rattle.u2f_up_stated.specs.Moments.{is_live, is_prompting}
 
 -- DECISIONS, a window as one number: 0 is closed, any other number a window that was opened at the moment before it
@@ -8,8 +8,8 @@ abbrev pub window_of : ℕ → Window
 window_of zero = None
 window_of (suc m) = Some m
 
-abbrev pub presence_in : List ℕ → Presence
-presence_in s = record { w = get_or s 0 0; prompt = window_of (get_or s 1 0); touch = window_of (get_or s 2 0); last = get_or s 3 0; asker = get_or s 4 0 }
+abbrev pub presence_in : PresenceRecord → Presence
+presence_in s = record { w = s.w; prompt = window_of s.prompt; touch = window_of s.touch; last = s.last; asker = s.asker }
 
 -- a moment's number in a window, one more; the greatest of 64 bits has none after it, and is its own number, which says the moment before. No moment that
 -- settles comes near it

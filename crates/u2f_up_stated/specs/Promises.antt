@@ -1,6 +1,6 @@
 -- What each public function promises: of its inputs, its result `r` and, where a record is lent, the record `q` at exit.
-use Rattle.u2f_up_stated.specs.Words.{ℕ, Presence, Finding}
-use Rattle.std.specs.Prelude.{List, Bool, ◌≡◌}
+use Rattle.u2f_up_stated.specs.Words.{ℕ, Presence, PresenceRecord, Finding}
+use Rattle.std.specs.Prelude.{Bool, ◌≡◌}
 use Rattle.u2f_up_stated.specs.Numbers.{presence_in, checked_in, granted_in}
 use Rattle.u2f_up_stated.specs.Moments.{new_of, moved_to, settle_of, checked_of, touch_of, check_of, ask_of}
 use Rattle.u2f_up_stated.specs.Answers.{Ready, Answer, Step, ready_of, outcome_of, told_of}
@@ -15,16 +15,16 @@ abbrev pub TouchCheck : Presence → (side t : ℕ) → Finding → Type 0
 TouchCheck p s t r = r ≡ checked_of p s t
 
 -- on a record lent as numbers, as they were and as they are then
-abbrev pub RecordLent : List ℕ → Presence → Type 0
+abbrev pub RecordLent : PresenceRecord → Presence → Type 0
 RecordLent entry r = r ≡ presence_in entry
 
-abbrev pub Moved : (entry : List ℕ) (t : ℕ) (exit : List ℕ) → Type 0
+abbrev pub Moved : (entry : PresenceRecord) (t : ℕ) (exit : PresenceRecord) → Type 0
 Moved entry t exit = presence_in exit ≡ moved_to (presence_in entry) t
 
-abbrev pub TouchChecked : (entry : List ℕ) (side t : ℕ) → Bool → (exit : List ℕ) → Type 0
+abbrev pub TouchChecked : (entry : PresenceRecord) (side t : ℕ) → Bool → (exit : PresenceRecord) → Type 0
 TouchChecked entry s t r exit = (r ≡ (checked_in (moved_to (presence_in entry) t) s t).yes) × (presence_in exit ≡ (checked_in (moved_to (presence_in entry) t) s t).presence)
 
-abbrev pub TouchGranted : (entry : List ℕ) (t : ℕ) → Bool → (exit : List ℕ) → Type 0
+abbrev pub TouchGranted : (entry : PresenceRecord) (t : ℕ) → Bool → (exit : PresenceRecord) → Type 0
 TouchGranted entry t r exit = (r ≡ (granted_in (moved_to (presence_in entry) t) t).yes) × (presence_in exit ≡ (granted_in (moved_to (presence_in entry) t) t).presence)
 
 abbrev pub GrantUp : Presence → ℕ → Step → Type 0

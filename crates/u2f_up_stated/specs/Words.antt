@@ -5,6 +5,7 @@ pub use Rattle.outcome.specs.declared.Refusal.{Refusal}
 pub use Rattle.outcome.specs.Outcome.{StatusWord, Outcome, R, Word, Gives, refusal_no}
 pub use Rattle.std.specs.Prelude.{Option, None, Some, Result, Ok, Err}
 pub use Rattle.u2f_up_stated.specs.declared.Presence.{Presence}
+pub use Rattle.u2f_up_stated.specs.declared.PresenceRecord.{PresenceRecord}
 pub use Rattle.u2f_up_stated.specs.declared.Finding.{Finding}
 
 -- A window: the moment that it was opened at, or `None` where it is closed.

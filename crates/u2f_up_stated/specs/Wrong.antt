@@ -1,6 +1,6 @@
 -- Wrong programs, each with one fault. proofs/Refuted.antt shows of each that a claim is false of it.
-use Rattle.std.specs.Prelude.{◌%◌, List, [], ◌∷◌, get_or, ◌+◌, ◌^◌, ◌&&◌, ◌||◌}
-use Rattle.u2f_up_stated.specs.Words.{ℕ, zero, suc, Bool, true, false, not, eqb, ltb, leb, when◌then◌else◌, Outcome, R, Gives, refusal_no, Window, None, Some, Presence, Finding}
+use Rattle.std.specs.Prelude.{◌%◌, List, [], ◌∷◌, ◌+◌, ◌^◌, ◌&&◌, ◌||◌}
+use Rattle.u2f_up_stated.specs.Words.{ℕ, zero, suc, Bool, true, false, not, eqb, ltb, leb, when◌then◌else◌, Outcome, R, Gives, refusal_no, Window, None, Some, Presence, PresenceRecord, Finding}
 use Rattle.u2f_up_stated.specs.Moments.{fresh, Told, is_live, is_prompting, is_r6, is_bad_side, is_r8, is_r1, moved_to, settle_of, gave, refused, touch_opened, touch_closed, prompt_opened, on_settled, granted_of, checked_of}
 use Rattle.u2f_up_stated.specs.Numbers.{window_of, presence_in, number_of, checked_in}
 use Rattle.u2f_up_stated.specs.Answers.{Ready, Answer, Step, outcome_of}
@@ -208,16 +208,16 @@ abbrev window_at : ℕ → Window
 window_at zero = None
 window_at (suc m) = Some (suc m)
 
-abbrev pub moment_itself : List ℕ → Presence
-moment_itself n = record { w = get_or n 0 0; prompt = window_at (get_or n 1 0); touch = window_at (get_or n 2 0); last = get_or n 3 0; asker = get_or n 4 0 }
+abbrev pub moment_itself : PresenceRecord → Presence
+moment_itself n = record { w = n.w; prompt = window_at n.prompt; touch = window_at n.touch; last = n.last; asker = n.asker }
 
 -- the asker is cut to 8 bits
-abbrev pub asker_of_8_bits : List ℕ → Presence
-asker_of_8_bits n = record { w = get_or n 0 0; prompt = window_of (get_or n 1 0); touch = window_of (get_or n 2 0); last = get_or n 3 0; asker = get_or n 4 0 % 256 }
+abbrev pub asker_of_8_bits : PresenceRecord → Presence
+asker_of_8_bits n = record { w = n.w; prompt = window_of n.prompt; touch = window_of n.touch; last = n.last; asker = n.asker % 256 }
 
 -- prompt and touch stand in each other's place
-abbrev pub exchanged : List ℕ → Presence
-exchanged n = record { w = get_or n 0 0; prompt = window_of (get_or n 2 0); touch = window_of (get_or n 1 0); last = get_or n 3 0; asker = get_or n 4 0 }
+abbrev pub exchanged : PresenceRecord → Presence
+exchanged n = record { w = n.w; prompt = window_of n.touch; touch = window_of n.prompt; last = n.last; asker = n.asker }
 
 -- a moment's number: the sum wraps; the moment itself
 abbrev pub wraps : ℕ → ℕ
@@ -227,43 +227,43 @@ abbrev pub no_one_more : ℕ → ℕ
 no_one_more t = t
 
 -- the last moment is left
-abbrev pub moment_left : List ℕ → ℕ → Presence
+abbrev pub moment_left : PresenceRecord → ℕ → Presence
 moment_left n t = presence_in n
 
 -- by what a check does with a live touch of the side that checks, and of the other one, and without one, on numbers; the last moment moves first
-abbrev on_numbers : (own other without : Presence → (side t : ℕ) → Finding) → List ℕ → (side t : ℕ) → Finding
+abbrev on_numbers : (own other without : Presence → (side t : ℕ) → Finding) → PresenceRecord → (side t : ℕ) → Finding
 on_numbers own other without n s t = by own other without (moved_to (presence_in n) t) s t
 
 -- "without, a prompt window opens at t": none does, and the side becomes the asker all the same
-abbrev pub opens_no_prompt : List ℕ → (side t : ℕ) → Finding
+abbrev pub opens_no_prompt : PresenceRecord → (side t : ℕ) → Finding
 opens_no_prompt = on_numbers spends leaves (λ p s t. record { yes = false; presence = record { w = p.w; prompt = p.prompt; touch = p.touch; last = p.last; asker = s } })
 
 -- 02, E7: "A prompting refusal makes its side the asker": the prompt is opened for the record's own side
-abbrev pub prompts_for_asker : List ℕ → (side t : ℕ) → Finding
+abbrev pub prompts_for_asker : PresenceRecord → (side t : ℕ) → Finding
 prompts_for_asker = on_numbers spends leaves (λ p s t. checked_in p p.asker t)
 
 -- 02, E7: "nothing is opened or spent": the other side's touch is
-abbrev pub spends_others : List ℕ → (side t : ℕ) → Finding
+abbrev pub spends_others : PresenceRecord → (side t : ℕ) → Finding
 spends_others = on_numbers spends spends checked_in
 
 -- "with a live touch, it is spent": it stays open
-abbrev pub leaves_open : List ℕ → (side t : ℕ) → Finding
+abbrev pub leaves_open : PresenceRecord → (side t : ℕ) → Finding
 leaves_open = on_numbers (λ p s t. record { yes = true; presence = p }) leaves checked_in
 
 -- the last moment is not moved by a check
-abbrev pub check_moves_nothing : List ℕ → (side t : ℕ) → Finding
+abbrev pub check_moves_nothing : PresenceRecord → (side t : ℕ) → Finding
 check_moves_nothing n s t = checked_in (presence_in n) s t
 
 -- "then the prompt closes": it stays open; the touch window opens at the prompt's moment
-abbrev accepted_by : (Presence → ℕ → Presence) → List ℕ → ℕ → Finding
+abbrev accepted_by : (Presence → ℕ → Presence) → PresenceRecord → ℕ → Finding
 accepted_by opens n t =
     let p = moved_to (presence_in n) t in
     when is_prompting p t then record { yes = true; presence = opens p t } else record { yes = false; presence = p }
 
-abbrev pub leaves_prompt : List ℕ → ℕ → Finding
+abbrev pub leaves_prompt : PresenceRecord → ℕ → Finding
 leaves_prompt = accepted_by (λ p t. record { w = p.w; prompt = p.prompt; touch = window_of (number_of t); last = p.last; asker = p.asker })
 
-abbrev pub touch_at_prompt : List ℕ → ℕ → Finding
+abbrev pub touch_at_prompt : PresenceRecord → ℕ → Finding
 touch_at_prompt = accepted_by (λ p t. record { w = p.w; prompt = None; touch = p.prompt; last = p.last; asker = p.asker })
 
 -- the record's own check at every moment, the greatest of 64 bits too

@@ -19,6 +19,18 @@ pub struct Presence {
     pub asker: u64,
 }
 
+// The same as C lends it, to be changed in place: five numbers. A window is 0 where it is closed, and otherwise the moment at which it was opened and one more. The
+// asking side is 0 or 1; it has 64 bits, and so has a side that a call names, so that no other number is cut down to one of the two.
+#[repr(C)]
+#[derive(Clone, Copy)]
+pub struct PresenceRecord {
+    pub w: u64,
+    pub prompt: u64,
+    pub touch: u64,
+    pub last: u64,
+    pub asker: u64,
+}
+
 // What touch, check and ask answer, and the record after the call; a refusal hands back the record that came in.
 #[derive(Clone, Copy)]
 pub struct Step {

@@ -8,6 +8,7 @@ pub use Rattle.response_stated.specs.Fetching.{remaining}
 pub use Rattle.response_stated.specs.Terms.{Goes}
 pub use Rattle.u2f_up_stated.specs.Demand.{RunMeets}
 pub use Rattle.u2f_up_stated.specs.History.{Checking, Mark, held_at, server_of}
+pub use Rattle.u2f_up_stated.specs.declared.PresenceRecord.{PresenceRecord}
 pub use Rattle.session_stated.specs.Held.{remainder_in, session_in}
 pub use Rattle.panel_stated.specs.Exports.{ToDecide, ToFinish, AfterDeciding}
 pub use Rattle.demands.specs.Panel.{Panel, Meets}
