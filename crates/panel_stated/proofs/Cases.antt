@@ -6,7 +6,7 @@ use borrow.Author.Tests.{ne_eqb, not-true, not-false}
 use lib.ListN.{length}
 use Rattle.outcome.specs.Notation.{when◌then◌else◌}
 use Rattle.outcome.proofs.Laws.{r_gives}
-use Rattle.outcome.specs.Outcome.{Outcome, R, Word, Gives, status_no, fault_of, word_of, refusal_no, no_fault}
+use Rattle.outcome.specs.Outcome.{Outcome, R, Word, Gives, status_no, fault_of, word_of, refusal_no}
 use Rattle.outcome.specs.declared.FaultNumbers.{FaultNumbers}
 use Rattle.outcome.specs.declared.ApduStatusCode.{ApduStatusCode}
 use Rattle.outcome.specs.declared.Refusal.{Refusal}
@@ -23,9 +23,9 @@ use Rattle.apdu_stated.specs.declared.Case.TheVariants.{Instruction, Le1, Lc1Dat
 use Rattle.apdu_stated.specs.declared.Place.{Place}
 use Rattle.command_stated.specs.Command.{Register, Authenticate, flags_no, handle_place_of}
 use Rattle.command_stated.specs.declared.Ctap1Flags.{Ctap1Flags}
-use Rattle.panel_stated.specs.Words.{FrameSaid, CommandSaid, Wrote, Shaped, Asked, OrderNumbers, DecisionSaid, ResponseSaid, RoomSaid, Kinded, Session, SessionRecord, presence_in, remainder_in, session_in, session_after}
+use Rattle.panel_stated.specs.Words.{FrameSaid, CommandSaid, Wrote, Shaped, Asked, OrderNumbers, DecisionSaid, Kinded, Session, SessionRecord, presence_in, remainder_in, session_in, session_after}
 use Rattle.panel_stated.specs.Numbers.{answer_no, shape_of, is_yes, kind_of, no_order}
-use Rattle.panel_stated.specs.Exports.{frame_numbers, length_numbers, ToWrite, strict_as, write_as, write_numbered, buffer_as, bare_command, command_numbers, made_over, asked_numbers, head_after, decided_numbers, sent_numbers, sent_over, ToFinish, order_from, finish_numbered}
+use Rattle.panel_stated.specs.Exports.{frame_numbers, length_numbers, ToWrite, strict_as, write_as, write_numbered, buffer_as, command_numbers, made_over, asked_numbers, head_after, decided_numbers, sent_numbers, sent_over, ToFinish, order_from, finish_numbered}
 use Rattle.std.specs.Prelude.{Some, None}
 use mathlib.Core.Bool.{true, false, not, Bool}
 use Rattle.u2f_up_stated.specs.Moments.{Told, is_r6, fresh, moved_to, new_of, settle_of, checked_of, granted_of, on_settled, gave, touch_of, check_of}

@@ -10,16 +10,12 @@ use Rattle.outcome.specs.Notation.{when◌then◌else◌}
 use Rattle.outcome.specs.Outcome.{Outcome, R, Word, SW, Gives, refusal_no}
 use Rattle.outcome.specs.declared.Refusal.{Refusal}
 use Rattle.outcome.proofs.Laws.{r_gives}
-use Rattle.apdu_stated.specs.Answers.{Says, says_of, reading_of, Reading}
-use Rattle.apdu_stated.specs.Reading.{read_of}
-use Rattle.apdu_stated.specs.declared.Apdu.{Apdu}
-use Rattle.response_stated.specs.Words.{rest, part_sent, room_said}
+use Rattle.response_stated.specs.Words.{part_sent}
 use Rattle.response_stated.specs.declared.Sent.{Sent}
-use Rattle.response_stated.specs.Parts.{limit_of, part_length, rest_after, next_part_of, part_response, part_laid, response_room_of}
+use Rattle.response_stated.specs.Parts.{part_length, rest_after, next_part_of, part_response, part_laid}
 use Rattle.response_stated.specs.declared.Remainder.{Remainder}
 use Rattle.response_stated.specs.Words.{NextPart}
 use Rattle.std.specs.Prelude.{Ok, Err}
-use Rattle.response_stated.specs.Words.{ResponseRoom}
 use Rattle.signing_stated.specs.declared.Head.{Head}
 use Rattle.signing_stated.specs.Words.{head_of}
 use Rattle.signing_stated.specs.Orders.{blank_order}
@@ -29,7 +25,6 @@ use Rattle.ctap1_stated.proofs.Laws.{alone, handed, with_record, with_head}
 use Rattle.ctap1_stated.specs.Path.{sent_path, fetch_path}
 use Rattle.ctap1_stated.specs.Decision.{refusal_result, status_result, along, blank_alone}
 use Rattle.ctap1_stated.specs.Session.{part_after}
-use Rattle.session_stated.specs.Held.{remainder_in, session_in}
 
 -- ---- a GET RESPONSE that comes so far
 never_other : (body_room : ℕ) (k : Remainder) (limit room n : ℕ) → R n ≡ next_part_of body_room k limit room → n ≡ 2
@@ -87,4 +82,3 @@ module _ (kept settled : Presence) (k : Remainder) (limit : ℕ) (body old : Lis
         by (R n) = refl
         by (Word s) = refl
         by (Gives sent) = refl
-

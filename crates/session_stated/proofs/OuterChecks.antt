@@ -33,7 +33,7 @@ use Rattle.u2f_up_stated.specs.Words.{Ready}
 use Rattle.std.specs.Prelude.{Ok, Err}
 use Rattle.signing_stated.specs.Finishing.{register_room, authenticate_room}
 use Rattle.response_stated.specs.declared.Sent.{Sent}
-use Rattle.response_stated.specs.Parts.{limit_of, next_part_of, part_response}
+use Rattle.response_stated.specs.Parts.{next_part_of, part_response}
 use Rattle.ctap1_stated.specs.Words.{DecisionGives, Ordered, Inputs, DecisionResult, DecisionHanded, DecisionLeft, handed_of, enrolment_of, unfetched}
 use Rattle.ctap1_stated.specs.declared.HardwareSaid.{HardwareSaid}
 use Rattle.response_stated.specs.declared.Remainder.{Remainder}
