@@ -78,7 +78,7 @@ fn opens(row: Row, frame: &[u8]) -> bool
     row.lc_field < 2
 }
 
-// How many bytes of the frame the row's fields claim; 0 where the row does not stand at its front.
+// How many bytes of the frame the row's fields claim; 0 where the row does not stand at its front, as the definition has it.
 #[tactic(auto, unfolding(apdu_table_stated::specs::Trying::stands))]
 fn claimed(row: Row, frame: &[u8]) -> usize
     ensures { result ≡ claimed row frame.now }

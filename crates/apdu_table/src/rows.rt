@@ -1,6 +1,6 @@
 // The two tables, as data, one under the other. A row: the shape's number, the length of its Lc field, the least Lc, the length of its
 // Le field; behind it the scope paper's own row. No other line of this crate knows a shape. That these are the rows of apdu_table_stated's
-// specs/Rows.antt, in their order, is what `ordinary` and `strict` ensure.
+// specs/Rows.antt, in their order, is what `ordinary` and `strict` ensure. Numbers and no structs: the claims speak of any table of numbers.
 ghost use Rattle.apdu_table_stated.specs.Promises.{OrdinaryRows, StrictRows};
 
 const ORDINARY: [[u8; 4]; 7] = [

@@ -20,11 +20,11 @@ use Rattle.signing_stated.specs.Layouts.{presence_byte}
 use Rattle.signing_stated.specs.Orders.{register_order_of, authenticate_order_of, blank_order}
 use Rattle.signing_stated.specs.declared.Head.{Head}
 use Rattle.signing_stated.specs.Words.{Order, head_of, order_with}
-use Rattle.signing_stated.specs.Finishing.{register_room, authenticate_room}
-use Rattle.ctap1_stated.specs.Words.{Inputs, Enrolment, Hardware, is_present, DecisionGives, Body, Ordered, DecisionAlone, DecisionHanded, DecisionLeft, handed_of}
+use Rattle.signing_stated.specs.Finishing.{register_room}
+use Rattle.ctap1_stated.specs.Words.{Inputs, Enrolment, is_present, DecisionGives, Body, Ordered, DecisionAlone, DecisionHanded, DecisionLeft, handed_of}
 use Rattle.ctap1_stated.specs.Numbers.{is_yes, attestation_of, counter_of}
 use Rattle.ctap1_stated.specs.Decision.{along_by, along, ended, touch_checked, version_bytes, reply_left, left_of, blank_alone, end_alone, end_block}
-use Rattle.ctap1_stated.specs.Path.{PathEnd, Internal, WrongData, Orders, version_path, register_path, register_ending, enrolment_order, register_ordered, signing_order, counted_ending, login_path}
+use Rattle.ctap1_stated.specs.Path.{PathEnd, Internal, WrongData, Orders, version_path, register_path, register_ending, enrolment_order, register_ordered, signing_order, counted_ending}
 
 -- a decision's fields: only the order's head comes from a call
 abbrev pub alone : Outcome DecisionGives → Head → Bool → DecisionAlone
@@ -196,36 +196,3 @@ module _ (x : PathEnd) (f : Finding) (old : List ℕ) (found : Bool) (is_found :
 
   pub enforced_touch : (block : List ℕ) → not found ≡ false → alone said top used ≡ end_alone x → block ≡ end_block x old → leaves said top used q block ≡ left_of (touch_checked f x) old
   enforced_touch block n e o = ends x said top used q f.presence block old e o is_q ∙ rw (← is_found, n)
-
-module _ (frame : List ℕ) (hardware : Hardware) (room : ℕ) (check : Presence → Finding) (kept settled : Presence) (n : ℕ) (says : Says) (old : List ℕ) (p1 : ℕ) (is_p1 : p1 ≡ n) where
-  abbrev logged : DecisionLeft
-  logged = left_of (along_by check (login_path frame hardware room n says) kept settled) old
-
-  pub auth_bad : (said : Outcome DecisionGives) (top : Head) (used : Bool) (q : Presence) → hardware.good ≡ false → alone said top used ≡ blank_alone (SW 0x6a80) → q ≡ settled → leaves said top used q old ≡ logged
-  unfolding login_path
-  auth_bad said top used q g e f = stays said top used _ q _ old e f ∙ rw g
-
-  module _ (good : hardware.good ≡ true) where
-    pub auth_check_only : (said : Outcome DecisionGives) (top : Head) (used : Bool) (q : Presence) → p1 ≡ 0x07 → alone said top used ≡ blank_alone (SW 0x6985) → q ≡ settled → leaves said top used q old ≡ logged
-    unfolding login_path
-    auth_check_only said top used q z e f = stays said top used _ q _ old e f ∙ rw (good, eq-eqb n 0x07 (sym is_p1 ∙ z))
-
-    module _ (signs : p1 ≡ 0x07 → ⊥) (b : Bool) (is_b : b ≡ leb authenticate_room room) where
-      no_check : n ≡ 0x07 → ⊥
-      no_check z = signs (is_p1 ∙ z)
-
-      pub auth_no_room : (said : Outcome DecisionGives) (top : Head) (used : Bool) → not b ≡ true → alone said top used ≡ blank_alone (R 2) → leaves said top used kept old ≡ logged
-      unfolding login_path
-      auth_no_room said top used x e = stays said top used _ kept kept old e refl ∙ rw (good, ne_eqb n 0x07 no_check, short authenticate_room room b is_b x)
-
-      module _ (roomy : not b ≡ false) where
-        pub auth_enforced : (x : DecisionLeft) → p1 ≡ 0x03 → x ≡ left_of (touch_checked (check settled) (counted_ending frame says true hardware.counter)) old → x ≡ logged
-        unfolding login_path
-        auth_enforced x z e = e ∙ rw (good, ne_eqb n 0x07 no_check, enough authenticate_room room b is_b roomy, eq-eqb n 0x03 (sym is_p1 ∙ z))
-
-        pub auth_free : (said : Outcome DecisionGives) (top : Head) (used : Bool) (q : Presence) (block : List ℕ) → (p1 ≡ 0x03 → ⊥) → alone said top used ≡ end_alone (counted_ending frame says false hardware.counter)
-            → block ≡ end_block (counted_ending frame says false hardware.counter) old → q ≡ settled → leaves said top used q block ≡ logged
-        unfolding login_path
-        auth_free said top used q block z e o f =
-            ends (counted_ending frame says false hardware.counter) said top used q settled block old e o f
-            ∙ rw (good, ne_eqb n 0x07 no_check, enough authenticate_room room b is_b roomy, ne_eqb n 0x03 (λ y. z (is_p1 ∙ y)))

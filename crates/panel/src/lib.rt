@@ -194,7 +194,7 @@ pub extern "C" fn brinecandle_is_up_needed(presence: &PresenceRecord, t: u64) ->
 }
 
 // Decides what a frame is answered, for the side that it came from. The block is written for an order alone: a refused call leaves an order that waits
-// for its signature whole. By cases, as brinecandle_read.
+// for its signature whole. By cases, as brinecandle_read. The parameters are C's, one by one.
 #[unsafe(no_mangle)]
 pub extern "C" fn brinecandle_decide(
     presence: &mut PresenceRecord,
