@@ -16,6 +16,7 @@ const ORDER: u16 = 0x0100;
 // GET RESPONSE's part is a response already: its status stands inside.
 const PART: u16 = 0x0200;
 
+// As panel_frames' shape_numbered: a number of C is a kind's or none.
 #[tactic(auto, unfolding(panel_stated::specs::Numbers::kind_of))]
 pub fn kind_numbered(number: u32) -> Option<Kind>
     ensures { KindNumbered number result }

@@ -148,7 +148,7 @@ fn beside_frame(decision: Decision, frame: &[u8]) -> SessionDecision
 // What a frame is answered, for the side that it came from, at moment t: a refusal, a status word, Version's body, an order to sign, or the next part of a body;
 // and what the frame says to the session. `handle` and `certificate` are the new handle and the attestation certificate that a Register would use, x and y its
 // public key. The block is written for an order alone. The frame is read in each case by itself, and what it says to the session is found before its command
-// is looked at: else a decision takes up to 40 instructions more.
+// is looked at: else a decision took up to 40 instructions more (counted by the kit before this one).
 pub fn decide(
     presence: &mut PresenceRecord,
     session: &SessionRecord,
