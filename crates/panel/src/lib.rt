@@ -10,7 +10,7 @@ ghost use Rattle.panel_stated.specs.Promises.{BrinecandleRead, BrinecandleReadSt
 
 use apdu_table::RowSays;
 use ctap1_stated::{Call, DecisionAnswer, HardwareSaid, NewKey};
-use outcome::ApduStatusCode;
+use outcome::{ApduStatusCode, Refusal};
 use panel_stated::{
     Asked, CommandSaid, DecisionSaid, FrameSaid, OrderNumbers, ResponseSaid, RoomSaid, Wrote,
 };
@@ -86,7 +86,7 @@ pub extern "C" fn brinecandle_read_strict_by_table(frame: &[u8]) -> FrameSaid
     table_plain(apdu_table::read_strict(frame))
 }
 
-// Writes a frame at the front of out.
+// Writes a frame at the front of out. The parameters are C's, one by one.
 #[unsafe(no_mangle)]
 pub extern "C" fn brinecandle_write(
     cla: u8,
@@ -131,10 +131,7 @@ pub extern "C" fn brinecandle_write_strict(
     }) result out.new }
 {
     if !panel_frames::strict_plain(shape, content.len()) {
-        return Wrote {
-            answer: 5,
-            length: 0,
-        };
+        return panel_responses::refused_part(Refusal::R5);
     }
     brinecandle_write(cla, ins, p1, p2, shape, content, le, out)
 }
@@ -281,10 +278,7 @@ pub extern "C" fn brinecandle_finish(
     }) result reply.new }
 {
     let Some(kind) = panel_orders::kind_numbered(order.kind) else {
-        return Wrote {
-            answer: 7,
-            length: 0,
-        };
+        return panel_responses::refused_part(Refusal::R7);
     };
     let made = Head {
         kind,

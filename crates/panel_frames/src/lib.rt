@@ -154,7 +154,7 @@ pub fn command_plain(read: Result<U2fCommand, ApduStatusCode>) -> CommandSaid
     }
 }
 
-// Reads any bytes as a command. Not by `on_reading`: that has one caller, the decision, so that it is compiled into it.
+// Reads any bytes as a command. Not by `on_reading`: that has one caller in the archive, the decision, so that it is compiled into it.
 #[tactic(auto, unfolding(command_stated::specs::Command::command_of, command_stated::specs::Command::on_reading))]
 pub fn read_command_plain(frame: &[u8]) -> CommandSaid
     ensures { BrinecandleReadCommand frame.now result }

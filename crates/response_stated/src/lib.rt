@@ -8,7 +8,8 @@ pub struct Response {
     pub status: u16,
 }
 
-// What of a body was not yet sent: from which place on, and how many bytes. A count of 0 is nothing.
+// What of a body was not yet sent: from which place on, and how many bytes. A count of 0 is nothing, and no Option: C holds it so, in a
+// session.
 #[repr(C)]
 #[derive(Clone, Copy)]
 pub struct Remainder {

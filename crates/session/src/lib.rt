@@ -39,7 +39,7 @@ pub fn remainder_lent(session: &SessionRecord) -> Remainder
     }
 }
 
-// How many bytes of body a frame takes that was read so; bytes in no shape get no body, and 0 stands there.
+// How many bytes of body a frame takes that was read so; bytes in no shape get no body, and 0 stands there: C holds it so, in a session.
 fn limit_of(reading: Result<Apdu, ApduStatusCode>) -> u64
     ensures { result ≡ limit_on (reading_of reading) }
 {
@@ -92,7 +92,7 @@ fn fetched(
     }
 }
 
-// By the command.
+// By the command. What is lent for writing comes one by one: a struct of it would be lent as a whole.
 fn commanded(
     presence: &mut PresenceRecord,
     session: &SessionRecord,

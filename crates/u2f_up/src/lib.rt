@@ -165,7 +165,7 @@ pub fn touch_check(presence: Presence, side: u64, t: u64) -> Finding
 }
 
 // ---- the record lent as five numbers by name. A window is 0 where it is closed, and otherwise its moment and one more. Only the
-// numbers that change are written.
+// numbers that change are written. Beside the calls by value and not in their place: C lends numbers, and demand 3 is said of records.
 
 fn window_of(number: u64) -> Window
     ensures { result ≡ window_of number }
