@@ -19,7 +19,7 @@ use signing::Head;
 use u2f_up::PresenceRecord;
 
 // Reads any bytes as a frame; its data comes back as a place in the caller's frame. By cases, and each is a return of its own:
-// so each is written to the caller at once.
+// so each is written to the caller at once. With one function for this and the strict one, shape 1 took 53 instructions for 38, and the Rust 46.
 #[unsafe(no_mangle)]
 pub extern "C" fn brinecandle_read(frame: &[u8]) -> FrameSaid
     ensures { BrinecandleRead frame.now result }
