@@ -1,6 +1,6 @@
 # The deepest stack of each exported function, in bytes, from `objdump -dr --no-show-raw-insn` of the archive: its return
 # address, its frame, what it keeps below the stack pointer (System V's red zone), and the deepest of what it calls in the archive.
-# memcpy, memmove and memset come on top where it calls them.
+# memcpy and memset come on top where it calls them.
 # Within a function the depth is followed from line to line; after a `ret` it is again what it was before the epilogue.
 
 /^[0-9a-f]+ <.*>:$/ {
@@ -76,7 +76,7 @@ function shrink(by) {
 function deepest(f,    i, most, below) {
     most = frame[f]
     for (i = 1; i <= count[f]; i++) {
-        if (calls[f, i] ~ /^mem(cpy|move|set)$/)
+        if (calls[f, i] ~ /^mem(cpy|set)$/)
             continue
         below = at[f, i] + deepest(calls[f, i])
         if (below > most)
@@ -87,7 +87,7 @@ function deepest(f,    i, most, below) {
 
 function libc(f,    i) {
     for (i = 1; i <= count[f]; i++)
-        if (calls[f, i] ~ /^mem(cpy|move|set)$/ || libc(calls[f, i]))
+        if (calls[f, i] ~ /^mem(cpy|set)$/ || libc(calls[f, i]))
             return 1
     return 0
 }
@@ -96,6 +96,6 @@ END {
     split(exports, wanted, " ")
     for (i = 1; i in wanted; i++) {
         f = wanted[i]
-        printf "%s %d%s%s\n", f, deepest(f), libc(f) ? " and memcpy's, memmove's or memset's" : "", unread[f] ? " (not all of it read)" : ""
+        printf "%s %d%s%s\n", f, deepest(f), libc(f) ? " and memcpy's or memset's" : "", unread[f] ? " (not all of it read)" : ""
     }
 }

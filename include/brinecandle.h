@@ -1,6 +1,6 @@
 /* Brinecandle: the proved U2F core of a sign-in panel, for C.
  *
- * Link target/staticlib/libpanel.a (x86-64; it needs memcpy, memmove and memset, no heap, no other library). brinecandle_panel.h has a
+ * Link target/staticlib/libpanel.a (x86-64; it needs memcpy and memset, no heap, no other library). brinecandle_panel.h has a
  * thin wrapper, tried and not proved, that keeps the order and a session for each side and asks for the response's room before a touch is
  * spent; docs/FIRMWARE.md says what a firmware does with all this, step by step.
  *

@@ -96,7 +96,7 @@ pub record EveryInputIsAnswered : Type 0 where
   pub checks_on_numbers : Presence.AsOnRecords checked_in granted_in
   pub remainders_stand : Sessions.RemainderStands remainder_in
   pub sessions_stand : Sessions.SessionStands session_in
-  pub hardware_stands : Sessions.HardwareStands inputs_in
+  pub hardware_stands : Sessions.HardwareStands (λ i. (inputs_in i).hardware)
   -- what a transport goes on with; the room for a response, and that no touch is lost to a length
   pub goes_on : Sessions.GoesOnExactly session_after
   pub rooms : Sessions.FrameRoomExactly frame_room_of

@@ -59,14 +59,19 @@ fn print_asked(out: &impl Print, way: Way, frame: &[u8]) -> io::Result<()> {
     }
 }
 
-// Reads until the buffer is full, the input ends or a read fails, and says how many bytes came.
-fn read_full<R: Read + Drop>(input: R, buffer: &mut [u8]) -> usize
+// Reads until the buffer is full, the input ends or a read fails, and says how many bytes came. Each read asks for all that is left, where
+// `io::copy` asks for a block of its own: of a message that is longer than a read asks for, the system throws the rest away.
+fn read_full(input: &mut impl Read, buffer: &mut [u8]) -> usize
     ensures { result ≤ length buffer.new }
 {
-    let all = buffer.len();
-    let mut left = &mut buffer[..];
-    let _ = io::copy(&mut input.take(all as u64), &mut left);
-    all.saturating_sub(left.len())
+    let mut done = 0;
+    while done < buffer.len() {
+        match input.read(&mut buffer[done..]) {
+            Err(_) | Ok(0) => return done,
+            Ok(n) => done += n,
+        }
+    }
+    done
 }
 
 fn main(rt: HostRuntime) {
@@ -76,7 +81,7 @@ fn main(rt: HostRuntime) {
     };
     // Fixed memory: no Vec that could run out.
     let mut buffer = [0u8; 65536];
-    let n = read_full(rt.stdin(), &mut buffer);
+    let n = read_full(&mut rt.stdin(), &mut buffer);
     // The input's end, a failed read and a frame that is too long look alike so far: one read more tells them apart.
     let mut more = [0u8; 1];
     match rt.stdin().read(&mut more) {

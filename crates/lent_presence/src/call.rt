@@ -1,6 +1,5 @@
 // A call of a history: which of the three forms, from which side, and when.
-use crate::lent;
-use std::fmt;
+use crate::{lent, number};
 use u2f_up::{Presence, Step};
 
 #[derive(Clone, Copy)]
@@ -18,14 +17,15 @@ impl Call {
             Call::Ask(t) => lent::ask(presence, t),
         }
     }
-}
 
-impl fmt::Display for Call {
-    fn fmt<W: fmt::Write>(&self, f: &mut fmt::Formatter<W>) -> fmt::Result {
-        match *self {
-            Call::Touch(t) => write!(f, "touch {t}"),
-            Call::Check(side, t) => write!(f, "check {side} {t}"),
-            Call::Ask(t) => write!(f, "ask {t}"),
+    pub fn print(self, out: &impl Print) {
+        match self {
+            Call::Touch(t) => number(out, b"touch ", t),
+            Call::Check(side, t) => {
+                number(out, b"check ", side);
+                number(out, b" ", t);
+            }
+            Call::Ask(t) => number(out, b"ask ", t),
         }
     }
 }

@@ -7,42 +7,57 @@ mod lent;
 
 use call::Call;
 use outcome::Refusal;
-use std::io;
 use u2f_up::{Presence, Window};
 
-fn print_window(out: &impl Print, window: Window) -> io::Result<()> {
+// Words and numbers go out one by one, with no Display of a whole line: behind a write that failed the next is tried all the same.
+fn words(out: &impl Print, words: &[u8]) {
+    let _ = out.write_all(words);
+}
+
+// A number, behind the words before it.
+fn number(out: &impl Print, before: &[u8], n: u64) {
+    if out.write_all(before).is_ok() {
+        let _ = out.print(n);
+    }
+}
+
+fn print_window(out: &impl Print, window: Window) {
     match window {
-        None => print!(out; " -"),
-        Some(m) => print!(out; " {m}"),
+        None => words(out, b" -"),
+        Some(m) => number(out, b" ", m),
     }
 }
 
-fn print_answer(out: &impl Print, answer: Result<bool, Refusal>) -> io::Result<()> {
+fn print_answer(out: &impl Print, answer: Result<bool, Refusal>) {
     match answer {
-        Ok(true) => print!(out; ": yes;"),
-        Ok(false) => print!(out; ": no;"),
-        Err(why) => print!(out; ": R{};", outcome::refusal_number(why)),
+        Ok(true) => words(out, b": yes;"),
+        Ok(false) => words(out, b": no;"),
+        Err(why) => {
+            number(out, b": R", outcome::refusal_number(why) as u64);
+            words(out, b";");
+        }
     }
 }
 
-fn print_record(out: &impl Print, presence: Presence) -> io::Result<()> {
-    print!(out; " {}", presence.w)?;
-    print_window(out, presence.prompt)?;
-    print_window(out, presence.touch)?;
-    println!(out; " {} {}", presence.last, presence.asker)
+fn print_record(out: &impl Print, presence: Presence) {
+    number(out, b" ", presence.w);
+    print_window(out, presence.prompt);
+    print_window(out, presence.touch);
+    number(out, b" ", presence.last);
+    number(out, b" ", presence.asker);
+    words(out, b"\n");
 }
 
 // The calls one after the other, each on the record that the one before it left.
-fn history(out: &impl Print, start: Presence, calls: &[Call]) -> io::Result<()> {
+fn history(out: &impl Print, start: Presence, calls: &[Call]) {
     let mut record = start;
     for &call in calls {
         let step = call.run(record);
-        out.print(call)?;
-        print_answer(out, step.answer)?;
-        print_record(out, step.presence)?;
+        call.print(out);
+        print_answer(out, step.answer);
+        print_record(out, step.presence);
         record = step.presence;
     }
-    Ok(())
 }
 
 // Both windows closed, and the last moment 0, with any W and asker.
@@ -85,20 +100,20 @@ const SIDES: [Call; 10] = [
 ];
 
 // What is refused, in its order: R6, R8, R1. Nothing moves.
-fn refused(out: &impl Print) -> io::Result<()> {
+fn refused(out: &impl Print) {
     let no_window = [
         Call::Touch(281474976710656),
         Call::Check(2, 281474976710656),
         Call::Ask(281474976710656),
     ];
-    history(out, closed(0, 2), &no_window)?;
-    history(out, closed(60001, 0), &[Call::Touch(1)])?;
+    history(out, closed(0, 2), &no_window);
+    history(out, closed(60001, 0), &[Call::Touch(1)]);
     let no_asker = [
         Call::Touch(281474976710656),
         Call::Check(0, 281474976710656),
         Call::Ask(281474976710656),
     ];
-    history(out, closed(60000, 2), &no_asker)?;
+    history(out, closed(60000, 2), &no_asker);
     let late_and_back = [
         Call::Check(2, 281474976710656),
         Call::Touch(281474976710656),
@@ -108,15 +123,11 @@ fn refused(out: &impl Print) -> io::Result<()> {
         Call::Touch(6),
         Call::Ask(6),
     ];
-    history(out, closed(60000, 1), &late_and_back)
-}
-
-fn print_all(out: &impl Print) -> io::Result<()> {
-    history(out, closed(5000, 0), &MOMENTS)?;
-    history(out, closed(5000, 0), &SIDES)?;
-    refused(out)
+    history(out, closed(60000, 1), &late_and_back);
 }
 
 fn main(rt: HostRuntime) {
-    let _ = print_all(&rt);
+    history(&rt, closed(5000, 0), &MOMENTS);
+    history(&rt, closed(5000, 0), &SIDES);
+    refused(&rt);
 }

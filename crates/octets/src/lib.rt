@@ -2,9 +2,10 @@
 // Nothing here asks anything of its caller: a write stops where the buffer ends.
 #![tactic(auto)]
 
-ghost use Rattle.std.specs.Prelude.{◌≡◌};
+ghost use Rattle.std.specs.Prelude.{◌≤◌, ◌≡◌, length};
 ghost use Rattle.std.specs.List.{fold};
 ghost use Rattle.std.specs.Int.Bits.{bit_or};
+ghost use Rattle.octets.specs.Bytes.{laid};
 ghost use Rattle.octets.specs.Promises.{Wide, Pair, Put, PutByte, PutPair, PutWord, AllZero, Part};
 
 // So many bytes are looked at together.
@@ -25,18 +26,27 @@ pub fn pair(hi: u8, lo: u8) -> u16
     (hi as u16) * 256 + (lo as u16)
 }
 
-// Writes src over the front of dst. Where it fits it is copied at its own length, which many callers know: then it is a move or two, and
-// at the lesser of both lengths it would be a call.
-#[tactic(auto, using(crate::proofs::Laid::put_fits, crate::proofs::Laid::put_cut))]
+// Writes src over the front of dst, where it fits. Byte by byte, which the compiler makes many at a time: a copy from one lent slice to
+// another is a call of memmove, since nothing says that they are apart, and a program without a system may have none.
+fn lay(dst: &mut [u8], src: &[u8])
+    requires { length src.now ≤ length dst.old }
+    ensures { dst.new ≡ laid src.now dst.old }
+{
+    for (i, b) in src.iter().enumerate() {
+        dst[i] = *b;
+    }
+}
+
+// Writes src over the front of dst. Where it fits it goes at its own length, which many callers know: then it is a move or two.
 pub fn put(dst: &mut [u8], src: &[u8])
     ensures { Put src.now dst.old dst.new }
 {
     let n = src.len();
     let room = dst.len();
     if n <= room {
-        dst[..n].copy_from_slice(src);
+        lay(dst, src);
     } else {
-        dst.copy_from_slice(&src[..room]);
+        lay(dst, &src[..room]);
     }
 }
 

@@ -84,4 +84,4 @@ RefusalRange = record { within = within; each = each }
     each (suc (suc (suc (suc (suc (suc (suc (suc (suc n))))))))) low high = absurd (omega arith)
 
 pub ResultsDetermined : Claims.ResultsDetermined
-ResultsDetermined = record { status_number = λ s a b. both_are a b; fault = λ s a b. both_are a b; no_fault = both_are; refusal_number = λ r a b. both_are a b }
+ResultsDetermined = record { status_number = λ s a b. both_are a b; fault = λ s a b. both_are a b; no_fault = both_are; refusal_number = λ r a b. both_are a b; refused = λ r a b. both_are a b; status = λ s a b. both_are a b }

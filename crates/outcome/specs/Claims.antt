@@ -3,7 +3,7 @@
 use Rattle.std.specs.Prelude.{ℕ, ◌≤◌, ◌≡◌}
 use Rattle.outcome.specs.Notation.{AtMostOne}
 use Rattle.outcome.specs.Outcome.{StatusWord, Outcome, Word, FaultNumbers, last_refusal}
-use Rattle.outcome.specs.Promises.{StatusNumber, Fault, NoFault, RefusalNumber}
+use Rattle.outcome.specs.Promises.{StatusNumber, Fault, NoFault, RefusalNumber, IsRefused, IsStatus}
 use Rattle.outcome.specs.declared.ApduStatusCode.{ApduStatusCode}
 use Rattle.outcome.specs.declared.ApduStatusCode.TheVariants.{Success, WrongData, WrongLength, CondUseNotSatisfied, CommandNotAllowed, IncorrectP1P2, InsInvalid, ClaInvalid, InternalException}
 use Rattle.outcome.specs.declared.LengthFault.{LengthFault}
@@ -82,3 +82,5 @@ pub record ResultsDetermined : Type 0 where
   pub fault : (s : ApduStatusCode) → AtMostOne (Fault s)
   pub no_fault : AtMostOne NoFault
   pub refusal_number : (r : Refusal) → AtMostOne (RefusalNumber r)
+  pub refused : (r : Refusal) → AtMostOne (IsRefused r)
+  pub status : (s : ApduStatusCode) → AtMostOne (IsStatus s)

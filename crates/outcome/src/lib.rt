@@ -4,8 +4,7 @@
 
 ghost use Rattle.std.specs.Prelude.{◌≡◌};
 ghost use Rattle.outcome.specs.Outcome.{fault_pair};
-ghost use Rattle.outcome.specs.NotDone.{IsRefused, IsStatus};
-ghost use Rattle.outcome.specs.Promises.{StatusNumber, Fault, NoFault, RefusalNumber};
+ghost use Rattle.outcome.specs.Promises.{StatusNumber, Fault, NoFault, RefusalNumber, IsRefused, IsStatus};
 
 // What is wrong with a frame's length: it ends too early, at its length; it goes on too long, from the first byte that no field
 // can claim; or its Lc does not fit its INS.

@@ -38,6 +38,18 @@ impl fmt::Display for Status {
     }
 }
 
+// So many bytes are spelt together.
+const TOGETHER: usize = 2048;
+
+// The last digit of a number in hex.
+fn digit(n: u8) -> u8 {
+    let last = n % 16;
+    if last < 10 {
+        return b'0' + last;
+    }
+    b'a' - 10 + last
+}
+
 // Bytes in hex; `-` where there are none.
 #[derive(Clone, Copy)]
 pub struct Hex<'a>(pub &'a [u8]);
@@ -47,8 +59,17 @@ impl fmt::Display for Hex<'_> {
         if self.0.is_empty() {
             return f.write_str("-");
         }
-        for byte in self.0 {
-            write!(f, "{byte:02x}")?;
+        // a format for each byte takes seven times as long
+        let mut digits = [0u8; 2 * TOGETHER];
+        for bytes in self.0.chunks(TOGETHER) {
+            for (pair, byte) in digits.chunks_exact_mut(2).zip(bytes) {
+                if let [high, low] = pair {
+                    *high = digit(byte / 16);
+                    *low = digit(*byte);
+                }
+            }
+            let text = digits.get(..2 * bytes.len()).unwrap_or(&[]);
+            f.write_str(str::from_utf8(text).map_err(|_| fmt::Error)?)?;
         }
         Ok(())
     }

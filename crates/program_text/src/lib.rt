@@ -6,6 +6,7 @@ mod hex;
 ghost use Rattle.std.specs.Prelude.{◌≤◌, length, IfSome};
 
 pub use hex::{frame_bytes, split_frame};
+use memchr::memchr;
 use std::env::FillError;
 use std::fs::File;
 use std::io;
@@ -20,7 +21,7 @@ pub fn find(text: &[u8], at: usize, byte: u8) -> usize
     let Some(rest) = text.get(at..) else {
         return at;
     };
-    at + rest.iter().position(|&b| b == byte).unwrap_or(rest.len())
+    at + memchr(byte, rest).unwrap_or(rest.len())
 }
 
 // A decimal number of at most `most`; none where the word is no such number.

@@ -1,4 +1,5 @@
 // The lines of a recording as they come, a text full at a time: a line that is longer than the text comes in parts.
+use program_text::find;
 use recording_line::Sums;
 use std::io;
 
@@ -30,16 +31,19 @@ impl Lines {
         out.write_all(b"\n")
     }
 
-    // Handles the whole lines of the text, and moves the rest, which has no line end yet, to its front. How many bytes that are.
+    // Handles the whole lines of the text, and moves the rest, which has no line end yet, to its front. How many bytes that are. From line end to
+    // line end, and not by `split`: it looks at each byte by itself, which takes several times as long where lines are long.
     pub fn whole(&mut self, out: &impl Print, text: &mut [u8]) -> io::Result<usize> {
-        let Some(end) = text.iter().rposition(|&b| b == b'\n') else {
-            return Ok(text.len());
-        };
-        for line in text[..end].split(|&b| b == b'\n') {
-            self.line(out, line)?;
+        let all = text.len();
+        let mut at = 0;
+        let mut end = find(text, at, b'\n');
+        while end < all {
+            self.line(out, &text[at..end])?;
+            at = end + 1;
+            end = find(text, at, b'\n');
         }
-        text.copy_within(end + 1.., 0);
-        Ok(text.len() - end - 1)
+        text.copy_within(at.., 0);
+        Ok(all - at)
     }
 
     // What stands behind the last line end, if anything does, at the input's end.

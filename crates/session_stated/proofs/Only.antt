@@ -8,6 +8,7 @@ use Rattle.outcome.specs.Outcome.{Outcome, R, Word, Gives}
 use Rattle.outcome.proofs.Laws.{r_gives, r_word, word_gives}
 use Rattle.apdu_stated.specs.Answers.{Says}
 use Rattle.response_stated.specs.declared.Remainder.{Remainder}
+use Rattle.ctap1_stated.specs.declared.Hardware.{Hardware}
 use Rattle.ctap1_stated.specs.Words.{Inputs, DecisionGives, Body, Ordered, Part}
 use Rattle.session_stated.specs.Held.{Session, SessionRecord}
 use Rattle.session_stated.specs.Promises.{ToDecide}
@@ -24,7 +25,7 @@ pub SessionStands : (f g : SessionRecord → Session) → Claims.SessionStands f
     → (s : SessionRecord) → f s ≡ g s
 SessionStands f g F G s = F s.place s.count s.limit ∙ sym (G s.place s.count s.limit)
 
-pub HardwareStands : (f g : ToDecide → Inputs) → Claims.HardwareStands f → Claims.HardwareStands g → (i : ToDecide) → (f i).hardware ≡ (g i).hardware
+pub HardwareStands : (f g : ToDecide → Hardware) → Claims.HardwareStands f → Claims.HardwareStands g → (i : ToDecide) → f i ≡ g i
 HardwareStands f g F G i = let h = i.hardware in F i h.allowed h.attestation h.stored h.good h.counted h.counter refl ∙ sym (G i h.allowed h.attestation h.stored h.good h.counted h.counter refl)
 
 -- ---- what a transport goes on with

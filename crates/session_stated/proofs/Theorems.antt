@@ -214,7 +214,7 @@ RemainderStands place count limit = refl
 pub SessionStands : Claims.SessionStands session_in
 SessionStands place count limit = refl
 
-pub HardwareStands : Claims.HardwareStands inputs_in
+pub HardwareStands : Claims.HardwareStands (λ i. (inputs_in i).hardware)
 HardwareStands i allowed attestation stored good counted counter is = ap hardware_of is
 
 -- ---- what a transport goes on with

@@ -16,6 +16,7 @@ use Rattle.response_stated.specs.Terms.{Sender, sending, IsResponse, Tells}
 use Rattle.response_stated.specs.Fetching.{got, left, remaining, RoundsUp}
 use Rattle.u2f_up_stated.specs.declared.Presence.{Presence}
 use Rattle.ctap1_stated.specs.Numbers.{hardware_of}
+use Rattle.ctap1_stated.specs.declared.Hardware.{Hardware}
 use Rattle.ctap1_stated.specs.Words.{Inputs, DecisionGives, Body, Ordered, Part, DecisionResult, handed_of, handed_from}
 use Rattle.ctap1_stated.specs.Claims.{LimitsExactly, DecidesExactly, RepliesExactly, PartsExactly}
 use Rattle.u2f_up_stated.specs.Numbers.{presence_in}
@@ -111,11 +112,11 @@ SessionStands stands = (place count limit : ℕ) → stands (record { place = pl
 
 -- The hardware's six answers are lent by name: whether CTAP1 is allowed, the attestation, whether the new handle was stored, whether the handle is good, whether a counter is
 -- offered, and which. What is decided on is each under its own name. `good_for_stored` fails it.
-abbrev pub HardwareStands : (ToDecide → Inputs) → Type 0
-HardwareStands inputs =
+abbrev pub HardwareStands : (ToDecide → Hardware) → Type 0
+HardwareStands hardware =
     (i : ToDecide) (allowed attestation stored good counted counter : ℕ)
     → i.hardware ≡ record { allowed = allowed; attestation = attestation; stored = stored; good = good; counted = counted; counter = counter }
-    → (inputs i).hardware
+    → hardware i
     ≡ hardware_of (record { allowed = allowed; attestation = attestation; stored = stored; good = good; counted = counted; counter = counter })
 
 -- ---- what a transport goes on with

@@ -8,6 +8,7 @@ use Rattle.response_stated.specs.Words.{rest}
 use Rattle.response_stated.specs.Parts.{limit_of, part_length, rest_after, part_response, response_room_of}
 use Rattle.apdu_stated.specs.Answers.{Says}
 use Rattle.apdu_stated.specs.Reading.{read_of}
+use Rattle.ctap1_stated.specs.declared.Hardware.{Hardware}
 use Rattle.ctap1_stated.specs.Words.{Inputs, DecisionGives, Body, Ordered, Part}
 use Rattle.ctap1_stated.specs.Path.{limit_on, frame_limit}
 use Rattle.ctap1_stated.specs.Decision.{decision_of, status_result}
@@ -64,8 +65,8 @@ count_first s = rest s.count s.place
 abbrev pub limit_of_8_bits : SessionRecord → Session
 limit_of_8_bits s = record { remainder = remainder_in s; limit = s.limit % 256 }
 
-abbrev pub good_for_stored : ToDecide → Inputs
-good_for_stored i = let h = i.hardware in inputs_in (record i { hardware = record h { stored = h.good; good = h.stored } })
+abbrev pub good_for_stored : ToDecide → Hardware
+good_for_stored i = let h = i.hardware in (inputs_in (record i { hardware = record h { stored = h.good; good = h.stored } })).hardware
 
 -- ---- what a transport goes on with. "a refused C0 .. keeps it": it drops what remains
 abbrev After : Type 0
